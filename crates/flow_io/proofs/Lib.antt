@@ -1,0 +1,4 @@
+pub mod Pieces
+pub mod Named
+pub mod Written
+pub mod Taken

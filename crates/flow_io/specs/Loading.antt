@@ -1,0 +1,16 @@
+-- Loading a file piece by piece.
+use Rattle.std.specs.Prelude.{◌≡◌, ℕ, ◌≤◌, List, length, take, Option, IfSome, IsSomeAnd, ◌↔◌}
+use Rattle.flow_io.specs.Files.{Files, file_at}
+
+-- the bytes are the front of the file
+abbrev pub IsRead : List ℕ → List ℕ → Type 0
+IsRead bytes whole = bytes ≡ take (length bytes) whole
+
+-- bytes that were the front of the file still are after a piece, which has no byte exactly at the file's end
+pub record IsReadOn (whole old new : List ℕ) (n : ℕ) : Type 0 where
+  pub front : IsRead old whole → IsRead new whole
+  pub ends : (n ≡ 0) ↔ (length whole ≤ length old)
+
+-- where the files are told, a piece of the path's file came behind the bytes
+abbrev pub TakesPiece : Option Files → List ℕ → List ℕ → List ℕ → ℕ → Type 0
+TakesPiece contents path old new n = IfSome contents (λ files. IsSomeAnd (file_at files path) (λ whole. IsReadOn whole old new n))

@@ -1,0 +1,6 @@
+pub mod Cuts
+pub mod Marks
+pub mod PolicyLaws
+pub mod InputLaws
+pub mod ViewLaws
+mod Examples

@@ -1,0 +1,9 @@
+pub mod Answers
+pub mod Inputs
+pub mod Lines
+pub mod Lists
+pub mod Names
+pub mod Observed
+pub mod Policies
+pub mod Words
+pub mod Faults

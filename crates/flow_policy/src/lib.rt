@@ -1,0 +1,17 @@
+//! Policies and inputs: which channels there are, who may see them, and which lines came in.
+#![tactic(auto)]
+
+mod fault;
+mod inputs;
+mod lines;
+mod lists;
+mod names;
+mod policy;
+mod words;
+
+pub use fault::{InputFault, InputKind, PolicyFault, PolicyKind};
+pub use inputs::{Inputs, read_inputs};
+pub use policy::{Channel, Policy, read_policy};
+
+#[cfg(test)]
+mod tests;

@@ -1,0 +1,89 @@
+//! Lists of origins.
+
+ghost use Rattle.std.specs.Prelude.{◌≡◌, ◌≤◌, ℕ, false, [], ◌∷◌, length, slice_index_or, IfOk};
+ghost use Rattle.origin_labels.specs.Label.{IsLabel, has};
+ghost use Rattle.origin_labels.specs.Names.{same_name};
+ghost use Rattle.flow_policy.specs.Lists.{are_names, label_in};
+ghost use Rattle.flow_policy.specs.Policies.{table_room};
+ghost use Rattle.flow_policy.specs.Answers.{FindsOrigin, MarksOrigins, GivesLabel};
+
+use crate::fault::{LineFault, PolicyKind};
+use crate::lines::cut;
+use crate::names::{is_name, text_of};
+use flow_text::OutOfMemory;
+use origin_labels::{OriginList, Origins};
+use std::alloc::Global;
+
+/// Each table has room for this many.
+pub(crate) const TABLE_ROOM: usize = 64;
+
+// Whether it is the list of no names.
+fn is_bare(list: &[u8]) -> bool
+    ensures { result ≡ same_name list.now (45 ∷ []) }
+{
+    list == b"-".as_slice()
+}
+
+/// Whether each name of the list keeps the rule for names.
+pub(crate) fn are_names(list: &[u8]) -> bool
+    ensures { result ≡ are_names list.now }
+{
+    is_bare(list) || list.split(|byte| *byte == b',').all(is_name)
+}
+
+/// The set of the list's origins.
+pub(crate) fn label_in(
+    alloc: Global,
+    origins: &Origins,
+    list: &[u8],
+) -> Result<OriginList, LineFault>
+    requires { length origins.now ≤ table_room }
+    ensures { GivesLabel result origins.now list.now }
+{
+    let marks = marks_in(alloc, origins, list)?;
+    Ok(marked(alloc, &marks)?)
+}
+
+// A mark for each origin of the list.
+fn marks_in(alloc: Global, origins: &Origins, list: &[u8]) -> Result<[bool; TABLE_ROOM], LineFault>
+    requires { length origins.now ≤ table_room }
+    ensures { MarksOrigins result origins.now list.now }
+{
+    let mut marks = [false; TABLE_ROOM];
+    if is_bare(list) {
+        return Ok(marks);
+    }
+    let mut rest = list;
+    while let Some((name, others)) = cut(rest, b',') {
+        let origin = origin_of(alloc, origins, name)?;
+        marks[origin] = true;
+        rest = others;
+    }
+    let last = origin_of(alloc, origins, rest)?;
+    marks[last] = true;
+    Ok(marks)
+}
+
+fn origin_of(alloc: Global, origins: &Origins, name: &[u8]) -> Result<usize, LineFault>
+    ensures { FindsOrigin result origins.now name.now }
+{
+    let name = text_of(alloc, name)?;
+    match origins.index_of(&name) {
+        Some(origin) => Ok(origin as usize),
+        None => Err(LineFault::Bad(PolicyKind::Unknown)),
+    }
+}
+
+// The origins that have a mark.
+fn marked(alloc: Global, marks: &[bool; TABLE_ROOM]) -> Result<OriginList, OutOfMemory>
+    ensures label { IfOk result (λ l. IsLabel l) }
+    ensures members { IfOk result (λ l. (k : ℕ) → has k l ≡ slice_index_or marks.now k false) }
+{
+    let mut origins = OriginList::new(alloc);
+    for (origin, mark) in marks.iter().enumerate() {
+        if *mark {
+            origins.push(origin as u32)?;
+        }
+    }
+    Ok(origins)
+}

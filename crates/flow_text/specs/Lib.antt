@@ -1,0 +1,4 @@
+pub mod Memory
+pub mod Text
+pub mod Utf8
+pub mod Written

@@ -1,0 +1,14 @@
+//! Texts as lists of UTF-16 units, and the bytes that spell them.
+#![tactic(auto)]
+
+mod compared;
+mod memory;
+mod text;
+mod utf8;
+mod written;
+
+pub use memory::OutOfMemory;
+pub use text::{Text, TextFault};
+
+#[cfg(test)]
+mod tests;

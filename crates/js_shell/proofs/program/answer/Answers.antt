@@ -1,0 +1,15 @@
+use Rattle.std.proofs.Common.{Err, ap}
+use Rattle.flow_io.specs.Files.{Rose}
+use Rattle.js_shell.specs.Seen.{texts_of, seen_task}
+use Rattle.js_shell.proofs.Answering.{ran_answers, refused_answers}
+use Rattle.js_shell.proofs.program.answer.Goals as goal
+
+pub returns-in-Err-clause-answers : goal.returns-in-Err-clause-answers
+returns-in-Err-clause-answers g c =
+    refused_answers (texts_of c.args.words.now) (g.F.Store.contents c.args.store.now) (Rose (g.F.Store.faults c.args.store.now) (g.F.Store.faults c.accept.new.store)) (g.K.Sink.taken c.args.sink.now) (g.K.Sink.taken c.refuse.new.sink)
+    c.in-Err.refusal c.in-Err.ensures.accepts (λ e. c.in-Err.ensures.read_fault (ap Err e)) c.refuse.result c.refuse.ensures.refuses
+
+pub returns-clause-answers : goal.returns-clause-answers
+returns-clause-answers g c =
+    ran_answers (texts_of c.args.words.now) (g.F.Store.contents c.args.store.now) (Rose (g.F.Store.faults c.args.store.now) (g.F.Store.faults c.accept.new.store)) (g.K.Sink.taken c.args.sink.now) (g.K.Sink.taken c.run.new.sink)
+    (seen_task c.in-Ok.task) c.in-Ok.ensures.accepts c.run.result (rw c.deref.ensures.value at c.run.ensures.ran)

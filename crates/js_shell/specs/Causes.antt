@@ -1,0 +1,48 @@
+-- When each status comes.
+use Rattle.std.specs.Prelude.{◌≡◌, ℕ, ◌⊎◌, false, List, Some, None}
+use Rattle.origin_labels.specs.Label.{Label, within}
+use Rattle.flow_io.specs.Files.{Files}
+use Rattle.flow_io.specs.Sinks.{IsFrontOf}
+use Rattle.flow_policy.specs.Policies.{Tables}
+use Rattle.js_shell.specs.declared.status.Status.{Status}
+use Rattle.js_shell.specs.declared.ending.Leaving.{Leaving}
+use Rattle.js_shell.specs.declared.ending.Rule.{Rule}
+use Rattle.js_shell.specs.declared.ending.Ending.TheVariants.{Done, Left, Stopped}
+use Rattle.js_shell.specs.Scripts.{Statement}
+use Rattle.js_shell.specs.Replies.{Command, command_of, HasScript, HasNoScript, HasPolicy, HasNoPolicy, HasNoInput, Task, IsAsked, plain_run, tracked_run, Reply, IsReply, ReachesAbsent, read_fault_report}
+use Rattle.js_shell.specs.Promises.{UnlessEarly}
+
+-- the status comes exactly where there is its cause, but for calls that a fault or want of memory ended early
+abbrev pub Exactly : Status → Status → Type 0 → Type 0
+Exactly result expected Cause = (result ≡ expected → Cause) × (Cause → UnlessEarly result (result ≡ expected))
+
+-- the words are no command
+abbrev pub IsUsage : List (List ℕ) → Type 0
+IsUsage words = command_of words ≡ None
+
+-- the script is there and has not the form
+abbrev pub IsSource : List (List ℕ) → Files → Type 0
+IsSource words files = (command : Command) × (command_of words ≡ Some command) × HasNoScript files command.script
+
+-- the script is accepted, and the policy breaks its rules, or it is accepted too and the input breaks its rules
+abbrev pub IsBadPolicy : List (List ℕ) → Files → Type 0
+IsBadPolicy words files = (command : Command) × (statements : List Statement) × (command_of words ≡ Some command) × HasScript files command.script statements
+    × (HasNoPolicy files command.policy ⊎ ((tables : Tables) × HasPolicy files command.policy tables × HasNoInput files command.input tables))
+
+-- the labelled run ends so
+abbrev pub IsDone : List (List ℕ) → Files → Type 0
+IsDone words files = (task : Task) × IsAsked words files task × ((tracked_run task).ending ≡ Done)
+
+abbrev pub IsStopped : List (List ℕ) → Files → Type 0
+IsStopped words files = (task : Task) × (rule : Rule) × (need : Label) × (have : Label) × IsAsked words files task
+    × ((tracked_run task).ending ≡ Stopped rule need have) × (within need have ≡ false)
+
+-- both meanings leave by one name
+abbrev pub IsLeft : List (List ℕ) → Files → Type 0
+IsLeft words files = (task : Task) × (name : Leaving) × IsAsked words files task × ((tracked_run task).ending ≡ Left name) × ((plain_run task).ending ≡ Left name)
+
+-- what stands after a call that ended early: a front of the reply, or a front of the report of a read fault where the store's
+-- count rose or an absent file is reached
+abbrev pub IsEarlyFront : List (List ℕ) → Type 0 → Files → List ℕ → Type 0
+IsEarlyFront words StoreFailed files out = ((reply : Reply) × IsReply words files reply × IsFrontOf out reply.bytes)
+    ⊎ ((StoreFailed ⊎ ReachesAbsent words files) × IsFrontOf out read_fault_report)

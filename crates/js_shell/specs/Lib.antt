@@ -1,0 +1,17 @@
+pub mod Accepting
+pub mod Answers
+pub mod Causes
+pub mod Evaluated
+pub mod Plain
+pub mod Promises
+pub mod Ran
+pub mod Reading
+pub mod Replies
+pub mod Reports
+pub mod Runs
+pub mod Scripts
+pub mod Seen
+pub mod Statuses
+pub mod Sums
+pub mod Tracked
+pub mod Written

@@ -1,0 +1,46 @@
+//! How a command ended, for whoever runs it.
+
+ghost use Rattle.std.specs.Prelude.{◌≡◌};
+ghost use Rattle.js_shell.specs.Statuses.{number_of};
+
+/// How a command ended.
+#[derive(Clone, Copy, Debug, PartialEq, Eq)]
+pub enum Status {
+    /// The script ran to its end.
+    Done,
+    /// The words are no command.
+    Usage,
+    /// The script was refused.
+    Source,
+    /// The policy or the input was refused.
+    Policy,
+    /// The monitor stopped the run.
+    Stopped,
+    /// The run left the language's profile.
+    Left,
+    /// A file could not be read.
+    ReadFault,
+    /// Output could not be written.
+    WriteFault,
+    /// There was no memory.
+    OutOfMemory,
+}
+
+impl Status {
+    /// The program's exit status.
+    pub fn number(self) -> u8
+        ensures { result ≡ number_of self }
+    {
+        match self {
+            Status::Done => 0,
+            Status::Usage => 2,
+            Status::Source => 3,
+            Status::Policy => 4,
+            Status::Stopped => 5,
+            Status::Left => 6,
+            Status::ReadFault => 8,
+            Status::WriteFault => 9,
+            Status::OutOfMemory => 10,
+        }
+    }
+}

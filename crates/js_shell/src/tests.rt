@@ -1,0 +1,320 @@
+use super::*;
+use flow_io::{MemorySink, MemoryStore};
+use std::alloc::Global;
+use std::test::Fail;
+
+const POLICY: &str = "origin A\norigin B\nin pin A\nin note -\nout all A,B\nout pub -\n";
+
+// A script, an input, and what a run writes and answers.
+const RUNS: [(&str, &str, &str, Status); 19] = [
+    ("", "", "! done\n", Status::Done),
+    (" \n\n ", "", "! done\n", Status::Done),
+    (
+        "print(\"pub\", \"hi\");",
+        "",
+        "pub hi\n! done\n",
+        Status::Done,
+    ),
+    (
+        "print(\"pub\", read(\"pin\"));",
+        "pin 7\n",
+        "! stopped W12 need A have -\n",
+        Status::Stopped,
+    ),
+    (
+        "print(\"pub\", \"a\");\nprint(\"pub\", \"b\" + read(\"pin\"));\nprint(\"pub\", \"c\");",
+        "pin 7\n",
+        "pub a\n! stopped W12 need A have -\n",
+        Status::Stopped,
+    ),
+    (
+        "print(\"all\", read(\"pin\")); print(\"all\", read(\"pin\"));",
+        "pin 1",
+        "all 1\nall undefined\n! done\n",
+        Status::Done,
+    ),
+    (
+        "print(\"all\", read(\"pin\") + \"-\" + read(\"note\") + read(\"pin\"));",
+        "note n\npin 1\nnote m\npin 2\n",
+        "all 1-n2\n! done\n",
+        Status::Done,
+    ),
+    (
+        "print(\"pub\", read(\"note\")); print(\"pub\", \"x\" + read(\"note\"));",
+        "note a\\b\rc\n",
+        "pub a\\\\b\\rc\npub xundefined\n! done\n",
+        Status::Done,
+    ),
+    (
+        "print(\"pub\", \"a\"); print(\"zzz\", \"b\"); print(\"pub\", \"c\");",
+        "",
+        "pub a\n! left channel\n",
+        Status::Left,
+    ),
+    (
+        "print(\"pub\", read(\"zzz\"));",
+        "",
+        "! left channel\n",
+        Status::Left,
+    ),
+    (
+        "print(\"pub\", read(\"note\") + read(\"note\") + \"x\");",
+        "",
+        "! left number\n",
+        Status::Left,
+    ),
+    (
+        "print(\"pub\", \"x\" + read(\"note\") + read(\"note\"));",
+        "",
+        "pub xundefinedundefined\n! done\n",
+        Status::Done,
+    ),
+    (
+        "print(\"pub\", 1);",
+        "",
+        "! source Unbuilt\n",
+        Status::Source,
+    ),
+    (
+        "print(\"pub\",\"hi\");",
+        "",
+        "! source Unbuilt\n",
+        Status::Source,
+    ),
+    (
+        "print(\"pub\", \"hi\")",
+        "",
+        "! source Unbuilt\n",
+        Status::Source,
+    ),
+    (
+        "print(\"pub\", \"a\\b\");",
+        "",
+        "! source Unbuilt\n",
+        Status::Source,
+    ),
+    (
+        "print(\"pub\", \"a\" +\"b\");",
+        "",
+        "! source Unbuilt\n",
+        Status::Source,
+    ),
+    (
+        "print(\"pub\", \"\u{e9}\");",
+        "",
+        "! source Unbuilt\n",
+        Status::Source,
+    ),
+    ("", "pin 1\npox 2\n", "! input Bad\n", Status::Policy),
+];
+
+// A policy, and what a run of the empty script under it writes.
+const POLICIES: [(&str, &str, Status); 6] = [
+    ("", "! done\n", Status::Done),
+    ("# none\n\n", "! done\n", Status::Done),
+    ("in pin Z", "! policy Bad\n", Status::Policy),
+    ("origin A\norigin A", "! policy Bad\n", Status::Policy),
+    ("label A", "! policy Bad\n", Status::Policy),
+    ("origin A-B", "! policy Bad\n", Status::Policy),
+];
+
+// Words, and what a call with them writes over files that are there.
+const WORDS: [(&[&str], &str, Status); 8] = [
+    (&[], "! usage\n", Status::Usage),
+    (&["run", "a", "b"], "! usage\n", Status::Usage),
+    (&["run", "s", "p", "i", "x"], "! usage\n", Status::Usage),
+    (&["check", "s", "p", "i"], "! usage\n", Status::Usage),
+    (
+        &["run", "absent", "p", "i"],
+        "! read fault\n",
+        Status::ReadFault,
+    ),
+    (
+        &["run", "s", "absent", "i"],
+        "! read fault\n",
+        Status::ReadFault,
+    ),
+    (
+        &["run", "s", "p", "absent"],
+        "! read fault\n",
+        Status::ReadFault,
+    ),
+    (
+        &["run", "s", "p", "i"],
+        "pub a\npub b\n! done\n",
+        Status::Done,
+    ),
+];
+
+fn words_of(alloc: Global, texts: &[&str]) -> Result<Vec<String>, Fail> {
+    let mut words = Vec::new(alloc);
+    for text in texts {
+        words.push(String::from_str(alloc, text)?)?;
+    }
+    Ok(words)
+}
+
+fn files(alloc: Global, script: &str, policy: &str, input: &str) -> Result<MemoryStore, Fail> {
+    let mut store = MemoryStore::new(alloc);
+    store.add("s", Vec::from_slice(alloc, script.as_bytes())?)?;
+    store.add("p", Vec::from_slice(alloc, policy.as_bytes())?)?;
+    store.add("i", Vec::from_slice(alloc, input.as_bytes())?)?;
+    Ok(store)
+}
+
+fn two_lines(alloc: Global) -> Result<MemoryStore, Fail> {
+    files(
+        alloc,
+        "print(\"pub\", \"a\"); print(\"pub\", \"b\");",
+        POLICY,
+        "",
+    )
+}
+
+// Ample memory must give the rows, so want of memory is no answer here.
+#[test]
+fn runs(rt: HostRuntime) -> Result<(), Fail> {
+    let alloc = rt.alloc();
+    let words = words_of(alloc, &["run", "s", "p", "i"])?;
+    for (script, input, bytes, status) in RUNS {
+        let mut store = files(alloc, script, POLICY, input)?;
+        let mut sink = MemorySink::new(alloc);
+        assert_eq!(rt;
+            shell(alloc, &words, &mut store, &mut sink),
+            status,
+            "{script}"
+        );
+        assert_eq!(rt; sink.taken(), bytes.as_bytes(), "{script}");
+    }
+    Ok(())
+}
+
+#[test]
+fn policies(rt: HostRuntime) -> Result<(), Fail> {
+    let alloc = rt.alloc();
+    let words = words_of(alloc, &["run", "s", "p", "i"])?;
+    for (policy, bytes, status) in POLICIES {
+        let mut store = files(alloc, "", policy, "")?;
+        let mut sink = MemorySink::new(alloc);
+        assert_eq!(rt;
+            shell(alloc, &words, &mut store, &mut sink),
+            status,
+            "{policy}"
+        );
+        assert_eq!(rt; sink.taken(), bytes.as_bytes(), "{policy}");
+    }
+    Ok(())
+}
+
+#[test]
+fn words_and_absent_files(rt: HostRuntime) -> Result<(), Fail> {
+    let alloc = rt.alloc();
+    for (texts, bytes, status) in WORDS {
+        let words = words_of(alloc, texts)?;
+        let mut store = two_lines(alloc)?;
+        let mut sink = MemorySink::new(alloc);
+        assert_eq!(rt; shell(alloc, &words, &mut store, &mut sink), status);
+        assert_eq!(rt; sink.taken(), bytes.as_bytes());
+    }
+    Ok(())
+}
+
+// Three files take two calls each, or more by shorter pieces.
+#[test]
+fn a_store_that_fails(rt: HostRuntime) -> Result<(), Fail> {
+    let alloc = rt.alloc();
+    let words = words_of(alloc, &["run", "s", "p", "i"])?;
+    for shorter in [false, true] {
+        for call in 1..=4u64 {
+            let mut store = two_lines(alloc)?;
+            if shorter {
+                store.short(7);
+            }
+            store.fail_at(call)?;
+            let mut sink = MemorySink::new(alloc);
+            assert_eq!(rt;
+                shell(alloc, &words, &mut store, &mut sink),
+                Status::ReadFault,
+                "{call}"
+            );
+            assert_eq!(rt; sink.taken(), b"! read fault\n".as_slice(), "{call}");
+        }
+    }
+    Ok(())
+}
+
+#[test]
+fn a_sink_that_fails(rt: HostRuntime) -> Result<(), Fail> {
+    let alloc = rt.alloc();
+    let words = words_of(alloc, &["run", "s", "p", "i"])?;
+    for (call, keep, bytes) in [
+        (1, 0, ""),
+        (2, 3, "pub a\npub"),
+        (3, 100, "pub a\npub b\n! done\n"),
+    ] {
+        let mut store = two_lines(alloc)?;
+        let mut sink = MemorySink::new(alloc);
+        sink.fail_at(call, keep)?;
+        assert_eq!(rt;
+            shell(alloc, &words, &mut store, &mut sink),
+            Status::WriteFault,
+            "{call}"
+        );
+        assert_eq!(rt; sink.taken(), bytes.as_bytes(), "{call}");
+    }
+    Ok(())
+}
+
+// The longest text has 1,048,576 units.
+#[test]
+fn the_longest_text(rt: HostRuntime) -> Result<(), Fail> {
+    let alloc = rt.alloc();
+    let words = words_of(alloc, &["run", "s", "p", "i"])?;
+    for (script, len, status) in [
+        (
+            "print(\"all\", read(\"pin\") + \"abcd\");",
+            1_048_588,
+            Status::Done,
+        ),
+        (
+            "print(\"all\", read(\"pin\") + \"abcde\");",
+            14,
+            Status::Left,
+        ),
+    ] {
+        let mut input = Vec::from_slice(alloc, b"pin ")?;
+        input.resize(1_048_576, b'x')?;
+        let mut store = files(alloc, script, POLICY, "")?;
+        store.add("i", input)?;
+        let mut sink = MemorySink::new(alloc);
+        assert_eq!(rt; shell(alloc, &words, &mut store, &mut sink), status);
+        assert_eq!(rt; sink.taken().len(), len);
+    }
+    Ok(())
+}
+
+#[test]
+fn numbers_of_statuses(rt: HostRuntime) {
+    for (status, number) in [
+        (Status::Done, 0),
+        (Status::Usage, 2),
+        (Status::Source, 3),
+        (Status::Policy, 4),
+        (Status::Stopped, 5),
+        (Status::Left, 6),
+        (Status::ReadFault, 8),
+        (Status::WriteFault, 9),
+        (Status::OutOfMemory, 10),
+    ] {
+        assert_eq!(rt; status.number(), number);
+    }
+}
+
+#[test]
+fn laws() {
+    isolation();
+    erasure();
+    never_stops();
+    spells_once();
+    replies_once();
+}

@@ -1,0 +1,4 @@
+pub mod LabelLaws
+pub mod MaskLaws
+pub mod NameLaws
+pub mod StoreLaws

@@ -1,0 +1,3 @@
+print("door", "Open " + read("hours"));
+print("door", "Now serving " + read("name"));
+print("door", "Closed");
