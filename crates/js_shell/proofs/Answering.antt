@@ -1,7 +1,7 @@
 -- How a call answers, from its parts.
-use Rattle.std.proofs.Common.{◌≡◌, ℕ, List, true, Option, Ok, Err, refl, sym}
+use Rattle.std.proofs.Common.{◌≡◌, ℕ, List, true, Option, Some, Ok, Err, refl, sym, ap, subst, ◌∙◌, inl, inr, ◌⊎◌}
 use Rattle.flow_io.specs.Files.{Files}
-use Rattle.flow_io.specs.Sinks.{Appends}
+use Rattle.flow_io.specs.Sinks.{Appends, AppendsFront}
 use Rattle.js_shell.specs.declared.accepting.Refusal.{Refusal}
 use Rattle.js_shell.specs.declared.accepting.Refusal.TheVariants as refusal
 use Rattle.js_shell.specs.declared.status.Status.{Status}
@@ -10,9 +10,17 @@ use Rattle.js_shell.specs.declared.ending.Ending.{Ending}
 use Rattle.js_shell.specs.declared.ending.Ending.TheVariants.{Done, Left, Stopped}
 use Rattle.js_shell.specs.Written.{erased}
 use Rattle.js_shell.specs.Ran.{Ran}
-use Rattle.js_shell.specs.Replies.{Task, Reply, IsReply, runs, run_reply, tracked_run, status_of, usage_reply, source_reply, policy_reply, input_reply}
-use Rattle.js_shell.specs.Accepting.{OfFiles, Accepts, Answers, replies, cuts_off, unread, unread_cut, no_memory, Refuses, IsPut, is_reply_status}
+use Rattle.js_shell.specs.Replies.{Task, Reply, IsReply, runs, run_reply, tracked_run, status_of, usage_reply, source_reply, policy_reply, input_reply, read_fault_report, too_long, bad_line, long_source, source_utf8, unbuilt}
+use Rattle.js_shell.specs.Promises.{UnlessEarly}
+use Rattle.js_shell.specs.Causes.{Exactly}
+use Rattle.js_shell.specs.Accepting.{OfFiles, Accepts, Answers, replies, cuts_off, unread, unread_cut, no_memory, Refuses, puts, breaks_off, puts_nothing, refusal_report, refusal_status, is_reply_status, is_cut_status}
 use Rattle.js_shell.proofs.Asked.{of_map}
+
+of_some : (x y : Reply) → Some x ≡ Some y → x ≡ y
+of_some x y e = cc
+
+abbrev read_fault_reply : Reply
+read_fault_reply = record { bytes = read_fault_report; status = status.ReadFault }
 
 module _ (words : List (List ℕ)) (contents : Option Files) (StoreFailed : Type 0) (old new : Option (List ℕ)) where
   ending_replies : (ending : Ending) → is_reply_status (status_of ending) ≡ true
@@ -38,36 +46,51 @@ module _ (words : List (List ℕ)) (contents : Option Files) (StoreFailed : Type
     ran_answers status.Left h = whole status.Left h
     ran_answers status.ReadFault h = whole status.ReadFault h
 
-  module _ (reply : Reply) (is_reply : OfFiles contents (λ files. IsReply words files reply)) (is : is_reply_status reply.status ≡ true) where
-    put_whole : (result : Status) → (result ≡ reply.status) × Appends old new reply.bytes → Answers words contents StoreFailed old new result
-    put_whole result h = replies reply is_reply is h.0 h.1
+  -- what a refusal puts is a reply, or the report of a read fault
+  abbrev Reported : Refusal → Reply → Type 0
+  Reported r reply = ((OfFiles contents (λ files. IsReply words files reply)) × (is_reply_status reply.status ≡ true)) ⊎ ((r ≡ refusal.ReadFault) × (reply ≡ read_fault_reply))
 
-    put_answers : (result : Status) → IsPut reply result old new → Answers words contents StoreFailed old new result
-    put_answers status.WriteFault h = cuts_off reply is_reply refl h
-    put_answers status.Done h = put_whole status.Done h
-    put_answers status.Usage h = put_whole status.Usage h
-    put_answers status.Source h = put_whole status.Source h
-    put_answers status.Policy h = put_whole status.Policy h
-    put_answers status.Stopped h = put_whole status.Stopped h
-    put_answers status.Left h = put_whole status.Left h
-    put_answers status.ReadFault h = put_whole status.ReadFault h
-    put_answers status.OutOfMemory h = put_whole status.OutOfMemory h
+  replied : (r : Refusal) (reply other : Reply) → OfFiles contents (λ files. IsReply words files other) → is_reply_status other.status ≡ true → Some other ≡ Some reply → Reported r reply
+  replied r reply other h is e = inl (subst (λ (x : Reply). OfFiles contents (λ files. IsReply words files x)) (of_some other reply e) h, ap (λ (x : Reply). is_reply_status x.status) (sym (of_some other reply e)) ∙ is)
 
-  unread_answers : StoreFailed → (result : Status) → Refuses refusal.ReadFault result old new → Answers words contents StoreFailed old new result
-  unread_answers failed status.WriteFault h = unread_cut failed refl h
-  unread_answers failed status.ReadFault h = unread failed refl h.1
-  unread_answers failed status.Done h = unread failed h.0 h.1
-  unread_answers failed status.Usage h = unread failed h.0 h.1
-  unread_answers failed status.Source h = unread failed h.0 h.1
-  unread_answers failed status.Policy h = unread failed h.0 h.1
-  unread_answers failed status.Stopped h = unread failed h.0 h.1
-  unread_answers failed status.Left h = unread failed h.0 h.1
-  unread_answers failed status.OutOfMemory h = unread failed h.0 h.1
+  reported : (r : Refusal) (reply : Reply) → Accepts words contents (Err r) → refusal_report r ≡ Some reply → Reported r reply
+  reported refusal.Usage reply h e = replied refusal.Usage reply usage_reply h refl e
+  reported refusal.LongSource reply h e = replied refusal.LongSource reply (source_reply long_source) h refl e
+  reported (refusal.SourceUtf8 at) reply h e = replied (refusal.SourceUtf8 at) reply (source_reply (source_utf8 at)) h refl e
+  reported refusal.Unbuilt reply h e = replied refusal.Unbuilt reply (source_reply unbuilt) h refl e
+  reported refusal.LongPolicy reply h e = replied refusal.LongPolicy reply (policy_reply too_long) h refl e
+  reported (refusal.BadPolicy line kind) reply h e = replied (refusal.BadPolicy line kind) reply (policy_reply (bad_line (record { line = line; kind = kind }))) h refl e
+  reported refusal.LongInput reply h e = replied refusal.LongInput reply (input_reply too_long) h refl e
+  reported (refusal.BadInput line kind) reply h e = replied (refusal.BadInput line kind) reply (input_reply (bad_line (record { line = line; kind = kind }))) h refl e
+  reported refusal.ReadFault reply h e = inr (refl, sym (of_some read_fault_reply reply e))
+  reported refusal.OutOfMemory reply h e = cc
+
+  module _ (r : Refusal) (failed : r ≡ refusal.ReadFault → StoreFailed) (result : Status) (reply : Reply) where
+    put_answers : Reported r reply → result ≡ reply.status → Appends old new reply.bytes → Answers words contents StoreFailed old new result
+    put_answers (inl h) is p = replies reply h.0 h.1 is p
+    put_answers (inr h) is p = unread (failed h.0) (is ∙ ap (λ (x : Reply). x.status) h.1) (subst (λ (x : Reply). Appends old new x.bytes) h.1 p)
+
+    front_answers : Reported r reply → result ≡ status.WriteFault → AppendsFront old new reply.bytes → Answers words contents StoreFailed old new result
+    front_answers (inl h) is p = cuts_off reply h.0 (ap is_cut_status is) p
+    front_answers (inr h) is p = unread_cut (failed h.0) (ap is_cut_status is) (subst (λ (x : Reply). AppendsFront old new x.bytes) h.1 p)
 
   pub refused_answers : (r : Refusal) → Accepts words contents (Err r) → (r ≡ refusal.ReadFault → StoreFailed) → (result : Status) → Refuses r result old new → Answers words contents StoreFailed old new result
-  refused_answers refusal.Usage accepts failed result h = put_answers usage_reply accepts refl result h
-  refused_answers refusal.Source accepts failed result h = put_answers source_reply accepts refl result h
-  refused_answers refusal.Policy accepts failed result h = put_answers policy_reply accepts refl result h
-  refused_answers refusal.Input accepts failed result h = put_answers input_reply accepts refl result h
-  refused_answers refusal.ReadFault accepts failed result h = unread_answers (failed refl) result h
-  refused_answers refusal.OutOfMemory accepts failed result h = no_memory h.0 h.1
+  refused_answers r accepts failed result (puts bytes e is p) = let reply : Reply = record { bytes = bytes; status = refusal_status r } in put_answers r failed result reply (reported r reply accepts e) is p
+  refused_answers r accepts failed result (breaks_off bytes e is p) = let reply : Reply = record { bytes = bytes; status = refusal_status r } in front_answers r failed result reply (reported r reply accepts e) is p
+  refused_answers r accepts failed result (puts_nothing is p) = no_memory is p
+
+-- only refused words have the status of refused words
+usage_of : (r : Refusal) → refusal_status r ≡ status.Usage → r ≡ refusal.Usage
+usage_of refusal.Usage e = refl
+usage_of refusal.LongSource e = cc
+usage_of (refusal.SourceUtf8 at) e = cc
+usage_of refusal.Unbuilt e = cc
+usage_of refusal.LongPolicy e = cc
+usage_of (refusal.BadPolicy line kind) e = cc
+usage_of refusal.LongInput e = cc
+usage_of (refusal.BadInput line kind) e = cc
+usage_of refusal.ReadFault e = cc
+usage_of refusal.OutOfMemory e = cc
+
+pub refusal_usage : (r : Refusal) → Exactly (refusal_status r) status.Usage (r ≡ refusal.Usage)
+refusal_usage r = (usage_of r, λ e. subst (λ (x : Refusal). UnlessEarly (refusal_status x) (refusal_status x ≡ status.Usage)) (sym e) refl)

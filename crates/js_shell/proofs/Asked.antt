@@ -1,12 +1,14 @@
 -- From the files that are accepted to the reply.
 use Rattle.std.proofs.Common.{◌≡◌, ℕ, List, Option, Some, None, Ok, Err, refl}
 use Rattle.flow_io.specs.Files.{Files}
+use Rattle.flow_policy.specs.declared.fault.PolicyKind.{PolicyKind}
+use Rattle.flow_policy.specs.declared.fault.InputKind.{InputKind}
 use Rattle.flow_policy.specs.Policies.{Tables}
 use Rattle.flow_policy.specs.Inputs.{Given}
 use Rattle.js_shell.specs.declared.accepting.Refusal.{Refusal}
 use Rattle.js_shell.specs.declared.accepting.Refusal.TheVariants as refusal
 use Rattle.js_shell.specs.Scripts.{Statement}
-use Rattle.js_shell.specs.Replies.{Command, Reaches, command_of, refuses_script, refuses_policy, refuses_input, reaches_script, reaches_policy, reaches_input}
+use Rattle.js_shell.specs.Replies.{HasNoScript, SourceFault, long_source, source_utf8, unbuilt, source_reply, HasNoPolicy, HasNoInput, IsReply, FileFault, too_long, bad_line, policy_reply, input_reply, Command, Reaches, command_of, refuses_script, refuses_policy, refuses_input, reaches_script, reaches_policy, reaches_input}
 use Rattle.js_shell.specs.Accepting.{OfFiles, AcceptsScript, AcceptsPolicy, AcceptsInput, Accepts}
 
 -- what follows of all files follows of those that are told
@@ -22,11 +24,18 @@ module _ (words : List (List ℕ)) (contents : Option Files) (command : Command)
   pub script_reached : Reaches contents words command.script
   script_reached = reaches_script command stated refl
 
+  for_script : (fault : SourceFault) → OfFiles contents (λ files. HasNoScript files command.script fault) → OfFiles contents (λ files. IsReply words files (source_reply fault))
+  for_script fault p = of_map contents _ _ (λ files h. refuses_script command fault stated h refl) p
+
   pub script_refused : (r : Refusal) → AcceptsScript contents command.script (Err r) → Accepts words contents (Err r)
   script_refused refusal.Usage p = absurd p
-  script_refused refusal.Source p = of_map contents _ _ (λ files h. refuses_script command stated h refl) p
-  script_refused refusal.Policy p = absurd p
-  script_refused refusal.Input p = absurd p
+  script_refused refusal.LongSource p = for_script long_source p
+  script_refused (refusal.SourceUtf8 at) p = for_script (source_utf8 at) p
+  script_refused refusal.Unbuilt p = for_script unbuilt p
+  script_refused refusal.LongPolicy p = absurd p
+  script_refused (refusal.BadPolicy line kind) p = absurd p
+  script_refused refusal.LongInput p = absurd p
+  script_refused (refusal.BadInput line kind) p = absurd p
   script_refused refusal.ReadFault p = tt
   script_refused refusal.OutOfMemory p = tt
 
@@ -34,11 +43,18 @@ module _ (words : List (List ℕ)) (contents : Option Files) (command : Command)
     pub policy_reached : Reaches contents words command.policy
     policy_reached = reaches_policy command stated refl (of_map contents _ _ (λ files h. (statements, h)) script)
 
+    for_policy : (fault : FileFault PolicyKind) → OfFiles contents (λ files. HasNoPolicy files command.policy fault) → OfFiles contents (λ files. IsReply words files (policy_reply fault))
+    for_policy fault p = of_map contents _ _ (λ files h. refuses_policy command statements fault stated h.0 h.1 refl) (of_both contents _ _ script p)
+
     pub policy_refused : (r : Refusal) → AcceptsPolicy contents command.policy (Err r) → Accepts words contents (Err r)
     policy_refused refusal.Usage p = absurd p
-    policy_refused refusal.Source p = absurd p
-    policy_refused refusal.Policy p = of_map contents _ _ (λ files h. refuses_policy command statements stated h.0 h.1 refl) (of_both contents _ _ script p)
-    policy_refused refusal.Input p = absurd p
+    policy_refused refusal.LongSource p = absurd p
+    policy_refused (refusal.SourceUtf8 at) p = absurd p
+    policy_refused refusal.Unbuilt p = absurd p
+    policy_refused refusal.LongPolicy p = for_policy too_long p
+    policy_refused (refusal.BadPolicy line kind) p = for_policy (bad_line (record { line = line; kind = kind })) p
+    policy_refused refusal.LongInput p = absurd p
+    policy_refused (refusal.BadInput line kind) p = absurd p
     policy_refused refusal.ReadFault p = tt
     policy_refused refusal.OutOfMemory p = tt
 
@@ -46,11 +62,18 @@ module _ (words : List (List ℕ)) (contents : Option Files) (command : Command)
       pub input_reached : Reaches contents words command.input
       input_reached = reaches_input command stated refl (of_map contents _ _ (λ files h. (statements, tables, h.0, h.1)) (of_both contents _ _ script policy))
 
+      for_input : (fault : FileFault InputKind) → OfFiles contents (λ files. HasNoInput files command.input tables fault) → OfFiles contents (λ files. IsReply words files (input_reply fault))
+      for_input fault p = of_map contents _ _ (λ files h. refuses_input command statements tables fault stated h.0 h.1.0 h.1.1 refl) (of_both contents _ _ script (of_both contents _ _ policy p))
+
       pub input_refused : (r : Refusal) → AcceptsInput contents command.input tables (Err r) → Accepts words contents (Err r)
       input_refused refusal.Usage p = absurd p
-      input_refused refusal.Source p = absurd p
-      input_refused refusal.Policy p = absurd p
-      input_refused refusal.Input p = of_map contents _ _ (λ files h. refuses_input command statements tables stated h.0 h.1.0 h.1.1 refl) (of_both contents _ _ script (of_both contents _ _ policy p))
+      input_refused refusal.LongSource p = absurd p
+      input_refused (refusal.SourceUtf8 at) p = absurd p
+      input_refused refusal.Unbuilt p = absurd p
+      input_refused refusal.LongPolicy p = absurd p
+      input_refused (refusal.BadPolicy line kind) p = absurd p
+      input_refused refusal.LongInput p = for_input too_long p
+      input_refused (refusal.BadInput line kind) p = for_input (bad_line (record { line = line; kind = kind })) p
       input_refused refusal.ReadFault p = tt
       input_refused refusal.OutOfMemory p = tt
 

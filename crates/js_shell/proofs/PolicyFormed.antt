@@ -1,6 +1,6 @@
 -- What the tables of a policy file keep, and what an input gives.
 use Rattle.std.proofs.Common.{◌≡◌, ℕ, ◌+◌, List, [], ◌∷◌, map, Option, Some, None, Result, Ok, Err, Bool, true, false, refl, subst, arith, codes}
-use Rattle.std.specs.Prelude.{if◌then◌else◌}
+use Rattle.std.specs.Prelude.{nat_lt, length, if◌then◌else◌}
 use Rattle.std.proofs.lemmas.List.{length-map}
 use Rattle.origin_labels.specs.Names.{same_name}
 use Rattle.flow_policy.specs.declared.policy.Channel.{Channel}
@@ -10,6 +10,7 @@ use Rattle.flow_policy.specs.Lines.{lines_of}
 use Rattle.flow_policy.specs.Names.{words_of}
 use Rattle.flow_policy.specs.Policies.{Tables, no_tables, with_new_origin, with_new_channel, ok_map, after_origin, after_in, after_out, is_comment, after_words, next_line, after_lines, policy_of, BadLine, AreChannels, IsPolicy}
 use Rattle.flow_policy.specs.Inputs.{Given, IsGivenTo, inputs_of, unless_bad, first_bad, texts_on}
+use Rattle.js_shell.specs.Replies.{too_long, read_file, policy_in, input_in, policy_limit, input_limit}
 use Rattle.flow_policy.proofs.PolicyLaws.{IsPolicy-origin, IsPolicy-input, IsPolicy-output}
 
 -- where there is a result it is formed
@@ -70,15 +71,13 @@ no_channels = record { each = λ k d lt. absurd (omega arith); distinct = λ i j
 nothing_formed : IsPolicy no_tables
 nothing_formed = record { names = λ k d lt. absurd (omega arith); origins = λ i j d lt short. absurd (omega arith); few = omega arith; inputs = no_channels; outputs = no_channels }
 
--- the tables that bytes state are a policy
-pub policy_formed : (bytes : List ℕ) (tables : Tables) → policy_of bytes ≡ Ok tables → IsPolicy tables
+stated_formed : (bytes : List ℕ) (tables : Tables) → policy_of bytes ≡ Ok tables → IsPolicy tables
 unfolding policy_of
-policy_formed bytes tables e = subst (λ (r : Result Tables (BadLine PolicyKind)). Forms r) e (lines_formed 1 no_tables (lines_of bytes) nothing_formed)
+stated_formed bytes tables e = subst (λ (r : Result Tables (BadLine PolicyKind)). Forms r) e (lines_formed 1 no_tables (lines_of bytes) nothing_formed)
 
--- what an input gives is for each channel of the policy
-pub given_formed : (tables : Tables) (bytes : List ℕ) (given : Given) → inputs_of tables.inputs bytes ≡ Ok given → IsGivenTo tables given
+read_formed : (tables : Tables) (bytes : List ℕ) (given : Given) → inputs_of tables.inputs bytes ≡ Ok given → IsGivenTo tables given
 unfolding inputs_of
-given_formed tables bytes given e = from (first_bad 1 tables.inputs (lines_of bytes)) e
+read_formed tables bytes given e = from (first_bad 1 tables.inputs (lines_of bytes)) e
   where
     texts : Given
     texts = map (λ channel. texts_on channel.name (lines_of bytes)) tables.inputs
@@ -93,3 +92,19 @@ given_formed tables bytes given e = from (first_bad 1 tables.inputs (lines_of by
 
     from : (bad : Option (BadLine InputKind)) → unless_bad bad texts ≡ Ok given → IsGivenTo tables given
     from bad e = subst has_each e (has bad)
+
+-- what a file gives is what its bytes are read as
+read_is : {X Kind : Type 0} (b : Bool) (r : Result X (BadLine Kind)) (x : X) → (if b then Err too_long else read_file r) ≡ Ok x → r ≡ Ok x
+read_is true r x e = cc
+read_is false (Ok y) x e = cc
+read_is false (Err bad) x e = cc
+
+-- the tables that a policy file states are a policy
+pub policy_formed : (bytes : List ℕ) (tables : Tables) → policy_in bytes ≡ Ok tables → IsPolicy tables
+unfolding policy_in
+policy_formed bytes tables e = stated_formed bytes tables (read_is (nat_lt policy_limit (length bytes)) (policy_of bytes) tables e)
+
+-- what an input file gives is for each channel of the policy
+pub given_formed : (tables : Tables) (bytes : List ℕ) (given : Given) → input_in tables bytes ≡ Ok given → IsGivenTo tables given
+unfolding input_in
+given_formed tables bytes given e = read_formed tables bytes given (read_is (nat_lt input_limit (length bytes)) (inputs_of tables.inputs bytes) given e)

@@ -257,25 +257,25 @@ status_is reply other s is e = sym (ap (λ (x : Reply). x.status) is) ∙ e
 module _ (words : List (List ℕ)) (files : Files) where
   to_source : (reply : Reply) → IsReply words files reply → reply.status ≡ status.Source → IsSource words files
   to_source reply (refuses_words none is) e = let bad : status.Usage ≡ status.Source = status_is reply usage_reply _ is e in cc
-  to_source reply (refuses_script c at none is) e = (c, at, none)
-  to_source reply (refuses_policy c s at script none is) e = let bad : status.Policy ≡ status.Source = status_is reply policy_reply _ is e in cc
-  to_source reply (refuses_input c s t at script policy none is) e = let bad : status.Policy ≡ status.Source = status_is reply input_reply _ is e in cc
+  to_source reply (refuses_script c x at none is) e = (c, x, at, none)
+  to_source reply (refuses_policy c s x at script none is) e = let bad : status.Policy ≡ status.Source = status_is reply (policy_reply x) _ is e in cc
+  to_source reply (refuses_input c s t x at script policy none is) e = let bad : status.Policy ≡ status.Source = status_is reply (input_reply x) _ is e in cc
   to_source reply (runs task asked is) e = absurd (no_refusal (tracked_run task).ending status.Source (status_is reply (run_reply task) _ is e) (inl refl))
 
   from_source : IsSource words files → (reply : Reply) × IsReply words files reply × (reply.status ≡ status.Source)
-  from_source h = (source_reply, refuses_script h.0 h.1 h.2 refl, refl)
+  from_source h = (source_reply h.1, refuses_script h.0 h.1 h.2 h.3 refl, refl)
 
   to_policy : (reply : Reply) → IsReply words files reply → reply.status ≡ status.Policy → IsBadPolicy words files
   to_policy reply (refuses_words none is) e = let bad : status.Usage ≡ status.Policy = status_is reply usage_reply _ is e in cc
-  to_policy reply (refuses_script c at none is) e = let bad : status.Source ≡ status.Policy = status_is reply source_reply _ is e in cc
-  to_policy reply (refuses_policy c s at script none is) e = (c, s, at, script, inl none)
-  to_policy reply (refuses_input c s t at script policy none is) e = (c, s, at, script, inr (t, policy, none))
+  to_policy reply (refuses_script c x at none is) e = let bad : status.Source ≡ status.Policy = status_is reply (source_reply x) _ is e in cc
+  to_policy reply (refuses_policy c s x at script none is) e = (c, s, at, script, inl (x, none))
+  to_policy reply (refuses_input c s t x at script policy none is) e = (c, s, at, script, inr (t, x, policy, none))
   to_policy reply (runs task asked is) e = absurd (no_refusal (tracked_run task).ending status.Policy (status_is reply (run_reply task) _ is e) (inr refl))
 
   from_policy : IsBadPolicy words files → (reply : Reply) × IsReply words files reply × (reply.status ≡ status.Policy)
   from_policy h = elim h.4 [
-    | inl none ↦ (policy_reply, refuses_policy h.0 h.1 h.2 h.3 none refl, refl)
-    | inr bad ↦ (input_reply, refuses_input h.0 h.1 bad.0 h.2 h.3 bad.1 bad.2 refl, refl)
+    | inl bad ↦ (policy_reply bad.0, refuses_policy h.0 h.1 bad.0 h.2 h.3 bad.1 refl, refl)
+    | inr bad ↦ (input_reply bad.1, refuses_input h.0 h.1 bad.0 bad.1 h.2 h.3 bad.2 bad.3 refl, refl)
   ]
 
   -- a reply with one of these statuses is a run's
@@ -284,9 +284,9 @@ module _ (words : List (List ℕ)) (files : Files) where
 
   of_run : (reply : Reply) (s : Status) → IsReply words files reply → reply.status ≡ s → (s ≡ status.Usage → ⊥) → (s ≡ status.Source → ⊥) → (s ≡ status.Policy → ⊥) → IsRuns reply
   of_run reply s (refuses_words none is) e a b c = absurd (a (sym (status_is reply usage_reply s is e)))
-  of_run reply s (refuses_script k at none is) e a b c = absurd (b (sym (status_is reply source_reply s is e)))
-  of_run reply s (refuses_policy k t at script none is) e a b c = absurd (c (sym (status_is reply policy_reply s is e)))
-  of_run reply s (refuses_input k t u at script policy none is) e a b c = absurd (c (sym (status_is reply input_reply s is e)))
+  of_run reply s (refuses_script k x at none is) e a b c = absurd (b (sym (status_is reply (source_reply x) s is e)))
+  of_run reply s (refuses_policy k t x at script none is) e a b c = absurd (c (sym (status_is reply (policy_reply x) s is e)))
+  of_run reply s (refuses_input k t u x at script policy none is) e a b c = absurd (c (sym (status_is reply (input_reply x) s is e)))
   of_run reply s (runs task asked is) e a b c = (task, asked, is)
 
   to_done : (reply : Reply) → IsReply words files reply → reply.status ≡ status.Done → IsDone words files

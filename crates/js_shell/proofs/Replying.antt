@@ -3,12 +3,14 @@ use Rattle.std.proofs.Common.{◌≡◌, ℕ, ◌≤◌, List, length, Bool, tru
 use Rattle.std.proofs.lemmas.Bool.{false≢true, leb-true, le-leb}
 use Rattle.std.proofs.Math.Dec.{leb}
 use Rattle.flow_io.specs.Files.{Files, file_at}
-use Rattle.flow_policy.specs.Policies.{Tables, BadLine, policy_of}
-use Rattle.flow_policy.specs.Inputs.{Given, inputs_of}
+use Rattle.flow_policy.specs.Policies.{Tables}
+use Rattle.flow_policy.specs.Inputs.{Given}
 use Rattle.flow_policy.specs.declared.fault.PolicyKind.{PolicyKind}
 use Rattle.flow_policy.specs.declared.fault.InputKind.{InputKind}
 use Rattle.js_shell.specs.Scripts.{Statement, IsScriptOf, Spells, script_limit}
-use Rattle.js_shell.specs.Replies.{Command, command_of, Task, HasScript, HasNoScript, HasPolicy, HasNoPolicy, HasInput, HasNoInput, Reply, IsReply, refuses_words, refuses_script, refuses_policy, refuses_input, runs, run_reply, usage_reply, source_reply, policy_reply, input_reply, policy_limit, input_limit, ReachesAbsent, reaches_script, reaches_policy, reaches_input}
+use Rattle.std.specs.Prelude.{nat_lt, if◌then◌else◌}
+use Rattle.flow_text.specs.Utf8.{text_of_utf8}
+use Rattle.js_shell.specs.Replies.{SourceFault, long_source, source_utf8, unbuilt, source_text, source_limit, read_source, IsSourceText, RefusesSource, Command, command_of, Task, HasScript, HasNoScript, HasPolicy, HasNoPolicy, HasInput, HasNoInput, Reply, IsReply, refuses_words, refuses_script, refuses_policy, refuses_input, runs, run_reply, usage_reply, source_reply, policy_reply, input_reply, FileFault, policy_in, input_in, ReachesAbsent, reaches_script, reaches_policy, reaches_input}
 use Rattle.js_shell.specs.Promises.{RepliesOnce}
 use Rattle.js_shell.proofs.ReadingLaws.{spells_once, script_or_none}
 
@@ -22,35 +24,70 @@ ok_is : {X E : Type 0} (x y : X) (r : Result X E) → r ≡ Ok x → r ≡ Ok y 
 ok_is x y (Ok z) p q = cc
 ok_is x y (Err e) p q = cc
 
+err_is : {X E : Type 0} (x y : E) (r : Result X E) → r ≡ Err x → r ≡ Err y → x ≡ y
+err_is x y (Ok z) p q = cc
+err_is x y (Err e) p q = cc
+
+ok_or_err : {X E : Type 0} (x : X) (y : E) (r : Result X E) → r ≡ Ok x → r ≡ Err y → ⊥
+ok_or_err x y (Ok z) p q = cc
+ok_or_err x y (Err e) p q = cc
+
+spelled_or_not : (bytes : List ℕ) (s : List Statement) (fault : SourceFault) → IsSourceText bytes → IsScriptOf bytes s → RefusesSource bytes fault → ⊥
+spelled_or_not bytes s long_source text spelled e = ok_or_err text.0 long_source (source_text bytes) text.1 e
+spelled_or_not bytes s (source_utf8 at) text spelled e = ok_or_err text.0 (source_utf8 at) (source_text bytes) text.1 e
+spelled_or_not bytes s unbuilt text spelled e = e.1 s spelled
+
+one_fault : (bytes : List ℕ) (s t : SourceFault) → RefusesSource bytes s → RefusesSource bytes t → s ≡ t
+one_fault bytes long_source long_source e f = refl
+one_fault bytes long_source (source_utf8 at) e f = err_is long_source (source_utf8 at) (source_text bytes) e f
+one_fault bytes long_source unbuilt e f = absurd (ok_or_err f.0.0 long_source (source_text bytes) f.0.1 e)
+one_fault bytes (source_utf8 at) long_source e f = err_is (source_utf8 at) long_source (source_text bytes) e f
+one_fault bytes (source_utf8 at) (source_utf8 other) e f = err_is (source_utf8 at) (source_utf8 other) (source_text bytes) e f
+one_fault bytes (source_utf8 at) unbuilt e f = absurd (ok_or_err f.0.0 (source_utf8 at) (source_text bytes) f.0.1 e)
+one_fault bytes unbuilt long_source e f = absurd (ok_or_err e.0.0 long_source (source_text bytes) e.0.1 f)
+one_fault bytes unbuilt (source_utf8 at) e f = absurd (ok_or_err e.0.0 (source_utf8 at) (source_text bytes) e.0.1 f)
+one_fault bytes unbuilt unbuilt e f = refl
+
 module _ (files : Files) (path : List ℕ) where
   script_is : (s t : List Statement) → HasScript files path s → HasScript files path t → s ≡ t
   script_is s t p q =
       let same : p.bytes ≡ q.bytes = some_is p.bytes q.bytes (file_at files path) p.there q.there in
       spells_once s t q.bytes (subst (λ (b : List ℕ). Spells s b) same p.spelled.spelled) q.spelled.spelled
 
-  script_or_not : (s : List Statement) → HasScript files path s → HasNoScript files path → ⊥
-  script_or_not s p q = q.refused s (subst (λ (b : List ℕ). IsScriptOf b s) (some_is p.bytes q.bytes (file_at files path) p.there q.there) p.spelled)
+  script_or_not : (s : List Statement) (fault : SourceFault) → HasScript files path s → HasNoScript files path fault → ⊥
+  script_or_not s fault p q = spelled_or_not q.bytes s fault (subst IsSourceText same p.text) (subst (λ (b : List ℕ). IsScriptOf b s) same p.spelled) q.refused
+    where
+      same : p.bytes ≡ q.bytes
+      same = some_is p.bytes q.bytes (file_at files path) p.there q.there
 
-  policy_is : (s t : Tables) → HasPolicy files path s → HasPolicy files path t → s ≡ t
-  policy_is s t p q =
-      let same : p.bytes ≡ q.bytes = some_is p.bytes q.bytes (file_at files path) p.there q.there in
-      ok_is s t (policy_of q.bytes) (sym (ap policy_of same) ∙ p.stated) q.stated
+  source_fault : (s t : SourceFault) → HasNoScript files path s → HasNoScript files path t → s ≡ t
+  source_fault s t p q = one_fault q.bytes s t (subst (λ (b : List ℕ). RefusesSource b s) (some_is p.bytes q.bytes (file_at files path) p.there q.there) p.refused) q.refused
 
-  policy_or_not : (s : Tables) → HasPolicy files path s → HasNoPolicy files path → ⊥
-  policy_or_not s p q =
-      let same : p.bytes ≡ q.bytes = some_is p.bytes q.bytes (file_at files path) p.there q.there in
-      q.refused s (subst (λ (b : List ℕ). length b ≤ policy_limit) same p.short) (sym (ap policy_of same) ∙ p.stated)
+  -- what one file's bytes give, the same file's give
+  policy_at : (r : Result Tables (FileFault PolicyKind)) (p q : List ℕ) → file_at files path ≡ Some p → file_at files path ≡ Some q → policy_in p ≡ r → policy_in q ≡ r
+  policy_at r p q at at' e = ap policy_in (some_is q p (file_at files path) at' at) ∙ e
+
+  input_at : (tables : Tables) (r : Result Given (FileFault InputKind)) (p q : List ℕ) → file_at files path ≡ Some p → file_at files path ≡ Some q → input_in tables p ≡ r → input_in tables q ≡ r
+  input_at tables r p q at at' e = ap (input_in tables) (some_is q p (file_at files path) at' at) ∙ e
+
+  policy_same : (s t : Tables) → HasPolicy files path s → HasPolicy files path t → s ≡ t
+  policy_same s t p q = ok_is s t (policy_in q.bytes) (policy_at (Ok s) p.bytes q.bytes p.there q.there p.stated) q.stated
+
+  policy_or_not : (s : Tables) (fault : FileFault PolicyKind) → HasPolicy files path s → HasNoPolicy files path fault → ⊥
+  policy_or_not s fault p q = ok_or_err s fault (policy_in q.bytes) (policy_at (Ok s) p.bytes q.bytes p.there q.there p.stated) q.refused
+
+  policy_fault : (s t : FileFault PolicyKind) → HasNoPolicy files path s → HasNoPolicy files path t → s ≡ t
+  policy_fault s t p q = err_is s t (policy_in q.bytes) (policy_at (Err s) p.bytes q.bytes p.there q.there p.refused) q.refused
 
   module _ (tables : Tables) where
-    input_is : (s t : Given) → HasInput files path tables s → HasInput files path tables t → s ≡ t
-    input_is s t p q =
-        let same : p.bytes ≡ q.bytes = some_is p.bytes q.bytes (file_at files path) p.there q.there in
-        ok_is s t (inputs_of tables.inputs q.bytes) (sym (ap (inputs_of tables.inputs) same) ∙ p.gives) q.gives
+    input_same : (s t : Given) → HasInput files path tables s → HasInput files path tables t → s ≡ t
+    input_same s t p q = ok_is s t (input_in tables q.bytes) (input_at tables (Ok s) p.bytes q.bytes p.there q.there p.gives) q.gives
 
-    input_or_not : (s : Given) → HasInput files path tables s → HasNoInput files path tables → ⊥
-    input_or_not s p q =
-        let same : p.bytes ≡ q.bytes = some_is p.bytes q.bytes (file_at files path) p.there q.there in
-        q.refused s (subst (λ (b : List ℕ). length b ≤ input_limit) same p.short) (sym (ap (inputs_of tables.inputs) same) ∙ p.gives)
+    input_or_not : (s : Given) (fault : FileFault InputKind) → HasInput files path tables s → HasNoInput files path tables fault → ⊥
+    input_or_not s fault p q = ok_or_err s fault (input_in tables q.bytes) (input_at tables (Ok s) p.bytes q.bytes p.there q.there p.gives) q.refused
+
+    input_fault : (s t : FileFault InputKind) → HasNoInput files path tables s → HasNoInput files path tables t → s ≡ t
+    input_fault s t p q = err_is s t (input_in tables q.bytes) (input_at tables (Err s) p.bytes q.bytes p.there q.there p.refused) q.refused
 
 module _ (words : List (List ℕ)) (files : Files) where
   command_is : (a b : Command) → command_of words ≡ Some a → command_of words ≡ Some b → a ≡ b
@@ -61,44 +98,50 @@ module _ (words : List (List ℕ)) (files : Files) where
 
   -- how far the work goes, without the reply
   pub data Goes (reply : Reply) (command : Command) : Type 0 where
-    to_script : HasNoScript files command.script → reply ≡ source_reply → Goes reply command
-    to_policy : (statements : List Statement) → HasScript files command.script statements → HasNoPolicy files command.policy → reply ≡ policy_reply → Goes reply command
-    to_input : (statements : List Statement) (tables : Tables) → HasScript files command.script statements → HasPolicy files command.policy tables
-        → HasNoInput files command.input tables → reply ≡ input_reply → Goes reply command
+    to_script : (fault : SourceFault) → HasNoScript files command.script fault → reply ≡ source_reply fault → Goes reply command
+    to_policy : (statements : List Statement) (fault : FileFault PolicyKind) → HasScript files command.script statements → HasNoPolicy files command.policy fault
+        → reply ≡ policy_reply fault → Goes reply command
+    to_input : (statements : List Statement) (tables : Tables) (fault : FileFault InputKind) → HasScript files command.script statements → HasPolicy files command.policy tables
+        → HasNoInput files command.input tables fault → reply ≡ input_reply fault → Goes reply command
     to_run : (task : Task) → HasScript files command.script task.statements → HasPolicy files command.policy task.tables
         → HasInput files command.input task.tables task.given → reply ≡ run_reply task → Goes reply command
 
   goes_with : (reply : Reply) (command : Command) → command_of words ≡ Some command → IsReply words files reply → Goes reply command
   goes_with reply command stated (refuses_words none is) = absurd (no_command command stated none)
-  goes_with reply command stated (refuses_script c at none is) = subst (Goes reply) (command_is c command at stated) (to_script none is)
-  goes_with reply command stated (refuses_policy c s at script none is) = subst (Goes reply) (command_is c command at stated) (to_policy s script none is)
-  goes_with reply command stated (refuses_input c s t at script policy none is) = subst (Goes reply) (command_is c command at stated) (to_input s t script policy none is)
+  goes_with reply command stated (refuses_script c x at none is) = subst (Goes reply) (command_is c command at stated) (to_script x none is)
+  goes_with reply command stated (refuses_policy c s f at script none is) = subst (Goes reply) (command_is c command at stated) (to_policy s f script none is)
+  goes_with reply command stated (refuses_input c s t f at script policy none is) = subst (Goes reply) (command_is c command at stated) (to_input s t f script policy none is)
   goes_with reply command stated (runs task asked is) = subst (Goes reply) (command_is asked.command command asked.stated stated) (to_run task asked.script asked.policy asked.input is)
 
   task_is : (command : Command) (a b : Task) → HasScript files command.script a.statements → HasPolicy files command.policy a.tables → HasInput files command.input a.tables a.given
       → HasScript files command.script b.statements → HasPolicy files command.policy b.tables → HasInput files command.input b.tables b.given → a ≡ b
   task_is command a b s p i s' p' i' =
       let same_s : a.statements ≡ b.statements = script_is files command.script a.statements b.statements s s' in
-      let same_t : a.tables ≡ b.tables = policy_is files command.policy a.tables b.tables p p' in
-      let same_g : a.given ≡ b.given = input_is files command.input b.tables a.given b.given (subst (λ (t : Tables). HasInput files command.input t a.given) same_t i) i' in
+      let same_t : a.tables ≡ b.tables = policy_same files command.policy a.tables b.tables p p' in
+      let same_g : a.given ≡ b.given = input_same files command.input b.tables a.given b.given (subst (λ (t : Tables). HasInput files command.input t a.given) same_t i) i' in
       ap (λ (x : List Statement). record a { statements = x }) same_s ∙ ap (λ (x : Tables). record a { statements = b.statements; tables = x }) same_t ∙ ap (λ (x : Given). record b { given = x }) same_g
 
+  -- an input of one table isn't refused by the other, which is the same
+  taken_or_not : (c : Command) (t : Tables) (f : FileFault InputKind) (k : Task) → HasPolicy files c.policy t → HasNoInput files c.input t f → HasPolicy files c.policy k.tables → HasInput files c.input k.tables k.given → ⊥
+  taken_or_not c t f k q n q' r = input_or_not files c.input k.tables k.given f r (subst (λ (x : Tables). HasNoInput files c.input x f) (policy_same files c.policy t k.tables q q') n)
+
   goes_once : (command : Command) (first second : Reply) → Goes first command → Goes second command → first ≡ second
-  goes_once c a b (to_script n e) (to_script m f) = e ∙ sym f
-  goes_once c a b (to_script n e) (to_policy s p m f) = absurd (script_or_not files c.script s p n)
-  goes_once c a b (to_script n e) (to_input s t p q m f) = absurd (script_or_not files c.script s p n)
-  goes_once c a b (to_script n e) (to_run t p q r f) = absurd (script_or_not files c.script t.statements p n)
-  goes_once c a b (to_policy s p n e) (to_script m f) = absurd (script_or_not files c.script s p m)
-  goes_once c a b (to_policy s p n e) (to_policy s' p' m f) = e ∙ sym f
-  goes_once c a b (to_policy s p n e) (to_input s' t p' q m f) = absurd (policy_or_not files c.policy t q n)
-  goes_once c a b (to_policy s p n e) (to_run t p' q r f) = absurd (policy_or_not files c.policy t.tables q n)
-  goes_once c a b (to_input s t p q n e) (to_script m f) = absurd (script_or_not files c.script s p m)
-  goes_once c a b (to_input s t p q n e) (to_policy s' p' m f) = absurd (policy_or_not files c.policy t q m)
-  goes_once c a b (to_input s t p q n e) (to_input s' t' p' q' m f) = e ∙ sym f
-  goes_once c a b (to_input s t p q n e) (to_run k p' q' r f) = absurd (input_or_not files c.input k.tables k.given r (subst (HasNoInput files c.input) (policy_is files c.policy t k.tables q q') n))
-  goes_once c a b (to_run k p q r e) (to_script m f) = absurd (script_or_not files c.script k.statements p m)
-  goes_once c a b (to_run k p q r e) (to_policy s' p' m f) = absurd (policy_or_not files c.policy k.tables q m)
-  goes_once c a b (to_run k p q r e) (to_input s' t p' q' m f) = absurd (input_or_not files c.input k.tables k.given r (subst (HasNoInput files c.input) (policy_is files c.policy t k.tables q' q) m))
+  goes_once c a b (to_script x n e) (to_script y m f) = e ∙ ap source_reply (source_fault files c.script x y n m) ∙ sym f
+  goes_once c a b (to_script y n e) (to_policy s x p m f) = absurd (script_or_not files c.script s y p n)
+  goes_once c a b (to_script y n e) (to_input s t x p q m f) = absurd (script_or_not files c.script s y p n)
+  goes_once c a b (to_script y n e) (to_run t p q r f) = absurd (script_or_not files c.script t.statements y p n)
+  goes_once c a b (to_policy s x p n e) (to_script y m f) = absurd (script_or_not files c.script s y p m)
+  goes_once c a b (to_policy s x p n e) (to_policy s' x' p' m f) = e ∙ ap policy_reply (policy_fault files c.policy x x' n m) ∙ sym f
+  goes_once c a b (to_policy s x p n e) (to_input s' t x' p' q m f) = absurd (policy_or_not files c.policy t x q n)
+  goes_once c a b (to_policy s x p n e) (to_run t p' q r f) = absurd (policy_or_not files c.policy t.tables x q n)
+  goes_once c a b (to_input s t x p q n e) (to_script y m f) = absurd (script_or_not files c.script s y p m)
+  goes_once c a b (to_input s t x p q n e) (to_policy s' x' p' m f) = absurd (policy_or_not files c.policy t x' q m)
+  goes_once c a b (to_input s t x p q n e) (to_input s' t' x' p' q' m f) =
+      e ∙ ap input_reply (input_fault files c.input t' x x' (subst (λ (k : Tables). HasNoInput files c.input k x) (policy_same files c.policy t t' q q') n) m) ∙ sym f
+  goes_once c a b (to_input s t x p q n e) (to_run k p' q' r f) = absurd (taken_or_not c t x k q n q' r)
+  goes_once c a b (to_run k p q r e) (to_script y m f) = absurd (script_or_not files c.script k.statements y p m)
+  goes_once c a b (to_run k p q r e) (to_policy s' x p' m f) = absurd (policy_or_not files c.policy k.tables x q m)
+  goes_once c a b (to_run k p q r e) (to_input s' t x p' q' m f) = absurd (taken_or_not c t x k q' m q r)
   goes_once c a b (to_run k p q r e) (to_run k' p' q' r' f) = e ∙ ap run_reply (task_is c k k' p q r p' q' r') ∙ sym f
 
   once_by : (o : Option Command) (first second : Reply) → command_of words ≡ o → IsReply words files first → IsReply words files second → first ≡ second
@@ -107,9 +150,9 @@ module _ (words : List (List ℕ)) (files : Files) where
     where
       usage_of : (reply : Reply) → IsReply words files reply → reply ≡ usage_reply
       usage_of reply (refuses_words none is) = is
-      usage_of reply (refuses_script c at none is) = absurd (no_command c at e)
-      usage_of reply (refuses_policy c s at script none is) = absurd (no_command c at e)
-      usage_of reply (refuses_input c s t at script policy none is) = absurd (no_command c at e)
+      usage_of reply (refuses_script c x at none is) = absurd (no_command c at e)
+      usage_of reply (refuses_policy c s x at script none is) = absurd (no_command c at e)
+      usage_of reply (refuses_input c s t x at script policy none is) = absurd (no_command c at e)
       usage_of reply (runs task asked is) = absurd (no_command asked.command asked.stated e)
 
 pub replies_once : RepliesOnce
@@ -124,6 +167,15 @@ at_most n limit = by (leb n limit) refl
     by true e = inl (leb-true n limit e)
     by false e = inr (λ le. false≢true (sym e ∙ le-leb n limit le))
 
+read_built : (b : Bool) (r : Result (List ℕ) ℕ) → (if b then Err long_source else read_source r) ≡ Err unbuilt → ⊥
+read_built true r e = cc
+read_built false (Ok text) e = cc
+read_built false (Err at) e = cc
+
+never_unbuilt : (bytes : List ℕ) → source_text bytes ≡ Err unbuilt → ⊥
+unfolding source_text
+never_unbuilt bytes e = read_built (nat_lt source_limit (length bytes)) (text_of_utf8 bytes) e
+
 module _ (words : List (List ℕ)) (files : Files) where
   abbrev Answered : Type 0
   Answered = ((reply : Reply) × IsReply words files reply) ⊎ ReachesAbsent words files
@@ -131,42 +183,41 @@ module _ (words : List (List ℕ)) (files : Files) where
   module _ (command : Command) (stated : command_of words ≡ Some command) where
     module _ (statements : List Statement) (script : HasScript files command.script statements) where
       module _ (tables : Tables) (policy : HasPolicy files command.policy tables) where
-        no_input : HasNoInput files command.input tables → Answered
-        no_input none = inl (input_reply, refuses_input command statements tables stated script policy none refl)
-
-        with_input : (bytes : List ℕ) → file_at files command.input ≡ Some bytes → (r : Result Given (BadLine InputKind)) → inputs_of tables.inputs bytes ≡ r → (length bytes ≤ input_limit) ⊎ (length bytes ≤ input_limit → ⊥) → Answered
-        with_input bytes at (Ok given) e (inl short) =
+        with_input : (bytes : List ℕ) → file_at files command.input ≡ Some bytes → (r : Result Given (FileFault InputKind)) → input_in tables bytes ≡ r → Answered
+        with_input bytes at (Ok given) e =
             let task : Task = record { statements = statements; tables = tables; given = given } in
-            inl (run_reply task, runs task (record { command = command; stated = stated; script = script; policy = policy; input = record { bytes = bytes; there = at; short = short; gives = e } }) refl)
-        with_input bytes at (Ok given) e (inr long) = no_input (record { bytes = bytes; there = at; refused = λ g short is. long short })
-        with_input bytes at (Err bad) e s = no_input (record { bytes = bytes; there = at; refused = λ g short is. cc })
+            inl (run_reply task, runs task (record { command = command; stated = stated; script = script; policy = policy; input = record { bytes = bytes; there = at; gives = e } }) refl)
+        with_input bytes at (Err fault) e = inl (input_reply fault, refuses_input command statements tables fault stated script policy (record { bytes = bytes; there = at; refused = e }) refl)
 
         from_input : (o : Option (List ℕ)) → file_at files command.input ≡ o → Answered
-        from_input (Some bytes) at = with_input bytes at (inputs_of tables.inputs bytes) refl (at_most (length bytes) input_limit)
+        from_input (Some bytes) at = with_input bytes at (input_in tables bytes) refl
         from_input None at = inr (command.input, reaches_input command stated refl (statements, tables, script, policy), at)
 
-      no_policy : HasNoPolicy files command.policy → Answered
-      no_policy none = inl (policy_reply, refuses_policy command statements stated script none refl)
-
-      with_policy : (bytes : List ℕ) → file_at files command.policy ≡ Some bytes → (r : Result Tables (BadLine PolicyKind)) → policy_of bytes ≡ r → (length bytes ≤ policy_limit) ⊎ (length bytes ≤ policy_limit → ⊥) → Answered
-      with_policy bytes at (Ok tables) e (inl short) = from_input tables (record { bytes = bytes; there = at; short = short; stated = e }) (file_at files command.input) refl
-      with_policy bytes at (Ok tables) e (inr long) = no_policy (record { bytes = bytes; there = at; refused = λ t short is. long short })
-      with_policy bytes at (Err bad) e s = no_policy (record { bytes = bytes; there = at; refused = λ t short is. cc })
+      with_policy : (bytes : List ℕ) → file_at files command.policy ≡ Some bytes → (r : Result Tables (FileFault PolicyKind)) → policy_in bytes ≡ r → Answered
+      with_policy bytes at (Ok tables) e = from_input tables (record { bytes = bytes; there = at; stated = e }) (file_at files command.input) refl
+      with_policy bytes at (Err fault) e = inl (policy_reply fault, refuses_policy command statements fault stated script (record { bytes = bytes; there = at; refused = e }) refl)
 
       from_policy : (o : Option (List ℕ)) → file_at files command.policy ≡ o → Answered
-      from_policy (Some bytes) at = with_policy bytes at (policy_of bytes) refl (at_most (length bytes) policy_limit)
+      from_policy (Some bytes) at = with_policy bytes at (policy_in bytes) refl
       from_policy None at = inr (command.policy, reaches_policy command stated refl (statements, script), at)
 
-    no_script : HasNoScript files command.script → Answered
-    no_script none = inl (source_reply, refuses_script command stated none refl)
+    no_script : (fault : SourceFault) → HasNoScript files command.script fault → Answered
+    no_script fault none = inl (source_reply fault, refuses_script command fault stated none refl)
 
-    with_script : (bytes : List ℕ) → file_at files command.script ≡ Some bytes → ((s : List Statement) × Spells s bytes) ⊎ ((s : List Statement) → Spells s bytes → ⊥) → (length bytes ≤ script_limit) ⊎ (length bytes ≤ script_limit → ⊥) → Answered
-    with_script bytes at (inl spelled) (inl short) = from_policy spelled.0 (record { bytes = bytes; there = at; spelled = record { short = short; spelled = spelled.1 } }) (file_at files command.policy) refl
-    with_script bytes at (inl spelled) (inr long) = no_script (record { bytes = bytes; there = at; refused = λ s is. long is.short })
-    with_script bytes at (inr none) s = no_script (record { bytes = bytes; there = at; refused = λ s is. none s is.spelled })
+    with_text : (bytes : List ℕ) → file_at files command.script ≡ Some bytes → IsSourceText bytes → ((s : List Statement) × Spells s bytes) ⊎ ((s : List Statement) → Spells s bytes → ⊥)
+        → (length bytes ≤ script_limit) ⊎ (length bytes ≤ script_limit → ⊥) → Answered
+    with_text bytes at text (inl spelled) (inl short) = from_policy spelled.0 (record { bytes = bytes; there = at; text = text; spelled = record { short = short; spelled = spelled.1 } }) (file_at files command.policy) refl
+    with_text bytes at text (inl spelled) (inr long) = no_script unbuilt (record { bytes = bytes; there = at; refused = (text, λ s is. long is.short) })
+    with_text bytes at text (inr none) s = no_script unbuilt (record { bytes = bytes; there = at; refused = (text, λ s is. none s is.spelled) })
+
+    with_script : (bytes : List ℕ) → file_at files command.script ≡ Some bytes → (r : Result (List ℕ) SourceFault) → source_text bytes ≡ r → Answered
+    with_script bytes at (Ok text) e = with_text bytes at (text, e) (script_or_none bytes) (at_most (length bytes) script_limit)
+    with_script bytes at (Err long_source) e = no_script long_source (record { bytes = bytes; there = at; refused = e })
+    with_script bytes at (Err (source_utf8 k)) e = no_script (source_utf8 k) (record { bytes = bytes; there = at; refused = e })
+    with_script bytes at (Err unbuilt) e = absurd (never_unbuilt bytes e)
 
     from_script : (o : Option (List ℕ)) → file_at files command.script ≡ o → Answered
-    from_script (Some bytes) at = with_script bytes at (script_or_none bytes) (at_most (length bytes) script_limit)
+    from_script (Some bytes) at = with_script bytes at (source_text bytes) refl
     from_script None at = inr (command.script, reaches_script command stated refl, at)
 
   from_words : (o : Option Command) → command_of words ≡ o → Answered

@@ -1,5 +1,5 @@
 -- What the program's parts answer on the way to a reply.
-use Rattle.std.specs.Prelude.{◌≡◌, ℕ, Bool, true, false, List, Option, Some, None, Result, Ok, Err, IfSome, MatchOption}
+use Rattle.std.specs.Prelude.{◌≡◌, ℕ, Bool, true, false, List, Option, Some, None, Result, Ok, Err, IfSome}
 use Rattle.flow_io.specs.Files.{Files}
 use Rattle.flow_io.specs.Sinks.{Appends, AppendsFront}
 use Rattle.flow_policy.specs.Policies.{Tables}
@@ -8,8 +8,8 @@ use Rattle.js_shell.specs.declared.status.Status.{Status}
 use Rattle.js_shell.specs.declared.status.Status.TheVariants as status
 use Rattle.js_shell.specs.declared.accepting.Refusal.{Refusal}
 use Rattle.js_shell.specs.declared.accepting.Refusal.TheVariants as refusal
-use Rattle.js_shell.specs.Scripts.{Statement}
-use Rattle.js_shell.specs.Replies.{Task, IsAsked, HasScript, HasNoScript, HasPolicy, HasNoPolicy, HasInput, HasNoInput, Reply, IsReply, read_fault_report, usage_reply, source_reply, policy_reply, input_reply}
+use Rattle.js_shell.specs.Scripts.{Statement, IsScriptOf}
+use Rattle.js_shell.specs.Replies.{Task, IsAsked, HasScript, HasNoScript, HasPolicy, HasNoPolicy, HasInput, HasNoInput, IsSourceText, RefusesSource, too_long, bad_line, long_source, source_utf8, unbuilt, Reply, IsReply, read_fault_report, usage_reply, source_reply, policy_reply, input_reply}
 
 -- what is said of the files, where the store tells them
 abbrev pub OfFiles : Option Files → (Files → Type 0) → Type 0
@@ -17,21 +17,33 @@ OfFiles contents Says = IfSome contents Says
 
 abbrev pub AcceptsScript : Option Files → List ℕ → Result (List Statement) Refusal → Type 0
 AcceptsScript contents path (Ok statements) = OfFiles contents (λ files. HasScript files path statements)
-AcceptsScript contents path (Err refusal.Source) = OfFiles contents (λ files. HasNoScript files path)
+AcceptsScript contents path (Err refusal.LongSource) = OfFiles contents (λ files. HasNoScript files path long_source)
+AcceptsScript contents path (Err (refusal.SourceUtf8 at)) = OfFiles contents (λ files. HasNoScript files path (source_utf8 at))
+AcceptsScript contents path (Err refusal.Unbuilt) = OfFiles contents (λ files. HasNoScript files path unbuilt)
 AcceptsScript contents path (Err refusal.ReadFault) = Unit {0}
 AcceptsScript contents path (Err refusal.OutOfMemory) = Unit {0}
 AcceptsScript contents path (Err _) = ⊥
 
+-- the bytes of a source are a script of these statements, or are refused
+abbrev pub TakesScript : List ℕ → Result (List Statement) Refusal → Type 0
+TakesScript bytes (Ok statements) = IsSourceText bytes × IsScriptOf bytes statements
+TakesScript bytes (Err (refusal.SourceUtf8 at)) = RefusesSource bytes (source_utf8 at)
+TakesScript bytes (Err refusal.Unbuilt) = RefusesSource bytes unbuilt
+TakesScript bytes (Err refusal.OutOfMemory) = Unit {0}
+TakesScript bytes (Err _) = ⊥
+
 abbrev pub AcceptsPolicy : Option Files → List ℕ → Result Tables Refusal → Type 0
 AcceptsPolicy contents path (Ok tables) = OfFiles contents (λ files. HasPolicy files path tables)
-AcceptsPolicy contents path (Err refusal.Policy) = OfFiles contents (λ files. HasNoPolicy files path)
+AcceptsPolicy contents path (Err refusal.LongPolicy) = OfFiles contents (λ files. HasNoPolicy files path too_long)
+AcceptsPolicy contents path (Err (refusal.BadPolicy line kind)) = OfFiles contents (λ files. HasNoPolicy files path (bad_line (record { line = line; kind = kind })))
 AcceptsPolicy contents path (Err refusal.ReadFault) = Unit {0}
 AcceptsPolicy contents path (Err refusal.OutOfMemory) = Unit {0}
 AcceptsPolicy contents path (Err _) = ⊥
 
 abbrev pub AcceptsInput : Option Files → List ℕ → Tables → Result Given Refusal → Type 0
 AcceptsInput contents path tables (Ok given) = OfFiles contents (λ files. HasInput files path tables given)
-AcceptsInput contents path tables (Err refusal.Input) = OfFiles contents (λ files. HasNoInput files path tables)
+AcceptsInput contents path tables (Err refusal.LongInput) = OfFiles contents (λ files. HasNoInput files path tables too_long)
+AcceptsInput contents path tables (Err (refusal.BadInput line kind)) = OfFiles contents (λ files. HasNoInput files path tables (bad_line (record { line = line; kind = kind })))
 AcceptsInput contents path tables (Err refusal.ReadFault) = Unit {0}
 AcceptsInput contents path tables (Err refusal.OutOfMemory) = Unit {0}
 AcceptsInput contents path tables (Err _) = ⊥
@@ -39,9 +51,13 @@ AcceptsInput contents path tables (Err _) = ⊥
 -- the reply of a refusal that isn't for want of memory or a fault
 abbrev pub refusal_reply : Refusal → Option Reply
 refusal_reply refusal.Usage = Some usage_reply
-refusal_reply refusal.Source = Some source_reply
-refusal_reply refusal.Policy = Some policy_reply
-refusal_reply refusal.Input = Some input_reply
+refusal_reply refusal.LongSource = Some (source_reply long_source)
+refusal_reply (refusal.SourceUtf8 at) = Some (source_reply (source_utf8 at))
+refusal_reply refusal.Unbuilt = Some (source_reply unbuilt)
+refusal_reply refusal.LongPolicy = Some (policy_reply too_long)
+refusal_reply (refusal.BadPolicy line kind) = Some (policy_reply (bad_line (record { line = line; kind = kind })))
+refusal_reply refusal.LongInput = Some (input_reply too_long)
+refusal_reply (refusal.BadInput line kind) = Some (input_reply (bad_line (record { line = line; kind = kind })))
 refusal_reply refusal.ReadFault = None
 refusal_reply refusal.OutOfMemory = None
 
@@ -83,10 +99,20 @@ abbrev pub refusal_report : Refusal → Option Reply
 refusal_report refusal.ReadFault = Some (record { bytes = read_fault_report; status = status.ReadFault })
 refusal_report r = refusal_reply r
 
--- a reply was put whole with its status, or a front of it was
-abbrev pub IsPut : Reply → Status → Option (List ℕ) → Option (List ℕ) → Type 0
-IsPut reply status.WriteFault old new = AppendsFront old new reply.bytes
-IsPut reply result old new = (result ≡ reply.status) × Appends old new reply.bytes
+abbrev pub refusal_status : Refusal → Status
+refusal_status refusal.Usage = status.Usage
+refusal_status refusal.LongSource = status.Source
+refusal_status (refusal.SourceUtf8 at) = status.Source
+refusal_status refusal.Unbuilt = status.Source
+refusal_status refusal.LongPolicy = status.Policy
+refusal_status (refusal.BadPolicy line kind) = status.Policy
+refusal_status refusal.LongInput = status.Policy
+refusal_status (refusal.BadInput line kind) = status.Policy
+refusal_status refusal.ReadFault = status.ReadFault
+refusal_status refusal.OutOfMemory = status.OutOfMemory
 
-abbrev pub Refuses : Refusal → Status → Option (List ℕ) → Option (List ℕ) → Type 0
-Refuses r result old new = MatchOption (refusal_report r) ((result ≡ status.OutOfMemory) × (new ≡ old)) (λ reply. IsPut reply result old new)
+-- How a refusal is put: whole with its status; a front of it; or nothing for want of memory.
+pub data Refuses (r : Refusal) (result : Status) (old new : Option (List ℕ)) : Type 0 where
+  puts : (bytes : List ℕ) → refusal_report r ≡ Some (record { bytes = bytes; status = refusal_status r }) → result ≡ refusal_status r → Appends old new bytes → Refuses r result old new
+  breaks_off : (bytes : List ℕ) → refusal_report r ≡ Some (record { bytes = bytes; status = refusal_status r }) → result ≡ status.WriteFault → AppendsFront old new bytes → Refuses r result old new
+  puts_nothing : result ≡ status.OutOfMemory → new ≡ old → Refuses r result old new

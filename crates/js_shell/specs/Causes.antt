@@ -3,13 +3,15 @@ use Rattle.std.specs.Prelude.{◌≡◌, ℕ, ◌⊎◌, false, List, Some, None
 use Rattle.origin_labels.specs.Label.{Label, within}
 use Rattle.flow_io.specs.Files.{Files}
 use Rattle.flow_io.specs.Sinks.{IsFrontOf}
+use Rattle.flow_policy.specs.declared.fault.PolicyKind.{PolicyKind}
+use Rattle.flow_policy.specs.declared.fault.InputKind.{InputKind}
 use Rattle.flow_policy.specs.Policies.{Tables}
 use Rattle.js_shell.specs.declared.status.Status.{Status}
 use Rattle.js_shell.specs.declared.ending.Leaving.{Leaving}
 use Rattle.js_shell.specs.declared.ending.Rule.{Rule}
 use Rattle.js_shell.specs.declared.ending.Ending.TheVariants.{Done, Left, Stopped}
 use Rattle.js_shell.specs.Scripts.{Statement}
-use Rattle.js_shell.specs.Replies.{Command, command_of, HasScript, HasNoScript, HasPolicy, HasNoPolicy, HasNoInput, Task, IsAsked, plain_run, tracked_run, Reply, IsReply, ReachesAbsent, read_fault_report}
+use Rattle.js_shell.specs.Replies.{Command, command_of, HasScript, HasNoScript, HasPolicy, HasNoPolicy, HasNoInput, FileFault, SourceFault, Task, IsAsked, plain_run, tracked_run, Reply, IsReply, ReachesAbsent, read_fault_report}
 use Rattle.js_shell.specs.Promises.{UnlessEarly}
 
 -- the status comes exactly where there is its cause, but for calls that a fault or want of memory ended early
@@ -20,14 +22,14 @@ Exactly result expected Cause = (result ≡ expected → Cause) × (Cause → Un
 abbrev pub IsUsage : List (List ℕ) → Type 0
 IsUsage words = command_of words ≡ None
 
--- the script is there and has not the form
+-- the script is there and is refused
 abbrev pub IsSource : List (List ℕ) → Files → Type 0
-IsSource words files = (command : Command) × (command_of words ≡ Some command) × HasNoScript files command.script
+IsSource words files = (command : Command) × (fault : SourceFault) × (command_of words ≡ Some command) × HasNoScript files command.script fault
 
 -- the script is accepted, and the policy breaks its rules, or it is accepted too and the input breaks its rules
 abbrev pub IsBadPolicy : List (List ℕ) → Files → Type 0
 IsBadPolicy words files = (command : Command) × (statements : List Statement) × (command_of words ≡ Some command) × HasScript files command.script statements
-    × (HasNoPolicy files command.policy ⊎ ((tables : Tables) × HasPolicy files command.policy tables × HasNoInput files command.input tables))
+    × (((fault : FileFault PolicyKind) × HasNoPolicy files command.policy fault) ⊎ ((tables : Tables) × (fault : FileFault InputKind) × HasPolicy files command.policy tables × HasNoInput files command.input tables fault))
 
 -- the labelled run ends so
 abbrev pub IsDone : List (List ℕ) → Files → Type 0

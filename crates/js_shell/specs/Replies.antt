@@ -1,8 +1,14 @@
 -- What the program writes and answers, without faults and want of memory, in the order of its work: words, script, policy, input, run.
-use Rattle.std.specs.Prelude.{◌≡◌, ℕ, ◌≤◌, List, [], ◌∷◌, length, Option, Some, None, Ok, IfSome, codes, if◌then◌else◌}
+use Rattle.std.specs.Prelude.{◌≡◌, ℕ, List, [], ◌∷◌, ◌++◌, length, nat_lt, Option, Some, None, Result, Ok, Err, IfSome, codes, if◌then◌else◌}
+use Rattle.std.specs.Fmt.{decimal}
+use Rattle.flow_text.specs.Utf8.{text_of_utf8}
 use Rattle.origin_labels.specs.Names.{same_name}
 use Rattle.flow_io.specs.Files.{Files, file_at}
-use Rattle.flow_policy.specs.Policies.{Tables, policy_of}
+use Rattle.flow_policy.specs.declared.fault.PolicyKind.{PolicyKind}
+use Rattle.flow_policy.specs.declared.fault.PolicyKind.TheVariants as policy_kind
+use Rattle.flow_policy.specs.declared.fault.InputKind.{InputKind}
+use Rattle.flow_policy.specs.declared.fault.InputKind.TheVariants as input_kind
+use Rattle.flow_policy.specs.Policies.{Tables, BadLine, policy_of}
 use Rattle.flow_policy.specs.Inputs.{Given, inputs_of}
 use Rattle.js_shell.specs.declared.status.Status.{Status}
 use Rattle.js_shell.specs.declared.status.Status.TheVariants as status
@@ -31,43 +37,85 @@ policy_limit = 65536
 abbrev pub input_limit : ℕ
 input_limit = 1048576
 
+-- the most bytes of a source
+abbrev pub source_limit : ℕ
+source_limit = 1048576
+
+-- why a file is no script: it is too long; it isn't UTF-8 behind so many bytes; or it has not the form that there is so far
+pub data SourceFault : Type 0 where
+  long_source : SourceFault
+  source_utf8 : ℕ → SourceFault
+  unbuilt : SourceFault
+
+abbrev pub read_source : Result (List ℕ) ℕ → Result (List ℕ) SourceFault
+read_source (Ok text) = Ok text
+read_source (Err at) = Err (source_utf8 at)
+
+-- the text of a source
+unfoldable pub source_text : List ℕ → Result (List ℕ) SourceFault
+source_text bytes = if nat_lt source_limit (length bytes) then Err long_source else read_source (text_of_utf8 bytes)
+
+abbrev pub IsSourceText : List ℕ → Type 0
+IsSourceText bytes = (text : List ℕ) × (source_text bytes ≡ Ok text)
+
+abbrev pub RefusesSource : List ℕ → SourceFault → Type 0
+RefusesSource bytes long_source = source_text bytes ≡ Err long_source
+RefusesSource bytes (source_utf8 at) = source_text bytes ≡ Err (source_utf8 at)
+RefusesSource bytes unbuilt = IsSourceText bytes × ((statements : List Statement) → IsScriptOf bytes statements → ⊥)
+
 -- a script is there at a path, and is these statements
 pub record HasScript (files : Files) (path : List ℕ) (statements : List Statement) : Type 0 where
   pub bytes : List ℕ
   pub there : file_at files path ≡ Some bytes
+  pub text : IsSourceText bytes
   pub spelled : IsScriptOf bytes statements
 
--- a file is there, and is no script
-pub record HasNoScript (files : Files) (path : List ℕ) : Type 0 where
+-- a file is there, and is no script for this fault
+pub record HasNoScript (files : Files) (path : List ℕ) (fault : SourceFault) : Type 0 where
   pub bytes : List ℕ
   pub there : file_at files path ≡ Some bytes
-  pub refused : (statements : List Statement) → IsScriptOf bytes statements → ⊥
+  pub refused : RefusesSource bytes fault
+
+-- why a file isn't of its format: it is longer than the format allows, or its first bad line
+pub data FileFault (Kind : Type 0) : Type 0 where
+  too_long : FileFault Kind
+  bad_line : BadLine Kind → FileFault Kind
+
+-- what a file gives that a format reads so
+abbrev pub read_file : {X Kind : Type 0} → Result X (BadLine Kind) → Result X (FileFault Kind)
+read_file (Ok x) = Ok x
+read_file (Err bad) = Err (bad_line bad)
+
+-- what the bytes of a policy file state, and what those of an input file give to a policy's channels
+unfoldable pub policy_in : List ℕ → Result Tables (FileFault PolicyKind)
+policy_in bytes = if nat_lt policy_limit (length bytes) then Err too_long else read_file (policy_of bytes)
+
+unfoldable pub input_in : Tables → List ℕ → Result Given (FileFault InputKind)
+input_in tables bytes = if nat_lt input_limit (length bytes) then Err too_long else read_file (inputs_of tables.inputs bytes)
 
 -- a policy is there, and states these tables
 pub record HasPolicy (files : Files) (path : List ℕ) (tables : Tables) : Type 0 where
   pub bytes : List ℕ
   pub there : file_at files path ≡ Some bytes
-  pub short : length bytes ≤ policy_limit
-  pub stated : policy_of bytes ≡ Ok tables
+  pub stated : policy_in bytes ≡ Ok tables
 
--- a file is there, and is no policy
-pub record HasNoPolicy (files : Files) (path : List ℕ) : Type 0 where
+-- a file is there, and is no policy for this fault
+pub record HasNoPolicy (files : Files) (path : List ℕ) (fault : FileFault PolicyKind) : Type 0 where
   pub bytes : List ℕ
   pub there : file_at files path ≡ Some bytes
-  pub refused : (tables : Tables) → length bytes ≤ policy_limit → policy_of bytes ≡ Ok tables → ⊥
+  pub refused : policy_in bytes ≡ Err fault
 
 -- an input is there, and gives these texts to the policy's channels
 pub record HasInput (files : Files) (path : List ℕ) (tables : Tables) (given : Given) : Type 0 where
   pub bytes : List ℕ
   pub there : file_at files path ≡ Some bytes
-  pub short : length bytes ≤ input_limit
-  pub gives : inputs_of tables.inputs bytes ≡ Ok given
+  pub gives : input_in tables bytes ≡ Ok given
 
--- a file is there, and is no input of the policy
-pub record HasNoInput (files : Files) (path : List ℕ) (tables : Tables) : Type 0 where
+-- a file is there, and is no input of the policy for this fault
+pub record HasNoInput (files : Files) (path : List ℕ) (tables : Tables) (fault : FileFault InputKind) : Type 0 where
   pub bytes : List ℕ
   pub there : file_at files path ≡ Some bytes
-  pub refused : (given : Given) → length bytes ≤ input_limit → inputs_of tables.inputs bytes ≡ Ok given → ⊥
+  pub refused : input_in tables bytes ≡ Err fault
 
 -- a script under a policy with an input
 pub record Task : Type 0 where
@@ -106,14 +154,43 @@ run_reply task = record { bytes = written task.tables (erased (tracked_run task)
 abbrev pub usage_reply : Reply
 usage_reply = record { bytes = codes "! usage\n"; status = status.Usage }
 
-abbrev pub source_reply : Reply
-source_reply = record { bytes = codes "! source Unbuilt\n"; status = status.Source }
+abbrev pub source_report : SourceFault → List ℕ
+source_report long_source = codes "! source TooLong\n"
+source_report (source_utf8 at) = codes "! source Utf8 at byte " ++ (decimal at ++ codes "\n")
+source_report unbuilt = codes "! source Unbuilt\n"
 
-abbrev pub policy_reply : Reply
-policy_reply = record { bytes = codes "! policy Bad\n"; status = status.Policy }
+abbrev pub source_reply : SourceFault → Reply
+source_reply fault = record { bytes = source_report fault; status = status.Source }
 
-abbrev pub input_reply : Reply
-input_reply = record { bytes = codes "! input Bad\n"; status = status.Policy }
+abbrev pub policy_kind_name : PolicyKind → List ℕ
+policy_kind_name policy_kind.Keyword = codes "Keyword"
+policy_kind_name policy_kind.Words = codes "Words"
+policy_kind_name policy_kind.Name = codes "Name"
+policy_kind_name policy_kind.Unknown = codes "Unknown"
+policy_kind_name policy_kind.Repeat = codes "Repeat"
+policy_kind_name policy_kind.Many = codes "Many"
+
+abbrev pub input_kind_name : InputKind → List ℕ
+input_kind_name input_kind.Utf8 = codes "Utf8"
+input_kind_name input_kind.Channel = codes "Channel"
+
+-- a bad line's kind and number
+abbrev pub at_line : List ℕ → ℕ → List ℕ
+at_line name line = name ++ (codes " at line " ++ (decimal line ++ codes "\n"))
+
+abbrev pub policy_report : FileFault PolicyKind → List ℕ
+policy_report too_long = codes "! policy TooLong\n"
+policy_report (bad_line bad) = codes "! policy " ++ at_line (policy_kind_name bad.kind) bad.line
+
+abbrev pub input_report : FileFault InputKind → List ℕ
+input_report too_long = codes "! input TooLong\n"
+input_report (bad_line bad) = codes "! input " ++ at_line (input_kind_name bad.kind) bad.line
+
+abbrev pub policy_reply : FileFault PolicyKind → Reply
+policy_reply fault = record { bytes = policy_report fault; status = status.Policy }
+
+abbrev pub input_reply : FileFault InputKind → Reply
+input_reply fault = record { bytes = input_report fault; status = status.Policy }
 
 -- the bytes where a file could not be read
 abbrev pub read_fault_report : List ℕ
@@ -122,11 +199,11 @@ read_fault_report = codes "! read fault\n"
 -- This is the reply to the words over the files. Where the order of work reaches an absent file there is none.
 pub data IsReply (words : List (List ℕ)) (files : Files) (reply : Reply) : Type 0 where
   refuses_words : command_of words ≡ None → reply ≡ usage_reply → IsReply words files reply
-  refuses_script : (command : Command) → command_of words ≡ Some command → HasNoScript files command.script → reply ≡ source_reply → IsReply words files reply
-  refuses_policy : (command : Command) (statements : List Statement) → command_of words ≡ Some command → HasScript files command.script statements
-      → HasNoPolicy files command.policy → reply ≡ policy_reply → IsReply words files reply
-  refuses_input : (command : Command) (statements : List Statement) (tables : Tables) → command_of words ≡ Some command → HasScript files command.script statements
-      → HasPolicy files command.policy tables → HasNoInput files command.input tables → reply ≡ input_reply → IsReply words files reply
+  refuses_script : (command : Command) (fault : SourceFault) → command_of words ≡ Some command → HasNoScript files command.script fault → reply ≡ source_reply fault → IsReply words files reply
+  refuses_policy : (command : Command) (statements : List Statement) (fault : FileFault PolicyKind) → command_of words ≡ Some command → HasScript files command.script statements
+      → HasNoPolicy files command.policy fault → reply ≡ policy_reply fault → IsReply words files reply
+  refuses_input : (command : Command) (statements : List Statement) (tables : Tables) (fault : FileFault InputKind) → command_of words ≡ Some command → HasScript files command.script statements
+      → HasPolicy files command.policy tables → HasNoInput files command.input tables fault → reply ≡ input_reply fault → IsReply words files reply
   runs : (task : Task) → IsAsked words files task → reply ≡ run_reply task → IsReply words files reply
 
 -- The order of work reaches this file. Over a store that doesn't tell its files it may reach each that the words name.

@@ -1,21 +1,27 @@
 //! The order of work before a run: the words, the script, the policy, the input.
 
-ghost use Rattle.std.specs.Prelude.{◌≡◌, ◌↔◌, ℕ, List, Option, Some, true, map, Err, IfOk, IfSome, OnOk};
+ghost use Rattle.std.specs.Prelude.{◌≡◌, ◌↔◌, ◌≤◌, ℕ, length, List, Option, Some, true, map, Err, IfOk, IfSome, OnOk};
 ghost use Rattle.std.specs.String.{string_bytes};
 ghost use Rattle.flow_io.specs.Files.{Rose, IsStoreKept};
 ghost use Rattle.flow_policy.specs.Inputs.{IsGivenTo};
 ghost use Rattle.js_shell.specs.Scripts.{statements_of};
-ghost use Rattle.js_shell.specs.Replies.{Command, command_of, Reaches};
-ghost use Rattle.js_shell.specs.Accepting.{AcceptsScript, AcceptsPolicy, AcceptsInput, Accepts, is_usage};
+ghost use Rattle.js_shell.specs.Replies.{Command, command_of, Reaches, source_limit};
+ghost use Rattle.js_shell.specs.Accepting.{AcceptsScript, AcceptsPolicy, AcceptsInput, Accepts, TakesScript, is_usage};
 ghost use Rattle.js_shell.specs.Seen.{seen_command, seen_script, seen_tasks, texts_of};
 
 use crate::reader::{ScriptFault, read_script};
 use crate::script::Print;
 use flow_io::{LoadFault, Store, load};
-use flow_policy::{InputFault, Inputs, Policy, PolicyFault, read_inputs, read_policy};
+use flow_policy::{
+    InputFault, InputKind, Inputs, Policy, PolicyFault, PolicyKind, read_inputs, read_policy,
+};
+use flow_text::{Text, TextFault};
 use std::alloc::Global;
 
-/// The most bytes of a script.
+/// The most bytes of a source.
+const SOURCE_LIMIT: usize = 1_048_576;
+
+/// The most bytes of a script of the form that there is so far.
 const SCRIPT_LIMIT: usize = 65_536;
 
 /// The most bytes of a policy.
@@ -28,9 +34,17 @@ const INPUT_LIMIT: usize = 1_048_576;
 #[derive(Clone, Copy, Debug, PartialEq, Eq)]
 pub(crate) enum Refusal {
     Usage,
-    Source,
-    Policy,
-    Input,
+    LongSource,
+    /// The source isn't UTF-8 behind so many bytes.
+    SourceUtf8 { at: usize },
+    /// The source has not the form that there is so far.
+    Unbuilt,
+    LongPolicy,
+    /// The first bad line of the policy.
+    BadPolicy { line: usize, kind: PolicyKind },
+    LongInput,
+    /// The first bad line of the input.
+    BadInput { line: usize, kind: InputKind },
     ReadFault,
     OutOfMemory,
 }
@@ -93,26 +107,45 @@ pub(crate) fn accept<F: Store>(
 }
 
 /// Reads a script.
+#[tactic(auto, unfolding(crate::specs::Replies::source_text))]
 fn accept_script<F: Store>(alloc: Global, store: &mut F, path: &str) -> Result<Vec<Print>, Refusal>
     requires { F.may_ask store.old path.now ≡ true }
     ensures kept { IsStoreKept F.contents F.may_ask F.faults store.old store.new }
     ensures accepts { AcceptsScript (F.contents store.old) path.now (seen_script result) }
     ensures read_fault { result ≡ Err Refusal.ReadFault → Rose (F.faults store.old) (F.faults store.new) }
 {
-    let bytes = match load(alloc, store, path, SCRIPT_LIMIT) {
+    let bytes = match load(alloc, store, path, SOURCE_LIMIT) {
         Ok(bytes) => bytes,
-        Err(LoadFault::TooLong { .. }) => return Err(Refusal::Source),
+        Err(LoadFault::TooLong { .. }) => return Err(Refusal::LongSource),
         Err(LoadFault::ReadFault) => return Err(Refusal::ReadFault),
         Err(LoadFault::OutOfMemory) => return Err(Refusal::OutOfMemory),
     };
-    match read_script(alloc, &bytes) {
+    script_of(alloc, &bytes)
+}
+
+/// The script that the bytes of a source are.
+#[tactic(auto, unfolding(crate::specs::Replies::source_text))]
+fn script_of(alloc: Global, bytes: &[u8]) -> Result<Vec<Print>, Refusal>
+    requires { length bytes.now ≤ source_limit }
+    ensures { TakesScript bytes.now (seen_script result) }
+{
+    match Text::from_utf8(alloc, bytes) {
+        Ok(_text) => {}
+        Err(TextFault::BadUtf8 { at }) => return Err(Refusal::SourceUtf8 { at }),
+        Err(TextFault::OutOfMemory) => return Err(Refusal::OutOfMemory),
+    }
+    if bytes.len() > SCRIPT_LIMIT {
+        return Err(Refusal::Unbuilt);
+    }
+    match read_script(alloc, bytes) {
         Ok(script) => Ok(script),
-        Err(ScriptFault::Unbuilt) => Err(Refusal::Source),
+        Err(ScriptFault::Unbuilt) => Err(Refusal::Unbuilt),
         Err(ScriptFault::OutOfMemory) => Err(Refusal::OutOfMemory),
     }
 }
 
 /// Reads a policy.
+#[tactic(auto, unfolding(crate::specs::Replies::policy_in))]
 fn accept_policy<F: Store>(alloc: Global, store: &mut F, path: &str) -> Result<Policy, Refusal>
     requires { F.may_ask store.old path.now ≡ true }
     ensures kept { IsStoreKept F.contents F.may_ask F.faults store.old store.new }
@@ -121,18 +154,19 @@ fn accept_policy<F: Store>(alloc: Global, store: &mut F, path: &str) -> Result<P
 {
     let bytes = match load(alloc, store, path, POLICY_LIMIT) {
         Ok(bytes) => bytes,
-        Err(LoadFault::TooLong { .. }) => return Err(Refusal::Policy),
+        Err(LoadFault::TooLong { .. }) => return Err(Refusal::LongPolicy),
         Err(LoadFault::ReadFault) => return Err(Refusal::ReadFault),
         Err(LoadFault::OutOfMemory) => return Err(Refusal::OutOfMemory),
     };
     match read_policy(alloc, &bytes) {
         Ok(policy) => Ok(policy),
-        Err(PolicyFault::Bad { .. }) => Err(Refusal::Policy),
+        Err(PolicyFault::Bad { line, kind }) => Err(Refusal::BadPolicy { line, kind }),
         Err(PolicyFault::OutOfMemory) => Err(Refusal::OutOfMemory),
     }
 }
 
 /// Reads an input of a policy.
+#[tactic(auto, unfolding(crate::specs::Replies::input_in))]
 fn accept_input<F: Store>(
     alloc: Global,
     store: &mut F,
@@ -147,13 +181,13 @@ fn accept_input<F: Store>(
 {
     let bytes = match load(alloc, store, path, INPUT_LIMIT) {
         Ok(bytes) => bytes,
-        Err(LoadFault::TooLong { .. }) => return Err(Refusal::Input),
+        Err(LoadFault::TooLong { .. }) => return Err(Refusal::LongInput),
         Err(LoadFault::ReadFault) => return Err(Refusal::ReadFault),
         Err(LoadFault::OutOfMemory) => return Err(Refusal::OutOfMemory),
     };
     match read_inputs(alloc, policy, &bytes) {
         Ok(inputs) => Ok(inputs),
-        Err(InputFault::Bad { .. }) => Err(Refusal::Input),
+        Err(InputFault::Bad { line, kind }) => Err(Refusal::BadInput { line, kind }),
         Err(InputFault::OutOfMemory) => Err(Refusal::OutOfMemory),
     }
 }

@@ -7,6 +7,7 @@ mod evaluator;
 mod laws;
 mod program;
 mod reader;
+mod refusals;
 mod report;
 mod running;
 mod script;

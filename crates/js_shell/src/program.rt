@@ -10,6 +10,7 @@ ghost use Rattle.js_shell.specs.Causes.{Exactly, IsUsage, IsSource, IsBadPolicy,
 ghost use Rattle.js_shell.specs.Seen.{texts_of};
 
 use crate::accepting::{Refusal, accept};
+use crate::refusals::refusal_bytes;
 use crate::running::run;
 use crate::status::Status;
 use flow_io::{Failed, Sink, Store};
@@ -59,7 +60,7 @@ fn answer<F: Store, K: Sink>(alloc: Global, words: &[String], store: &mut F, sin
 {
     let task = match accept(alloc, words, store) {
         Ok(task) => task,
-        Err(refusal) => return refuse(refusal, sink),
+        Err(refusal) => return refuse(alloc, refusal, sink),
     };
     let mut labels = Masks;
     run(
@@ -73,7 +74,7 @@ fn answer<F: Store, K: Sink>(alloc: Global, words: &[String], store: &mut F, sin
 }
 
 /// Puts why there is no run, and answers the status.
-fn refuse<K: Sink>(refusal: Refusal, sink: &mut K) -> Status
+fn refuse<K: Sink>(alloc: Global, refusal: Refusal, sink: &mut K) -> Status
     requires open { K.shut sink.old ≡ false }
     ensures refuses { Refuses refusal result (K.taken sink.old) (K.taken sink.new) }
     ensures usage { Exactly result Status.Usage (refusal ≡ Refusal.Usage) }
@@ -81,16 +82,11 @@ fn refuse<K: Sink>(refusal: Refusal, sink: &mut K) -> Status
     ensures faults_stay { K.faults sink.old ≤ K.faults sink.new }
     ensures failed { result ≡ Status.WriteFault → Rose (K.faults sink.old) (K.faults sink.new) }
 {
-    let (report, status) = match refusal {
-        Refusal::Usage => ("! usage\n", Status::Usage),
-        Refusal::Source => ("! source Unbuilt\n", Status::Source),
-        Refusal::Policy => ("! policy Bad\n", Status::Policy),
-        Refusal::Input => ("! input Bad\n", Status::Policy),
-        Refusal::ReadFault => ("! read fault\n", Status::ReadFault),
-        Refusal::OutOfMemory => return Status::OutOfMemory,
+    let Ok(report) = refusal_bytes(alloc, refusal) else {
+        return Status::OutOfMemory;
     };
-    match sink.put(report.as_bytes()) {
-        Ok(()) => status,
+    match sink.put(&report) {
+        Ok(()) => refusal.status(),
         Err(Failed) => Status::WriteFault,
     }
 }

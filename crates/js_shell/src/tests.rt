@@ -105,17 +105,32 @@ const RUNS: [(&str, &str, &str, Status); 19] = [
         "! source Unbuilt\n",
         Status::Source,
     ),
-    ("", "pin 1\npox 2\n", "! input Bad\n", Status::Policy),
+    (
+        "",
+        "pin 1\npox 2\n",
+        "! input Channel at line 2\n",
+        Status::Policy,
+    ),
 ];
 
 // A policy, and what a run of the empty script under it writes.
-const POLICIES: [(&str, &str, Status); 6] = [
+const POLICIES: [(&str, &str, Status); 8] = [
     ("", "! done\n", Status::Done),
     ("# none\n\n", "! done\n", Status::Done),
-    ("in pin Z", "! policy Bad\n", Status::Policy),
-    ("origin A\norigin A", "! policy Bad\n", Status::Policy),
-    ("label A", "! policy Bad\n", Status::Policy),
-    ("origin A-B", "! policy Bad\n", Status::Policy),
+    ("in pin Z", "! policy Unknown at line 1\n", Status::Policy),
+    (
+        "origin A\norigin A",
+        "! policy Repeat at line 2\n",
+        Status::Policy,
+    ),
+    ("label A", "! policy Keyword at line 1\n", Status::Policy),
+    ("origin", "! policy Words at line 1\n", Status::Policy),
+    ("origin A-B", "! policy Name at line 1\n", Status::Policy),
+    (
+        "\n# x\r\n  \nin pin A-B",
+        "! policy Name at line 4\n",
+        Status::Policy,
+    ),
 ];
 
 // Words, and what a call with them writes over files that are there.
@@ -289,6 +304,64 @@ fn the_longest_text(rt: HostRuntime) -> Result<(), Fail> {
         let mut sink = MemorySink::new(alloc);
         assert_eq!(rt; shell(alloc, &words, &mut store, &mut sink), status);
         assert_eq!(rt; sink.taken().len(), len);
+    }
+    Ok(())
+}
+
+// Each limit, and one more; bytes that aren't UTF-8.
+#[test]
+fn limits_of_files(rt: HostRuntime) -> Result<(), Fail> {
+    let alloc = rt.alloc();
+    let words = words_of(alloc, &["run", "s", "p", "i"])?;
+    let mut origins = Vec::new(alloc);
+    for i in 0..65u8 {
+        origins.extend_from_slice(b"origin O")?;
+        origins.push(b'0' + i / 10)?;
+        origins.push(b'0' + i % 10)?;
+        origins.push(b'\n')?;
+    }
+    let mut comment = Vec::from_slice(alloc, b"#")?;
+    comment.resize(65_536, b'x')?;
+    let mut longer = Vec::from_slice(alloc, b"#")?;
+    longer.resize(65_537, b'x')?;
+    let mut input = Vec::from_slice(alloc, b"pin ")?;
+    input.resize(1_048_577, b'x')?;
+    let mut script = Vec::new(alloc);
+    script.resize(65_536, b' ')?;
+    let mut longer_script = Vec::new(alloc);
+    longer_script.resize(65_537, b' ')?;
+    let mut source = Vec::new(alloc);
+    source.resize(1_048_577, b' ')?;
+    for (path, bytes, report, status) in [
+        ("p", origins, "! policy Many at line 65\n", Status::Policy),
+        ("p", comment, "! done\n", Status::Done),
+        ("p", longer, "! policy TooLong\n", Status::Policy),
+        (
+            "i",
+            Vec::from_slice(alloc, b"pin 1\npin \xFF\n")?,
+            "! input Utf8 at line 2\n",
+            Status::Policy,
+        ),
+        ("i", input, "! input TooLong\n", Status::Policy),
+        (
+            "s",
+            Vec::from_slice(alloc, b"a\xC3")?,
+            "! source Utf8 at byte 1\n",
+            Status::Source,
+        ),
+        ("s", script, "! done\n", Status::Done),
+        ("s", longer_script, "! source Unbuilt\n", Status::Source),
+        ("s", source, "! source TooLong\n", Status::Source),
+    ] {
+        let mut store = files(alloc, "", POLICY, "")?;
+        store.add(path, bytes)?;
+        let mut sink = MemorySink::new(alloc);
+        assert_eq!(rt;
+            shell(alloc, &words, &mut store, &mut sink),
+            status,
+            "{report}"
+        );
+        assert_eq!(rt; sink.taken(), report.as_bytes(), "{report}");
     }
     Ok(())
 }

@@ -1,0 +1,12 @@
+pub mod Answered
+pub mod Blanks
+pub mod Cutting
+pub mod DigitValues
+pub mod Examples
+pub mod Found
+pub mod Quotients
+pub mod Residues
+pub mod Scaling
+pub mod Shifts
+pub mod Spelled
+pub mod Words

@@ -1,0 +1,10 @@
+pub mod Arithmetic
+pub mod Bits
+pub mod Bounded
+pub mod Compare
+pub mod Conversions
+pub mod Literal
+pub mod Number
+pub mod NumericText
+pub mod Profile
+pub mod Sum

@@ -1,0 +1,24 @@
+//! The numbers of the integer profile, primitive values, and what ECMA-262 makes of both.
+#![tactic(auto)]
+
+mod arithmetic;
+mod bits;
+mod compare;
+mod digits;
+mod int;
+mod numeric_text;
+mod prim;
+mod sum;
+
+pub use arithmetic::{add, div, mul, negate, rem, sub};
+pub use bits::{
+    bit_and, bit_not, bit_or, bit_xor, shift_left, shift_right, shift_zero, to_int32, to_uint32,
+};
+pub use compare::{less, loose_equal, strict_equal};
+pub use int::{Int, LeftNumbers};
+pub use numeric_text::text_to_number;
+pub use prim::{Prim, number_to_text, to_boolean, to_number, to_text};
+pub use sum::{AddFault, add_prims};
+
+#[cfg(test)]
+mod tests;

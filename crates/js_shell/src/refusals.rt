@@ -1,0 +1,103 @@
+//! Reports of commands that aren't run.
+
+ghost use Rattle.std.specs.Prelude.{◌≡◌, ◌++◌, ◌^◌, ◌<◌, ℕ, List, Some, IfOk, codes};
+ghost use Rattle.std.specs.Fmt.{decimal};
+ghost use Rattle.js_shell.specs.Replies.{policy_kind_name, input_kind_name, at_line};
+ghost use Rattle.js_shell.specs.Accepting.{refusal_report, refusal_status};
+
+use crate::accepting::Refusal;
+use crate::status::Status;
+use flow_policy::{InputKind, PolicyKind};
+use flow_text::OutOfMemory;
+use itoa::Buffer;
+use std::alloc::Global;
+
+impl Refusal {
+    /// The status that answers it.
+    pub(crate) fn status(self) -> Status
+        ensures { result ≡ refusal_status self }
+    {
+        match self {
+            Refusal::Usage => Status::Usage,
+            Refusal::LongSource | Refusal::SourceUtf8 { .. } | Refusal::Unbuilt => Status::Source,
+            Refusal::LongPolicy
+            | Refusal::BadPolicy { .. }
+            | Refusal::LongInput
+            | Refusal::BadInput { .. } => Status::Policy,
+            Refusal::ReadFault => Status::ReadFault,
+            Refusal::OutOfMemory => Status::OutOfMemory,
+        }
+    }
+}
+
+/// Its report.
+pub(crate) fn refusal_bytes(alloc: Global, refusal: Refusal) -> Result<Vec<u8>, OutOfMemory>
+    ensures { IfOk result (λ bytes. refusal_report refusal ≡ Some (record { bytes = bytes.items; status = refusal_status refusal })) }
+{
+    match refusal {
+        Refusal::Usage => Ok(Vec::from_slice(alloc, b"! usage\n")?),
+        Refusal::LongSource => Ok(Vec::from_slice(alloc, b"! source TooLong\n")?),
+        Refusal::SourceUtf8 { at } => bad_byte(alloc, at),
+        Refusal::Unbuilt => Ok(Vec::from_slice(alloc, b"! source Unbuilt\n")?),
+        Refusal::LongPolicy => Ok(Vec::from_slice(alloc, b"! policy TooLong\n")?),
+        Refusal::BadPolicy { line, kind } => bad_line(
+            alloc,
+            b"! policy ",
+            policy_kind_name(kind),
+            line,
+        ),
+        Refusal::LongInput => Ok(Vec::from_slice(alloc, b"! input TooLong\n")?),
+        Refusal::BadInput { line, kind } => bad_line(
+            alloc,
+            b"! input ",
+            input_kind_name(kind),
+            line,
+        ),
+        Refusal::ReadFault => Ok(Vec::from_slice(alloc, b"! read fault\n")?),
+        Refusal::OutOfMemory => Err(OutOfMemory),
+    }
+}
+
+/// The report of a source that isn't UTF-8.
+fn bad_byte(alloc: Global, at: usize) -> Result<Vec<u8>, OutOfMemory>
+    ensures { IfOk result (λ bytes. bytes.items ≡ codes "! source Utf8 at byte " ++ (decimal at ++ codes "\n")) }
+{
+    let mut bytes = Vec::from_slice(alloc, b"! source Utf8 at byte ")?;
+    bytes.extend_from_slice(Buffer::new().format(at).as_bytes())?;
+    bytes.push(b'\n')?;
+    Ok(bytes)
+}
+
+/// The report of a bad line.
+fn bad_line(alloc: Global, front: &[u8], kind: &[u8], line: usize) -> Result<Vec<u8>, OutOfMemory>
+    ensures { IfOk result (λ bytes. bytes.items ≡ front.now ++ at_line kind.now line) }
+{
+    let mut bytes = Vec::from_slice(alloc, front)?;
+    bytes.extend_from_slice(kind)?;
+    bytes.extend_from_slice(b" at line ")?;
+    bytes.extend_from_slice(Buffer::new().format(line).as_bytes())?;
+    bytes.push(b'\n')?;
+    Ok(bytes)
+}
+
+fn policy_kind_name(kind: PolicyKind) -> &'static [u8]
+    ensures { result.now ≡ policy_kind_name kind }
+{
+    match kind {
+        PolicyKind::Keyword => b"Keyword",
+        PolicyKind::Words => b"Words",
+        PolicyKind::Name => b"Name",
+        PolicyKind::Unknown => b"Unknown",
+        PolicyKind::Repeat => b"Repeat",
+        PolicyKind::Many => b"Many",
+    }
+}
+
+fn input_kind_name(kind: InputKind) -> &'static [u8]
+    ensures { result.now ≡ input_kind_name kind }
+{
+    match kind {
+        InputKind::Utf8 => b"Utf8",
+        InputKind::Channel => b"Channel",
+    }
+}
