@@ -1,9 +1,9 @@
 -- Lists of names, and marks of the origins that they name.
-use Rattle.std.proofs.Common.{arith, refl, sym, ap, ◌∙◌, subst, eq-eqb, ne_eqb, inl, inr, ◌≡◌, ◌<◌, ◌≤◌, ◌+◌, ℕ, suc, zero, Bool, true, false, cond, nat_lt, ◌==◌, ◌&&◌, ◌||◌, List, [], ◌∷◌, ◌++◌, length, map, get_or, set, replicate, All, Option, Some, None, Err, ltb-false}
+use Rattle.std.proofs.Common.{arith, refl, sym, ap, ◌∙◌, subst, eq-eqb, ne_eqb, inl, inr, ◌≡◌, ◌<◌, ◌≤◌, ◌+◌, ℕ, suc, zero, Bool, true, false, cond, nat_lt, ◌==◌, ◌&&◌, ◌||◌, List, [], ◌∷◌, ◌++◌, length, get_or, set, replicate, All, Option, Some, None, Err, ltb-false}
 use Rattle.std.specs.List.{slice_split, position_or_len, list_all, list_any}
 use Rattle.std.specs.Option.{unwrap_or}
 use Rattle.std.proofs.lemmas.Bool.{cond-true, cond-false, cases_lt, cases_eq}
-use Rattle.std.proofs.lemmas.List.{length-set, get_or_past, get_or-set_same, get_or-set_other, get_or_push, get_or_append_left, length_push}
+use Rattle.std.proofs.lemmas.List.{length-set, get_or-set_same, get_or-set_other, get_or_push, get_or_append_left, length_push}
 use Rattle.std.proofs.lemmas.List.Elements.{All-push, All-weaker}
 use Rattle.std.proofs.lemmas.List.Folds.{list_any-append, list_any_none, list_any_at}
 use Rattle.std.proofs.lemmas.List.Quantifiers.{position-Some}
@@ -15,11 +15,11 @@ use Rattle.flow_policy.specs.declared.fault.LineFault.{LineFault}
 use Rattle.flow_policy.specs.declared.fault.LineFault.TheVariants as line
 use Rattle.flow_policy.specs.Answers.{FindsOrigin, MarksOrigins}
 use Rattle.flow_policy.specs.Names.{is_name}
-use Rattle.flow_policy.specs.Lists.{names_in, are_names, are_declared, label_in, is_comma}
+use Rattle.flow_policy.specs.Lists.{names_in, are_names, are_declared, numbers_of, label_in, is_comma}
 
 -- ---- the names of a list
 
-names_in-none : (list : List ℕ) → same_name list (45 ∷ []) ≡ true → names_in list ≡ []
+pub names_in-none : (list : List ℕ) → same_name list (45 ∷ []) ≡ true → names_in list ≡ []
 unfolding names_in
 names_in-none list e = cond-true (same_name list (45 ∷ [])) [] (slice_split is_comma list) e
 
@@ -53,10 +53,6 @@ place_of-hasnt name origins e =
     list_any_none p origins (λ k d lt. fails_before_first p origins k d (omega arith))
 
 -- ---- marks
-
--- the numbers of names
-abbrev pub numbers_of : List (List ℕ) → List (List ℕ) → List ℕ
-numbers_of origins names = map (λ name. unwrap_or (place_of name origins) 0) names
 
 -- the marks, with those for the names that are left, are those for all the names
 pub record AreMarked (origins names left : List (List ℕ)) (marks : List Bool) : Type 0 where
@@ -139,11 +135,11 @@ label_done origins list label h same = same_label label (label_in origins list) 
 
 -- ---- marks as a rising list
 
--- the list holds the marked origins below n
-pub record IsMarked (label : Label) (marks : List Bool) (n : ℕ) : Type 0 where
+-- the list holds the origins below n that pass the test
+pub record IsMarked (label : Label) (test : ℕ → Bool) (n : ℕ) : Type 0 where
   pub rising : IsLabel label
   pub below : All (λ origin. origin < n) label
-  pub members : (k : ℕ) → k < n → has k label ≡ get_or marks k false
+  pub members : (k : ℕ) → k < n → has k label ≡ test k
 
 IsLabel-push : (label : Label) (n : ℕ) → All (λ origin. origin < n) label → IsLabel label → IsLabel (label ++ n ∷ [])
 IsLabel-push label n below h k lt =
@@ -153,7 +149,7 @@ IsLabel-push label n below h k lt =
       | inr past ↦ rw (get_or_append_left label (n ∷ []) 0 k (omega arith), get_or_push label n 0 (k + 1) (omega arith)) (below k 0 (omega arith))
     ]
 
-has-above : (label : Label) (n k : ℕ) → All (λ origin. origin < n) label → n ≤ k → has k label ≡ false
+pub has-above : (label : Label) (n k : ℕ) → All (λ origin. origin < n) label → n ≤ k → has k label ≡ false
 unfolding has
 has-above label n k below le = list_any_none (λ j. j == k) label (λ i d lt. ne_eqb (get_or label i d) k (λ e. omega (arith, below i d lt)))
 
@@ -164,29 +160,29 @@ has-push label n k = list_any-append (λ j. j == k) label (n ∷ []) ∙ ap (λ 
 all_below : (label : Label) (n : ℕ) → All (λ origin. origin < n) label → All (λ origin. origin < n + 1) label
 all_below label n h = All-weaker (λ origin. origin < n) (λ origin. origin < n + 1) (λ x lt. omega arith) label h
 
-pub IsMarked-yes : (label : Label) (marks : List Bool) (n : ℕ) → get_or marks n false ≡ true → IsMarked label marks n → IsMarked (label ++ n ∷ []) marks (n + 1)
-IsMarked-yes label marks n set_at m = record {
+pub IsMarked-yes : (label : Label) (test : ℕ → Bool) (n : ℕ) → test n ≡ true → IsMarked label test n → IsMarked (label ++ n ∷ []) test (n + 1)
+IsMarked-yes label test n set_at m = record {
   rising = IsLabel-push label n m.below m.rising;
   below = All-push (λ origin. origin < n + 1) label n (all_below label n m.below) (omega arith);
-  members = λ k lt. has-push label n k ∙ elim (cases_lt k n) as (λ _. (has k label || (n == k)) ≡ get_or marks k false) [
+  members = λ k lt. has-push label n k ∙ elim (cases_lt k n) as (λ _. (has k label || (n == k)) ≡ test k) [
     | inl before ↦ rw (ne_eqb n k (λ e. omega arith)) (or_none (has k label) ∙ m.members k before)
-    | inr past ↦ let e : n ≡ k = omega arith in rw (has-above label n k m.below past, eq-eqb n k e) (sym (subst (λ (j : ℕ). get_or marks j false ≡ true) e set_at))
+    | inr past ↦ let e : n ≡ k = omega arith in rw (has-above label n k m.below past, eq-eqb n k e) (sym (subst (λ (j : ℕ). test j ≡ true) e set_at))
   ];
 }
 
-pub IsMarked-no : (label : Label) (marks : List Bool) (n : ℕ) → get_or marks n false ≡ false → IsMarked label marks n → IsMarked label marks (n + 1)
-IsMarked-no label marks n unset m = record {
+pub IsMarked-no : (label : Label) (test : ℕ → Bool) (n : ℕ) → test n ≡ false → IsMarked label test n → IsMarked label test (n + 1)
+IsMarked-no label test n unset m = record {
   rising = m.rising;
   below = all_below label n m.below;
-  members = λ k lt. elim (cases_lt k n) as (λ _. has k label ≡ get_or marks k false) [
+  members = λ k lt. elim (cases_lt k n) as (λ _. has k label ≡ test k) [
     | inl before ↦ m.members k before
-    | inr past ↦ let e : n ≡ k = omega arith in has-above label n k m.below past ∙ sym (subst (λ (j : ℕ). get_or marks j false ≡ false) e unset)
+    | inr past ↦ let e : n ≡ k = omega arith in has-above label n k m.below past ∙ sym (subst (λ (j : ℕ). test j ≡ false) e unset)
   ];
 }
 
--- all marks are read
-pub IsMarked-done : (label : Label) (marks : List Bool) (n : ℕ) → length marks ≤ n → IsMarked label marks n → (k : ℕ) → has k label ≡ get_or marks k false
-IsMarked-done label marks n le m k = elim (cases_lt k n) as (λ _. has k label ≡ get_or marks k false) [
+-- no origin from n on passes
+pub IsMarked-done : (label : Label) (test : ℕ → Bool) (n : ℕ) → ((k : ℕ) → n ≤ k → test k ≡ false) → IsMarked label test n → (k : ℕ) → has k label ≡ test k
+IsMarked-done label test n none m k = elim (cases_lt k n) as (λ _. has k label ≡ test k) [
   | inl before ↦ m.members k before
-  | inr past ↦ has-above label n k m.below past ∙ sym (get_or_past marks k false (omega arith))
+  | inr past ↦ has-above label n k m.below past ∙ sym (none k past)
 ]

@@ -21,11 +21,11 @@ use Rattle.flow_policy.specs.declared.fault.LineFault.TheVariants as line
 use Rattle.flow_policy.specs.Faults.{fault_at}
 use Rattle.flow_policy.specs.Lines.{lines_of}
 use Rattle.flow_policy.specs.Names.{is_name, words_of}
-use Rattle.flow_policy.specs.Lists.{names_in, are_names, are_declared, label_in}
+use Rattle.flow_policy.specs.Lists.{names_in, are_names, are_declared, label_in, numbers_of}
 use Rattle.flow_policy.specs.Words.{only_word, only_two}
 use Rattle.flow_policy.specs.Policies.{Tables, no_tables, has_channel, with_new_origin, with_new_channel, ok_map, after_origin, after_in, after_out, is_comment, after_words, next_line, after_lines, policy_of, IsChannel, AreChannels, IsPolicy}
 use Rattle.flow_policy.specs.Answers.{GivesPolicy, FailsLine}
-use Rattle.flow_policy.proofs.Marks.{place_of-has, place_of-hasnt, numbers_of}
+use Rattle.flow_policy.proofs.Marks.{place_of-has, place_of-hasnt}
 
 -- ---- a further origin
 

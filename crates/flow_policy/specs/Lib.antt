@@ -1,6 +1,7 @@
 pub mod Answers
 pub mod Inputs
 pub mod Lines
+pub mod Listed
 pub mod Lists
 pub mod Names
 pub mod Observed

@@ -21,6 +21,10 @@ are_names list = list_all is_name (names_in list)
 abbrev pub are_declared : List (List ℕ) → List ℕ → Bool
 are_declared origins list = list_all (λ name. has_name name origins) (names_in list)
 
+-- the numbers of names of declared origins
+abbrev pub numbers_of : List (List ℕ) → List (List ℕ) → List ℕ
+numbers_of origins names = map (λ name. unwrap_or (place_of name origins) 0) names
+
 -- the set of the list's origins, by their numbers
 unfoldable pub label_in : List (List ℕ) → List ℕ → Label
-label_in origins list = label_of (map (λ name. unwrap_or (place_of name origins) 0) (names_in list))
+label_in origins list = label_of (numbers_of origins (names_in list))

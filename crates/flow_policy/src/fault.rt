@@ -4,6 +4,7 @@ ghost use Rattle.std.specs.Prelude.{◌≡◌};
 ghost use Rattle.flow_policy.specs.Faults.{fault_at};
 ghost use Rattle.flow_policy.specs.declared.fault.LineFault.TheVariants as line;
 ghost use Rattle.flow_policy.specs.declared.fault.InputFault.TheVariants as input;
+ghost use Rattle.flow_policy.specs.declared.fault.ListFault.TheVariants as list;
 
 use flow_text::OutOfMemory;
 use std::alloc::AllocFailed;
@@ -53,6 +54,19 @@ pub enum InputFault {
     OutOfMemory,
 }
 
+/// Why text is no list of declared origins.
+#[derive(Clone, Copy, Debug, PartialEq, Eq, Drop, Error)]
+pub enum ListFault {
+    /// It is neither `-` nor names with single commas between.
+    #[error("it is no list of names")]
+    Form,
+    /// The name with this number, from 0, is the first that isn't declared.
+    #[error("name {which} of the list is no declared origin")]
+    Unknown { which: usize },
+    #[error("out of memory")]
+    OutOfMemory,
+}
+
 /// Why a line of a policy declares nothing.
 #[derive(Clone, Copy, Debug, PartialEq, Eq)]
 pub(crate) enum LineFault {
@@ -93,5 +107,21 @@ impl From<OutOfMemory> for InputFault {
 
     fn from(_error: OutOfMemory) -> InputFault {
         InputFault::OutOfMemory
+    }
+}
+
+impl From<OutOfMemory> for ListFault {
+    ghost from_gives = { λ _ e. e ≡ list.OutOfMemory };
+
+    fn from(_error: OutOfMemory) -> ListFault {
+        ListFault::OutOfMemory
+    }
+}
+
+impl<T: Drop> From<AllocFailed<T>> for ListFault {
+    ghost from_gives = { λ _ e. e ≡ list.OutOfMemory };
+
+    fn from(_error: AllocFailed<T>) -> ListFault {
+        ListFault::OutOfMemory
     }
 }

@@ -51,6 +51,14 @@ impl Inputs {
         Ok(())
     }
 
+    /// The lines of a channel.
+    pub(crate) fn lines(&self, channel: usize) -> &[Text]
+        requires { channel < length self.now }
+        ensures { result.now ≡ given_on self.now channel }
+    {
+        &self.channels[channel]
+    }
+
     /// The line of a channel with a number, from 0.
     pub fn line(&self, channel: usize, n: usize) -> Option<&Text>
         requires { channel < length self.now }

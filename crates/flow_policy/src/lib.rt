@@ -4,13 +4,17 @@
 mod fault;
 mod inputs;
 mod lines;
+mod listed;
 mod lists;
 mod names;
+mod observed;
 mod policy;
 mod words;
 
-pub use fault::{InputFault, InputKind, PolicyFault, PolicyKind};
+pub use fault::{InputFault, InputKind, ListFault, PolicyFault, PolicyKind};
 pub use inputs::{Inputs, read_inputs};
+pub use listed::read_list;
+pub use observed::disagree;
 pub use policy::{Channel, Policy, read_policy};
 
 #[cfg(test)]

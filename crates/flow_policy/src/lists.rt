@@ -17,8 +17,8 @@ use std::alloc::Global;
 /// Each table has room for this many.
 pub(crate) const TABLE_ROOM: usize = 64;
 
-// Whether it is the list of no names.
-fn is_bare(list: &[u8]) -> bool
+/// Whether it is the list of no names.
+pub(crate) fn is_bare(list: &[u8]) -> bool
     ensures { result ≡ same_name list.now (45 ∷ []) }
 {
     list == b"-".as_slice()

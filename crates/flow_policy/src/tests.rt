@@ -35,6 +35,29 @@ const BAD_INPUTS: [(&[u8], usize, InputKind); 4] = [
     (b"all 1", 1, InputKind::Channel),
 ];
 
+// A list under that policy, and its origins.
+const LISTS: [(&str, &[u32]); 2] = [("B,A,B", &[0, 1]), ("-", &[])];
+
+// The same, and why it is none.
+const BAD_LISTS: [(&str, ListFault); 7] = [
+    ("A,,B", ListFault::Form),
+    ("", ListFault::Form),
+    ("A,", ListFault::Form),
+    ("A-", ListFault::Form),
+    ("A, B", ListFault::Form),
+    ("A,Z,Y", ListFault::Unknown { which: 1 }),
+    ("Z", ListFault::Unknown { which: 0 }),
+];
+
+// Two inputs, an observer, and the first channel on which the inputs differ for it.
+const PAIRS: [(&[u8], &[u8], &str, Option<usize>); 5] = [
+    (b"pin 1\nnote x", b"pin 2\nnote x", "-", None),
+    (b"pin 1\nnote x", b"pin 2\nnote x", "A", Some(0)),
+    (b"pin 1\nnote x", b"pin 1\nnote y", "-", Some(1)),
+    (b"pin 1\nnote x", b"pin 2\nnote x\nnote x", "A", Some(0)),
+    (b"note x\npin 1", b"pin 1\nnote x", "A", None),
+];
+
 fn is_text(alloc: Global, text: &Text, spelling: &[u8]) -> bool {
     match Text::from_utf8(alloc, spelling) {
         Ok(other) => *text == other,
@@ -120,6 +143,43 @@ fn inputs(rt: HostRuntime) -> Result<(), Fail> {
             kind: *kind,
         };
         assert!(rt; read_inputs(alloc, &policy, *bytes).err() == Some(wanted));
+    }
+    Ok(())
+}
+
+#[test]
+fn lists(rt: HostRuntime) -> Result<(), Fail> {
+    let alloc = rt.alloc();
+    let policy = read_policy(alloc, POLICY).ok().ok_or("it is a policy")?;
+    for (list, wanted) in &LISTS {
+        let label = read_list(alloc, policy.origins(), *list)
+            .ok()
+            .ok_or("it is a list")?;
+        assert!(rt; label.items() == *wanted);
+    }
+    for (list, wanted) in &BAD_LISTS {
+        assert!(rt; read_list(alloc, policy.origins(), *list).err() == Some(*wanted));
+    }
+    Ok(())
+}
+
+#[test]
+fn disagreements(rt: HostRuntime) -> Result<(), Fail> {
+    let alloc = rt.alloc();
+    let policy = read_policy(alloc, b"origin A\nin pin A\nin note -")
+        .ok()
+        .ok_or("it is a policy")?;
+    for (first, second, list, wanted) in &PAIRS {
+        let first = read_inputs(alloc, &policy, *first)
+            .ok()
+            .ok_or("it is an input")?;
+        let second = read_inputs(alloc, &policy, *second)
+            .ok()
+            .ok_or("it is an input")?;
+        let observer = read_list(alloc, policy.origins(), *list)
+            .ok()
+            .ok_or("it is a list")?;
+        assert!(rt; disagree(&policy, &first, &second, &observer) == *wanted);
     }
     Ok(())
 }

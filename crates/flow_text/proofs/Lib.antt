@@ -1,3 +1,4 @@
 pub mod Laws
+mod Lines
 mod Reading
 pub mod RoundTrip

@@ -1,4 +1,5 @@
 pub mod Memory
+pub mod Places
 pub mod Text
 pub mod Utf8
 pub mod Written

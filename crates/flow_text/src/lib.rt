@@ -3,11 +3,13 @@
 
 mod compared;
 mod memory;
+mod places;
 mod text;
 mod utf8;
 mod written;
 
 pub use memory::OutOfMemory;
+pub use places::Place;
 pub use text::{Text, TextFault};
 
 #[cfg(test)]

@@ -103,3 +103,34 @@ fn order(rt: HostRuntime) -> Result<(), Fail> {
     }
     Ok(())
 }
+
+// A text, the index of a unit in it, and its line and column.
+#[test]
+fn places(rt: HostRuntime) -> Result<(), Fail> {
+    let rows = [
+        ("ab\ncd", 0, "1:1"),
+        ("ab\ncd", 1, "1:2"),
+        ("ab\ncd", 2, "1:3"),
+        ("ab\ncd", 3, "2:1"),
+        ("ab\ncd", 4, "2:2"),
+        ("ab\ncd", 5, "2:3"),
+        ("a\r\nb", 1, "1:2"),
+        ("a\r\nb", 2, "1:3"),
+        ("a\r\nb", 3, "2:1"),
+        ("a\rb", 2, "2:1"),
+        ("a\u{2028}b\u{2029}c", 2, "2:1"),
+        ("a\u{2028}b\u{2029}c", 4, "3:1"),
+        ("\n\n", 2, "3:1"),
+        ("\r", 1, "2:1"),
+        ("", 0, "1:1"),
+        ("😀a", 2, "1:3"),
+    ];
+    for (spelling, at, written) in rows {
+        let text = Text::spelled(rt.alloc(), spelling)?;
+        assert!(rt; at <= text.len());
+        let place = text.place(at);
+        assert_eq!(rt; place.to_string(rt.alloc())?.as_str(), written);
+        assert_eq!(rt; text.place(0), Place { line: 1, column: 1 });
+    }
+    Ok(())
+}
