@@ -10,7 +10,8 @@ use Rattle.js_shell.specs.declared.ending.Ending.{Ending}
 use Rattle.js_shell.specs.declared.ending.Ending.TheVariants.{Done, Left, Stopped}
 use Rattle.js_shell.specs.Written.{erased}
 use Rattle.js_shell.specs.Ran.{Ran}
-use Rattle.js_shell.specs.Replies.{Task, Reply, IsReply, runs, run_reply, tracked_run, status_of, usage_reply, source_reply, policy_reply, input_reply, read_fault_report, too_long, bad_line, long_source, source_utf8, unbuilt}
+use Rattle.js_shell.specs.Sources.{long_source, source_utf8, bad_source, unbuilt}
+use Rattle.js_shell.specs.Replies.{Task, Reply, IsReply, runs, run_reply, tracked_run, status_of, usage_reply, source_reply, policy_reply, input_reply, read_fault_report, too_long, bad_line}
 use Rattle.js_shell.specs.Promises.{UnlessEarly}
 use Rattle.js_shell.specs.Causes.{Exactly}
 use Rattle.js_shell.specs.Accepting.{OfFiles, Accepts, Answers, replies, cuts_off, unread, unread_cut, no_memory, Refuses, puts, breaks_off, puts_nothing, refusal_report, refusal_status, is_reply_status, is_cut_status}
@@ -57,6 +58,7 @@ module _ (words : List (List ℕ)) (contents : Option Files) (StoreFailed : Type
   reported refusal.Usage reply h e = replied refusal.Usage reply usage_reply h refl e
   reported refusal.LongSource reply h e = replied refusal.LongSource reply (source_reply long_source) h refl e
   reported (refusal.SourceUtf8 at) reply h e = replied (refusal.SourceUtf8 at) reply (source_reply (source_utf8 at)) h refl e
+  reported (refusal.BadSource kind place) reply h e = replied (refusal.BadSource kind place) reply (source_reply (bad_source kind place)) h refl e
   reported refusal.Unbuilt reply h e = replied refusal.Unbuilt reply (source_reply unbuilt) h refl e
   reported refusal.LongPolicy reply h e = replied refusal.LongPolicy reply (policy_reply too_long) h refl e
   reported (refusal.BadPolicy line kind) reply h e = replied (refusal.BadPolicy line kind) reply (policy_reply (bad_line (record { line = line; kind = kind }))) h refl e
@@ -84,6 +86,7 @@ usage_of : (r : Refusal) → refusal_status r ≡ status.Usage → r ≡ refusal
 usage_of refusal.Usage e = refl
 usage_of refusal.LongSource e = cc
 usage_of (refusal.SourceUtf8 at) e = cc
+usage_of (refusal.BadSource kind place) e = cc
 usage_of refusal.Unbuilt e = cc
 usage_of refusal.LongPolicy e = cc
 usage_of (refusal.BadPolicy line kind) e = cc

@@ -8,7 +8,8 @@ use Rattle.flow_policy.specs.Inputs.{Given}
 use Rattle.js_shell.specs.declared.accepting.Refusal.{Refusal}
 use Rattle.js_shell.specs.declared.accepting.Refusal.TheVariants as refusal
 use Rattle.js_shell.specs.Scripts.{Statement}
-use Rattle.js_shell.specs.Replies.{HasNoScript, SourceFault, long_source, source_utf8, unbuilt, source_reply, HasNoPolicy, HasNoInput, IsReply, FileFault, too_long, bad_line, policy_reply, input_reply, Command, Reaches, command_of, refuses_script, refuses_policy, refuses_input, reaches_script, reaches_policy, reaches_input}
+use Rattle.js_shell.specs.Sources.{SourceFault, long_source, source_utf8, bad_source, unbuilt}
+use Rattle.js_shell.specs.Replies.{HasNoScript, source_reply, HasNoPolicy, HasNoInput, IsReply, FileFault, too_long, bad_line, policy_reply, input_reply, Command, Reaches, command_of, refuses_script, refuses_policy, refuses_input, reaches_script, reaches_policy, reaches_input}
 use Rattle.js_shell.specs.Accepting.{OfFiles, AcceptsScript, AcceptsPolicy, AcceptsInput, Accepts}
 
 -- what follows of all files follows of those that are told
@@ -31,6 +32,7 @@ module _ (words : List (List ℕ)) (contents : Option Files) (command : Command)
   script_refused refusal.Usage p = absurd p
   script_refused refusal.LongSource p = for_script long_source p
   script_refused (refusal.SourceUtf8 at) p = for_script (source_utf8 at) p
+  script_refused (refusal.BadSource kind place) p = for_script (bad_source kind place) p
   script_refused refusal.Unbuilt p = for_script unbuilt p
   script_refused refusal.LongPolicy p = absurd p
   script_refused (refusal.BadPolicy line kind) p = absurd p
@@ -50,6 +52,7 @@ module _ (words : List (List ℕ)) (contents : Option Files) (command : Command)
     policy_refused refusal.Usage p = absurd p
     policy_refused refusal.LongSource p = absurd p
     policy_refused (refusal.SourceUtf8 at) p = absurd p
+    policy_refused (refusal.BadSource kind place) p = absurd p
     policy_refused refusal.Unbuilt p = absurd p
     policy_refused refusal.LongPolicy p = for_policy too_long p
     policy_refused (refusal.BadPolicy line kind) p = for_policy (bad_line (record { line = line; kind = kind })) p
@@ -69,6 +72,7 @@ module _ (words : List (List ℕ)) (contents : Option Files) (command : Command)
       input_refused refusal.Usage p = absurd p
       input_refused refusal.LongSource p = absurd p
       input_refused (refusal.SourceUtf8 at) p = absurd p
+      input_refused (refusal.BadSource kind place) p = absurd p
       input_refused refusal.Unbuilt p = absurd p
       input_refused refusal.LongPolicy p = absurd p
       input_refused (refusal.BadPolicy line kind) p = absurd p

@@ -16,5 +16,6 @@ pub mod Replying
 pub mod ReportLaws
 pub mod ReportLoops
 pub mod Runs
+pub mod Sourced
 pub mod Texts
 pub mod Views

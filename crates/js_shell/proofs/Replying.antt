@@ -1,68 +1,29 @@
 -- Words over files have one reply, and one at least unless the work reaches an absent file.
-use Rattle.std.proofs.Common.{◌≡◌, ℕ, ◌≤◌, List, length, Bool, true, false, Option, Some, None, Result, Ok, Err, refl, sym, ap, subst, ◌∙◌, inl, inr, ◌⊎◌}
-use Rattle.std.proofs.lemmas.Bool.{false≢true, leb-true, le-leb}
-use Rattle.std.proofs.Math.Dec.{leb}
+use Rattle.std.proofs.Common.{◌≡◌, ℕ, List, Option, Some, None, Result, Ok, Err, refl, sym, ap, subst, ◌∙◌, inl, inr, ◌⊎◌}
 use Rattle.flow_io.specs.Files.{Files, file_at}
 use Rattle.flow_policy.specs.Policies.{Tables}
 use Rattle.flow_policy.specs.Inputs.{Given}
 use Rattle.flow_policy.specs.declared.fault.PolicyKind.{PolicyKind}
 use Rattle.flow_policy.specs.declared.fault.InputKind.{InputKind}
-use Rattle.js_shell.specs.Scripts.{Statement, IsScriptOf, Spells, script_limit}
-use Rattle.std.specs.Prelude.{nat_lt, if◌then◌else◌}
-use Rattle.flow_text.specs.Utf8.{text_of_utf8}
-use Rattle.js_shell.specs.Replies.{SourceFault, long_source, source_utf8, unbuilt, source_text, source_limit, read_source, IsSourceText, RefusesSource, Command, command_of, Task, HasScript, HasNoScript, HasPolicy, HasNoPolicy, HasInput, HasNoInput, Reply, IsReply, refuses_words, refuses_script, refuses_policy, refuses_input, runs, run_reply, usage_reply, source_reply, policy_reply, input_reply, FileFault, policy_in, input_in, ReachesAbsent, reaches_script, reaches_policy, reaches_input}
+use Rattle.js_shell.specs.Scripts.{Statement}
+use Rattle.js_shell.specs.Sources.{SourceFault, IsScriptOf, RefusesSource}
+use Rattle.js_shell.specs.Replies.{Command, command_of, Task, HasScript, HasNoScript, HasPolicy, HasNoPolicy, HasInput, HasNoInput, Reply, IsReply, refuses_words, refuses_script, refuses_policy, refuses_input, runs, run_reply, usage_reply, source_reply, policy_reply, input_reply, FileFault, policy_in, input_in, ReachesAbsent, reaches_script, reaches_policy, reaches_input}
 use Rattle.js_shell.specs.Promises.{RepliesOnce}
-use Rattle.js_shell.proofs.ReadingLaws.{spells_once, script_or_none}
+use Rattle.js_shell.proofs.Sourced.{some_is, ok_is, err_is, ok_or_err, script_of_bytes, script_or_fault, fault_of_bytes, Judged, accepted, refused, judged}
 
 -- ---- one at most
 
-some_is : {X : Type 0} (x y : X) (o : Option X) → o ≡ Some x → o ≡ Some y → x ≡ y
-some_is x y (Some z) p q = cc
-some_is x y None p q = cc
-
-ok_is : {X E : Type 0} (x y : X) (r : Result X E) → r ≡ Ok x → r ≡ Ok y → x ≡ y
-ok_is x y (Ok z) p q = cc
-ok_is x y (Err e) p q = cc
-
-err_is : {X E : Type 0} (x y : E) (r : Result X E) → r ≡ Err x → r ≡ Err y → x ≡ y
-err_is x y (Ok z) p q = cc
-err_is x y (Err e) p q = cc
-
-ok_or_err : {X E : Type 0} (x : X) (y : E) (r : Result X E) → r ≡ Ok x → r ≡ Err y → ⊥
-ok_or_err x y (Ok z) p q = cc
-ok_or_err x y (Err e) p q = cc
-
-spelled_or_not : (bytes : List ℕ) (s : List Statement) (fault : SourceFault) → IsSourceText bytes → IsScriptOf bytes s → RefusesSource bytes fault → ⊥
-spelled_or_not bytes s long_source text spelled e = ok_or_err text.0 long_source (source_text bytes) text.1 e
-spelled_or_not bytes s (source_utf8 at) text spelled e = ok_or_err text.0 (source_utf8 at) (source_text bytes) text.1 e
-spelled_or_not bytes s unbuilt text spelled e = e.1 s spelled
-
-one_fault : (bytes : List ℕ) (s t : SourceFault) → RefusesSource bytes s → RefusesSource bytes t → s ≡ t
-one_fault bytes long_source long_source e f = refl
-one_fault bytes long_source (source_utf8 at) e f = err_is long_source (source_utf8 at) (source_text bytes) e f
-one_fault bytes long_source unbuilt e f = absurd (ok_or_err f.0.0 long_source (source_text bytes) f.0.1 e)
-one_fault bytes (source_utf8 at) long_source e f = err_is (source_utf8 at) long_source (source_text bytes) e f
-one_fault bytes (source_utf8 at) (source_utf8 other) e f = err_is (source_utf8 at) (source_utf8 other) (source_text bytes) e f
-one_fault bytes (source_utf8 at) unbuilt e f = absurd (ok_or_err f.0.0 (source_utf8 at) (source_text bytes) f.0.1 e)
-one_fault bytes unbuilt long_source e f = absurd (ok_or_err e.0.0 long_source (source_text bytes) e.0.1 f)
-one_fault bytes unbuilt (source_utf8 at) e f = absurd (ok_or_err e.0.0 (source_utf8 at) (source_text bytes) e.0.1 f)
-one_fault bytes unbuilt unbuilt e f = refl
-
 module _ (files : Files) (path : List ℕ) where
   script_is : (s t : List Statement) → HasScript files path s → HasScript files path t → s ≡ t
-  script_is s t p q =
-      let same : p.bytes ≡ q.bytes = some_is p.bytes q.bytes (file_at files path) p.there q.there in
-      spells_once s t q.bytes (subst (λ (b : List ℕ). Spells s b) same p.spelled.spelled) q.spelled.spelled
+  script_is s t p q = script_of_bytes q.bytes s t (subst (λ (b : List ℕ). IsScriptOf b s) (some_is p.bytes q.bytes (file_at files path) p.there q.there) p.spelled) q.spelled
 
   script_or_not : (s : List Statement) (fault : SourceFault) → HasScript files path s → HasNoScript files path fault → ⊥
-  script_or_not s fault p q = spelled_or_not q.bytes s fault (subst IsSourceText same p.text) (subst (λ (b : List ℕ). IsScriptOf b s) same p.spelled) q.refused
-    where
-      same : p.bytes ≡ q.bytes
-      same = some_is p.bytes q.bytes (file_at files path) p.there q.there
+  script_or_not s fault p q = script_or_fault q.bytes s fault (subst (λ (b : List ℕ). IsScriptOf b s) (some_is p.bytes q.bytes (file_at files path) p.there q.there) p.spelled) q.refused
 
   source_fault : (s t : SourceFault) → HasNoScript files path s → HasNoScript files path t → s ≡ t
-  source_fault s t p q = one_fault q.bytes s t (subst (λ (b : List ℕ). RefusesSource b s) (some_is p.bytes q.bytes (file_at files path) p.there q.there) p.refused) q.refused
+  source_fault s t p q = fault_of_bytes q.bytes s t (subst (λ (b : List ℕ). RefusesSource b s) (some_is p.bytes q.bytes (file_at files path) p.there q.there) p.refused) q.refused
 
+module _ (files : Files) (path : List ℕ) where
   -- what one file's bytes give, the same file's give
   policy_at : (r : Result Tables (FileFault PolicyKind)) (p q : List ℕ) → file_at files path ≡ Some p → file_at files path ≡ Some q → policy_in p ≡ r → policy_in q ≡ r
   policy_at r p q at at' e = ap policy_in (some_is q p (file_at files path) at' at) ∙ e
@@ -160,22 +121,6 @@ replies_once words files first second p q = once_by words files (command_of word
 
 -- ---- one at least
 
-at_most : (n limit : ℕ) → (n ≤ limit) ⊎ (n ≤ limit → ⊥)
-at_most n limit = by (leb n limit) refl
-  where
-    by : (b : Bool) → leb n limit ≡ b → (n ≤ limit) ⊎ (n ≤ limit → ⊥)
-    by true e = inl (leb-true n limit e)
-    by false e = inr (λ le. false≢true (sym e ∙ le-leb n limit le))
-
-read_built : (b : Bool) (r : Result (List ℕ) ℕ) → (if b then Err long_source else read_source r) ≡ Err unbuilt → ⊥
-read_built true r e = cc
-read_built false (Ok text) e = cc
-read_built false (Err at) e = cc
-
-never_unbuilt : (bytes : List ℕ) → source_text bytes ≡ Err unbuilt → ⊥
-unfolding source_text
-never_unbuilt bytes e = read_built (nat_lt source_limit (length bytes)) (text_of_utf8 bytes) e
-
 module _ (words : List (List ℕ)) (files : Files) where
   abbrev Answered : Type 0
   Answered = ((reply : Reply) × IsReply words files reply) ⊎ ReachesAbsent words files
@@ -204,20 +149,12 @@ module _ (words : List (List ℕ)) (files : Files) where
     no_script : (fault : SourceFault) → HasNoScript files command.script fault → Answered
     no_script fault none = inl (source_reply fault, refuses_script command fault stated none refl)
 
-    with_text : (bytes : List ℕ) → file_at files command.script ≡ Some bytes → IsSourceText bytes → ((s : List Statement) × Spells s bytes) ⊎ ((s : List Statement) → Spells s bytes → ⊥)
-        → (length bytes ≤ script_limit) ⊎ (length bytes ≤ script_limit → ⊥) → Answered
-    with_text bytes at text (inl spelled) (inl short) = from_policy spelled.0 (record { bytes = bytes; there = at; text = text; spelled = record { short = short; spelled = spelled.1 } }) (file_at files command.policy) refl
-    with_text bytes at text (inl spelled) (inr long) = no_script unbuilt (record { bytes = bytes; there = at; refused = (text, λ s is. long is.short) })
-    with_text bytes at text (inr none) s = no_script unbuilt (record { bytes = bytes; there = at; refused = (text, λ s is. none s is.spelled) })
-
-    with_script : (bytes : List ℕ) → file_at files command.script ≡ Some bytes → (r : Result (List ℕ) SourceFault) → source_text bytes ≡ r → Answered
-    with_script bytes at (Ok text) e = with_text bytes at (text, e) (script_or_none bytes) (at_most (length bytes) script_limit)
-    with_script bytes at (Err long_source) e = no_script long_source (record { bytes = bytes; there = at; refused = e })
-    with_script bytes at (Err (source_utf8 k)) e = no_script (source_utf8 k) (record { bytes = bytes; there = at; refused = e })
-    with_script bytes at (Err unbuilt) e = absurd (never_unbuilt bytes e)
+    with_script : (bytes : List ℕ) → file_at files command.script ≡ Some bytes → Judged bytes → Answered
+    with_script bytes at (accepted statements is) = from_policy statements (record { bytes = bytes; there = at; spelled = is }) (file_at files command.policy) refl
+    with_script bytes at (refused fault is) = no_script fault (record { bytes = bytes; there = at; refused = is })
 
     from_script : (o : Option (List ℕ)) → file_at files command.script ≡ o → Answered
-    from_script (Some bytes) at = with_script bytes at (source_text bytes) refl
+    from_script (Some bytes) at = with_script bytes at (judged bytes)
     from_script None at = inr (command.script, reaches_script command stated refl, at)
 
   from_words : (o : Option Command) → command_of words ≡ o → Answered

@@ -1,15 +1,23 @@
 -- What the program's parts answer on the way to a reply.
-use Rattle.std.specs.Prelude.{◌≡◌, ℕ, Bool, true, false, List, Option, Some, None, Result, Ok, Err, IfSome}
+use Rattle.std.specs.Prelude.{◌≡◌, ℕ, Bool, true, false, List, Option, Some, None, Result, Ok, Err, IfSome, Vec}
+use Rattle.std.specs.Global.{Global}
 use Rattle.flow_io.specs.Files.{Files}
 use Rattle.flow_io.specs.Sinks.{Appends, AppendsFront}
+use Rattle.flow_text.specs.declared.places.Place.{Place}
+use Rattle.flow_text.specs.Places.{place_of}
+use Rattle.js_ast.specs.declared.token.Token.{Token}
+use Rattle.js_scan.specs.declared.fault.ScanFault.{ScanFault}
+use Rattle.js_scan.specs.Tokens.{IsTokens, IsFault, fault_at}
 use Rattle.flow_policy.specs.Policies.{Tables}
 use Rattle.flow_policy.specs.Inputs.{Given}
 use Rattle.js_shell.specs.declared.status.Status.{Status}
 use Rattle.js_shell.specs.declared.status.Status.TheVariants as status
+use Rattle.js_shell.specs.declared.accepting.SourceKind.{SourceKind}
 use Rattle.js_shell.specs.declared.accepting.Refusal.{Refusal}
 use Rattle.js_shell.specs.declared.accepting.Refusal.TheVariants as refusal
-use Rattle.js_shell.specs.Scripts.{Statement, IsScriptOf}
-use Rattle.js_shell.specs.Replies.{Task, IsAsked, HasScript, HasNoScript, HasPolicy, HasNoPolicy, HasInput, HasNoInput, IsSourceText, RefusesSource, too_long, bad_line, long_source, source_utf8, unbuilt, Reply, IsReply, read_fault_report, usage_reply, source_reply, policy_reply, input_reply}
+use Rattle.js_shell.specs.Scripts.{Statement}
+use Rattle.js_shell.specs.Sources.{source_text, IsScriptOf, RefusesSource, scan_kind, long_source, source_utf8, bad_source, unbuilt}
+use Rattle.js_shell.specs.Replies.{Task, IsAsked, HasScript, HasNoScript, HasPolicy, HasNoPolicy, HasInput, HasNoInput, too_long, bad_line, Reply, IsReply, read_fault_report, usage_reply, source_reply, policy_reply, input_reply}
 
 -- what is said of the files, where the store tells them
 abbrev pub OfFiles : Option Files → (Files → Type 0) → Type 0
@@ -19,15 +27,39 @@ abbrev pub AcceptsScript : Option Files → List ℕ → Result (List Statement)
 AcceptsScript contents path (Ok statements) = OfFiles contents (λ files. HasScript files path statements)
 AcceptsScript contents path (Err refusal.LongSource) = OfFiles contents (λ files. HasNoScript files path long_source)
 AcceptsScript contents path (Err (refusal.SourceUtf8 at)) = OfFiles contents (λ files. HasNoScript files path (source_utf8 at))
+AcceptsScript contents path (Err (refusal.BadSource kind place)) = OfFiles contents (λ files. HasNoScript files path (bad_source kind place))
 AcceptsScript contents path (Err refusal.Unbuilt) = OfFiles contents (λ files. HasNoScript files path unbuilt)
 AcceptsScript contents path (Err refusal.ReadFault) = Unit {0}
 AcceptsScript contents path (Err refusal.OutOfMemory) = Unit {0}
 AcceptsScript contents path (Err _) = ⊥
 
+-- the bytes of a source are this text, or are refused
+abbrev pub TakesText : List ℕ → Result (List ℕ) Refusal → Type 0
+TakesText bytes (Ok text) = source_text bytes ≡ Ok text
+TakesText bytes (Err (refusal.SourceUtf8 at)) = RefusesSource bytes (source_utf8 at)
+TakesText bytes (Err refusal.OutOfMemory) = Unit {0}
+TakesText bytes (Err _) = ⊥
+
+-- the text of a source has no tokens, for a fault of this kind at this place
+abbrev pub IsBadText : List ℕ → SourceKind → Place → Type 0
+IsBadText text kind place = (fault : ScanFault) × IsFault text fault × (scan_kind fault ≡ Some kind) × (place ≡ place_of text (fault_at fault))
+
+-- this is the refusal of a text that has no tokens
+abbrev pub RefusesTokens : List ℕ → Refusal → Type 0
+RefusesTokens text (refusal.BadSource kind place) = IsBadText text kind place
+RefusesTokens text refusal.OutOfMemory = Unit {0}
+RefusesTokens text _ = ⊥
+
+-- the text of a source has these tokens, or is refused
+abbrev pub TakesTokens : List ℕ → Result (Vec Token Global) Refusal → Type 0
+TakesTokens text (Ok tokens) = IsTokens text tokens.items
+TakesTokens text (Err r) = RefusesTokens text r
+
 -- the bytes of a source are a script of these statements, or are refused
 abbrev pub TakesScript : List ℕ → Result (List Statement) Refusal → Type 0
-TakesScript bytes (Ok statements) = IsSourceText bytes × IsScriptOf bytes statements
+TakesScript bytes (Ok statements) = IsScriptOf bytes statements
 TakesScript bytes (Err (refusal.SourceUtf8 at)) = RefusesSource bytes (source_utf8 at)
+TakesScript bytes (Err (refusal.BadSource kind place)) = RefusesSource bytes (bad_source kind place)
 TakesScript bytes (Err refusal.Unbuilt) = RefusesSource bytes unbuilt
 TakesScript bytes (Err refusal.OutOfMemory) = Unit {0}
 TakesScript bytes (Err _) = ⊥
@@ -53,6 +85,7 @@ abbrev pub refusal_reply : Refusal → Option Reply
 refusal_reply refusal.Usage = Some usage_reply
 refusal_reply refusal.LongSource = Some (source_reply long_source)
 refusal_reply (refusal.SourceUtf8 at) = Some (source_reply (source_utf8 at))
+refusal_reply (refusal.BadSource kind place) = Some (source_reply (bad_source kind place))
 refusal_reply refusal.Unbuilt = Some (source_reply unbuilt)
 refusal_reply refusal.LongPolicy = Some (policy_reply too_long)
 refusal_reply (refusal.BadPolicy line kind) = Some (policy_reply (bad_line (record { line = line; kind = kind })))
@@ -103,6 +136,7 @@ abbrev pub refusal_status : Refusal → Status
 refusal_status refusal.Usage = status.Usage
 refusal_status refusal.LongSource = status.Source
 refusal_status (refusal.SourceUtf8 at) = status.Source
+refusal_status (refusal.BadSource kind place) = status.Source
 refusal_status refusal.Unbuilt = status.Source
 refusal_status refusal.LongPolicy = status.Policy
 refusal_status (refusal.BadPolicy line kind) = status.Policy

@@ -11,7 +11,8 @@ use Rattle.js_shell.specs.declared.ending.Leaving.{Leaving}
 use Rattle.js_shell.specs.declared.ending.Rule.{Rule}
 use Rattle.js_shell.specs.declared.ending.Ending.TheVariants.{Done, Left, Stopped}
 use Rattle.js_shell.specs.Scripts.{Statement}
-use Rattle.js_shell.specs.Replies.{Command, command_of, HasScript, HasNoScript, HasPolicy, HasNoPolicy, HasNoInput, FileFault, SourceFault, Task, IsAsked, plain_run, tracked_run, Reply, IsReply, ReachesAbsent, read_fault_report}
+use Rattle.js_shell.specs.Sources.{SourceFault}
+use Rattle.js_shell.specs.Replies.{Command, command_of, HasScript, HasNoScript, HasPolicy, HasNoPolicy, HasNoInput, FileFault, Task, IsAsked, plain_run, tracked_run, Reply, IsReply, ReachesAbsent, read_fault_report}
 use Rattle.js_shell.specs.Promises.{UnlessEarly}
 
 -- the status comes exactly where there is its cause, but for calls that a fault or want of memory ended early

@@ -11,6 +11,7 @@ pub mod Reports
 pub mod Runs
 pub mod Scripts
 pub mod Seen
+pub mod Sources
 pub mod Statuses
 pub mod Sums
 pub mod Tracked

@@ -9,7 +9,9 @@ use Rattle.js_shell.specs.declared.status.Status.{Status}
 use Rattle.js_shell.specs.declared.status.Status.TheVariants as status
 use Rattle.js_shell.specs.declared.ending.Rule.{Rule}
 use Rattle.js_shell.specs.declared.ending.Ending.TheVariants.{Done, Stopped}
+use Rattle.js_ast.specs.declared.token.Token.{Token}
 use Rattle.js_shell.specs.Scripts.{Statement, Spells}
+use Rattle.js_shell.specs.Sources.{IsScriptOf}
 use Rattle.js_shell.specs.Runs.{Line}
 use Rattle.js_shell.specs.Plain as plain
 use Rattle.js_shell.specs.Tracked as tracked
@@ -40,9 +42,12 @@ abbrev pub NeverStops : Type 0
 NeverStops = (statements : List Statement) (tables : Tables) (given : Given) (rule : Rule) (need have : Label)
     → (plain.plain statements tables given).ending ≡ Stopped rule need have → ⊥
 
--- one script: bytes spell the statements of one script at most
+-- one script: tokens spell the statements of one script at most, and so do bytes
 abbrev pub SpellsOnce : Type 0
-SpellsOnce = (first second : List Statement) (bytes : List ℕ) → Spells first bytes → Spells second bytes → first ≡ second
+SpellsOnce = (first second : List Statement) (tokens : List Token) → Spells first tokens → Spells second tokens → first ≡ second
+
+abbrev pub IsScriptOnce : Type 0
+IsScriptOnce = (first second : List Statement) (bytes : List ℕ) → IsScriptOf bytes first → IsScriptOf bytes second → first ≡ second
 
 -- one reply: words over files have one reply at most
 abbrev pub RepliesOnce : Type 0

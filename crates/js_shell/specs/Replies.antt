@@ -1,7 +1,6 @@
 -- What the program writes and answers, without faults and want of memory, in the order of its work: words, script, policy, input, run.
 use Rattle.std.specs.Prelude.{◌≡◌, ℕ, List, [], ◌∷◌, ◌++◌, length, nat_lt, Option, Some, None, Result, Ok, Err, IfSome, codes, if◌then◌else◌}
 use Rattle.std.specs.Fmt.{decimal}
-use Rattle.flow_text.specs.Utf8.{text_of_utf8}
 use Rattle.origin_labels.specs.Names.{same_name}
 use Rattle.flow_io.specs.Files.{Files, file_at}
 use Rattle.flow_policy.specs.declared.fault.PolicyKind.{PolicyKind}
@@ -14,7 +13,10 @@ use Rattle.js_shell.specs.declared.status.Status.{Status}
 use Rattle.js_shell.specs.declared.status.Status.TheVariants as status
 use Rattle.js_shell.specs.declared.ending.Ending.{Ending}
 use Rattle.js_shell.specs.declared.ending.Ending.TheVariants.{Done, Left, Stopped}
-use Rattle.js_shell.specs.Scripts.{Statement, IsScriptOf}
+use Rattle.js_shell.specs.declared.accepting.SourceKind.{SourceKind}
+use Rattle.js_shell.specs.declared.accepting.SourceKind.TheVariants as source_kind
+use Rattle.js_shell.specs.Scripts.{Statement}
+use Rattle.js_shell.specs.Sources.{SourceFault, long_source, source_utf8, bad_source, unbuilt, IsScriptOf, RefusesSource}
 use Rattle.js_shell.specs.Plain as plain
 use Rattle.js_shell.specs.Tracked as tracked
 use Rattle.js_shell.specs.Written.{written, erased}
@@ -37,37 +39,10 @@ policy_limit = 65536
 abbrev pub input_limit : ℕ
 input_limit = 1048576
 
--- the most bytes of a source
-abbrev pub source_limit : ℕ
-source_limit = 1048576
-
--- why a file is no script: it is too long; it isn't UTF-8 behind so many bytes; or it has not the form that there is so far
-pub data SourceFault : Type 0 where
-  long_source : SourceFault
-  source_utf8 : ℕ → SourceFault
-  unbuilt : SourceFault
-
-abbrev pub read_source : Result (List ℕ) ℕ → Result (List ℕ) SourceFault
-read_source (Ok text) = Ok text
-read_source (Err at) = Err (source_utf8 at)
-
--- the text of a source
-unfoldable pub source_text : List ℕ → Result (List ℕ) SourceFault
-source_text bytes = if nat_lt source_limit (length bytes) then Err long_source else read_source (text_of_utf8 bytes)
-
-abbrev pub IsSourceText : List ℕ → Type 0
-IsSourceText bytes = (text : List ℕ) × (source_text bytes ≡ Ok text)
-
-abbrev pub RefusesSource : List ℕ → SourceFault → Type 0
-RefusesSource bytes long_source = source_text bytes ≡ Err long_source
-RefusesSource bytes (source_utf8 at) = source_text bytes ≡ Err (source_utf8 at)
-RefusesSource bytes unbuilt = IsSourceText bytes × ((statements : List Statement) → IsScriptOf bytes statements → ⊥)
-
 -- a script is there at a path, and is these statements
 pub record HasScript (files : Files) (path : List ℕ) (statements : List Statement) : Type 0 where
   pub bytes : List ℕ
   pub there : file_at files path ≡ Some bytes
-  pub text : IsSourceText bytes
   pub spelled : IsScriptOf bytes statements
 
 -- a file is there, and is no script for this fault
@@ -154,9 +129,16 @@ run_reply task = record { bytes = written task.tables (erased (tracked_run task)
 abbrev pub usage_reply : Reply
 usage_reply = record { bytes = codes "! usage\n"; status = status.Usage }
 
+abbrev pub source_kind_name : SourceKind → List ℕ
+source_kind_name source_kind.BadToken = codes "BadToken"
+source_kind_name source_kind.Unterminated = codes "Unterminated"
+source_kind_name source_kind.RegExpLiteral = codes "RegExpLiteral"
+source_kind_name source_kind.NumberLiteral = codes "NumberLiteral"
+
 abbrev pub source_report : SourceFault → List ℕ
 source_report long_source = codes "! source TooLong\n"
 source_report (source_utf8 at) = codes "! source Utf8 at byte " ++ (decimal at ++ codes "\n")
+source_report (bad_source kind place) = codes "! source " ++ (source_kind_name kind ++ (codes " at " ++ (decimal place.line ++ (codes ":" ++ (decimal place.column ++ codes "\n")))))
 source_report unbuilt = codes "! source Unbuilt\n"
 
 abbrev pub source_reply : SourceFault → Reply

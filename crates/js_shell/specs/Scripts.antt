@@ -1,8 +1,9 @@
--- Scripts and the bytes that spell them. Until the standard's grammar is read whole, a script is statements of the form
--- `print("c", E);` with spaces and LFs between, where E is a sum of string literals and `read("c")`.
-use Rattle.std.specs.Prelude.{◌≡◌, ℕ, ◌≤◌, Bool, true, not, ◌&&◌, ◌||◌, List, [], ◌∷◌, ◌++◌, ◌==◌, length, map, codes}
-use Rattle.std.specs.List.{list_all, flat_map}
-use Rattle.std.specs.Int.{is_in_range}
+-- Scripts and the tokens that spell them. Until the standard's grammar is read whole, a script is statements of the form
+-- `print("c", E);`, where E is a sum of string literals and `read("c")`. Any white space and comments may stand between its tokens.
+use Rattle.std.specs.Prelude.{◌≡◌, ℕ, List, [], ◌∷◌, ◌++◌, map, codes}
+use Rattle.std.specs.List.{flat_map}
+use Rattle.js_ast.specs.declared.token.Token.{Token}
+use Rattle.js_ast.specs.declared.token.TokenKind.TheVariants as kind
 use Rattle.js_shell.specs.declared.script.Term.{Term}
 use Rattle.js_shell.specs.declared.script.Term.TheVariants.{Literal, Read}
 use Rattle.js_shell.specs.declared.script.Print.{Print}
@@ -20,51 +21,34 @@ statement_of print = record { channel = print.channel; first = print.first; more
 abbrev pub statements_of : List Print → List Statement
 statements_of prints = map statement_of prints
 
--- what may stand between quotes: a printable ASCII byte other than `"` and `\`
-abbrev pub is_plain_byte : ℕ → Bool
-is_plain_byte byte = is_in_range 32 126 byte && not (byte == 34) && not (byte == 92)
+-- what a token is to be: a name, a punctuator, or a string literal of a value
+pub data Mark : Type 0 where
+  word : List ℕ → Mark
+  sign : List ℕ → Mark
+  text : List ℕ → Mark
 
--- a string literal without escapes (ECMA-262 7.8.4)
-abbrev pub quoted : List ℕ → List ℕ
-quoted text = 34 ∷ text ++ 34 ∷ []
+abbrev pub IsMarked : Mark → Token → Type 0
+IsMarked (word name) t = (t.kind ≡ kind.Name) × (t.text ≡ name)
+IsMarked (sign punctuator) t = (t.kind ≡ kind.Punctuator) × (t.text ≡ punctuator)
+IsMarked (text value) t = t.kind ≡ kind.String value
 
-unfoldable pub term_spelling : Term → List ℕ
-term_spelling (Literal text) = quoted text
-term_spelling (Read channel) = codes "read(" ++ quoted channel ++ codes ")"
+-- the tokens begin with tokens of these marks, and then come the rest
+unfoldable pub Marked : List Mark → List Token → List Token → Type 0
+Marked [] ts rest = ts ≡ rest
+Marked (m ∷ ms) ts rest = (t : Token) × (behind : List Token) × (ts ≡ t ∷ behind) × IsMarked m t × Marked ms behind rest
+
+unfoldable pub term_marks : Term → List Mark
+term_marks (Literal value) = text value ∷ []
+term_marks (Read channel) = word (codes "read") ∷ sign (codes "(") ∷ text channel ∷ sign (codes ")") ∷ []
 
 -- a term behind the first one of a sum
-abbrev pub added_spelling : Term → List ℕ
-added_spelling term = codes " + " ++ term_spelling term
+abbrev pub added_marks : Term → List Mark
+added_marks term = sign (codes "+") ∷ term_marks term
 
-unfoldable pub statement_spelling : Statement → List ℕ
-statement_spelling s = codes "print(" ++ quoted s.channel ++ codes ", " ++ term_spelling s.first ++ flat_map added_spelling s.more ++ codes ");"
+unfoldable pub statement_marks : Statement → List Mark
+statement_marks s = word (codes "print") ∷ sign (codes "(") ∷ text s.channel ∷ sign (codes ",") ∷ (term_marks s.first ++ (flat_map added_marks s.more ++ (sign (codes ")") ∷ sign (codes ";") ∷ [])))
 
--- the texts of a term, and of a statement, may stand between quotes
-abbrev pub is_plain : List ℕ → Bool
-is_plain text = list_all is_plain_byte text
-
-unfoldable pub is_plain_term : Term → Bool
-is_plain_term (Literal text) = is_plain text
-is_plain_term (Read channel) = is_plain channel
-
-unfoldable pub is_plain_statement : Statement → Bool
-is_plain_statement s = is_plain s.channel && is_plain_term s.first && list_all is_plain_term s.more
-
--- a space or an LF
-abbrev pub is_blank : ℕ → Bool
-is_blank byte = byte == 32 || byte == 10
-
--- the bytes are the statements in order, with blanks before, between and behind them
-unfoldable pub Spells : List Statement → List ℕ → Type 0
-Spells [] bytes = list_all is_blank bytes ≡ true
-Spells (s ∷ statements) bytes = (blanks : List ℕ) × (rest : List ℕ) × (list_all is_blank blanks ≡ true) × (is_plain_statement s ≡ true)
-    × (bytes ≡ blanks ++ (statement_spelling s ++ rest)) × Spells statements rest
-
--- a script has at most this many bytes
-abbrev pub script_limit : ℕ
-script_limit = 65536
-
--- the bytes of a file are the script of these statements
-pub record IsScriptOf (bytes : List ℕ) (statements : List Statement) : Type 0 where
-  pub short : length bytes ≤ script_limit
-  pub spelled : Spells statements bytes
+-- the tokens are the statements in order
+unfoldable pub Spells : List Statement → List Token → Type 0
+Spells [] ts = ts ≡ []
+Spells (s ∷ statements) ts = (rest : List Token) × Marked (statement_marks s) ts rest × Spells statements rest

@@ -5,8 +5,11 @@ ghost use Rattle.std.specs.String.{string_bytes};
 ghost use Rattle.flow_io.specs.Files.{Rose, IsStoreKept};
 ghost use Rattle.flow_policy.specs.Inputs.{IsGivenTo};
 ghost use Rattle.js_shell.specs.Scripts.{statements_of};
-ghost use Rattle.js_shell.specs.Replies.{Command, command_of, Reaches, source_limit};
-ghost use Rattle.js_shell.specs.Accepting.{AcceptsScript, AcceptsPolicy, AcceptsInput, Accepts, TakesScript, is_usage};
+ghost use Rattle.js_ast.specs.declared.token.Token.{Token};
+ghost use Rattle.js_scan.specs.Tokens.{fault_at, IsTokens, IsFaultOf};
+ghost use Rattle.js_shell.specs.Sources.{source_limit};
+ghost use Rattle.js_shell.specs.Replies.{Command, command_of, Reaches};
+ghost use Rattle.js_shell.specs.Accepting.{AcceptsScript, AcceptsPolicy, AcceptsInput, Accepts, TakesScript, TakesText, TakesTokens, RefusesTokens, is_usage};
 ghost use Rattle.js_shell.specs.Seen.{seen_command, seen_script, seen_tasks, texts_of};
 
 use crate::reader::{ScriptFault, read_script};
@@ -15,7 +18,9 @@ use flow_io::{LoadFault, Store, load};
 use flow_policy::{
     InputFault, InputKind, Inputs, Policy, PolicyFault, PolicyKind, read_inputs, read_policy,
 };
-use flow_text::{Text, TextFault};
+use flow_text::{Place, Text, TextFault};
+use js_ast::Token;
+use js_scan::{ScanFault, scan};
 use std::alloc::Global;
 
 /// The most bytes of a source.
@@ -30,6 +35,15 @@ const POLICY_LIMIT: usize = 65_536;
 /// The most bytes of an input.
 const INPUT_LIMIT: usize = 1_048_576;
 
+/// What a source has in the place of a token.
+#[derive(Clone, Copy, Debug, PartialEq, Eq)]
+pub(crate) enum SourceKind {
+    BadToken,
+    Unterminated,
+    RegExpLiteral,
+    NumberLiteral,
+}
+
 /// Why there is no run.
 #[derive(Clone, Copy, Debug, PartialEq, Eq)]
 pub(crate) enum Refusal {
@@ -37,6 +51,8 @@ pub(crate) enum Refusal {
     LongSource,
     /// The source isn't UTF-8 behind so many bytes.
     SourceUtf8 { at: usize },
+    /// The source has no tokens.
+    BadSource { kind: SourceKind, place: Place },
     /// The source has not the form that there is so far.
     Unbuilt,
     LongPolicy,
@@ -107,7 +123,7 @@ pub(crate) fn accept<F: Store>(
 }
 
 /// Reads a script.
-#[tactic(auto, unfolding(crate::specs::Replies::source_text))]
+#[tactic(auto, unfolding(crate::specs::Sources::source_text))]
 fn accept_script<F: Store>(alloc: Global, store: &mut F, path: &str) -> Result<Vec<Print>, Refusal>
     requires { F.may_ask store.old path.now ≡ true }
     ensures kept { IsStoreKept F.contents F.may_ask F.faults store.old store.new }
@@ -124,23 +140,62 @@ fn accept_script<F: Store>(alloc: Global, store: &mut F, path: &str) -> Result<V
 }
 
 /// The script that the bytes of a source are.
-#[tactic(auto, unfolding(crate::specs::Replies::source_text))]
 fn script_of(alloc: Global, bytes: &[u8]) -> Result<Vec<Print>, Refusal>
     requires { length bytes.now ≤ source_limit }
     ensures { TakesScript bytes.now (seen_script result) }
 {
-    match Text::from_utf8(alloc, bytes) {
-        Ok(_text) => {}
-        Err(TextFault::BadUtf8 { at }) => return Err(Refusal::SourceUtf8 { at }),
-        Err(TextFault::OutOfMemory) => return Err(Refusal::OutOfMemory),
-    }
+    let text = text_of(alloc, bytes)?;
+    let tokens = tokens_of(alloc, &text)?;
     if bytes.len() > SCRIPT_LIMIT {
         return Err(Refusal::Unbuilt);
     }
-    match read_script(alloc, bytes) {
+    match read_script(alloc, &tokens) {
         Ok(script) => Ok(script),
         Err(ScriptFault::Unbuilt) => Err(Refusal::Unbuilt),
         Err(ScriptFault::OutOfMemory) => Err(Refusal::OutOfMemory),
+    }
+}
+
+/// The text that the bytes of a source are.
+#[tactic(auto, unfolding(crate::specs::Sources::source_text))]
+fn text_of(alloc: Global, bytes: &[u8]) -> Result<Text, Refusal>
+    requires { length bytes.now ≤ source_limit }
+    ensures { TakesText bytes.now result }
+{
+    match Text::from_utf8(alloc, bytes) {
+        Ok(text) => Ok(text),
+        Err(TextFault::BadUtf8 { at }) => Err(Refusal::SourceUtf8 { at }),
+        Err(TextFault::OutOfMemory) => Err(Refusal::OutOfMemory),
+    }
+}
+
+/// The tokens of a source.
+fn tokens_of(alloc: Global, text: &Text) -> Result<Vec<Token>, Refusal>
+    ensures takes { TakesTokens text.now result }
+    ensures only { (tokens : List Token) → IsTokens text.now tokens → IfOk result (λ found. found.items ≡ tokens) }
+{
+    match scan(alloc, text) {
+        Ok(tokens) => Ok(tokens),
+        Err(fault) => Err(no_tokens(text, fault)),
+    }
+}
+
+/// The refusal of a source that has no tokens.
+fn no_tokens(text: &Text, fault: ScanFault) -> Refusal
+    requires place { fault_at fault ≤ length text.now }
+    requires fault { IsFaultOf text.now fault }
+    ensures { RefusesTokens text.now result }
+{
+    let (kind, at) = match fault {
+        ScanFault::BadToken { at } => (SourceKind::BadToken, at),
+        ScanFault::Unterminated { at } => (SourceKind::Unterminated, at),
+        ScanFault::RegExpLiteral { at } => (SourceKind::RegExpLiteral, at),
+        ScanFault::NumberLiteral { at } => (SourceKind::NumberLiteral, at),
+        ScanFault::OutOfMemory => return Refusal::OutOfMemory,
+    };
+    Refusal::BadSource {
+        kind,
+        place: text.place(at),
     }
 }
 

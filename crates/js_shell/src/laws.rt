@@ -1,6 +1,6 @@
 //! The laws of the two meanings of a script, and of replies.
 
-ghost use Rattle.js_shell.specs.Promises.{IsIsolating, IsErasing, NeverStops, SpellsOnce, RepliesOnce};
+ghost use Rattle.js_shell.specs.Promises.{IsIsolating, IsErasing, NeverStops, SpellsOnce, IsScriptOnce, RepliesOnce};
 
 /// Isolation: two labelled runs that finish, on inputs that agree for an observer, write the same view.
 #[tactic(auto, using(crate::proofs::Meanings::isolation))]
@@ -19,10 +19,10 @@ pub fn never_stops()
     ensures { NeverStops }
 {}
 
-/// Bytes spell one script at most.
-#[tactic(auto, using(crate::proofs::ReadingLaws::spells_once))]
+/// Tokens spell one script at most, and so do the bytes of a source.
 pub fn spells_once()
-    ensures { SpellsOnce }
+    ensures tokens { SpellsOnce }
+    ensures bytes { IsScriptOnce }
 {}
 
 /// Words over files have one reply at most.

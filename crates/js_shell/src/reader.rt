@@ -1,20 +1,22 @@
-//! Scripts from bytes.
+//! Scripts from tokens.
 
-ghost use Rattle.std.specs.Prelude.{◌≡◌, ◌≤◌, IfOk, ℕ, List, length, Err};
-ghost use Rattle.std.specs.List.{prefix_len};
+ghost use Rattle.std.specs.Prelude.{◌≡◌, IfOk, List, Err};
+ghost use Rattle.std.specs.Option.{option_map};
+ghost use Rattle.std.specs.Str.{bytes_eq};
 ghost use Rattle.js_shell.specs.declared.reader.ScriptFault.TheVariants.{OutOfMemory};
 ghost use Rattle.js_shell.specs.Answers.{Reads};
-ghost use Rattle.js_shell.specs.Reading.{begins, behind, quoted_at, literal_at, reading_at, term_at, more_at, statement_at, behind_blanks, statements_at, script_at};
-ghost use Rattle.js_shell.specs.Scripts.{Statement, statement_of, statements_of, is_plain_byte, is_blank, Spells};
+ghost use Rattle.js_shell.specs.Reading.{is_word, is_sign, behind_word, behind_sign, behind_end, string_at, argument_at, term_at, terms_at, statement_at, script_at};
+ghost use Rattle.js_shell.specs.Scripts.{Statement, statement_of, statements_of, Spells};
 
 use crate::script::{Print, Term};
 use flow_text::Text;
+use js_ast::{Token, TokenKind};
 use std::alloc::{AllocFailed, Global};
 
-/// Why bytes gave no script.
+/// Why tokens gave no script.
 #[derive(Clone, Copy, Debug, PartialEq, Eq)]
 pub(crate) enum ScriptFault {
-    /// No script of the form that there is so far spells them.
+    /// They spell no script of the form that there is so far.
     Unbuilt,
     OutOfMemory,
 }
@@ -35,53 +37,36 @@ impl<T: Drop> From<AllocFailed<T>> for ScriptFault {
     }
 }
 
-/// The statements that the bytes spell.
-pub(crate) fn read_script(alloc: Global, bytes: &[u8]) -> Result<Vec<Print>, ScriptFault>
-    ensures spelled { IfOk result (λ prints. Spells (statements_of prints.items) bytes.now) }
-    ensures refused { result ≡ Err ScriptFault.Unbuilt → (statements : List Statement) → Spells statements bytes.now → ⊥ }
+/// The statements that the tokens spell.
+pub(crate) fn read_script(alloc: Global, tokens: &[Token]) -> Result<Vec<Print>, ScriptFault>
+    ensures spelled { IfOk result (λ prints. Spells (statements_of prints.items) tokens.now) }
+    ensures refused { result ≡ Err ScriptFault.Unbuilt → (statements : List Statement) → Spells statements tokens.now → ⊥ }
 {
-    script(alloc, bytes)
+    statements(alloc, tokens)
 }
 
-#[tactic(auto, unfolding(crate::specs::Reading::script_at))]
-fn script(alloc: Global, bytes: &[u8]) -> Result<Vec<Print>, ScriptFault>
-    ensures { Reads (λ prints. statements_of prints.items) result (script_at bytes.now) }
-{
-    statements(alloc, after_blanks(bytes), bytes.len())
-}
-
-// Each statement takes a byte at least, so there are no more statements than bytes.
-fn statements(alloc: Global, bytes: &[u8], most: usize) -> Result<Vec<Print>, ScriptFault>
-    ensures { Reads (λ prints. statements_of prints.items) result (statements_at most bytes.now) }
+fn statements(alloc: Global, tokens: &[Token]) -> Result<Vec<Print>, ScriptFault>
+    ensures { Reads (λ prints. statements_of prints.items) result (script_at tokens.now) }
 {
     let mut statements = Vec::new(alloc);
-    let mut rest = bytes;
-    for _ in 0..most {
-        if rest.is_empty() {
-            return Ok(statements);
-        }
+    let mut rest = tokens;
+    while !rest.is_empty() {
         let (print, after) = statement(alloc, rest)?;
         statements.push(print)?;
-        rest = after_blanks(after);
+        rest = after;
     }
-    if rest.is_empty() {
-        Ok(statements)
-    } else {
-        Err(ScriptFault::Unbuilt)
-    }
+    Ok(statements)
 }
 
 #[tactic(auto, unfolding(crate::specs::Reading::statement_at))]
-fn statement(alloc: Global, bytes: &[u8]) -> Result<(Print, &[u8]), ScriptFault>
-    ensures { Reads (λ x. (statement_of x.0, x.1.now)) result (statement_at bytes.now) }
+fn statement(alloc: Global, tokens: &[Token]) -> Result<(Print, &[Token]), ScriptFault>
+    ensures { Reads (λ x. (statement_of x.0, x.1.now)) result (statement_at tokens.now) }
 {
-    let call = after(bytes, b"print(")?;
-    let (name, rest) = quoted(call)?;
-    let value = after(rest, b", ")?;
-    let (first, rest) = term(alloc, value)?;
+    let (channel, rest) = argument(tokens, b"print", b",").ok_or(ScriptFault::Unbuilt)?;
+    let (first, rest) = term(alloc, rest)?;
     let (more, rest) = more_terms(alloc, rest)?;
-    let rest = after(rest, b");")?;
-    let channel = plain_text(alloc, name)?;
+    let rest = after_end(rest).ok_or(ScriptFault::Unbuilt)?;
+    let channel = channel.copy(alloc)?;
     Ok((
         Print {
             channel,
@@ -92,115 +77,103 @@ fn statement(alloc: Global, bytes: &[u8]) -> Result<(Print, &[u8]), ScriptFault>
     ))
 }
 
-// Each further term takes a byte at least.
-fn more_terms(alloc: Global, bytes: &[u8]) -> Result<(Vec<Term>, &[u8]), ScriptFault>
-    ensures { Reads (λ x. (x.0.items, x.1.now)) result (more_at (length bytes.now) bytes.now) }
+/// The further terms of a sum.
+fn more_terms(alloc: Global, tokens: &[Token]) -> Result<(Vec<Term>, &[Token]), ScriptFault>
+    ensures { Reads (λ x. (x.0.items, x.1.now)) result (terms_at tokens.now) }
 {
     let mut more = Vec::new(alloc);
-    let mut rest = bytes;
-    for _ in 0..bytes.len() {
-        if !rest.starts_with(b" + ") {
-            return Ok((more, rest));
-        }
-        let (next, after) = term(alloc, &rest[3..])?;
+    let mut rest = tokens;
+    while let Some(value) = after_sign(rest, b"+") {
+        let (next, after) = term(alloc, value)?;
         more.push(next)?;
         rest = after;
     }
     Ok((more, rest))
 }
 
-#[tactic(auto, unfolding(crate::specs::Reading::term_at))]
-fn term(alloc: Global, bytes: &[u8]) -> Result<(Term, &[u8]), ScriptFault>
-    ensures { Reads (λ x. (x.0, x.1.now)) result (term_at bytes.now) }
+#[tactic(auto, unfolding(crate::specs::Reading::term_at, crate::specs::Reading::reading_at))]
+fn term(alloc: Global, tokens: &[Token]) -> Result<(Term, &[Token]), ScriptFault>
+    ensures { Reads (λ x. (x.0, x.1.now)) result (term_at tokens.now) }
 {
-    if bytes.starts_with(b"\"") {
-        literal(alloc, bytes)
-    } else {
-        reading(alloc, bytes)
+    if let Some((value, rest)) = string_value(tokens) {
+        return Ok((Term::Literal(value.copy(alloc)?), rest));
+    }
+    let (channel, rest) = argument(tokens, b"read", b")").ok_or(ScriptFault::Unbuilt)?;
+    Ok((Term::Read(channel.copy(alloc)?), rest))
+}
+
+/// The value of the string literal behind `name` and `(`, and the tokens behind the `end` that follows it.
+#[tactic(auto, unfolding(crate::specs::Reading::argument_at))]
+fn argument<'a>(tokens: &'a [Token], name: &[u8], end: &[u8]) -> Option<(&'a Text, &'a [Token])>
+    ensures { option_map (λ x. (x.0.now, x.1.now)) result ≡ argument_at name.now end.now tokens.now }
+{
+    let opened = after_sign(after_word(tokens, name)?, b"(")?;
+    let (value, rest) = string_value(opened)?;
+    Some((value, after_sign(rest, end)?))
+}
+
+#[tactic(auto, unfolding(crate::specs::Reading::behind_end))]
+fn after_end(tokens: &[Token]) -> Option<&[Token]>
+    ensures { option_map (λ rest. rest.now) result ≡ behind_end tokens.now }
+{
+    after_sign(after_sign(tokens, b")")?, b";")
+}
+
+#[tactic(auto, unfolding(crate::specs::Reading::string_at))]
+fn string_value(tokens: &[Token]) -> Option<(&Text, &[Token])>
+    ensures { option_map (λ x. (x.0.now, x.1.now)) result ≡ string_at tokens.now }
+{
+    match tokens {
+        [
+            Token {
+                kind: TokenKind::String(value),
+                ..
+            },
+            rest @ ..,
+        ] => Some((value, rest)),
+        _ => None,
     }
 }
 
-#[tactic(auto, unfolding(crate::specs::Reading::literal_at))]
-fn literal(alloc: Global, bytes: &[u8]) -> Result<(Term, &[u8]), ScriptFault>
-    ensures { Reads (λ x. (x.0, x.1.now)) result (literal_at bytes.now) }
+#[tactic(auto, unfolding(crate::specs::Reading::behind_word))]
+fn after_word<'a>(tokens: &'a [Token], name: &[u8]) -> Option<&'a [Token]>
+    ensures { option_map (λ rest. rest.now) result ≡ behind_word name.now tokens.now }
 {
-    let (text, rest) = quoted(bytes)?;
-    Ok((Term::Literal(plain_text(alloc, text)?), rest))
-}
-
-#[tactic(auto, unfolding(crate::specs::Reading::reading_at))]
-fn reading(alloc: Global, bytes: &[u8]) -> Result<(Term, &[u8]), ScriptFault>
-    ensures { Reads (λ x. (x.0, x.1.now)) result (reading_at bytes.now) }
-{
-    let inside = after(bytes, b"read(")?;
-    let (name, rest) = quoted(inside)?;
-    let rest = after(rest, b")")?;
-    Ok((Term::Read(plain_text(alloc, name)?), rest))
-}
-
-#[tactic(auto, unfolding(crate::specs::Reading::quoted_at))]
-fn quoted(bytes: &[u8]) -> Result<(&[u8], &[u8]), ScriptFault>
-    ensures { Reads (λ x. (x.0.now, x.1.now)) result (quoted_at bytes.now) }
-{
-    let inside = after(bytes, b"\"")?;
-    let len = plain_len(inside);
-    let rest = after(&inside[len..], b"\"")?;
-    Ok((&inside[..len], rest))
-}
-
-#[tactic(auto, unfolding(crate::specs::Reading::behind))]
-fn after<'a>(bytes: &'a [u8], token: &[u8]) -> Result<&'a [u8], ScriptFault>
-    ensures { Reads (λ rest. rest.now) result (behind token.now bytes.now) }
-{
-    if bytes.starts_with(token) {
-        Ok(&bytes[token.len()..])
-    } else {
-        Err(ScriptFault::Unbuilt)
+    match tokens {
+        [first, rest @ ..] if is_word(first, name) => Some(rest),
+        _ => None,
     }
 }
 
-fn after_blanks(bytes: &[u8]) -> &[u8]
-    ensures { result.now ≡ behind_blanks bytes.now }
+#[tactic(auto, unfolding(crate::specs::Reading::behind_sign))]
+fn after_sign<'a>(tokens: &'a [Token], punctuator: &[u8]) -> Option<&'a [Token]>
+    ensures { option_map (λ rest. rest.now) result ≡ behind_sign punctuator.now tokens.now }
 {
-    &bytes[blank_len(bytes)..]
-}
-
-fn blank_len(bytes: &[u8]) -> usize
-    ensures count { result ≡ prefix_len is_blank bytes.now }
-    ensures within { result ≤ length bytes.now }
-{
-    bytes.iter().take_while(|byte| is_blank(**byte)).count()
-}
-
-fn plain_len(bytes: &[u8]) -> usize
-    ensures count { result ≡ prefix_len is_plain_byte bytes.now }
-    ensures within { result ≤ length bytes.now }
-{
-    bytes
-        .iter()
-        .take_while(|byte| is_plain_byte(**byte))
-        .count()
-}
-
-fn is_blank(byte: u8) -> bool
-    ensures { result ≡ is_blank byte }
-{
-    byte == b' ' || byte == b'\n'
-}
-
-fn is_plain_byte(byte: u8) -> bool
-    ensures { result ≡ is_plain_byte byte }
-{
-    matches!(byte, b' '..=b'~') && byte != b'"' && byte != b'\\'
-}
-
-/// The text of plain bytes, each of which is a unit.
-fn plain_text(alloc: Global, bytes: &[u8]) -> Result<Text, flow_text::OutOfMemory>
-    ensures { IfOk result (λ text. text ≡ bytes.now) }
-{
-    let mut text = Text::new(alloc);
-    for byte in bytes {
-        text.push(u16::from(*byte))?;
+    match tokens {
+        [first, rest @ ..] if is_sign(first, punctuator) => Some(rest),
+        _ => None,
     }
-    Ok(text)
+}
+
+fn is_word(token: &Token, name: &[u8]) -> bool
+    ensures { result ≡ is_word name.now token.now }
+{
+    matches!(token.kind, TokenKind::Name) && is_text(token.text.units(), name)
+}
+
+fn is_sign(token: &Token, punctuator: &[u8]) -> bool
+    ensures { result ≡ is_sign punctuator.now token.now }
+{
+    matches!(token.kind, TokenKind::Punctuator) && is_text(token.text.units(), punctuator)
+}
+
+/// Whether the units are the bytes, one by one.
+fn is_text(units: &[u16], bytes: &[u8]) -> bool
+    ensures { result ≡ bytes_eq units.now bytes.now }
+{
+    units.len() == bytes.len()
+        && units
+            .iter()
+            .zip(bytes)
+            .all(|(unit, byte)| *unit == u16::from(*byte))
 }

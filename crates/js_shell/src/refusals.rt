@@ -2,13 +2,14 @@
 
 ghost use Rattle.std.specs.Prelude.{◌≡◌, ◌++◌, ◌^◌, ◌<◌, ℕ, List, Some, IfOk, codes};
 ghost use Rattle.std.specs.Fmt.{decimal};
-ghost use Rattle.js_shell.specs.Replies.{policy_kind_name, input_kind_name, at_line};
+ghost use Rattle.js_shell.specs.Sources.{bad_source};
+ghost use Rattle.js_shell.specs.Replies.{source_kind_name, source_report, policy_kind_name, input_kind_name, at_line};
 ghost use Rattle.js_shell.specs.Accepting.{refusal_report, refusal_status};
 
-use crate::accepting::Refusal;
+use crate::accepting::{Refusal, SourceKind};
 use crate::status::Status;
 use flow_policy::{InputKind, PolicyKind};
-use flow_text::OutOfMemory;
+use flow_text::{OutOfMemory, Place};
 use itoa::Buffer;
 use std::alloc::Global;
 
@@ -19,7 +20,10 @@ impl Refusal {
     {
         match self {
             Refusal::Usage => Status::Usage,
-            Refusal::LongSource | Refusal::SourceUtf8 { .. } | Refusal::Unbuilt => Status::Source,
+            Refusal::LongSource
+            | Refusal::SourceUtf8 { .. }
+            | Refusal::BadSource { .. }
+            | Refusal::Unbuilt => Status::Source,
             Refusal::LongPolicy
             | Refusal::BadPolicy { .. }
             | Refusal::LongInput
@@ -38,6 +42,7 @@ pub(crate) fn refusal_bytes(alloc: Global, refusal: Refusal) -> Result<Vec<u8>, 
         Refusal::Usage => Ok(Vec::from_slice(alloc, b"! usage\n")?),
         Refusal::LongSource => Ok(Vec::from_slice(alloc, b"! source TooLong\n")?),
         Refusal::SourceUtf8 { at } => bad_byte(alloc, at),
+        Refusal::BadSource { kind, place } => bad_token(alloc, kind, place),
         Refusal::Unbuilt => Ok(Vec::from_slice(alloc, b"! source Unbuilt\n")?),
         Refusal::LongPolicy => Ok(Vec::from_slice(alloc, b"! policy TooLong\n")?),
         Refusal::BadPolicy { line, kind } => bad_line(
@@ -68,6 +73,20 @@ fn bad_byte(alloc: Global, at: usize) -> Result<Vec<u8>, OutOfMemory>
     Ok(bytes)
 }
 
+/// The report of a source that has no tokens.
+fn bad_token(alloc: Global, kind: SourceKind, place: Place) -> Result<Vec<u8>, OutOfMemory>
+    ensures { IfOk result (λ bytes. bytes.items ≡ source_report (bad_source kind place)) }
+{
+    let mut bytes = Vec::from_slice(alloc, b"! source ")?;
+    bytes.extend_from_slice(source_kind_name(kind))?;
+    bytes.extend_from_slice(b" at ")?;
+    bytes.extend_from_slice(Buffer::new().format(place.line).as_bytes())?;
+    bytes.push(b':')?;
+    bytes.extend_from_slice(Buffer::new().format(place.column).as_bytes())?;
+    bytes.push(b'\n')?;
+    Ok(bytes)
+}
+
 /// The report of a bad line.
 fn bad_line(alloc: Global, front: &[u8], kind: &[u8], line: usize) -> Result<Vec<u8>, OutOfMemory>
     ensures { IfOk result (λ bytes. bytes.items ≡ front.now ++ at_line kind.now line) }
@@ -78,6 +97,17 @@ fn bad_line(alloc: Global, front: &[u8], kind: &[u8], line: usize) -> Result<Vec
     bytes.extend_from_slice(Buffer::new().format(line).as_bytes())?;
     bytes.push(b'\n')?;
     Ok(bytes)
+}
+
+fn source_kind_name(kind: SourceKind) -> &'static [u8]
+    ensures { result.now ≡ source_kind_name kind }
+{
+    match kind {
+        SourceKind::BadToken => b"BadToken",
+        SourceKind::Unterminated => b"Unterminated",
+        SourceKind::RegExpLiteral => b"RegExpLiteral",
+        SourceKind::NumberLiteral => b"NumberLiteral",
+    }
 }
 
 fn policy_kind_name(kind: PolicyKind) -> &'static [u8]

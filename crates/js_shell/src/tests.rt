@@ -6,7 +6,7 @@ use std::test::Fail;
 const POLICY: &str = "origin A\norigin B\nin pin A\nin note -\nout all A,B\nout pub -\n";
 
 // A script, an input, and what a run writes and answers.
-const RUNS: [(&str, &str, &str, Status); 19] = [
+const RUNS: [(&str, &str, &str, Status); 13] = [
     ("", "", "! done\n", Status::Done),
     (" \n\n ", "", "! done\n", Status::Done),
     (
@@ -70,47 +70,71 @@ const RUNS: [(&str, &str, &str, Status); 19] = [
         Status::Done,
     ),
     (
-        "print(\"pub\", 1);",
-        "",
-        "! source Unbuilt\n",
-        Status::Source,
-    ),
-    (
-        "print(\"pub\",\"hi\");",
-        "",
-        "! source Unbuilt\n",
-        Status::Source,
-    ),
-    (
-        "print(\"pub\", \"hi\")",
-        "",
-        "! source Unbuilt\n",
-        Status::Source,
-    ),
-    (
-        "print(\"pub\", \"a\\b\");",
-        "",
-        "! source Unbuilt\n",
-        Status::Source,
-    ),
-    (
-        "print(\"pub\", \"a\" +\"b\");",
-        "",
-        "! source Unbuilt\n",
-        Status::Source,
-    ),
-    (
-        "print(\"pub\", \"\u{e9}\");",
-        "",
-        "! source Unbuilt\n",
-        Status::Source,
-    ),
-    (
         "",
         "pin 1\npox 2\n",
         "! input Channel at line 2\n",
         Status::Policy,
     ),
+];
+
+// A script, and what a run of it without input writes. It finishes.
+const SPELLINGS: [(&str, &str); 10] = [
+    ("print(\"pub\",\"hi\");", "pub hi\n! done\n"),
+    (
+        "\tprint (\r\n\"pub\" ,\t\"hi\"\u{a0}) ;\u{2028}",
+        "pub hi\n! done\n",
+    ),
+    (
+        "// a\nprint(/* b */\"pub\", \"hi\"/* c\n */);// d",
+        "pub hi\n! done\n",
+    ),
+    ("pr\\u0069nt('pub', 'hi');", "pub hi\n! done\n"),
+    ("print(\"p\\x75b\", 'a' +\"b\"+'c');", "pub abc\n! done\n"),
+    ("print(\"pub\", \"\u{e9}\");", "pub \u{e9}\n! done\n"),
+    ("print(\"pub\", '\"');", "pub \"\n! done\n"),
+    ("print(\"pub\", \"a\\b\");", "pub a\u{8}\n! done\n"),
+    (
+        "print(\"pub\",\"a\\nb\\\\c\\uD800\");",
+        "pub a\\nb\\\\c\u{fffd}\n! done\n",
+    ),
+    (
+        "print(\"pub\",\"a\");print(\"pub\",\"b\");",
+        "pub a\npub b\n! done\n",
+    ),
+];
+
+// A source that is refused, and its report.
+const REFUSED: [(&str, &str); 24] = [
+    ("var r = /a/;", "! source RegExpLiteral at 1:9\n"),
+    ("#", "! source BadToken at 1:1\n"),
+    ("'abc", "! source Unterminated at 1:1\n"),
+    ("/* abc", "! source Unterminated at 1:1\n"),
+    ("010;", "! source NumberLiteral at 1:1\n"),
+    (
+        "print(\"pub\", \"a\");\r\n  @",
+        "! source BadToken at 2:3\n",
+    ),
+    (
+        "print(\"pub\", \"a\");\r\r\n\u{2028}'",
+        "! source Unterminated at 4:1\n",
+    ),
+    ("print(\"pub\", '\\x4');", "! source BadToken at 1:15\n"),
+    ("var x; #", "! source BadToken at 1:8\n"),
+    ("print(\"pub\", 1);", "! source Unbuilt\n"),
+    ("print(\"pub\", \"hi\")", "! source Unbuilt\n"),
+    ("var x;", "! source Unbuilt\n"),
+    (";", "! source Unbuilt\n"),
+    ("print", "! source Unbuilt\n"),
+    ("Print(\"pub\", \"hi\");", "! source Unbuilt\n"),
+    ("'print'(\"pub\", \"hi\");", "! source Unbuilt\n"),
+    ("print[\"pub\", \"hi\"];", "! source Unbuilt\n"),
+    ("print(pub, \"hi\");", "! source Unbuilt\n"),
+    ("print(\"pub\" \"hi\");", "! source Unbuilt\n"),
+    ("print(\"pub\", );", "! source Unbuilt\n"),
+    ("print(\"pub\", \"a\" \"b\");", "! source Unbuilt\n"),
+    ("print(\"pub\", \"a\" + );", "! source Unbuilt\n"),
+    ("print(\"pub\", \"a\" ++ \"b\");", "! source Unbuilt\n"),
+    ("read(\"pin\");", "! source Unbuilt\n"),
 ];
 
 // A policy, and what a run of the empty script under it writes.
@@ -200,6 +224,40 @@ fn runs(rt: HostRuntime) -> Result<(), Fail> {
             "{script}"
         );
         assert_eq!(rt; sink.taken(), bytes.as_bytes(), "{script}");
+    }
+    Ok(())
+}
+
+#[test]
+fn spellings(rt: HostRuntime) -> Result<(), Fail> {
+    let alloc = rt.alloc();
+    let words = words_of(alloc, &["run", "s", "p", "i"])?;
+    for (script, bytes) in SPELLINGS {
+        let mut store = files(alloc, script, POLICY, "")?;
+        let mut sink = MemorySink::new(alloc);
+        assert_eq!(rt;
+            shell(alloc, &words, &mut store, &mut sink),
+            Status::Done,
+            "{script}"
+        );
+        assert_eq!(rt; sink.taken(), bytes.as_bytes(), "{script}");
+    }
+    Ok(())
+}
+
+#[test]
+fn refused_sources(rt: HostRuntime) -> Result<(), Fail> {
+    let alloc = rt.alloc();
+    let words = words_of(alloc, &["run", "s", "p", "i"])?;
+    for (script, report) in REFUSED {
+        let mut store = files(alloc, script, POLICY, "")?;
+        let mut sink = MemorySink::new(alloc);
+        assert_eq!(rt;
+            shell(alloc, &words, &mut store, &mut sink),
+            Status::Source,
+            "{script}"
+        );
+        assert_eq!(rt; sink.taken(), report.as_bytes(), "{script}");
     }
     Ok(())
 }
@@ -330,6 +388,9 @@ fn limits_of_files(rt: HostRuntime) -> Result<(), Fail> {
     script.resize(65_536, b' ')?;
     let mut longer_script = Vec::new(alloc);
     longer_script.resize(65_537, b' ')?;
+    let mut bad_token = Vec::new(alloc);
+    bad_token.resize(65_537, b' ')?;
+    bad_token.push(b'#')?;
     let mut source = Vec::new(alloc);
     source.resize(1_048_577, b' ')?;
     for (path, bytes, report, status) in [
@@ -351,6 +412,12 @@ fn limits_of_files(rt: HostRuntime) -> Result<(), Fail> {
         ),
         ("s", script, "! done\n", Status::Done),
         ("s", longer_script, "! source Unbuilt\n", Status::Source),
+        (
+            "s",
+            bad_token,
+            "! source BadToken at 1:65538\n",
+            Status::Source,
+        ),
         ("s", source, "! source TooLong\n", Status::Source),
     ] {
         let mut store = files(alloc, "", POLICY, "")?;

@@ -1,6 +1,6 @@
 use Rattle.flow_io.specs.Files.{Rose}
 use Rattle.js_shell.specs.Seen.{texts_of}
-use Rattle.js_shell.proofs.Promised.{isolation_told, plain_told, stops_told, done_exactly, stopped_exactly, left_exactly, early_told}
+use Rattle.js_shell.proofs.Promised.{isolation_told, plain_told, stops_told, done_exactly, source_exactly, policy_exactly, stopped_exactly, left_exactly, early_told}
 use Rattle.js_shell.proofs.program.shell.Goals as goal
 
 pub returns-clause-isolation : goal.returns-clause-isolation
@@ -18,6 +18,14 @@ returns-clause-stops g c =
 pub returns-clause-done : goal.returns-clause-done
 returns-clause-done g c =
     done_exactly (texts_of c.args.words.now) (g.F.Store.contents c.args.store.now) (Rose (g.F.Store.faults c.args.store.now) (g.F.Store.faults c.answer.new.store)) (g.K.Sink.taken c.args.sink.now) (g.K.Sink.taken c.answer.new.sink) c.answer.result c.answer.ensures.answers
+
+pub returns-clause-source : goal.returns-clause-source
+returns-clause-source g c =
+    source_exactly (texts_of c.args.words.now) (g.F.Store.contents c.args.store.now) (Rose (g.F.Store.faults c.args.store.now) (g.F.Store.faults c.answer.new.store)) (g.K.Sink.taken c.args.sink.now) (g.K.Sink.taken c.answer.new.sink) c.answer.result c.answer.ensures.answers
+
+pub returns-clause-policy : goal.returns-clause-policy
+returns-clause-policy g c =
+    policy_exactly (texts_of c.args.words.now) (g.F.Store.contents c.args.store.now) (Rose (g.F.Store.faults c.args.store.now) (g.F.Store.faults c.answer.new.store)) (g.K.Sink.taken c.args.sink.now) (g.K.Sink.taken c.answer.new.sink) c.answer.result c.answer.ensures.answers
 
 pub returns-clause-stopped : goal.returns-clause-stopped
 returns-clause-stopped g c =

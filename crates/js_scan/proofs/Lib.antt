@@ -1,0 +1,16 @@
+pub mod CommentLaws
+pub mod Faults
+pub mod Finding
+pub mod Fronts
+pub mod Laws
+pub mod NameLaws
+pub mod NumberLaws
+pub mod PunctuatorLaws
+pub mod Readings
+pub mod Rests
+pub mod Sames
+pub mod Steps
+pub mod Totality
+pub mod StringLaws
+pub mod StringReadingLaws
+pub mod UnitLaws

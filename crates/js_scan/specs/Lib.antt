@@ -1,0 +1,13 @@
+pub mod CommentReading
+pub mod Comments
+pub mod Elements
+pub mod Found
+pub mod NameReading
+pub mod Names
+pub mod NumberReading
+pub mod Numbers
+pub mod Punctuators
+pub mod StringReading
+pub mod Strings
+pub mod Tokens
+pub mod Units

@@ -1,0 +1,28 @@
+//! The tokens of a source (ECMA-262 7).
+#![tactic(auto)]
+
+mod class;
+mod comments;
+mod element;
+mod exactness;
+mod fault;
+mod names;
+mod numbers;
+mod punctuators;
+mod scanning;
+mod state;
+mod strings;
+mod units;
+
+pub use exactness::one_reading;
+pub use fault::ScanFault;
+pub use scanning::scan;
+
+#[cfg(test)]
+mod name_tests;
+#[cfg(test)]
+mod number_tests;
+#[cfg(test)]
+mod string_tests;
+#[cfg(test)]
+mod tests;

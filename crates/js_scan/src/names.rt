@@ -1,0 +1,189 @@
+//! Names.
+
+ghost use Rattle.std.specs.Prelude.{◌≡◌, ◌↔◌, ◌<◌, true, IfOk, IfSome};
+ghost use Rattle.std.specs.List.{list_any};
+ghost use Rattle.std.specs.Str.{bytes_eq};
+ghost use Rattle.js_scan.specs.Names.{BeginsName, is_reserved};
+ghost use Rattle.js_scan.specs.Found.{FindsWord};
+ghost use Rattle.js_scan.specs.NameReading.{hexadecimal_digit, hexadecimal_value, escaped_unit, unit_at, start_at, part_at};
+
+use crate::units::{is_identifier_part, is_identifier_start};
+use flow_text::{OutOfMemory, Text};
+use std::alloc::Global;
+
+// Keyword, FutureReservedWord, NullLiteral and BooleanLiteral.
+const RESERVED_WORDS: [&[u8]; 36] = [
+    b"break",
+    b"case",
+    b"catch",
+    b"continue",
+    b"debugger",
+    b"default",
+    b"delete",
+    b"do",
+    b"else",
+    b"finally",
+    b"for",
+    b"function",
+    b"if",
+    b"in",
+    b"instanceof",
+    b"new",
+    b"return",
+    b"switch",
+    b"this",
+    b"throw",
+    b"try",
+    b"typeof",
+    b"var",
+    b"void",
+    b"while",
+    b"with",
+    b"class",
+    b"const",
+    b"enum",
+    b"export",
+    b"extends",
+    b"import",
+    b"super",
+    b"null",
+    b"true",
+    b"false",
+];
+
+/// A name.
+#[derive(Debug, Drop)]
+pub(crate) struct Word {
+    /// What it stands for.
+    pub(crate) text: Text,
+    /// How many units spell it.
+    pub(crate) length: usize,
+    /// It has an escape.
+    pub(crate) escaped: bool,
+}
+
+/// The longest name that stands at the front of the units.
+pub(crate) fn read_word(alloc: Global, units: &[u16]) -> Result<Option<Word>, OutOfMemory>
+    ensures { IfOk result (λ found. FindsWord units.now found) }
+{
+    let Some((first, taken)) = start_at(units) else {
+        return Ok(None);
+    };
+    let mut text = Text::new(alloc);
+    text.push(first)?;
+    let mut length = taken;
+    let mut escaped = 1 < taken;
+    while let Some((unit, taken)) = part_at(&units[length..]) {
+        text.push(unit)?;
+        length += taken;
+        escaped |= 1 < taken;
+    }
+    Ok(Some(Word {
+        text,
+        length,
+        escaped,
+    }))
+}
+
+/// Whether a name stands at the front of the units.
+pub(crate) fn begins_name(units: &[u16]) -> bool
+    ensures { (result ≡ true) ↔ BeginsName units.now }
+{
+    start_at(units).is_some()
+}
+
+// The first unit of a name, and how many units spell it.
+#[tactic(auto, unfolding(crate::specs::NameReading::start_at, crate::specs::NameReading::passing))]
+fn start_at(units: &[u16]) -> Option<(u16, usize)>
+    ensures { result ≡ start_at units.now }
+{
+    unit_at(units).filter(|found| is_identifier_start(found.0))
+}
+
+// A unit behind the first, and how many units spell it.
+#[tactic(auto, unfolding(crate::specs::NameReading::part_at, crate::specs::NameReading::passing))]
+fn part_at(units: &[u16]) -> Option<(u16, usize)>
+    ensures { result ≡ part_at units.now }
+{
+    unit_at(units).filter(|found| is_identifier_part(found.0))
+}
+
+// The unit that stands first, as itself or by an escape, and how many units spell it.
+#[tactic(auto, unfolding(crate::specs::NameReading::unit_at))]
+fn unit_at(units: &[u16]) -> Option<(u16, usize)>
+    ensures { result ≡ unit_at units.now }
+{
+    match units {
+        [0x5C, behind @ ..] => Some((escaped_unit(behind)?, 6)),
+        [unit, ..] => Some((*unit, 1)),
+        [] => None,
+    }
+}
+
+// The unit that an escape stands for, of which these follow the `\`.
+#[tactic(auto, unfolding(crate::specs::NameReading::escaped_unit))]
+fn escaped_unit(units: &[u16]) -> Option<u16>
+    ensures { result ≡ escaped_unit units.now }
+{
+    match units {
+        [0x75, a, b, c, d, ..] => hexadecimal_value(*a, *b, *c, *d),
+        _ => None,
+    }
+}
+
+#[tactic(auto, unfolding(crate::specs::NameReading::hexadecimal_value, crate::specs::NameReading::hexadecimal_digit))]
+fn hexadecimal_value(a: u16, b: u16, c: u16, d: u16) -> Option<u16>
+    ensures { result ≡ hexadecimal_value a b c d }
+{
+    let a = hexadecimal_digit(a)?;
+    let b = hexadecimal_digit(b)?;
+    let c = hexadecimal_digit(c)?;
+    let d = hexadecimal_digit(d)?;
+    Some(((a * 16 + b) * 16 + c) * 16 + d)
+}
+
+#[tactic(auto, unfolding(crate::specs::NameReading::hexadecimal_digit))]
+fn hexadecimal_digit(unit: u16) -> Option<u16>
+    ensures value { result ≡ hexadecimal_digit unit }
+    ensures below { IfSome result (λ digit. digit < 16) }
+{
+    match unit {
+        0x30..=0x39 => Some(unit - 0x30),
+        0x41..=0x46 => Some(unit - 0x37),
+        0x61..=0x66 => Some(unit - 0x57),
+        _ => None,
+    }
+}
+
+/// Whether the text is a reserved word.
+#[tactic(auto, unfolding(crate::specs::Names::is_reserved))]
+pub(crate) fn is_reserved(text: &[u16]) -> bool
+    ensures { result ≡ is_reserved text.now }
+{
+    is_one_of(&RESERVED_WORDS, text)
+}
+
+pub(crate) fn is_one_of(words: &[&[u8]], text: &[u16]) -> bool
+    ensures { result ≡ list_any (λ word. bytes_eq text.now word.now) words.now }
+{
+    words.iter().any(|word| spells(word, text))
+}
+
+/// Whether the bytes are the units of the text, one by one.
+pub(crate) fn spells(word: &[u8], text: &[u16]) -> bool
+    ensures { result ≡ bytes_eq text.now word.now }
+{
+    if word.len() != text.len() {
+        return false;
+    }
+    let mut bytes = word;
+    let mut units = text;
+    while let ([byte, more_bytes @ ..], [unit, more_units @ ..]) = (bytes, units) {
+        if *unit != u16::from(*byte) {
+            return false;
+        }
+        bytes = more_bytes;
+        units = more_units;
+    }
+    true
+}

@@ -1,0 +1,2 @@
+print("pub", "a");
+var r = /a/;
