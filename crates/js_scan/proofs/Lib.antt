@@ -2,6 +2,7 @@ pub mod CommentLaws
 pub mod Faults
 pub mod Finding
 pub mod Fronts
+pub mod HexadecimalLaws
 pub mod Laws
 pub mod NameLaws
 pub mod NumberLaws

@@ -1,18 +1,20 @@
 -- Names as they are read: a name that is read is one, and no longer one stands there.
-use Rattle.std.proofs.Common.{◌≡◌, ℕ, ◌+◌, ◌-◌, ◌<◌, ◌≤◌, ◌==◌, nat_lt, Bool, true, false, ◌&&◌, ◌||◌, ◌↔◌, ◌⊎◌, inl, inr, List, [], ◌∷◌, ◌++◌, length, take, drop, refl, sym, ap, subst, ◌∙◌, arith, Option, Some, None, if◌then◌else◌, append_assoc, zero-le, length-append}
+use Rattle.std.proofs.Common.{◌≡◌, ℕ, suc, ◌+◌, ◌-◌, ◌<◌, ◌≤◌, ◌==◌, nat_lt, Bool, true, false, ◌&&◌, ◌||◌, ◌↔◌, ◌⊎◌, inl, inr, List, [], ◌∷◌, ◌++◌, length, take, drop, refl, sym, ap, subst, ◌∙◌, arith, Option, Some, None, if◌then◌else◌, append_assoc, zero-le, length-append}
 use Rattle.std.specs.Option.{option_map, is_some}
 use Rattle.std.specs.Char.{is_digit, digit_value}
 use Rattle.std.specs.Str.Parse.{digits_value}
 use Rattle.std.proofs.lemmas.Bool.{and_parts, and_from, eqb-true, lt-ltb, ltb-true, cond-true, cond-false, true≢false}
 use Rattle.std.proofs.Math.Bool.{or-false}
-use Rattle.std.proofs.lemmas.List.{map-append, drop-drop, append-nil, take_rest}
+use Rattle.std.proofs.lemmas.List.{map-append, take-append-drop, drop-drop, append-nil, take_rest}
 use Rattle.std.proofs.lemmas.List.Folds.{list_any-append}
 use Rattle.std.proofs.lemmas.Grind.{flat_map-append}
 use Rattle.std.proofs.Math.Seq.{take-append_seam, drop-append_seam}
 use Rattle.js_scan.specs.Units.{is_identifier_start, is_identifier_part, begins_with}
 use Rattle.js_scan.specs.Names.{AreHex, NamePart, plain, escape, spelled_name_part, part_unit, is_escape, IsNamePart, AreNameParts, IsName, spelled_name, name_value, has_escape, BeginsName}
 use Rattle.js_scan.specs.Found.{FindsName}
-use Rattle.js_scan.specs.NameReading.{hexadecimal_value, escaped_unit, unit_at, passing, start_at, part_at, ReadsName}
+use Rattle.js_scan.specs.NameReading.{escaped_unit, unit_at, passing, start_at, part_at, ReadsName}
+use Rattle.js_scan.specs.Hexadecimal.{begins_with_hexadecimal, hexadecimal_value}
+use Rattle.js_scan.proofs.HexadecimalLaws.{hexadecimal_from_test, test_from_hexadecimal}
 use Rattle.js_scan.proofs.UnitLaws.{part_no_backslash, start_is_part}
 
 -- ---- what is read is a part
@@ -36,18 +38,16 @@ plain_stands : (u : ℕ) (us : List ℕ) → StandsPart (u ∷ us) u 1
 plain_stands u us = record { part = plain u; is = tt; whole = refl; length_is = refl; unit_is = refl; escape_is = refl }
 
 -- four digits
-digits_stand : (a b c d v : ℕ) (us : List ℕ) → hexadecimal_value a b c d ≡ Some v → StandsPart (92 ∷ 117 ∷ a ∷ b ∷ c ∷ d ∷ us) v 6
+digits_stand : (us : List ℕ) (v : ℕ) → hexadecimal_value 4 us ≡ Some v → StandsPart (92 ∷ 117 ∷ us) v 6
 unfolding hexadecimal_value
-digits_stand a b c d v us e =
-    let t = through (is_digit a 16 && (is_digit b 16 && (is_digit c 16 && is_digit d 16))) (Some (digits_value 16 (a ∷ b ∷ c ∷ d ∷ []))) v e in
-    let p = and_parts (is_digit a 16) (is_digit b 16 && (is_digit c 16 && is_digit d 16)) t.0 in
-    let q = and_parts (is_digit b 16) (is_digit c 16 && is_digit d 16) p.1 in
-    let r = and_parts (is_digit c 16) (is_digit d 16) q.1 in
+digits_stand us v e =
+    let t = through (begins_with_hexadecimal 4 us) (Some (digits_value 16 (take 4 us))) v e in
+    let are = hexadecimal_from_test 4 us t.0 in
     record {
-      part = escape (a ∷ b ∷ c ∷ d ∷ []);
-      is = (refl, (ltb-true (digit_value a) 16 p.0, (ltb-true (digit_value b) 16 q.0, (ltb-true (digit_value c) 16 r.0, (ltb-true (digit_value d) 16 r.1, tt)))));
-      whole = refl;
-      length_is = refl;
+      part = escape (take 4 us);
+      is = are;
+      whole = ap (λ xs. 92 ∷ 117 ∷ xs) (sym (take-append-drop 4 us));
+      length_is = ap (λ n. suc (suc n)) are.0;
       unit_is = let f = t.1 in cc f;
       escape_is = refl;
     }
@@ -55,10 +55,10 @@ digits_stand a b c d v us e =
 -- an escape
 escape_stands : (us : List ℕ) (v : ℕ) → escaped_unit us ≡ Some v → StandsPart (92 ∷ us) v 6
 unfolding escaped_unit
-escape_stands (u ∷ a ∷ b ∷ c ∷ d ∷ us) v e =
-    let t = through (u == 117) (hexadecimal_value a b c d) v e in
-    subst (λ x. StandsPart (92 ∷ x ∷ a ∷ b ∷ c ∷ d ∷ us) v 6) (sym (eqb-true u 117 t.0)) (digits_stand a b c d v us t.1)
-escape_stands _ v e = cc e
+escape_stands [] v e = cc e
+escape_stands (u ∷ us) v e =
+    let t = through (u == 117) (hexadecimal_value 4 us) v e in
+    subst (λ x. StandsPart (92 ∷ x ∷ us) v 6) (sym (eqb-true u 117 t.0)) (digits_stand us v t.1)
 
 -- a unit with a length of 6
 mapped : (o : Option ℕ) (x : ℕ × ℕ) → option_map (λ v. (v, 6)) o ≡ Some x → (o ≡ Some x.0) × (x.1 ≡ 6)
@@ -87,11 +87,10 @@ IsPart p = IsNamePart p × (is_identifier_part (part_unit p) ≡ true)
 -- an escape is read
 escape_read : (ds us : List ℕ) → AreHex 4 ds → unit_at (92 ∷ 117 ∷ (ds ++ us)) ≡ Some (digits_value 16 ds, 6)
 unfolding unit_at escaped_unit hexadecimal_value
-escape_read (a ∷ b ∷ c ∷ d ∷ []) us h =
-    ap (option_map (λ v. (v, 6))) (cond-true (is_digit a 16 && (is_digit b 16 && (is_digit c 16 && is_digit d 16))) (Some (digits_value 16 (a ∷ b ∷ c ∷ d ∷ []))) None
-    (and_from (is_digit a 16) (is_digit b 16 && (is_digit c 16 && is_digit d 16)) (lt-ltb (digit_value a) 16 h.1.0) (and_from (is_digit b 16) (is_digit c 16 && is_digit d 16) (lt-ltb (digit_value b) 16 h.1.1.0)
-    (and_from (is_digit c 16) (is_digit d 16) (lt-ltb (digit_value c) 16 h.1.1.1.0) (lt-ltb (digit_value d) 16 h.1.1.1.1.0)))))
-escape_read _ us h = absurd (omega arith)
+escape_read ds us h =
+    let front : take 4 (ds ++ us) ≡ ds = ap (λ n. take n (ds ++ us)) (sym h.0) ∙ take-append_seam ds us in
+    let test : begins_with_hexadecimal 4 (ds ++ us) ≡ true = test_from_hexadecimal 4 (ds ++ us) (subst (AreHex 4) (sym front) h) in
+    ap (option_map (λ v. (v, 6))) (cond-true (begins_with_hexadecimal 4 (ds ++ us)) (Some (digits_value 16 (take 4 (ds ++ us)))) None test ∙ ap (λ xs. Some (digits_value 16 xs)) front)
 
 -- any part is read
 part_read : (p : NamePart) (us : List ℕ) → IsPart p → unit_at (spelled_name_part p ++ us) ≡ Some (part_unit p, length (spelled_name_part p))

@@ -2,6 +2,7 @@ pub mod CommentReading
 pub mod Comments
 pub mod Elements
 pub mod Found
+pub mod Hexadecimal
 pub mod NameReading
 pub mod Names
 pub mod NumberReading

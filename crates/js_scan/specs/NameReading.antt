@@ -1,23 +1,14 @@
 -- How a name is read, unit by unit.
 use Rattle.std.specs.Prelude.{◌≡◌, ℕ, List, [], ◌∷◌, ◌++◌, Bool, ◌&&◌, ◌==◌, length, drop, Option, Some, None, if◌then◌else◌}
 use Rattle.std.specs.Option.{option_map}
-use Rattle.std.specs.Char.{is_digit, digit_value}
-use Rattle.std.specs.Str.Parse.{digits_value}
 use Rattle.js_scan.specs.Units.{is_identifier_start, is_identifier_part}
+use Rattle.js_scan.specs.Hexadecimal.{hexadecimal_value}
 use Rattle.js_scan.specs.Names.{NamePart, IsName, spelled_name, name_value, has_escape}
-
--- the value of a hexadecimal digit
-unfoldable pub hexadecimal_digit : ℕ → Option ℕ
-hexadecimal_digit u = if is_digit u 16 then Some (digit_value u) else None
-
--- the number that four hexadecimal digits write
-unfoldable pub hexadecimal_value : ℕ → ℕ → ℕ → ℕ → Option ℕ
-hexadecimal_value a b c d = if is_digit a 16 && (is_digit b 16 && (is_digit c 16 && is_digit d 16)) then Some (digits_value 16 (a ∷ b ∷ c ∷ d ∷ [])) else None
 
 -- the unit that an escape stands for, of which these follow the `\`
 unfoldable pub escaped_unit : List ℕ → Option ℕ
-escaped_unit (u ∷ a ∷ b ∷ c ∷ d ∷ us) = if u == 117 then hexadecimal_value a b c d else None
-escaped_unit _ = None
+escaped_unit [] = None
+escaped_unit (u ∷ us) = if u == 117 then hexadecimal_value 4 us else None
 
 -- the unit that stands first, as itself or by an escape, and how many units spell it
 unfoldable pub unit_at : List ℕ → Option (ℕ × ℕ)

@@ -1,20 +1,11 @@
 -- What stands ahead in a string, read from left to right (ECMA-262 7.8.4). The laws of `proofs/StringReadingLaws` tie it to the parts of a string.
-use Rattle.std.specs.Prelude.{ℕ, ◌+◌, List, [], ◌∷◌, length, take, Bool, not, ◌==◌, nat_le, ◌&&◌, Option, Some, None, if◌then◌else◌}
-use Rattle.std.specs.List.{list_all}
+use Rattle.std.specs.Prelude.{ℕ, ◌+◌, List, [], ◌∷◌, Bool, not, ◌==◌, ◌&&◌, Option, Some, None, if◌then◌else◌}
 use Rattle.std.specs.Char.{is_digit}
-use Rattle.std.specs.Str.Parse.{digits_value}
 use Rattle.js_scan.specs.declared.strings.Ahead.{Ahead}
 use Rattle.js_scan.specs.declared.strings.Ahead.TheVariants.{Value, Nothing, Quote, LineEnd, BadEscape}
 use Rattle.js_scan.specs.Units.{is_line_terminator, begins_with, begins_with_digit}
 use Rattle.js_scan.specs.Strings.{escaped_character}
-
--- so many hexadecimal digits stand at the front
-abbrev pub begins_with_hexadecimal : ℕ → List ℕ → Bool
-begins_with_hexadecimal count us = nat_le count (length us) && list_all (λ u. is_digit u 16) (take count us)
-
--- the number that they write
-unfoldable pub hexadecimal_value : ℕ → List ℕ → Option ℕ
-hexadecimal_value count us = if begins_with_hexadecimal count us then Some (digits_value 16 (take count us)) else None
+use Rattle.js_scan.specs.Hexadecimal.{hexadecimal_value}
 
 -- an escape by a number, of so many units
 abbrev pub by_number : ℕ → Option ℕ → Ahead

@@ -6,6 +6,7 @@ mod comments;
 mod element;
 mod exactness;
 mod fault;
+mod hexadecimal;
 mod names;
 mod numbers;
 mod punctuators;

@@ -5,8 +5,9 @@ ghost use Rattle.std.specs.List.{list_any};
 ghost use Rattle.std.specs.Str.{bytes_eq};
 ghost use Rattle.js_scan.specs.Names.{BeginsName, is_reserved};
 ghost use Rattle.js_scan.specs.Found.{FindsWord};
-ghost use Rattle.js_scan.specs.NameReading.{hexadecimal_digit, hexadecimal_value, escaped_unit, unit_at, start_at, part_at};
+ghost use Rattle.js_scan.specs.NameReading.{escaped_unit, unit_at, start_at, part_at};
 
+use crate::hexadecimal::hexadecimal_value;
 use crate::units::{is_identifier_part, is_identifier_start};
 use flow_text::{OutOfMemory, Text};
 use std::alloc::Global;
@@ -126,31 +127,7 @@ fn escaped_unit(units: &[u16]) -> Option<u16>
     ensures { result ≡ escaped_unit units.now }
 {
     match units {
-        [0x75, a, b, c, d, ..] => hexadecimal_value(*a, *b, *c, *d),
-        _ => None,
-    }
-}
-
-#[tactic(auto, unfolding(crate::specs::NameReading::hexadecimal_value, crate::specs::NameReading::hexadecimal_digit))]
-fn hexadecimal_value(a: u16, b: u16, c: u16, d: u16) -> Option<u16>
-    ensures { result ≡ hexadecimal_value a b c d }
-{
-    let a = hexadecimal_digit(a)?;
-    let b = hexadecimal_digit(b)?;
-    let c = hexadecimal_digit(c)?;
-    let d = hexadecimal_digit(d)?;
-    Some(((a * 16 + b) * 16 + c) * 16 + d)
-}
-
-#[tactic(auto, unfolding(crate::specs::NameReading::hexadecimal_digit))]
-fn hexadecimal_digit(unit: u16) -> Option<u16>
-    ensures value { result ≡ hexadecimal_digit unit }
-    ensures below { IfSome result (λ digit. digit < 16) }
-{
-    match unit {
-        0x30..=0x39 => Some(unit - 0x30),
-        0x41..=0x46 => Some(unit - 0x37),
-        0x61..=0x66 => Some(unit - 0x57),
+        [0x75, digits @ ..] => hexadecimal_value(4, digits),
         _ => None,
     }
 }

@@ -4,9 +4,10 @@ ghost use Rattle.std.specs.Prelude.{◌≡◌, ◌≤◌, true, Some, None, List
 ghost use Rattle.std.specs.Char.{is_digit, digit_value};
 ghost use Rattle.js_scan.specs.Units.{is_quote};
 ghost use Rattle.js_scan.specs.Strings.{escaped_character};
-ghost use Rattle.js_scan.specs.StringReading.{hexadecimal_value, hexadecimal_escape, digit_escape, line_continuation, escape, look_ahead};
+ghost use Rattle.js_scan.specs.StringReading.{hexadecimal_escape, digit_escape, line_continuation, escape, look_ahead};
 ghost use Rattle.js_scan.specs.Found.{FindsQuoted};
 
+use crate::hexadecimal::hexadecimal_value;
 use crate::units::is_line_terminator;
 use flow_text::{OutOfMemory, Text};
 use std::alloc::Global;
@@ -148,31 +149,5 @@ fn escaped_character(unit: u16) -> u16
         0x66 => 0x0C, // \f
         0x72 => 0x0D, // \r
         _ => unit,
-    }
-}
-
-// The number that so many hexadecimal digits at the front write.
-#[tactic(auto, unfolding(crate::specs::StringReading::hexadecimal_value))]
-fn hexadecimal_value(count: usize, units: &[u16]) -> Option<u16>
-    requires { count ≤ 4 }
-    ensures { result ≡ hexadecimal_value count units.now }
-{
-    let digits = units.get(..count)?;
-    let mut value = 0;
-    for digit in digits {
-        value = value * 16 + hexadecimal_digit(*digit)?;
-    }
-    Some(value)
-}
-
-// The value of a hexadecimal digit.
-fn hexadecimal_digit(unit: u16) -> Option<u16>
-    ensures { result ≡ (if is_digit unit 16 then Some (digit_value unit) else None) }
-{
-    match unit {
-        0x30..=0x39 => Some(unit - 0x30),
-        0x41..=0x46 => Some(unit - 0x37),
-        0x61..=0x66 => Some(unit - 0x57),
-        _ => None,
     }
 }

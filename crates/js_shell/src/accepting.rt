@@ -35,7 +35,7 @@ const POLICY_LIMIT: usize = 65_536;
 /// The most bytes of an input.
 const INPUT_LIMIT: usize = 1_048_576;
 
-/// What a source has in the place of a token.
+/// Why a source has no tokens.
 #[derive(Clone, Copy, Debug, PartialEq, Eq)]
 pub(crate) enum SourceKind {
     BadToken,
@@ -51,7 +51,7 @@ pub(crate) enum Refusal {
     LongSource,
     /// The source isn't UTF-8 behind so many bytes.
     SourceUtf8 { at: usize },
-    /// The source has no tokens.
+    /// The source has no tokens: why, and where.
     BadSource { kind: SourceKind, place: Place },
     /// The source has not the form that there is so far.
     Unbuilt,

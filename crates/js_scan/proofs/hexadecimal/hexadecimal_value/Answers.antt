@@ -1,6 +1,6 @@
 use Rattle.std.proofs.Common.{◌+◌, ◌*◌, arith, ap, Some, ◌∙◌}
-use Rattle.js_scan.proofs.StringReadingLaws.{hexadecimal_below, hexadecimal_more, hexadecimal_all}
-use Rattle.js_scan.proofs.strings.hexadecimal_value.Goals as goal
+use Rattle.js_scan.proofs.HexadecimalLaws.{hexadecimal_below, hexadecimal_more, hexadecimal_all}
+use Rattle.js_scan.proofs.hexadecimal.hexadecimal_value.Goals as goal
 
 pub overflow_mul-value : goal.overflow_mul-value
 overflow_mul-value c =

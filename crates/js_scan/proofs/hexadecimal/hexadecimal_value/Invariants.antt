@@ -1,6 +1,6 @@
 use Rattle.std.proofs.Common.{◌≡◌, ◌≤◌, length, take}
 use Rattle.std.specs.Str.Parse.{digits_value, AllDigits}
-use Rattle.js_scan.proofs.strings.hexadecimal_value.Given as goal
+use Rattle.js_scan.proofs.hexadecimal.hexadecimal_value.Given as goal
 
 abbrev pub invariant-loop-digit : goal.invariant-loop-digit
 invariant-loop-digit l = record {

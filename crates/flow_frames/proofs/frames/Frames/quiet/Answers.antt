@@ -1,0 +1,15 @@
+use Rattle.std.proofs.Common.{arith, ap, ◌∙◌, ◌<◌, length}
+use Rattle.std.proofs.lemmas.List.{length-map}
+use Rattle.flow_frames.specs.Held.{Kept}
+use Rattle.flow_frames.specs.Changes.{quieted}
+use Rattle.flow_frames.specs.Views.{held}
+use Rattle.flow_frames.proofs.CallLaws.{kind_within, quieted-set}
+use Rattle.flow_frames.proofs.frames.Frames.quiet.Goals as goal
+
+pub returns-clause-frames : goal.returns-clause-frames
+returns-clause-frames g c =
+    let view = ap (λ (v : Kept g.row.T.Denot). v.frames) c.self.view_is in
+    let there = kind_within c.args.self.now.frames c.args.depth _ c.requires in
+    let within : c.args.depth < length c.self.inside.frames.items = omega (arith, there, ap length view, length-map c.self.inside.frames.items held) in
+    quieted-set c.self.inside.frames.items c.args.depth c.index_mut.result.now within c.index_mut.ensures.value
+    ∙ ap (λ (v : Kept g.row.T.Denot). quieted v.frames c.args.depth) c.self.view_is

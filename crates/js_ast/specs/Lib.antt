@@ -1,0 +1,13 @@
+pub mod Depth
+pub mod ExpressionParsing
+pub mod Grammar
+pub mod Laws
+pub mod Levels
+pub mod Nodes
+pub mod Parsing
+pub mod Reading
+pub mod StatementParsing
+pub mod Trees
+pub mod Validity
+pub mod Views
+pub mod Words

@@ -1,0 +1,7 @@
+-- What a list of nodes shows.
+use Rattle.std.specs.Prelude.{List}
+use Rattle.js_ast.specs.declared.node_list.NodeList.{NodeList}
+
+-- its nodes in their order
+abbrev pub nodes_of : {T : Type 0} → NodeList T → List T
+nodes_of l = l.nodes.items

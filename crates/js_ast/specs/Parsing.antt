@@ -1,0 +1,20 @@
+-- The parser on lists: by the depth of what is read. Trees of one depth are read from the parsers of those of less depth.
+use Rattle.std.specs.Prelude.{ℕ, zero, suc, true, List, [], ◌∷◌, Ok, Err}
+use Rattle.js_ast.specs.declared.token.Token.{Token}
+use Rattle.js_ast.specs.Trees.{Statements}
+use Rattle.js_ast.specs.Reading.{syntax, nesting, refused, Read, ◌>>=◌, Parsers}
+use Rattle.js_ast.specs.ExpressionParsing.{expression_at}
+use Rattle.js_ast.specs.StatementParsing.{statement_at, statements_at}
+
+-- trees whose depth is below the number
+unfoldable pub parsers : ℕ → Parsers
+parsers zero = record { expression = λ wanted free ts. Err (refused nesting ts); statement = λ ts. Err (refused nesting ts); statements = λ outer ts. Err (refused nesting ts) }
+parsers (suc d) = record { expression = expression_at (parsers d) d; statement = statement_at (parsers d) d; statements = statements_at (parsers d) d }
+
+unfoldable pub to_end : Statements → List Token → Read Statements
+to_end ss [] = Ok (ss, [])
+to_end ss (t ∷ ts) = Err (refused syntax (t ∷ ts))
+
+-- the statements of a program, whose depth is below the number, to the end of the tokens
+unfoldable pub program_at : ℕ → List Token → Read Statements
+program_at n ts = (parsers n).statements true ts >>= λ ss. to_end ss.0 ss.1

@@ -1,0 +1,40 @@
+//! The lists of trees.
+
+ghost use Rattle.std.specs.Prelude.{◌≡◌, [], ◌∷◌, ◌++◌, OnOk, OnErr};
+ghost use Rattle.js_ast.specs.Nodes.{nodes_of};
+
+use flow_text::OutOfMemory;
+use std::alloc::Global;
+
+/// Nodes in their order.
+#[derive(Debug, Drop)]
+pub struct NodeList<T> {
+    nodes: Vec<T>,
+}
+
+impl<T: Drop> NodeList<T> {
+    /// The empty list. It takes no memory.
+    pub fn new(alloc: Global) -> NodeList<T>
+        ensures { nodes_of result ≡ [] }
+    {
+        NodeList {
+            nodes: Vec::new(alloc),
+        }
+    }
+
+    /// Adds a node at the end.
+    pub fn push(&mut self, node: T) -> Result<(), OutOfMemory>
+        ensures ok { OnOk result (nodes_of self.new ≡ nodes_of self.old ++ node ∷ []) }
+        ensures unchanged { OnErr result (nodes_of self.new ≡ nodes_of self.old) }
+    {
+        self.nodes.push(node)?;
+        Ok(())
+    }
+
+    /// Its nodes.
+    pub fn items(&self) -> &[T]
+        ensures { result.now ≡ nodes_of self.now }
+    {
+        &self.nodes
+    }
+}
