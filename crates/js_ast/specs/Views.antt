@@ -1,5 +1,5 @@
 -- The trees in memory, as the grammar sees them: no place in memory, no number of a function, no strictness.
-use Rattle.std.specs.Prelude.{ℕ, Bool, List, [], ◌∷◌, Option, Some, None}
+use Rattle.std.specs.Prelude.{ℕ, List, [], ◌∷◌, map, Option, Some, None, option_map}
 use Rattle.js_ast.specs.declared.trees.Ident.{Ident}
 use Rattle.js_ast.specs.declared.trees.Key.{Key}
 use Rattle.js_ast.specs.declared.trees.Key.TheVariants as key
@@ -26,7 +26,7 @@ use Rattle.js_ast.specs.declared.trees.ForTarget as target
 use Rattle.js_ast.specs.declared.trees.Clause.{Clause, Clause'}
 use Rattle.js_ast.specs.declared.trees.Block.{Block, Block'}
 use Rattle.js_ast.specs.declared.trees.Program.{Program}
-use Rattle.js_ast.specs.declared.trees.ExprKind.TheBlock.{Held-ExprKind-New-1, ExprKind-New-1-None', ExprKind-New-1-Some', Held-ForFirst-Expr-0, ForFirst-Expr-0-None', ForFirst-Expr-0-Some', Held-StmtKind-If-2, StmtKind-If-2-None', StmtKind-If-2-Some', Row_of-Item, end_of-Item, more_of-Item, Row_of-Property, end_of-Property, more_of-Property, Row_of-Expr, end_of-Expr, more_of-Expr, Row_of-Stmt, end_of-Stmt, more_of-Stmt, Row_of-Clause, end_of-Clause, more_of-Clause, Row_of-Declaration, end_of-Declaration, more_of-Declaration}
+use Rattle.js_ast.specs.declared.trees.ExprKind.TheBlock.{ExprKind-New-1-None', ExprKind-New-1-Some', Held-ForFirst-Expr-0, ForFirst-Expr-0-None', ForFirst-Expr-0-Some', StmtKind-If-2-None', StmtKind-If-2-Some', Row_of-Item, end_of-Item, more_of-Item, Row_of-Property, end_of-Property, more_of-Property, Row_of-Expr, end_of-Expr, more_of-Expr, Row_of-Stmt, end_of-Stmt, more_of-Stmt, Row_of-Clause, end_of-Clause, more_of-Clause, Row_of-Declaration, end_of-Declaration, more_of-Declaration}
 use Rattle.js_ast.specs.Nodes.{nodes_of}
 use Rattle.js_ast.specs.Trees as trees
 use Rattle.js_ast.specs.Trees.{name_key, string_key, number_key, written, elided, name, number, string, this, null, boolean, paren, array, object, function, member, index, new_with, new_bare, call, postfix, unary, binary, conditional, assign, comma, no_exprs, more_exprs, absent, present, no_items, hole, item, value, getter, setter, no_properties, more_properties, one_declaration, more_declarations, first_expr, first_var, target_expr, target_var, no_clauses, case, default, block_of, block, var, empty, expression, if_then, if_else, do_while, while, for, for_in, continue, break, return, throw, switch, labelled, try_catch, try_finally, try_both, debugger, function_declaration, no_statements, more_statements}
@@ -39,13 +39,11 @@ view_ident i = record { at = i.at; text = i.text }
 
 -- a name or none
 abbrev pub view_name : Option Ident → Option trees.Ident
-view_name (Some i) = Some (view_ident i)
-view_name None = None
+view_name ident = option_map view_ident ident
 
 -- names in their order
 abbrev pub view_idents : List Ident → List trees.Ident
-view_idents [] = []
-view_idents (i ∷ is) = view_ident i ∷ view_idents is
+view_idents is = map view_ident is
 
 -- the key of a property
 abbrev pub view_key : Key → trees.Key
@@ -227,8 +225,7 @@ view_properties (p ∷ ps) = more_properties (view_property p) (view_properties 
 
 -- variables behind the first
 abbrev pub view_other_declarations : List Declaration → List (trees.Ident × trees.MaybeExpr)
-view_other_declarations [] = []
-view_other_declarations (d ∷ ds) = view_declaration d ∷ view_other_declarations ds
+view_other_declarations ds = map view_declaration ds
 
 -- clauses in their order
 abbrev pub view_clauses : List Clause → trees.Clauses
