@@ -47,7 +47,7 @@ reads_place (assign at l o r) ts z h = h.0
 reads_place (comma at l r) ts z h = h.0
 
 -- an operator in front begins an expression
-unary-begins : (o : UnaryOperator) → begins_expression (Some (unary_word o)) ≡ true
+pub unary-begins : (o : UnaryOperator) → begins_expression (Some (unary_word o)) ≡ true
 unary-begins unary_operator.Delete = refl
 unary-begins _ = refl
 

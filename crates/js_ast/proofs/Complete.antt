@@ -1,16 +1,23 @@
 -- Each valid tree is read, by the parsers of a number above its depth, and so each list of tokens is spelled by one valid program at most.
-use Rattle.std.proofs.Common.{◌≡◌, ℕ, zero, suc, ◌<◌, max, true, List, [], Ok, refl, sym, ap, ◌∙◌, arith}
+use Rattle.std.proofs.Common.{◌≡◌, ℕ, zero, suc, ◌<◌, max, inl, inr, true, List, [], Ok, refl, sym, ap, ◌∙◌, arith}
 use Rattle.js_ast.specs.declared.token.Token.{Token}
-use Rattle.js_ast.specs.Trees.{Statements}
+use Rattle.js_ast.specs.Trees.{Expr, Statements}
 use Rattle.js_ast.specs.Grammar.{SpellsProgram}
 use Rattle.js_ast.specs.Validity.{ValidProgram}
 use Rattle.js_ast.specs.Depth.{depth_statements}
 use Rattle.js_ast.specs.Reading.{Read}
 use Rattle.js_ast.specs.Parsing.{parsers, to_end, program_at}
 use Rattle.js_ast.specs.Laws.{OneTree}
-use Rattle.js_ast.proofs.ExpressionComplete.{expression_complete}
+use Rattle.js_ast.proofs.ExpressionComplete.{expression_complete, primary_reads, further_reads}
+use Rattle.js_ast.proofs.OperandComplete.{operand_complete}
 use Rattle.js_ast.proofs.Completeness.{CompleteBelow}
+use Rattle.js_ast.proofs.Grown.{Changeable}
 use Rattle.js_ast.proofs.StatementComplete.{StatementsBelow, statement_reads, statements_read}
+
+-- no operand has a depth below 0
+changeable_pos : (e : Expr) → Changeable 0 e → ⊥
+changeable_pos e (inl h) = let lt = h.1 in omega arith
+changeable_pos e (inr h) = omega arith
 
 -- by induction on the number
 pub all_below : (n : ℕ) → CompleteBelow n (parsers n) × StatementsBelow n (parsers n)
@@ -18,6 +25,9 @@ unfolding parsers
 all_below zero = (
   record {
     expression = λ wanted free e ts z v lt. absurd (omega arith);
+    operand = λ wanted free e ts z c. absurd (changeable_pos e c);
+    first = λ wanted free e ts z lt. absurd (omega arith);
+    further = λ wanted free e ts z lt. absurd (omega arith);
     bodies = λ ss ts z v lt. absurd (omega arith);
   },
   record {
@@ -28,6 +38,9 @@ all_below zero = (
 all_below (suc d) = let (c, b) = all_below d in (
   record {
     expression = λ wanted free e ts z v lt. expression_complete c wanted free e ts z v (omega arith);
+    operand = λ wanted free e ts z h s a. operand_complete c wanted free e ts z h s a;
+    first = λ wanted free e ts z lt g s. primary_reads d (parsers d) c wanted free ts e z (omega arith) g s;
+    further = λ wanted free e ts z lt g s. further_reads d (parsers d) c wanted free ts e z (omega arith) g s;
     bodies = λ ss ts z v lt r w. statements_read d (parsers d) c b true ss ts z v (omega arith) r (rw w refl);
   },
   record {

@@ -12,8 +12,8 @@ use Rattle.js_ast.specs.Levels.{unary_word, postfix_word, binary_word, assign_wo
 use Rattle.js_ast.specs.Grammar.{Takes, Reads, place_of, on_line}
 use Rattle.js_ast.specs.Validity.{no_in, IsBase, Valid}
 use Rattle.js_ast.specs.Depth.{depth}
-use Rattle.js_ast.specs.Reading.{refused, syntax, Read, ◌>>=◌, word_at, behind, Turn, again, done, loop, room, Parsers}
-use Rattle.js_ast.specs.ExpressionParsing.{at_of, is_close_paren, is_close_bracket, is_colon, expect, taken, name_at, ident_at, function_rest, function_named, function_by, arguments, item_turn, array_rest, property_turn, object_rest, paren_rest, new_by, new_rest, operand_level, unary_of, unary_made, unary_rest, unary_by, primary_by, primary, Suffix, by_member, by_index, by_call, by_postfix, by_binary, by_conditional, by_assign, by_comma, by_nothing, suffix_of, suffix_at, is_base, applies_by, applies, is_call, Reaches, suffix, climb_step, climb, expression_at}
+use Rattle.js_ast.specs.Reading.{refused, syntax, Read, ◌>>=◌, word_at, behind, Turn, again, done, loop, room, Parsers, Suffix, by_member, by_index, by_call, by_postfix, by_binary, by_conditional, by_assign, by_comma, by_nothing}
+use Rattle.js_ast.specs.ExpressionParsing.{at_of, is_close_paren, is_close_bracket, is_colon, expect, taken, name_at, ident_at, function_rest, function_named, function_by, arguments, item_turn, array_rest, property_turn, object_rest, paren_rest, new_by, new_rest, operand_level, unary_of, unary_made, unary_operand, unary_rest, unary_by, primary_by, primary, suffix_of, suffix_at, is_base, applies_by, applies, is_call, Reaches, suffix, further_at, climb_step, climb, expression_at}
 use Rattle.js_ast.proofs.Stops.{and_true, and_parts, not_true, binding-low, operand_level-low}
 use Rattle.js_ast.proofs.Begins.{reads_place}
 use Rattle.js_ast.proofs.Soundness.{FoundExpression, SoundBelow}
@@ -23,24 +23,24 @@ use Rattle.js_ast.proofs.FoundLists.{function_rest_found, arguments_sound, items
 -- ---- the tables, from tokens to operators
 
 -- the word of an operator or none
-abbrev unary_word_of : Option UnaryOperator → Option Word
+abbrev pub unary_word_of : Option UnaryOperator → Option Word
 unary_word_of None = None
 unary_word_of (Some o) = Some (unary_word o)
 
 -- whether there is one
-abbrev is_unary : Option UnaryOperator → Bool
+abbrev pub is_unary : Option UnaryOperator → Bool
 is_unary None = false
 is_unary (Some o) = true
 
 -- a token that is an operator has its word
-unary-word : (w : Option Word) → is_unary (unary_of w) ≡ true → w ≡ unary_word_of (unary_of w)
+pub unary-word : (w : Option Word) → is_unary (unary_of w) ≡ true → w ≡ unary_word_of (unary_of w)
 unary-word None h = cc
 unary-word (Some (a_key key.Delete)) h = cc
 unary-word (Some (a_sign sign.Plus)) h = cc
 unary-word _ h = cc
 
 -- the word of what goes on with an expression
-abbrev suffix_word : Suffix → Word
+abbrev pub suffix_word : Suffix → Word
 suffix_word by_member = a_sign sign.Dot
 suffix_word by_index = a_sign sign.OpenBracket
 suffix_word by_call = a_sign sign.OpenParen
@@ -52,23 +52,23 @@ suffix_word by_comma = a_sign sign.Comma
 suffix_word by_nothing = none_known
 
 -- nothing goes on
-abbrev is_nothing : Suffix → Bool
+abbrev pub is_nothing : Suffix → Bool
 is_nothing by_nothing = true
 is_nothing _ = false
 
 -- a token that goes on has its word
-suffix-word : (w : Option Word) → is_nothing (suffix_of w) ≡ false → w ≡ Some (suffix_word (suffix_of w))
+pub suffix-word : (w : Option Word) → is_nothing (suffix_of w) ≡ false → w ≡ Some (suffix_word (suffix_of w))
 suffix-word None h = cc
 suffix-word (Some (a_sign sign.Dot)) h = cc
 suffix-word (Some (a_key key.In)) h = cc
 suffix-word _ h = cc
 
 -- the token that goes on is taken
-suffix_takes : (s : Suffix) (ts : List Token) → is_nothing s ≡ false → suffix_at ts ≡ s → Takes (suffix_word s) ts (behind ts)
+pub suffix_takes : (s : Suffix) (ts : List Token) → is_nothing s ≡ false → suffix_at ts ≡ s → Takes (suffix_word s) ts (behind ts)
 suffix_takes s ts n h = takes (suffix_word s) ts (suffix-word (word_at ts) (rw h n) ∙ rw h refl)
 
 -- only a parenthesis goes on to a call
-not_called : (w : Option Word) → (w ≡ Some (a_sign sign.OpenParen) → ⊥) → is_call (suffix_of w) ≡ false
+pub not_called : (w : Option Word) → (w ≡ Some (a_sign sign.OpenParen) → ⊥) → is_call (suffix_of w) ≡ false
 not_called (Some (a_sign sign.OpenParen)) n = absurd (n refl)
 not_called (Some (a_key key.In)) n = refl
 not_called _ n = refl
@@ -76,31 +76,31 @@ not_called _ n = refl
 -- ---- what tests say
 
 -- an operand is wanted at 15 at most
-operand_level-high : (o : UnaryOperator) → operand_level o ≤ 15
+pub operand_level-high : (o : UnaryOperator) → operand_level o ≤ 15
 operand_level-high unary_operator.Increment = omega arith
 operand_level-high _ = omega arith
 
 -- the test of a base
-base_is : (e : Expr) → is_base e ≡ true → IsBase e
+pub base_is : (e : Expr) → is_base e ≡ true → IsBase e
 base_is e h = let p = and_parts (leb 15 (level e)) (not (is_bare_new e)) h in (leb-true 15 (level e) p.0, not_true (is_bare_new e) p.1)
 
 -- the test of an operand
-step_target : (a b : Bool) → (not a || b) ≡ true → a ≡ true → b ≡ true
+pub step_target : (a b : Bool) → (not a || b) ≡ true → a ≡ true → b ≡ true
 step_target true b h p = h
 step_target false b h p = absurd cc
 
 -- the test of the operator `in`
-allowed : (free b : Bool) → (free || b) ≡ true → free ≡ false → b ≡ true
+pub allowed : (free b : Bool) → (free || b) ≡ true → free ≡ false → b ≡ true
 allowed true b h p = absurd cc
 allowed false b h p = h
 
 -- what `new` makes an instance of, where arguments follow
-callee_level : (e : Expr) → Reaches 16 e → (is_bare_new e ≡ true → ⊥) → 16 ≤ level e
+pub callee_level : (e : Expr) → Reaches 16 e → (is_bare_new e ≡ true → ⊥) → 16 ≤ level e
 callee_level e (inl h) n = h
 callee_level e (inr h) n = absurd (n h.0)
 
 -- and where none follow
-callee_valid : (e : Expr) → Reaches 16 e → (16 ≤ level e) ⊎ (is_bare_new e ≡ true)
+pub callee_valid : (e : Expr) → Reaches 16 e → (16 ≤ level e) ⊎ (is_bare_new e ≡ true)
 callee_valid e (inl h) = inl h
 callee_valid e (inr h) = inr h.0
 
@@ -230,14 +230,23 @@ module _ (d : ℕ) (sub : Parsers) (below : SoundBelow d sub) (wanted : ℕ) (lo
       let a = bind_ok (sub.expression 16 free (behind ts)) _ (e, z) r in
       new_by_sound ts (a.0).0 (a.0).1 e z lt h (below.expression 16 free (behind ts) (a.0).0 (a.0).1 (omega arith) a.1) a.2
 
+  -- an operand, which is changed or not
+  changed_sound : (o : UnaryOperator) (ts : List Token) (e : Expr) (z : List Token) → unary_operand sub free o ts ≡ Ok (e, z) → FoundExpression d (operand_level o) free e ts z
+  unfolding unary_operand
+  changed_sound o ts e z r = let high = operand_level-high o in go (is_step o) r
+    where
+      go : (b : Bool) → (if b then sub.operand (operand_level o) free ts else sub.expression (operand_level o) free ts) ≡ Ok (e, z) → FoundExpression d (operand_level o) free e ts z
+      go true r = let h = operand_level-high o in (below.operand (operand_level o) free ts e z (omega arith) r).0
+      go false r = let h = operand_level-high o in below.expression (operand_level o) free ts e z (omega arith) r
+
   -- behind an operator
   operand_sound : (o : UnaryOperator) (ts : List Token) (e : Expr) (z : List Token) → wanted ≤ 13 → Takes (unary_word o) ts (behind ts) → unary_rest sub free (place_of ts) o (behind ts) ≡ Ok (e, z) → FoundExpression (suc d) wanted free e ts z
   unfolding unary_rest unary_made
   operand_sound o ts e z le t r =
       let high = operand_level-high o in let least = operand_level-low o in
-      let a = bind_ok (sub.expression (operand_level o) free (behind ts)) _ (e, z) r in
+      let a = bind_ok (unary_operand sub free o (behind ts)) _ (e, z) r in
       let x = (a.0).0 in let m = (a.0).1 in
-      let f = below.expression (operand_level o) free (behind ts) x m (omega arith) a.1 in
+      let f = changed_sound o (behind ts) x m a.1 in
       let s = f.shallow in
       let l = reached_low (operand_level o) x high f.reaches in
       let b = if_ok (not (is_step o) || is_target x) (Ok (unary (place_of ts) o x, m)) (refused syntax m) (e, z) a.2 in
@@ -263,7 +272,7 @@ module _ (d : ℕ) (sub : Parsers) (below : SoundBelow d sub) (wanted : ℕ) (lo
           operand_sound o ts e z (leb-true wanted 13 i.0) (takes (unary_word o) ts (unary-word (word_at ts) (rw h refl) ∙ rw h refl)) j.1
 
   -- an expression up to what may be behind it
-  primary_sound : (ts : List Token) (e : Expr) (z : List Token) → primary sub d wanted free ts ≡ Ok (e, z) → FoundExpression (suc d) wanted free e ts z
+  pub primary_sound : (ts : List Token) (e : Expr) (z : List Token) → primary sub d wanted free ts ≡ Ok (e, z) → FoundExpression (suc d) wanted free e ts z
   unfolding primary primary_by
   primary_sound ts e z r = go (word_at ts) refl r
     where
@@ -291,10 +300,10 @@ module _ (d : ℕ) (sub : Parsers) (below : SoundBelow d sub) (wanted : ℕ) (lo
   -- ---- how an expression goes on
 
   -- a token and what stands behind it make a longer expression of one that they go on with
-  suffix_sound : (start ts : List Token) (e : Expr) (s : Suffix) (x : Expr) (z : List Token) → FoundExpression (suc d) wanted free e start ts → suffix_at ts ≡ s → applies_by wanted free e (on_line ts) s ≡ true → depth e < d
+  suffix_sound : (l : ℕ) (start ts : List Token) (e : Expr) (s : Suffix) (x : Expr) (z : List Token) → FoundExpression l wanted free e start ts → suffix_at ts ≡ s → applies_by wanted free e (on_line ts) s ≡ true → depth e < d
       → suffix sub free e s (behind ts) ≡ Ok (x, z) → FoundExpression (suc d) wanted free x start z
   unfolding suffix
-  suffix_sound start ts e by_member x z i w h lt r =
+  suffix_sound l start ts e by_member x z i w h lt r =
       let p = and_parts (is_base e) (leb wanted (min 16 (level e))) h in
       let a = bind_ok (taken (name_at (behind ts)) (behind ts)) _ (x, z) r in
       told (λ y m. FoundExpression (suc d) wanted free y start m) (member (at_of e) e (a.0).0) x (a.0).1 z (record {
@@ -305,7 +314,7 @@ module _ (d : ℕ) (sub : Parsers) (below : SoundBelow d sub) (wanted : ℕ) (lo
         reads = (reads_place e start ts i.reads, (ts, i.reads, (behind ts, suffix_takes by_member ts refl w, name_sound (behind ts) (a.0).0 (a.0).1 a.1)));
         no_arguments = λ k. absurd cc;
       }) a.2
-  suffix_sound start ts e by_index x z i w h lt r =
+  suffix_sound l start ts e by_index x z i w h lt r =
       let p = and_parts (is_base e) (leb wanted (min 16 (level e))) h in
       let a = bind_ok (sub.expression 0 true (behind ts)) _ (x, z) r in
       let b = bind_ok (expect is_close_bracket (a.0).1) _ (x, z) a.2 in
@@ -319,7 +328,7 @@ module _ (d : ℕ) (sub : Parsers) (below : SoundBelow d sub) (wanted : ℕ) (lo
         reads = (reads_place e start ts i.reads, (ts, i.reads, (behind ts, suffix_takes by_index ts refl w, ((a.0).1, f.reads, close_bracket_sound (a.0).1 b.0 b.1))));
         no_arguments = λ k. absurd cc;
       }) b.2
-  suffix_sound start ts e by_call x z i w h lt r =
+  suffix_sound l start ts e by_call x z i w h lt r =
       let p = and_parts (is_base e) (leb wanted 15) h in
       let a = bind_ok (arguments sub (behind ts)) _ (x, z) r in
       let f = arguments_sound d sub below (behind ts) (a.0).0 (a.0).1 (omega arith) a.1 in
@@ -332,7 +341,7 @@ module _ (d : ℕ) (sub : Parsers) (below : SoundBelow d sub) (wanted : ℕ) (lo
         reads = (reads_place e start ts i.reads, (ts, i.reads, (behind ts, suffix_takes by_call ts refl w, f.reads)));
         no_arguments = λ k. absurd cc;
       }) a.2
-  suffix_sound start ts e (by_postfix o) x z i w h lt r =
+  suffix_sound l start ts e (by_postfix o) x z i w h lt r =
       let p = and_parts (on_line ts) (is_target e && leb wanted 14) h in
       let q = and_parts (is_target e) (leb wanted 14) p.1 in
       told (λ y m. FoundExpression (suc d) wanted free y start m) (postfix (at_of e) e o) x (behind ts) z (record {
@@ -343,7 +352,7 @@ module _ (d : ℕ) (sub : Parsers) (below : SoundBelow d sub) (wanted : ℕ) (lo
         reads = (reads_place e start ts i.reads, (ts, i.reads, (p.0, suffix_takes (by_postfix o) ts refl w)));
         no_arguments = λ k. absurd cc;
       }) r
-  suffix_sound start ts e (by_binary o) x z i w h lt r =
+  suffix_sound l start ts e (by_binary o) x z i w h lt r =
       let p = and_parts (free || not (is_in o)) (leb (binding o) (level e) && leb wanted (binding o)) h in
       let q = and_parts (leb (binding o) (level e)) (leb wanted (binding o)) p.1 in
       let bl = binding-low o in
@@ -359,7 +368,7 @@ module _ (d : ℕ) (sub : Parsers) (below : SoundBelow d sub) (wanted : ℕ) (lo
         reads = (reads_place e start ts i.reads, (ts, i.reads, (behind ts, suffix_takes (by_binary o) ts refl w, f.reads)));
         no_arguments = λ k. absurd cc;
       }) a.2
-  suffix_sound start ts e by_conditional x z i w h lt r =
+  suffix_sound l start ts e by_conditional x z i w h lt r =
       let p = and_parts (leb 3 (level e)) (leb wanted 2) h in
       let a = bind_ok (sub.expression 1 true (behind ts)) _ (x, z) r in
       let c = bind_ok (expect is_colon (a.0).1) _ (x, z) a.2 in
@@ -375,7 +384,7 @@ module _ (d : ℕ) (sub : Parsers) (below : SoundBelow d sub) (wanted : ℕ) (lo
         reads = (reads_place e start ts i.reads, (ts, i.reads, (behind ts, suffix_takes by_conditional ts refl w, ((a.0).1, f.reads, (c.0, colon_sound (a.0).1 c.0 c.1, g.reads)))));
         no_arguments = λ k. absurd cc;
       }) b.2
-  suffix_sound start ts e (by_assign o) x z i w h lt r =
+  suffix_sound l start ts e (by_assign o) x z i w h lt r =
       let p = and_parts (is_target e) (leb wanted 1) h in
       let a = bind_ok (sub.expression 1 free (behind ts)) _ (x, z) r in
       let f = below.expression 1 free (behind ts) (a.0).0 (a.0).1 (omega arith) a.1 in
@@ -388,7 +397,7 @@ module _ (d : ℕ) (sub : Parsers) (below : SoundBelow d sub) (wanted : ℕ) (lo
         reads = (reads_place e start ts i.reads, (ts, i.reads, (behind ts, suffix_takes (by_assign o) ts refl w, f.reads)));
         no_arguments = λ k. absurd cc;
       }) a.2
-  suffix_sound start ts e by_comma x z i w h lt r =
+  suffix_sound l start ts e by_comma x z i w h lt r =
       let a = bind_ok (sub.expression 1 free (behind ts)) _ (x, z) r in
       let f = below.expression 1 free (behind ts) (a.0).0 (a.0).1 (omega arith) a.1 in
       let s = f.shallow in
@@ -400,14 +409,22 @@ module _ (d : ℕ) (sub : Parsers) (below : SoundBelow d sub) (wanted : ℕ) (lo
         reads = (reads_place e start ts i.reads, (ts, i.reads, (behind ts, suffix_takes by_comma ts refl w, f.reads)));
         no_arguments = λ k. absurd cc;
       }) a.2
-  suffix_sound start ts e by_nothing x z i w h lt r = absurd cc
+  suffix_sound l start ts e by_nothing x z i w h lt r = absurd cc
+
+  -- the same, at the token that says how it goes on
+  pub further_sound : (l : ℕ) (start : List Token) (e : Expr) (ts : List Token) (x : Expr) (z : List Token) → FoundExpression l wanted free e start ts → applies wanted free e ts ≡ true → further_at sub d free e (suffix_at ts) ts ≡ Ok (x, z)
+      → FoundExpression (suc d) wanted free x start z
+  unfolding further_at
+  further_sound l start e ts x z i h r =
+      let p = room_ok d (depth e) ts (suffix sub free e (suffix_at ts) (behind ts)) (x, z) r in
+      suffix_sound l start ts e (suffix_at ts) x z i refl h p.0 p.1
 
   -- an expression so far, or all of it
   abbrev AfterSuffix : List Token → Turn Expr Expr → List Token → Type 0
   AfterSuffix start t z = After (λ e m. FoundExpression (suc d) wanted free e start m) (λ e m. FoundExpression (suc d) wanted free e start m) t z
 
   -- a turn keeps what is known of the expression so far
-  climb_sound : (start : List Token) (e : Expr) (ts : List Token) (t : Turn Expr Expr) (z : List Token) → FoundExpression (suc d) wanted free e start ts → climb_step sub d wanted free e ts ≡ Ok (t, z) → AfterSuffix start t z
+  pub climb_sound : (start : List Token) (e : Expr) (ts : List Token) (t : Turn Expr Expr) (z : List Token) → FoundExpression (suc d) wanted free e start ts → climb_step sub d wanted free e ts ≡ Ok (t, z) → AfterSuffix start t z
   unfolding climb_step
   climb_sound start e ts t z i r = go (applies wanted free e ts) refl r
     where
@@ -419,7 +436,7 @@ module _ (d : ℕ) (sub : Parsers) (below : SoundBelow d sub) (wanted : ℕ) (lo
       go true h r =
           let p = room_ok d (depth e) ts longer (t, z) r in
           let a = bind_ok (suffix sub free e (suffix_at ts) (behind ts)) (λ x. Ok (again x.0, x.1)) (t, z) p.1 in
-          told (AfterSuffix start) (again (a.0).0) t (a.0).1 z (suffix_sound start ts e (suffix_at ts) (a.0).0 (a.0).1 i refl h p.0 a.1) a.2
+          told (AfterSuffix start) (again (a.0).0) t (a.0).1 z (suffix_sound (suc d) start ts e (suffix_at ts) (a.0).0 (a.0).1 i refl h p.0 a.1) a.2
       go false h r = told (AfterSuffix start) (done e) t ts z i r
 
   -- how it begins, and then how it goes on

@@ -9,13 +9,16 @@ use Rattle.js_ast.specs.Trees.{Ident, Expr, unary, Exprs, Items, no_items, item,
 use Rattle.js_ast.specs.Levels.{binding, is_step, is_target}
 use Rattle.js_ast.specs.Depth.{depth}
 use Rattle.js_ast.specs.Grammar.{place_of, is_close_brace}
-use Rattle.js_ast.specs.Reading.{refused, syntax, Read, ◌>>=◌, word_at, behind, Turn, again, done, turned, loop, room, Parsers}
-use Rattle.js_ast.specs.ExpressionParsing.{expect, taken, name_at, key_at, ident_at, joined_items, joined_properties, operand_level, is_open_paren, is_close_paren, is_close_bracket, is_open_brace, is_colon, body_at, parameter_by, parameter, parameters_by, parameters, function_rest, function_named, function_by, argument_by, argument, arguments_by, arguments, item_end, item_by, item_turn, array_rest, value_rest, getter_rest, setter_rest, begins_accessor, property_at, property_end, property_by, property_turn, object_rest, paren_rest, new_by, new_rest, unary_of, unary_made, unary_rest, unary_by, primary_by, primary, Suffix, by_member, by_index, by_call, by_postfix, by_binary, by_conditional, by_assign, by_comma, by_nothing, suffix_at, suffix, applies, climb_step, climb, expression_at}
+use Rattle.js_ast.specs.Reading.{refused, syntax, Read, ◌>>=◌, word_at, behind, Turn, again, done, turned, loop, room, Parsers, Suffix, by_member, by_index, by_call, by_postfix, by_binary, by_conditional, by_assign, by_comma, by_nothing}
+use Rattle.js_ast.specs.ExpressionParsing.{expect, taken, name_at, key_at, ident_at, joined_items, joined_properties, operand_level, is_open_paren, is_close_paren, is_close_bracket, is_open_brace, is_colon, body_at, parameter_by, parameter, parameters_by, parameters, function_rest, function_named, function_by, argument_by, argument, arguments_by, arguments, item_end, item_by, item_turn, array_rest, value_rest, getter_rest, setter_rest, begins_accessor, property_at, property_end, property_by, property_turn, object_rest, paren_rest, new_by, new_rest, unary_of, unary_made, unary_operand, unary_rest, unary_by, primary_by, primary, suffix_at, suffix, applies, climb_step, climb, expression_at, begins_at, operand_paren, operand_first_by, operand_first, makes_target, further_at, operand_further, operand_step, operand_climb, operand_at}
 use Rattle.js_ast.proofs.Turns.{Within, RestWithin, TurnWithin, within-more, within-bind, rest-bind, turn-bind, within-room, turn-room, behind_within, loop-step, loop_within}
 
 -- the parsers of parts leave no more tokens than they are given
 pub record NoLonger (sub : Parsers) : Type 0 where
   pub expression : (wanted : ℕ) (free : Bool) (n : ℕ) (ts : List Token) → length ts ≤ n → Within n (sub.expression wanted free ts)
+  pub operand : (wanted : ℕ) (free : Bool) (n : ℕ) (ts : List Token) → length ts ≤ n → Within n (sub.operand wanted free ts)
+  pub first : (wanted : ℕ) (free : Bool) (n : ℕ) (ts : List Token) → length ts ≤ n → Within n (sub.first wanted free ts)
+  pub further : (free : Bool) (e : Expr) (s : Suffix) (n : ℕ) (ts : List Token) → length (behind ts) ≤ n → Within n (sub.further free e s ts)
   pub statement : (n : ℕ) (ts : List Token) → length ts ≤ n → Within n (sub.statement ts)
   pub statements : (outer : Bool) (n : ℕ) (ts : List Token) → length ts ≤ n → Within n (sub.statements outer ts)
 
@@ -227,11 +230,16 @@ module _ (sub : Parsers) (parts : NoLonger sub) where
   unfolding unary_made
   made_within at o e n ts le = within-if n (not (is_step o) || is_target e) (Ok (unary at o e, ts)) (Err (refused syntax ts)) le tt
 
+  -- an operand leaves no more
+  unary_operand_within : (free : Bool) (o : UnaryOperator) (n : ℕ) (ts : List Token) → length ts ≤ n → Within n (unary_operand sub free o ts)
+  unfolding unary_operand
+  unary_operand_within free o n ts le = within-if n (is_step o) _ _ (parts.operand (operand_level o) free n ts le) (parts.expression (operand_level o) free n ts le)
+
   -- an operator in front leaves no more
   unary_within : (d wanted : ℕ) (free : Bool) (o : Option UnaryOperator) (n : ℕ) (ts : List Token) → length ts ≤ n → Within n (unary_by sub d wanted free o ts)
   unfolding unary_by unary_rest
   unary_within d wanted free (Some o) n ts le = within-if n (leb wanted 13) _ _
-      (within-room n d 0 ts _ (within-bind n (sub.expression (operand_level o) free (behind ts)) _ (parts.expression (operand_level o) free n (behind ts) (behind_le n ts le)) (λ e m l. made_within (place_of ts) o e n m l))) tt
+      (within-room n d 0 ts _ (within-bind n (unary_operand sub free o (behind ts)) _ (unary_operand_within free o n (behind ts) (behind_le n ts le)) (λ e m l. made_within (place_of ts) o e n m l))) tt
   unary_within d wanted free None n ts le = tt
 
   -- the beginning of an expression leaves no more
@@ -250,6 +258,11 @@ module _ (sub : Parsers) (parts : NoLonger sub) where
   primary_by_within d wanted free (Some (a_key key.Function)) n ts le = within-room n d 0 ts _ (function_by_within (place_of ts) (ident_at (behind ts)) n (behind ts) (behind_le n ts le))
   primary_by_within d wanted free (Some (a_key key.New)) n ts le = within-room n d 0 ts _ (new_within free (place_of ts) n (behind ts) (behind_le n ts le))
   primary_by_within d wanted free w n ts le = unary_within d wanted free (unary_of w) n ts le
+
+  -- the same, at a token
+  pub primary_within : (d wanted : ℕ) (free : Bool) (n : ℕ) (ts : List Token) → length ts ≤ n → Within n (primary sub d wanted free ts)
+  unfolding primary
+  primary_within d wanted free n ts le = primary_by_within d wanted free (word_at ts) n ts le
 
   -- ---- how an expression goes on
 
@@ -289,7 +302,59 @@ module _ (sub : Parsers) (parts : NoLonger sub) where
   expression_within d wanted free n ts le = within-bind n (primary_by sub d wanted free (word_at ts) ts) _ (primary_by_within d wanted free (word_at ts) n ts le)
       (λ e m l. within-more (length m) n (loop (climb_step sub d wanted free) e m) l (loop_within (climb_step sub d wanted free) (climb_turns d wanted free) e m))
 
+  -- ---- the operand of `++` and `--`
+
+  -- an operand in parentheses leaves no more
+  operand_paren_within : (at n : ℕ) (ts : List Token) → length ts ≤ n → Within n (operand_paren sub at ts)
+  unfolding operand_paren
+  operand_paren_within at n ts le = within-bind n (sub.operand 0 true ts) _ (parts.operand 0 true n ts le) (λ e m l. rest-bind n (expect is_close_paren m) _ (expect_within is_close_paren n m l) (λ rest j. j))
+
+  -- the beginning of an operand leaves no more
+  operand_first_within : (d wanted : ℕ) (free : Bool) (w : Option Word) (n : ℕ) (ts : List Token) → length ts ≤ n → Within n (operand_first_by sub d wanted free w ts)
+  unfolding operand_first_by
+  operand_first_within d wanted free (Some (a_name text)) n ts le = behind_le n ts le
+  operand_first_within d wanted free (Some (a_sign sign.OpenParen)) n ts le = within-room n d 0 ts _ (operand_paren_within (place_of ts) n (behind ts) (behind_le n ts le))
+  operand_first_within d wanted free w n ts le = within-if n (begins_at wanted w) (room d 0 ts (sub.first wanted free ts)) (Err (refused syntax ts)) (within-room n d 0 ts (sub.first wanted free ts) (parts.first wanted free n ts le)) tt
+
+  -- a token with what is behind it leaves no more than is behind it
+  pub further_within : (d : ℕ) (free : Bool) (e : Expr) (s : Suffix) (n : ℕ) (ts : List Token) → length (behind ts) ≤ n → Within n (further_at sub d free e s ts)
+  unfolding further_at
+  further_within d free e s n ts le = within-room n d (depth e) ts _ (suffix_within free e s n (behind ts) le)
+
+  -- so it is in an operand
+  operand_further_within : (d : ℕ) (free : Bool) (e : Expr) (s : Suffix) (n : ℕ) (ts : List Token) → length (behind ts) ≤ n → Within n (operand_further sub d free e s ts)
+  unfolding operand_further
+  operand_further_within d free e s n ts le = within-if n (makes_target s) _ _ (further_within d free e s n ts le) (within-room n d 0 ts _ (parts.further free e s n ts le))
+
+  -- a turn of an operand
+  pub operand_turns : (d wanted : ℕ) (free : Bool) (e : Expr) (ts : List Token) → TurnWithin (length ts) (operand_step sub d wanted free e ts)
+  unfolding operand_step
+  operand_turns d wanted free e [] = omega arith
+  operand_turns d wanted free e (t ∷ ts) = go (applies wanted free e (t ∷ ts))
+    where
+      on : Read (Turn Expr Expr)
+      on = operand_further sub d free e (suffix_at (t ∷ ts)) (t ∷ ts) >>= λ x. Ok (again x.0, x.1)
+
+      longer : TurnWithin (suc (length ts)) on
+      longer = turn-bind (length ts) (suc (length ts)) (operand_further sub d free e (suffix_at (t ∷ ts)) (t ∷ ts)) (λ x. Ok (again x.0, x.1))
+          (operand_further_within d free e (suffix_at (t ∷ ts)) (length ts) (t ∷ ts) (omega arith)) (λ f m le. omega arith)
+
+      go : (b : Bool) → TurnWithin (suc (length ts)) (if b then on else Ok (done e, t ∷ ts))
+      go true = longer
+      go false = omega arith
+
+  -- an operand leaves no more tokens than it is given
+  pub operand_within : (d wanted : ℕ) (free : Bool) (n : ℕ) (ts : List Token) → length ts ≤ n → Within n (operand_at sub d wanted free ts)
+  unfolding operand_at operand_first operand_climb
+  operand_within d wanted free n ts le = within-bind n (operand_first_by sub d wanted free (word_at ts) ts) _ (operand_first_within d wanted free (word_at ts) n ts le)
+      (λ e m l. within-more (length m) n (loop (operand_step sub d wanted free) e m) l (loop_within (operand_step sub d wanted free) (operand_turns d wanted free) e m))
+
   -- ---- the loops, a turn at a time
+
+  -- an operand goes on or ends
+  pub operand-step : (d wanted : ℕ) (free : Bool) (e : Expr) (ts : List Token) → operand_climb sub d wanted free e ts ≡ (operand_step sub d wanted free e ts >>= λ x. turned (operand_climb sub d wanted free) x.0 x.1)
+  unfolding operand_climb
+  operand-step d wanted free e ts = loop-step (operand_step sub d wanted free) (operand_turns d wanted free) e ts
 
   -- an expression goes on or ends
   pub climb-step : (d wanted : ℕ) (free : Bool) (e : Expr) (ts : List Token) → climb sub d wanted free e ts ≡ (climb_step sub d wanted free e ts >>= λ x. turned (climb sub d wanted free) x.0 x.1)

@@ -17,17 +17,17 @@ use Rattle.js_ast.proofs.Outcomes.{bind_ok, told, After, turns_sound, takes, ide
 -- ---- parameters
 
 -- parameters, one at least
-abbrev SomeIdents : List Ident → Part
+abbrev pub SomeIdents : List Ident → Part
 SomeIdents [] ts z = ⊥
 SomeIdents (i ∷ is) ts z = ReadsIdents (i ∷ is) ts z
 
 -- they are parameters
-some_idents : (is : List Ident) (ts z : List Token) → SomeIdents is ts z → ReadsIdents is ts z
+pub some_idents : (is : List Ident) (ts z : List Token) → SomeIdents is ts z → ReadsIdents is ts z
 some_idents [] ts z h = absurd h
 some_idents (i ∷ is) ts z h = h
 
 -- a parameter behind others
-more_idents : (is : List Ident) (i : Ident) (ts m a z : List Token) → SomeIdents is ts m → sign_part sign.Comma m a → ReadsIdent i a z → SomeIdents (is ++ i ∷ []) ts z
+pub more_idents : (is : List Ident) (i : Ident) (ts m a z : List Token) → SomeIdents is ts m → sign_part sign.Comma m a → ReadsIdent i a z → SomeIdents (is ++ i ∷ []) ts z
 more_idents [] i ts m a z h c r = absurd h
 more_idents (j ∷ []) i ts m a z h c r = (m, h, (a, c, r))
 more_idents (j ∷ k ∷ is) i ts m a z h c r = (h.0, h.1, ((h.2).0, (h.2).1, more_idents (k ∷ is) i (h.2).0 m a z (h.2).2 c r))
@@ -37,11 +37,11 @@ abbrev Closed : List Ident → Part
 Closed is = ReadsIdents is ⨾ sign_part sign.CloseParen
 
 -- parameters so far, or all of them
-abbrev AfterParameter : List Token → Turn (List Ident) (List Ident) → List Token → Type 0
+abbrev pub AfterParameter : List Token → Turn (List Ident) (List Ident) → List Token → Type 0
 AfterParameter start t z = After (λ is m. SomeIdents is start m) (λ is m. Closed is start m) t z
 
 -- a further parameter, or the end
-parameter_sound : (start : List Token) (is : List Ident) (ts : List Token) (t : Turn (List Ident) (List Ident)) (z : List Token) → SomeIdents is start ts → parameter is ts ≡ Ok (t, z) → AfterParameter start t z
+pub parameter_sound : (start : List Token) (is : List Ident) (ts : List Token) (t : Turn (List Ident) (List Ident)) (z : List Token) → SomeIdents is start ts → parameter is ts ≡ Ok (t, z) → AfterParameter start t z
 unfolding parameter parameter_by
 parameter_sound start is ts t z i e = go (word_at ts) refl e
   where
@@ -53,7 +53,7 @@ parameter_sound start is ts t z i e = go (word_at ts) refl e
     go _ h e = absurd cc
 
 -- parameters and what closes them
-parameters_sound : (ts : List Token) (is : List Ident) (z : List Token) → parameters ts ≡ Ok (is, z) → Closed is ts z
+pub parameters_sound : (ts : List Token) (is : List Ident) (z : List Token) → parameters ts ≡ Ok (is, z) → Closed is ts z
 unfolding parameters parameters_by
 parameters_sound ts is z e = go (word_at ts) refl e
   where
@@ -73,53 +73,53 @@ pub record FoundFunction (d : ℕ) (params : List Ident) (body : Statements) (ts
   pub reads : (parens (ReadsIdents params) ⨾ braces (ReadsStatements body)) ts z
 
 -- the body of a function, in braces
-record FoundBody (d : ℕ) (body : Statements) (ts z : List Token) : Type 0 where
-  valid : ValidStatements true body
-  shallow : depth_statements body < d
-  reads : braces (ReadsStatements body) ts z
+pub record FoundBody (d : ℕ) (body : Statements) (ts z : List Token) : Type 0 where
+  pub valid : ValidStatements true body
+  pub shallow : depth_statements body < d
+  pub reads : braces (ReadsStatements body) ts z
 
 -- ---- how lists grow
 
 -- arguments, one at least
-abbrev SomeExprs : Exprs → Part
+abbrev pub SomeExprs : Exprs → Part
 SomeExprs no_exprs ts z = ⊥
 SomeExprs (more_exprs e es) ts z = ReadsExprs (more_exprs e es) ts z
 
 -- they are arguments
-some_exprs : (es : Exprs) (ts z : List Token) → SomeExprs es ts z → ReadsExprs es ts z
+pub some_exprs : (es : Exprs) (ts z : List Token) → SomeExprs es ts z → ReadsExprs es ts z
 some_exprs no_exprs ts z h = absurd h
 some_exprs (more_exprs e es) ts z h = h
 
 -- an expression behind others
-exprs_more : (es : Exprs) (e : Expr) (ts m a z : List Token) → SomeExprs es ts m → sign_part sign.Comma m a → Reads e a z → SomeExprs (joined_exprs es (more_exprs e no_exprs)) ts z
+pub exprs_more : (es : Exprs) (e : Expr) (ts m a z : List Token) → SomeExprs es ts m → sign_part sign.Comma m a → Reads e a z → SomeExprs (joined_exprs es (more_exprs e no_exprs)) ts z
 exprs_more no_exprs e ts m a z h c r = absurd h
 exprs_more (more_exprs f no_exprs) e ts m a z h c r = (m, h, (a, c, r))
 exprs_more (more_exprs f (more_exprs g es)) e ts m a z h c r = (h.0, h.1, ((h.2).0, (h.2).1, exprs_more (more_exprs g es) e (h.2).0 m a z (h.2).2 c r))
 
 -- two lists of valid arguments make one
-exprs_valid : (es fs : Exprs) → ValidExprs es → ValidExprs fs → ValidExprs (joined_exprs es fs)
+pub exprs_valid : (es fs : Exprs) → ValidExprs es → ValidExprs fs → ValidExprs (joined_exprs es fs)
 exprs_valid no_exprs fs v w = w
 exprs_valid (more_exprs e es) fs v w = (v.0, v.1, exprs_valid es fs v.2 w)
 
 -- and so do two of little depth
-exprs_shallow : (d : ℕ) (es fs : Exprs) → depth_exprs es < d → depth_exprs fs < d → depth_exprs (joined_exprs es fs) < d
+pub exprs_shallow : (d : ℕ) (es fs : Exprs) → depth_exprs es < d → depth_exprs fs < d → depth_exprs (joined_exprs es fs) < d
 exprs_shallow d no_exprs fs v w = w
 exprs_shallow d (more_exprs e es) fs v w = omega (arith, exprs_shallow d es fs (omega arith) w)
 
 -- items with a comma behind each
-abbrev CommaItems : Items → Part
+abbrev pub CommaItems : Items → Part
 CommaItems no_items = nothing
 CommaItems (hole is) = sign_part sign.Comma ⨾ CommaItems is
 CommaItems (item e is) = Reads e ⨾ (sign_part sign.Comma ⨾ CommaItems is)
 
 -- such items behind others
-items_more : (is js : Items) (ts m z : List Token) → CommaItems is ts m → CommaItems js m z → CommaItems (joined_items is js) ts z
+pub items_more : (is js : Items) (ts m z : List Token) → CommaItems is ts m → CommaItems js m z → CommaItems (joined_items is js) ts z
 items_more no_items js ts m z h r = rw h r
 items_more (hole is) js ts m z h r = (h.0, h.1, items_more is js h.0 m z h.2 r)
 items_more (item e is) js ts m z h r = (h.0, h.1, ((h.2).0, (h.2).1, items_more is js (h.2).0 m z (h.2).2 r))
 
 -- behind them an expression is the last
-items_last : (is : Items) (e : Expr) (ts m z : List Token) → CommaItems is ts m → Reads e m z → ReadsItems (joined_items is (item e no_items)) false ts z
+pub items_last : (is : Items) (e : Expr) (ts m z : List Token) → CommaItems is ts m → Reads e m z → ReadsItems (joined_items is (item e no_items)) false ts z
 items_last no_items e ts m z h r = (z, rw h r, refl)
 items_last (hole is) e ts m z h r = (h.0, h.1, items_last is e h.0 m z h.2 r)
 items_last (item f no_items) e ts m z h r = (h.0, h.1, ((h.2).0, (h.2).1, items_last no_items e (h.2).0 m z (h.2).2 r))
@@ -127,7 +127,7 @@ items_last (item f (hole is)) e ts m z h r = (h.0, h.1, ((h.2).0, (h.2).1, items
 items_last (item f (item g is)) e ts m z h r = (h.0, h.1, ((h.2).0, (h.2).1, items_last (item g is) e (h.2).0 m z (h.2).2 r))
 
 -- or they are all, and the comma behind a last expression is the final one
-items_all : (is : Items) (ts z : List Token) → CommaItems is ts z → ReadsItems is (ends_with_item is) ts z
+pub items_all : (is : Items) (ts z : List Token) → CommaItems is ts z → ReadsItems is (ends_with_item is) ts z
 items_all no_items ts z h = h
 items_all (hole is) ts z h = (h.0, h.1, items_all is h.0 z h.2)
 items_all (item f no_items) ts z h = let c = (h.2).1 in (h.0, h.1, rw ((h.2).2) at c)
@@ -135,56 +135,56 @@ items_all (item f (hole is)) ts z h = (h.0, h.1, ((h.2).0, (h.2).1, items_all (h
 items_all (item f (item g is)) ts z h = (h.0, h.1, ((h.2).0, (h.2).1, items_all (item g is) (h.2).0 z (h.2).2))
 
 -- two lists of valid items make one
-items_valid : (is js : Items) → ValidItems is → ValidItems js → ValidItems (joined_items is js)
+pub items_valid : (is js : Items) → ValidItems is → ValidItems js → ValidItems (joined_items is js)
 items_valid no_items js v w = w
 items_valid (hole is) js v w = items_valid is js v w
 items_valid (item e is) js v w = (v.0, v.1, items_valid is js v.2 w)
 
 -- and so do two of little depth
-items_shallow : (d : ℕ) (is js : Items) → depth_items is < d → depth_items js < d → depth_items (joined_items is js) < d
+pub items_shallow : (d : ℕ) (is js : Items) → depth_items is < d → depth_items js < d → depth_items (joined_items is js) < d
 items_shallow d no_items js v w = w
 items_shallow d (hole is) js v w = items_shallow d is js v w
 items_shallow d (item e is) js v w = omega (arith, items_shallow d is js (omega arith) w)
 
 -- properties with a comma behind each
-abbrev CommaProperties : Properties → Part
+abbrev pub CommaProperties : Properties → Part
 CommaProperties no_properties = nothing
 CommaProperties (more_properties p ps) = ReadsProperty p ⨾ (sign_part sign.Comma ⨾ CommaProperties ps)
 
 -- such properties behind others
-properties_more : (ps qs : Properties) (ts m z : List Token) → CommaProperties ps ts m → CommaProperties qs m z → CommaProperties (joined_properties ps qs) ts z
+pub properties_more : (ps qs : Properties) (ts m z : List Token) → CommaProperties ps ts m → CommaProperties qs m z → CommaProperties (joined_properties ps qs) ts z
 properties_more no_properties qs ts m z h r = rw h r
 properties_more (more_properties p ps) qs ts m z h r = (h.0, h.1, ((h.2).0, (h.2).1, properties_more ps qs (h.2).0 m z (h.2).2 r))
 
 -- behind them a property is the last
-properties_last : (ps : Properties) (q : Property) (ts m z : List Token) → CommaProperties ps ts m → ReadsProperty q m z → ReadsProperties (joined_properties ps (more_properties q no_properties)) false ts z
+pub properties_last : (ps : Properties) (q : Property) (ts m z : List Token) → CommaProperties ps ts m → ReadsProperty q m z → ReadsProperties (joined_properties ps (more_properties q no_properties)) false ts z
 properties_last no_properties q ts m z h r = (z, rw h r, refl)
 properties_last (more_properties p no_properties) q ts m z h r = (h.0, h.1, ((h.2).0, (h.2).1, properties_last no_properties q (h.2).0 m z (h.2).2 r))
 properties_last (more_properties p (more_properties o ps)) q ts m z h r = (h.0, h.1, ((h.2).0, (h.2).1, properties_last (more_properties o ps) q (h.2).0 m z (h.2).2 r))
 
 -- or they are all, and the comma behind the last is the final one
-properties_all : (ps : Properties) (ts z : List Token) → CommaProperties ps ts z → ReadsProperties ps (has_properties ps) ts z
+pub properties_all : (ps : Properties) (ts z : List Token) → CommaProperties ps ts z → ReadsProperties ps (has_properties ps) ts z
 properties_all no_properties ts z h = h
 properties_all (more_properties p no_properties) ts z h = let c = (h.2).1 in (h.0, h.1, rw ((h.2).2) at c)
 properties_all (more_properties p (more_properties q ps)) ts z h = (h.0, h.1, ((h.2).0, (h.2).1, properties_all (more_properties q ps) (h.2).0 z (h.2).2))
 
 -- two lists of valid properties make one
-properties_valid : (ps qs : Properties) → ValidProperties ps → ValidProperties qs → ValidProperties (joined_properties ps qs)
+pub properties_valid : (ps qs : Properties) → ValidProperties ps → ValidProperties qs → ValidProperties (joined_properties ps qs)
 properties_valid no_properties qs v w = w
 properties_valid (more_properties p ps) qs v w = (v.0, properties_valid ps qs v.1 w)
 
 -- and so do two of little depth
-properties_shallow : (d : ℕ) (ps qs : Properties) → depth_properties ps < d → depth_properties qs < d → depth_properties (joined_properties ps qs) < d
+pub properties_shallow : (d : ℕ) (ps qs : Properties) → depth_properties ps < d → depth_properties qs < d → depth_properties (joined_properties ps qs) < d
 properties_shallow d no_properties qs v w = w
 properties_shallow d (more_properties p ps) qs v w = omega (arith, properties_shallow d ps qs (omega arith) w)
 
 -- ---- what is read of a list
 
 -- arguments so far
-record SoFarExprs (d : ℕ) (es : Exprs) (ts z : List Token) : Type 0 where
-  valid : ValidExprs es
-  shallow : depth_exprs es < d
-  reads : SomeExprs es ts z
+pub record SoFarExprs (d : ℕ) (es : Exprs) (ts z : List Token) : Type 0 where
+  pub valid : ValidExprs es
+  pub shallow : depth_exprs es < d
+  pub reads : SomeExprs es ts z
 
 -- arguments and the parenthesis that closes them
 pub record FoundExprs (d : ℕ) (es : Exprs) (ts z : List Token) : Type 0 where
@@ -193,14 +193,14 @@ pub record FoundExprs (d : ℕ) (es : Exprs) (ts z : List Token) : Type 0 where
   pub reads : (ReadsExprs es ⨾ sign_part sign.CloseParen) ts z
 
 -- arguments so far, or all of them
-abbrev AfterArgument : ℕ → List Token → Turn Exprs Exprs → List Token → Type 0
+abbrev pub AfterArgument : ℕ → List Token → Turn Exprs Exprs → List Token → Type 0
 AfterArgument d start t z = After (λ es m. SoFarExprs d es start m) (λ es m. FoundExprs d es start m) t z
 
 -- items so far
-record SoFarItems (d : ℕ) (is : Items) (ts z : List Token) : Type 0 where
-  valid : ValidItems is
-  shallow : depth_items is < d
-  reads : CommaItems is ts z
+pub record SoFarItems (d : ℕ) (is : Items) (ts z : List Token) : Type 0 where
+  pub valid : ValidItems is
+  pub shallow : depth_items is < d
+  pub reads : CommaItems is ts z
 
 -- items, whether a comma stands behind the last, and the bracket that closes them
 pub record FoundItems (d : ℕ) (x : Items × Bool) (ts z : List Token) : Type 0 where
@@ -210,20 +210,20 @@ pub record FoundItems (d : ℕ) (x : Items × Bool) (ts z : List Token) : Type 0
   pub reads : (ReadsItems x.0 x.1 ⨾ sign_part sign.CloseBracket) ts z
 
 -- items so far, or all of them
-abbrev AfterItem : ℕ → List Token → Turn Items (Items × Bool) → List Token → Type 0
+abbrev pub AfterItem : ℕ → List Token → Turn Items (Items × Bool) → List Token → Type 0
 AfterItem d start t z = After (λ is m. SoFarItems d is start m) (λ x m. FoundItems d x start m) t z
 
 -- a property
-record FoundProperty (d : ℕ) (p : Property) (ts z : List Token) : Type 0 where
-  valid : ValidProperty p
-  shallow : depth_property p < d
-  reads : ReadsProperty p ts z
+pub record FoundProperty (d : ℕ) (p : Property) (ts z : List Token) : Type 0 where
+  pub valid : ValidProperty p
+  pub shallow : depth_property p < d
+  pub reads : ReadsProperty p ts z
 
 -- properties so far
-record SoFarProperties (d : ℕ) (ps : Properties) (ts z : List Token) : Type 0 where
-  valid : ValidProperties ps
-  shallow : depth_properties ps < d
-  reads : CommaProperties ps ts z
+pub record SoFarProperties (d : ℕ) (ps : Properties) (ts z : List Token) : Type 0 where
+  pub valid : ValidProperties ps
+  pub shallow : depth_properties ps < d
+  pub reads : CommaProperties ps ts z
 
 -- properties, whether a comma stands behind the last, and the brace that closes them
 pub record FoundProperties (d : ℕ) (x : Properties × Bool) (ts z : List Token) : Type 0 where
@@ -233,7 +233,7 @@ pub record FoundProperties (d : ℕ) (x : Properties × Bool) (ts z : List Token
   pub reads : (ReadsProperties x.0 x.1 ⨾ sign_part sign.CloseBrace) ts z
 
 -- properties so far, or all of them
-abbrev AfterProperty : ℕ → List Token → Turn Properties (Properties × Bool) → List Token → Type 0
+abbrev pub AfterProperty : ℕ → List Token → Turn Properties (Properties × Bool) → List Token → Type 0
 AfterProperty d start t z = After (λ ps m. SoFarProperties d ps start m) (λ x m. FoundProperties d x start m) t z
 
 -- `get` or `set` before a key is that name
@@ -242,13 +242,13 @@ named (Some (a_name u)) text h = rw ((bytes_eq-Decides u text).0 h) refl
 named _ text h = absurd cc
 
 -- what begins an accessor begins with its word
-accessor : (text : List ℕ) (ts : List Token) → begins_accessor text ts ≡ true → Takes (a_name text) ts (behind ts)
+pub accessor : (text : List ℕ) (ts : List Token) → begins_accessor text ts ≡ true → Takes (a_name text) ts (behind ts)
 unfolding begins_accessor
 accessor text ts h = takes (a_name text) ts (named (word_at ts) text (and_parts (is_named (word_at ts) text) _ h).0)
 
 module _ (d : ℕ) (sub : Parsers) (below : SoundBelow d sub) where
   -- a body in braces
-  body_sound : (ts : List Token) (body : Statements) (z : List Token) → body_at sub ts ≡ Ok (body, z) → FoundBody d body ts z
+  pub body_sound : (ts : List Token) (body : Statements) (z : List Token) → body_at sub ts ≡ Ok (body, z) → FoundBody d body ts z
   unfolding body_at
   body_sound ts body z e =
       let a = bind_ok (expect is_open_brace ts) _ (body, z) e in
@@ -273,7 +273,7 @@ module _ (d : ℕ) (sub : Parsers) (below : SoundBelow d sub) where
   -- ---- arguments
 
   -- a further argument, or the end
-  argument_sound : (start : List Token) (es : Exprs) (ts : List Token) (t : Turn Exprs Exprs) (z : List Token) → SoFarExprs d es start ts → argument sub es ts ≡ Ok (t, z) → AfterArgument d start t z
+  pub argument_sound : (start : List Token) (es : Exprs) (ts : List Token) (t : Turn Exprs Exprs) (z : List Token) → SoFarExprs d es start ts → argument sub es ts ≡ Ok (t, z) → AfterArgument d start t z
   unfolding argument argument_by
   argument_sound start es ts t z i e = go (word_at ts) refl e
     where
@@ -334,7 +334,7 @@ module _ (d : ℕ) (sub : Parsers) (below : SoundBelow d sub) where
       go _ h e = absurd cc
 
   -- a further item, or the end
-  item_sound : (start : List Token) (is : Items) (ts : List Token) (t : Turn Items (Items × Bool)) (z : List Token) → SoFarItems d is start ts → item_turn sub is ts ≡ Ok (t, z) → AfterItem d start t z
+  pub item_sound : (start : List Token) (is : Items) (ts : List Token) (t : Turn Items (Items × Bool)) (z : List Token) → SoFarItems d is start ts → item_turn sub is ts ≡ Ok (t, z) → AfterItem d start t z
   unfolding item_turn item_by
   item_sound start is ts t z i e = go (word_at ts) refl e
     where
@@ -416,7 +416,7 @@ module _ (d : ℕ) (sub : Parsers) (below : SoundBelow d sub) where
       }) g.2
 
   -- one property
-  property_sound : (ts : List Token) (p : Property) (z : List Token) → property_at sub ts ≡ Ok (p, z) → FoundProperty d p ts z
+  pub property_sound : (ts : List Token) (p : Property) (z : List Token) → property_at sub ts ≡ Ok (p, z) → FoundProperty d p ts z
   unfolding property_at
   property_sound ts p z e = first (begins_accessor (codes "get") ts) refl e
     where
@@ -451,7 +451,7 @@ module _ (d : ℕ) (sub : Parsers) (below : SoundBelow d sub) where
       go _ h e = absurd cc
 
   -- a further property, or the end
-  property_turn_sound : (start : List Token) (ps : Properties) (ts : List Token) (t : Turn Properties (Properties × Bool)) (z : List Token) → SoFarProperties d ps start ts → property_turn sub ps ts ≡ Ok (t, z) → AfterProperty d start t z
+  pub property_turn_sound : (start : List Token) (ps : Properties) (ts : List Token) (t : Turn Properties (Properties × Bool)) (z : List Token) → SoFarProperties d ps start ts → property_turn sub ps ts ≡ Ok (t, z) → AfterProperty d start t z
   unfolding property_turn property_by
   property_turn_sound start ps ts t z i e = go (word_at ts) refl e
     where

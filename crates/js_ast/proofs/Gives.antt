@@ -95,7 +95,7 @@ pub gives-colon : (ts : List Token) → Gives (expect is_colon ts) (sign_part si
 gives-colon ts = record { is = colon_sound ts }
 
 -- only one word is a semicolon
-semicolons : (v : Word) → is_semicolon v ≡ true → v ≡ a_sign sign.Semicolon
+pub semicolons : (v : Word) → is_semicolon v ≡ true → v ≡ a_sign sign.Semicolon
 semicolons (a_sign sign.Semicolon) h = refl
 semicolons _ h = absurd cc
 
@@ -104,7 +104,7 @@ pub gives-semicolon : (ts : List Token) → Gives (expect is_semicolon ts) (sign
 gives-semicolon ts = record { is = expect_sound is_semicolon (a_sign sign.Semicolon) semicolons ts }
 
 -- only one word is `while`
-whiles : (v : Word) → is_while v ≡ true → v ≡ a_key key.While
+pub whiles : (v : Word) → is_while v ≡ true → v ≡ a_key key.While
 whiles (a_key key.While) h = refl
 whiles _ h = absurd cc
 

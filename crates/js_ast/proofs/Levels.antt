@@ -14,7 +14,8 @@ use Rattle.js_ast.specs.Trees.{Expr, name, paren, member, index, new_bare, unary
 use Rattle.js_ast.specs.Levels.{postfix_word, binary_word, assign_word, binding, is_step, level, is_bare_new, is_target}
 use Rattle.js_ast.specs.Grammar.{on_line}
 use Rattle.js_ast.specs.Validity.{IsBase, Valid}
-use Rattle.js_ast.specs.ExpressionParsing.{operand_level, Suffix, by_member, by_index, by_call, by_postfix, by_binary, by_conditional, by_assign, by_comma, by_nothing, suffix_of, suffix_at, is_base, applies_by, is_call, captured, Reaches}
+use Rattle.js_ast.specs.Reading.{Suffix, by_member, by_index, by_call, by_postfix, by_binary, by_conditional, by_assign, by_comma, by_nothing}
+use Rattle.js_ast.specs.ExpressionParsing.{operand_level, suffix_of, suffix_at, is_base, applies_by, is_call, captured, Reaches}
 use Rattle.js_ast.proofs.Stops.{not_le, and_true, and_false_right, or_false, binding-low, binding-high, operand_level-low}
 
 -- ---- the tables of suffixes

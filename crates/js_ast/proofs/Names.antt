@@ -8,8 +8,8 @@ use Rattle.js_ast.specs.Words.{Word, a_name, a_sign}
 use Rattle.js_ast.specs.Trees.{Expr, name, number, string, this, null, boolean, paren, array, object, function, member, index, new_with, new_bare, call, postfix, unary, binary, conditional, assign, comma}
 use Rattle.js_ast.specs.Levels.{unary_word}
 use Rattle.js_ast.specs.Grammar.{Takes, Reads, place_of}
-use Rattle.js_ast.specs.Reading.{word_at, behind}
-use Rattle.js_ast.specs.ExpressionParsing.{by_nothing, suffix_of, suffix_at}
+use Rattle.js_ast.specs.Reading.{word_at, behind, by_nothing}
+use Rattle.js_ast.specs.ExpressionParsing.{suffix_of, suffix_at}
 use Rattle.js_ast.proofs.Begins.{takes_word, takes_behind}
 use Rattle.js_ast.proofs.Levels.{suffix-postfix, suffix-binary, suffix-assign}
 

@@ -19,11 +19,11 @@ bind_ok (Ok a) f b e = (a, refl, e)
 bind_ok (Err x) f b e = absurd cc
 
 -- what is read
-same_tree : {A : Type 0} (a b : A) (y z : List Token) → (let r : Read A = Ok (a, y) in r ≡ Ok (b, z)) → a ≡ b
+pub same_tree : {A : Type 0} (a b : A) (y z : List Token) → (let r : Read A = Ok (a, y) in r ≡ Ok (b, z)) → a ≡ b
 same_tree a b y z e = let p : (let t : _ × List Token = (a, y) in t ≡ (b, z)) = cc in ap (λ (t : _ × List Token). t.0) p
 
 -- the tokens behind what is read
-same_rest : {A : Type 0} (a b : A) (y z : List Token) → (let r : Read A = Ok (a, y) in r ≡ Ok (b, z)) → y ≡ z
+pub same_rest : {A : Type 0} (a b : A) (y z : List Token) → (let r : Read A = Ok (a, y) in r ≡ Ok (b, z)) → y ≡ z
 same_rest a b y z e = let p : (let t : _ × List Token = (a, y) in t ≡ (b, z)) = cc in ap (λ (t : _ × List Token). t.1) p
 
 -- what is known of an answer is known of the same answer
@@ -156,11 +156,11 @@ key_sound ts k z e = let p = taken_ok (key_at ts) ts k z e in go ts k p.0 p.1
 -- ---- the tests of tokens
 
 -- each test is passed by one word
-paren_opens : (v : Word) → is_open_paren v ≡ true → v ≡ a_sign sign.OpenParen
+pub paren_opens : (v : Word) → is_open_paren v ≡ true → v ≡ a_sign sign.OpenParen
 paren_opens (a_sign sign.OpenParen) h = refl
 paren_opens _ h = absurd cc
 
-paren_closes : (v : Word) → is_close_paren v ≡ true → v ≡ a_sign sign.CloseParen
+pub paren_closes : (v : Word) → is_close_paren v ≡ true → v ≡ a_sign sign.CloseParen
 paren_closes (a_sign sign.CloseParen) h = refl
 paren_closes _ h = absurd cc
 
@@ -168,15 +168,15 @@ bracket_closes : (v : Word) → is_close_bracket v ≡ true → v ≡ a_sign sig
 bracket_closes (a_sign sign.CloseBracket) h = refl
 bracket_closes _ h = absurd cc
 
-brace_opens : (v : Word) → is_open_brace v ≡ true → v ≡ a_sign sign.OpenBrace
+pub brace_opens : (v : Word) → is_open_brace v ≡ true → v ≡ a_sign sign.OpenBrace
 brace_opens (a_sign sign.OpenBrace) h = refl
 brace_opens _ h = absurd cc
 
-brace_closes : (v : Word) → is_close_brace v ≡ true → v ≡ a_sign sign.CloseBrace
+pub brace_closes : (v : Word) → is_close_brace v ≡ true → v ≡ a_sign sign.CloseBrace
 brace_closes (a_sign sign.CloseBrace) h = refl
 brace_closes _ h = absurd cc
 
-colon : (v : Word) → is_colon v ≡ true → v ≡ a_sign sign.Colon
+pub colon : (v : Word) → is_colon v ≡ true → v ≡ a_sign sign.Colon
 colon (a_sign sign.Colon) h = refl
 colon _ h = absurd cc
 

@@ -9,7 +9,8 @@ use Rattle.js_ast.specs.Depth.{depth_statements}
 use Rattle.js_ast.specs.Parsing.{parsers, to_end, program_at}
 use Rattle.js_ast.specs.Laws.{ParsesExactly}
 use Rattle.js_ast.proofs.Soundness.{FoundStatements, SoundBelow}
-use Rattle.js_ast.proofs.ExpressionSound.{expression_sound}
+use Rattle.js_ast.proofs.ExpressionSound.{primary_sound, further_sound, expression_sound}
+use Rattle.js_ast.proofs.OperandSound.{operand_found}
 use Rattle.js_ast.proofs.Gives.{Gives, gives-ok, gives-err, gives-bind}
 use Rattle.js_ast.proofs.StatementSound.{StatementsSound, statement_sound, statements_sound}
 use Rattle.js_ast.proofs.Complete.{program_reads}
@@ -18,12 +19,15 @@ use Rattle.js_ast.proofs.Complete.{program_reads}
 pub all_sound : (n : ℕ) → SoundBelow n (parsers n) × StatementsSound n (parsers n)
 unfolding parsers
 all_sound zero = (
-  record { expression = λ wanted free ts e z le h. absurd cc; bodies = λ ts ss z h. absurd cc },
+  record { expression = λ wanted free ts e z le h. absurd cc; operand = λ wanted free ts e z le h. absurd cc; first = λ wanted free ts e z le h. absurd cc; further = λ l wanted free start e ts x z le f a h. absurd cc; bodies = λ ts ss z h. absurd cc },
   record { statement = λ ts s z h. absurd cc; statements = λ outer ts ss z h. absurd cc },
 )
 all_sound (suc d) = let (b, c) = all_sound d in (
   record {
     expression = λ wanted free ts e z le h. expression_sound b wanted free ts e z le h;
+    operand = λ wanted free ts e z le h. operand_found d (parsers d) b wanted le free ts e z h;
+    first = λ wanted free ts e z le h. primary_sound d (parsers d) b wanted le free ts e z h;
+    further = λ l wanted free start e ts x z le f a h. further_sound d (parsers d) b wanted le free l start e ts x z f a h;
     bodies = λ ts ss z h. (statements_sound d (parsers d) b c true ts).is (ss, z) h;
   },
   record {

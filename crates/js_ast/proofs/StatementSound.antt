@@ -90,66 +90,66 @@ pub record StatementsSound (d : ℕ) (sub : Parsers) : Type 0 where
 -- ---- joined lists
 
 -- variables, and then others behind a comma
-reads_declarations : (ds es : Declarations) (ts m k z : List Token) → ReadsDeclarations ds ts m → sign_part sign.Comma m k → ReadsDeclarations es k z → ReadsDeclarations (declarations_joined ds es) ts z
+pub reads_declarations : (ds es : Declarations) (ts m k z : List Token) → ReadsDeclarations ds ts m → sign_part sign.Comma m k → ReadsDeclarations es k z → ReadsDeclarations (declarations_joined ds es) ts z
 reads_declarations (one_declaration i init) es ts m k z r t q = (m, r, (k, t, q))
 reads_declarations (more_declarations i init ds) es ts m k z r t q = (r.0, r.1, (r.2.0, r.2.1, reads_declarations ds es r.2.0 m k z r.2.2 t q))
 
 -- they are valid
-valid_declarations : (ds es : Declarations) → ValidDeclarations ds → ValidDeclarations es → ValidDeclarations (declarations_joined ds es)
+pub valid_declarations : (ds es : Declarations) → ValidDeclarations ds → ValidDeclarations es → ValidDeclarations (declarations_joined ds es)
 valid_declarations (one_declaration i init) es v w = (v, w)
 valid_declarations (more_declarations i init ds) es v w = (v.0, valid_declarations ds es v.1 w)
 
 -- they are as deep as the deeper ones
-depth_joined_declarations : (ds es : Declarations) → depth_declarations (declarations_joined ds es) ≡ max (depth_declarations ds) (depth_declarations es)
+pub depth_joined_declarations : (ds es : Declarations) → depth_declarations (declarations_joined ds es) ≡ max (depth_declarations ds) (depth_declarations es)
 depth_joined_declarations (one_declaration i init) es = refl
 depth_joined_declarations (more_declarations i init ds) es = omega (arith, depth_joined_declarations ds es)
 
 -- no `in` stands in them
-no_in_joined : (ds es : Declarations) → no_in_declarations ds ≡ true → no_in_declarations es ≡ true → no_in_declarations (declarations_joined ds es) ≡ true
+pub no_in_joined : (ds es : Declarations) → no_in_declarations ds ≡ true → no_in_declarations es ≡ true → no_in_declarations (declarations_joined ds es) ≡ true
 no_in_joined (one_declaration i init) es n m = and_true (no_in_maybe init) (no_in_declarations es) n m
 no_in_joined (more_declarations i init ds) es n m =
     let p = and_parts (no_in_maybe init) (no_in_declarations ds) n in and_true (no_in_maybe init) (no_in_declarations (declarations_joined ds es)) p.0 (no_in_joined ds es p.1 m)
 
 -- clauses, and then others
-reads_clauses : (cs es : Clauses) (ts m z : List Token) → ReadsClauses cs ts m → ReadsClauses es m z → ReadsClauses (clauses_joined cs es) ts z
+pub reads_clauses : (cs es : Clauses) (ts m z : List Token) → ReadsClauses cs ts m → ReadsClauses es m z → ReadsClauses (clauses_joined cs es) ts z
 reads_clauses no_clauses es ts m z r q = rw r q
 reads_clauses (case e body cs) es ts m z r q = (r.0, r.1, reads_clauses cs es r.0 m z r.2 q)
 reads_clauses (default body cs) es ts m z r q = (r.0, r.1, reads_clauses cs es r.0 m z r.2 q)
 
 -- they are valid
-valid_clauses : (cs es : Clauses) → ValidClauses cs → ValidClauses es → ValidClauses (clauses_joined cs es)
+pub valid_clauses : (cs es : Clauses) → ValidClauses cs → ValidClauses es → ValidClauses (clauses_joined cs es)
 valid_clauses no_clauses es v w = w
 valid_clauses (case e body cs) es v w = (v.0, v.1, valid_clauses cs es v.2 w)
 valid_clauses (default body cs) es v w = (v.0, valid_clauses cs es v.1 w)
 
 -- they are as deep as the deeper ones
-depth_joined_clauses : (cs es : Clauses) → depth_clauses (clauses_joined cs es) ≡ max (depth_clauses cs) (depth_clauses es)
+pub depth_joined_clauses : (cs es : Clauses) → depth_clauses (clauses_joined cs es) ≡ max (depth_clauses cs) (depth_clauses es)
 depth_joined_clauses no_clauses es = omega arith
 depth_joined_clauses (case e body cs) es = omega (arith, depth_joined_clauses cs es)
 depth_joined_clauses (default body cs) es = omega (arith, depth_joined_clauses cs es)
 
 -- statements, and then others
-reads_statements : (ss us : Statements) (ts m z : List Token) → ReadsStatements ss ts m → ReadsStatements us m z → ReadsStatements (statements_joined ss us) ts z
+pub reads_statements : (ss us : Statements) (ts m z : List Token) → ReadsStatements ss ts m → ReadsStatements us m z → ReadsStatements (statements_joined ss us) ts z
 reads_statements no_statements us ts m z r q = rw r q
 reads_statements (more_statements s ss) us ts m z r q = (r.0, r.1, reads_statements ss us r.0 m z r.2 q)
 
 -- they are valid
-valid_statements : (outer : Bool) (ss us : Statements) → ValidStatements outer ss → ValidStatements outer us → ValidStatements outer (statements_joined ss us)
+pub valid_statements : (outer : Bool) (ss us : Statements) → ValidStatements outer ss → ValidStatements outer us → ValidStatements outer (statements_joined ss us)
 valid_statements outer no_statements us v w = w
 valid_statements outer (more_statements s ss) us v w = (v.0, valid_statements outer ss us v.1 w)
 
 -- they are as deep as the deeper ones
-depth_joined_statements : (ss us : Statements) → depth_statements (statements_joined ss us) ≡ max (depth_statements ss) (depth_statements us)
+pub depth_joined_statements : (ss us : Statements) → depth_statements (statements_joined ss us) ≡ max (depth_statements ss) (depth_statements us)
 depth_joined_statements no_statements us = omega arith
 depth_joined_statements (more_statements s ss) us = omega (arith, depth_joined_statements ss us)
 
 -- what was before an `else` doesn't end with an open `if`
-shuts : (o : Bool) (z : List Token) → (o ≡ true → is_else (word_at z) ≡ false) → word_at z ≡ Some (a_key key.Else) → o ≡ false
+pub shuts : (o : Bool) (z : List Token) → (o ≡ true → is_else (word_at z) ≡ false) → word_at z ≡ Some (a_key key.Else) → o ≡ false
 shuts true z k h = let bad : true ≡ false = sym (ap is_else h) ∙ k refl in absurd cc
 shuts false z k h = refl
 
 -- where no statement ends, what is there stands on the line
-on_the_line : (ts : List Token) → (semicolon_here ts || may_elide None ts) ≡ false → on_line ts ≡ true
+pub on_the_line : (ts : List Token) → (semicolon_here ts || may_elide None ts) ≡ false → on_line ts ≡ true
 on_the_line [] h = refl
 on_the_line (t ∷ ts) h = go (is_semicolon (word_of t)) (is_close_brace (word_of t)) t.newline h
   where
@@ -160,14 +160,19 @@ on_the_line (t ∷ ts) h = go (is_semicolon (word_of t)) (is_close_brace (word_o
     go false false true h = absurd cc
 
 -- the first token is neither `{` nor `function`
-abbrev starts_plain : Option Word → Bool
+abbrev pub starts_plain : Option Word → Bool
 starts_plain None = true
 starts_plain (Some w) = not (is_brace_or_function w)
 
 -- so an expression that stands there starts an expression statement
-starts : (ts : List Token) → starts_plain (word_at ts) ≡ true → begins_expression (word_at ts) ≡ true → starts_expression ts ≡ true
+pub starts : (ts : List Token) → starts_plain (word_at ts) ≡ true → begins_expression (word_at ts) ≡ true → starts_expression ts ≡ true
 starts [] h g = absurd cc
 starts (t ∷ ts) h g = h
+
+-- a statement that is no function declaration is valid anywhere
+pub plain : (outer : Bool) (s : Statement) → ValidStatement false s → ValidStatement outer s
+plain outer (function_declaration at i params body) v = absurd cc
+plain outer _ v = v
 
 -- ---- one layer
 
@@ -175,31 +180,31 @@ module _ (d : ℕ) (sub : Parsers) (b : SoundBelow d sub) (c : StatementsSound d
   -- ---- parts
 
   -- an expression of less depth
-  inner : (wanted : ℕ) (free : Bool) → wanted ≤ 16 → (ts : List Token) → Gives (sub.expression wanted free ts) (λ x. FoundExpression d wanted free x.0 ts x.1)
+  pub inner : (wanted : ℕ) (free : Bool) → wanted ≤ 16 → (ts : List Token) → Gives (sub.expression wanted free ts) (λ x. FoundExpression d wanted free x.0 ts x.1)
   inner wanted free le ts = record { is = λ x e. b.expression wanted free ts x.0 x.1 le e }
 
   -- an expression of any level
-  any_inner : (ts : List Token) → Gives (sub.expression 0 true ts) (λ x. FoundExpression d 0 true x.0 ts x.1)
+  pub any_inner : (ts : List Token) → Gives (sub.expression 0 true ts) (λ x. FoundExpression d 0 true x.0 ts x.1)
   any_inner = inner 0 true (omega arith)
 
   -- an expression at the depth itself
-  whole : (ts : List Token) → Gives (expression_at sub d 0 true ts) (λ x. FoundExpression (suc d) 0 true x.0 ts x.1)
+  pub whole : (ts : List Token) → Gives (expression_at sub d 0 true ts) (λ x. FoundExpression (suc d) 0 true x.0 ts x.1)
   whole ts = record { is = λ x e. expression_sound b 0 true ts x.0 x.1 (omega arith) e }
 
   -- a statement of less depth
-  part : (ts : List Token) → Gives (sub.statement ts) (λ x. FoundStatement d false x.0 ts x.1)
+  pub part : (ts : List Token) → Gives (sub.statement ts) (λ x. FoundStatement d false x.0 ts x.1)
   part ts = record { is = λ x e. c.statement ts x.0 x.1 e }
 
   -- statements of less depth
-  list : (outer : Bool) (ts : List Token) → Gives (sub.statements outer ts) (λ x. FoundStatements d outer x.0 ts x.1)
+  pub list : (outer : Bool) (ts : List Token) → Gives (sub.statements outer ts) (λ x. FoundStatements d outer x.0 ts x.1)
   list outer ts = record { is = λ x e. c.statements outer ts x.0 x.1 e }
 
   -- the parameters and the body of a function
-  functions : (ts : List Token) → Gives (function_rest sub ts) (λ x. FoundFunction d x.0.0 x.0.1 ts x.1)
+  pub functions : (ts : List Token) → Gives (function_rest sub ts) (λ x. FoundFunction d x.0.0 x.0.1 ts x.1)
   functions ts = record { is = λ x e. function_rest_sound b ts x.0.0 x.0.1 x.1 e }
 
   -- an expression in parentheses
-  condition_sound : (ts : List Token) → Gives (condition sub ts) (λ x. FoundCondition d x.0 ts x.1)
+  pub condition_sound : (ts : List Token) → Gives (condition sub ts) (λ x. FoundCondition d x.0 ts x.1)
   unfolding condition
   condition_sound ts =
       gives-bind (gives-open-paren ts) (λ m i. gives-bind (any_inner m) (λ e f. gives-bind (gives-close-paren e.1) (λ z k.
@@ -208,7 +213,7 @@ module _ (d : ℕ) (sub : Parsers) (b : SoundBelow d sub) (c : StatementsSound d
   -- ---- variables
 
   -- an initialiser, or none
-  initialiser_sound : (free : Bool) (ts : List Token) → 0 < d → Gives (initialiser sub free ts) (λ x. FoundInitialiser d free x.0 ts x.1)
+  pub initialiser_sound : (free : Bool) (ts : List Token) → 0 < d → Gives (initialiser sub free ts) (λ x. FoundInitialiser d free x.0 ts x.1)
   unfolding initialiser initialiser_by
   initialiser_sound free ts pos = go (word_at ts) refl
     where
@@ -218,11 +223,11 @@ module _ (d : ℕ) (sub : Parsers) (b : SoundBelow d sub) (c : StatementsSound d
       go _ h = gives-ok (record { valid = tt; shallow = pos; without_in = λ n. refl; reads = refl })
 
   -- variables so far, and what a turn makes of them
-  abbrev So_far : Bool → List Token → Declarations → List Token → Type 0
+  abbrev pub So_far : Bool → List Token → Declarations → List Token → Type 0
   So_far free start ds ts = FoundDeclarations d free ds start ts
 
   -- a further variable, or the end of them
-  declaration_step_sound : (free : Bool) (start : List Token) → 0 < d → (ds : Declarations) (ts : List Token) → So_far free start ds ts → Gives (declaration_step sub free ds ts) (λ x. Turned (So_far free start) (So_far free start) x.0 x.1)
+  pub declaration_step_sound : (free : Bool) (start : List Token) → 0 < d → (ds : Declarations) (ts : List Token) → So_far free start ds ts → Gives (declaration_step sub free ds ts) (λ x. Turned (So_far free start) (So_far free start) x.0 x.1)
   unfolding declaration_step declaration_step_by next_declaration
   declaration_step_sound free start pos ds ts so = go (word_at ts) refl
     where
@@ -239,14 +244,14 @@ module _ (d : ℕ) (sub : Parsers) (b : SoundBelow d sub) (c : StatementsSound d
       go _ h = gives-ok so
 
   -- variables from behind the first name on
-  declarations_from_sound : (free : Bool) (i : Ident) (start ts : List Token) → 0 < d → ReadsIdent i start ts → Gives (declarations_from sub free i ts) (λ x. FoundDeclarations d free x.0 start x.1)
+  pub declarations_from_sound : (free : Bool) (i : Ident) (start ts : List Token) → 0 < d → ReadsIdent i start ts → Gives (declarations_from sub free i ts) (λ x. FoundDeclarations d free x.0 start x.1)
   unfolding declarations_from
   declarations_from_sound free i start ts pos r = gives-bind (initialiser_sound free ts pos) (λ e f.
       gives-loop (declaration_step sub free) (So_far free start) (So_far free start) (declaration_step_sound free start pos) (one_declaration i e.0) e.1
       (record { valid = f.valid; shallow = f.shallow; without_in = f.without_in; reads = (ts, r, f.reads) }))
 
   -- variables
-  declarations_sound : (free : Bool) (ts : List Token) → 0 < d → Gives (declarations sub free ts) (λ x. FoundDeclarations d free x.0 ts x.1)
+  pub declarations_sound : (free : Bool) (ts : List Token) → 0 < d → Gives (declarations sub free ts) (λ x. FoundDeclarations d free x.0 ts x.1)
   unfolding declarations
   declarations_sound free ts pos = gives-bind (gives-ident ts) (λ i r. declarations_from_sound free i.0 ts i.1 pos r)
 
@@ -306,7 +311,7 @@ module _ (d : ℕ) (sub : Parsers) (b : SoundBelow d sub) (c : StatementsSound d
   -- ---- the header of a `for` (ECMA-262 12.6.3, 12.6.4)
 
   -- a test or a step, or none
-  header_part_sound : (ts : List Token) → 0 < d → Gives (header_part sub ts) (λ x. FoundPart d x.0 ts x.1)
+  pub header_part_sound : (ts : List Token) → 0 < d → Gives (header_part sub ts) (λ x. FoundPart d x.0 ts x.1)
   unfolding header_part header_part_by
   header_part_sound ts pos = go (word_at ts)
     where
@@ -429,7 +434,7 @@ module _ (d : ℕ) (sub : Parsers) (b : SoundBelow d sub) (c : StatementsSound d
   -- ---- ECMA-262 12.11
 
   -- clauses so far
-  abbrev Clauses_from : List Token → Clauses → List Token → Type 0
+  abbrev pub Clauses_from : List Token → Clauses → List Token → Type 0
   Clauses_from start cs ts = FoundClauses d cs start ts
 
   -- behind the word `case`, which stands at k
@@ -461,7 +466,7 @@ module _ (d : ℕ) (sub : Parsers) (b : SoundBelow d sub) (c : StatementsSound d
       })))
 
   -- a further clause, or the end of them
-  clause_sound : (start : List Token) (cs : Clauses) (ts : List Token) → FoundClauses d cs start ts → Gives (clause_step sub cs ts) (λ x. Turned (Clauses_from start) (Clauses_from start) x.0 x.1)
+  pub clause_sound : (start : List Token) (cs : Clauses) (ts : List Token) → FoundClauses d cs start ts → Gives (clause_step sub cs ts) (λ x. Turned (Clauses_from start) (Clauses_from start) x.0 x.1)
   unfolding clause_step clause_step_by
   clause_sound start cs ts so = go (word_at ts) refl
     where
@@ -489,7 +494,7 @@ module _ (d : ℕ) (sub : Parsers) (b : SoundBelow d sub) (c : StatementsSound d
   block_in_sound _ ts z f = gives-err
 
   -- a block of less depth
-  inner_block_sound : (ts : List Token) → Gives (inner_block sub ts) (λ x. FoundBlock d x.0 ts x.1)
+  pub inner_block_sound : (ts : List Token) → Gives (inner_block sub ts) (λ x. FoundBlock d x.0 ts x.1)
   unfolding inner_block inner_block_by
   inner_block_sound ts = go (word_at ts)
     where
@@ -591,27 +596,22 @@ module _ (d : ℕ) (sub : Parsers) (b : SoundBelow d sub) (c : StatementsSound d
       let x = f.shallow in
       gives-ok (record { valid = (refl, f.valid); shallow = omega arith; reads = (refl, (ts, t, (i.1, r, f.reads))); shut = λ o. absurd cc })))
 
-  -- a statement that is no function declaration is valid anywhere
-  plain : (outer : Bool) (s : Statement) → ValidStatement false s → ValidStatement outer s
-  plain outer (function_declaration at i params body) v = absurd cc
-  plain outer _ v = v
-
   -- so it is in any list
   any_statement : (outer : Bool) (ts : List Token) (w : Option Word) → word_at ts ≡ w → Gives (statement_by sub d w ts) (λ x. FoundStatement (suc d) outer x.0 ts x.1)
   any_statement outer ts w h = gives-more (statement_by_sound ts w h) (λ x f. record { valid = plain outer x.0 f.valid; shallow = f.shallow; reads = f.reads; shut = f.shut })
 
   -- a statement of a list
-  element_sound : (outer : Bool) (ts : List Token) (w : Option Word) → word_at ts ≡ w → Gives (element_by sub d outer w ts) (λ x. FoundStatement (suc d) outer x.0 ts x.1)
+  pub element_sound : (outer : Bool) (ts : List Token) (w : Option Word) → word_at ts ≡ w → Gives (element_by sub d outer w ts) (λ x. FoundStatement (suc d) outer x.0 ts x.1)
   unfolding element_by
   element_sound true ts (Some (a_key key.Function)) h = gives-room d 0 ts (λ pos. function_declaration_sound ts (behind ts) (takes (a_key key.Function) ts h))
   element_sound outer ts w h = any_statement outer ts w h
 
   -- statements so far
-  abbrev Statements_from : Bool → List Token → Statements → List Token → Type 0
+  abbrev pub Statements_from : Bool → List Token → Statements → List Token → Type 0
   Statements_from outer start ss ts = FoundStatements (suc d) outer ss start ts
 
   -- a further statement, or the end of the list
-  statements_step_sound : (outer : Bool) (start : List Token) (ss : Statements) (ts : List Token) → Statements_from outer start ss ts
+  pub statements_step_sound : (outer : Bool) (start : List Token) (ss : Statements) (ts : List Token) → Statements_from outer start ss ts
       → Gives (statements_step sub d outer ss ts) (λ x. Turned (Statements_from outer start) (Statements_from outer start) x.0 x.1)
   unfolding statements_step next_statement
   statements_step_sound outer start ss ts so = gives-cond (ends_list (word_at ts)) (λ h. gives-ok so) (λ h. gives-bind (element_sound outer ts (word_at ts) refl) (λ s f.

@@ -12,8 +12,8 @@ use Rattle.js_ast.specs.Words.{Word, a_name, a_number, a_string, a_key, a_sign, 
 use Rattle.js_ast.specs.Trees.{Expr, new_bare, postfix, unary, binary, conditional, assign, comma}
 use Rattle.js_ast.specs.Levels.{binding, ends_postfix}
 use Rattle.js_ast.specs.Grammar.{on_line, is_close_brace, is_semicolon, continues, may_elide}
-use Rattle.js_ast.specs.Reading.{word_at}
-use Rattle.js_ast.specs.ExpressionParsing.{operand_level, Suffix, by_member, by_index, by_call, by_postfix, by_nothing, suffix_of, suffix_at, is_base, applies_by, applies, is_call, captured, Stops, is_closer, begins_or_follows_statement, begins_statement_or_end}
+use Rattle.js_ast.specs.Reading.{word_at, Suffix, by_member, by_index, by_call, by_postfix, by_nothing}
+use Rattle.js_ast.specs.ExpressionParsing.{operand_level, suffix_of, suffix_at, is_base, applies_by, applies, is_call, captured, Stops, is_closer, begins_or_follows_statement, begins_statement_or_end}
 
 -- ---- truth values
 

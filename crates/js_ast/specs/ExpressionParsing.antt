@@ -7,11 +7,8 @@ use Rattle.js_ast.specs.declared.token.TokenKind.{TokenKind}
 use Rattle.js_ast.specs.declared.token.TokenKind.TheVariants as kind
 use Rattle.js_ast.specs.declared.operators.UnaryOperator.{UnaryOperator}
 use Rattle.js_ast.specs.declared.operators.UnaryOperator.TheVariants as unary_operator
-use Rattle.js_ast.specs.declared.operators.PostfixOperator.{PostfixOperator}
 use Rattle.js_ast.specs.declared.operators.PostfixOperator.TheVariants as postfix_operator
-use Rattle.js_ast.specs.declared.operators.BinaryOperator.{BinaryOperator}
 use Rattle.js_ast.specs.declared.operators.BinaryOperator.TheVariants as binary_operator
-use Rattle.js_ast.specs.declared.operators.AssignOperator.{AssignOperator}
 use Rattle.js_ast.specs.declared.operators.AssignOperator.TheVariants as assign_operator
 use Rattle.js_ast.specs.declared.words.Keyword.TheVariants as key
 use Rattle.js_ast.specs.declared.words.Sign.TheVariants as sign
@@ -21,7 +18,7 @@ use Rattle.js_ast.specs.Levels.{binding, is_in, is_step, level, is_bare_new, is_
 use Rattle.js_ast.specs.Grammar.{place_of, on_line, is_close_brace}
 use Rattle.js_ast.specs.Validity.{ends_with_item, has_properties}
 use Rattle.js_ast.specs.Depth.{depth}
-use Rattle.js_ast.specs.Reading.{Refusal, refused, syntax, Read, ◌>>=◌, word_at, behind, Turn, again, done, loop, room, Parsers}
+use Rattle.js_ast.specs.Reading.{Refusal, refused, syntax, Read, ◌>>=◌, word_at, behind, Turn, again, done, loop, room, Suffix, by_member, by_index, by_call, by_postfix, by_binary, by_conditional, by_assign, by_comma, by_nothing, Parsers}
 
 -- the place of an expression
 abbrev pub at_of : Expr → ℕ
@@ -292,9 +289,13 @@ unary_of _ = None
 unfoldable pub unary_made : ℕ → UnaryOperator → Expr → List Token → Read Expr
 unary_made at o e ts = if not (is_step o) || is_target e then Ok (unary at o e, ts) else Err (refused syntax ts)
 
--- an operand
+-- an operand: what is changed has to become a target
+unfoldable pub unary_operand : Parsers → Bool → UnaryOperator → List Token → Read Expr
+unary_operand sub free o ts = if is_step o then sub.operand (operand_level o) free ts else sub.expression (operand_level o) free ts
+
+-- the same, and the expression that it makes with its operator
 unfoldable pub unary_rest : Parsers → Bool → ℕ → UnaryOperator → List Token → Read Expr
-unary_rest sub free at o ts = sub.expression (operand_level o) free ts >>= λ e. unary_made at o e.0 e.1
+unary_rest sub free at o ts = unary_operand sub free o ts >>= λ e. unary_made at o e.0 e.1
 
 -- an operator in front, where the wanted level allows one
 unfoldable pub unary_by : Parsers → ℕ → ℕ → Bool → Option UnaryOperator → List Token → Read Expr
@@ -322,18 +323,6 @@ unfoldable pub primary : Parsers → ℕ → ℕ → Bool → List Token → Rea
 primary sub d wanted free ts = primary_by sub d wanted free (word_at ts) ts
 
 -- ---- how an expression goes on
-
--- what a token behind an expression makes of it
-pub data Suffix : Type 0 where
-  by_member : Suffix
-  by_index : Suffix
-  by_call : Suffix
-  by_postfix : PostfixOperator → Suffix
-  by_binary : BinaryOperator → Suffix
-  by_conditional : Suffix
-  by_assign : AssignOperator → Suffix
-  by_comma : Suffix
-  by_nothing : Suffix
 
 -- what a word makes of the expression before it
 abbrev pub suffix_of : Option Word → Suffix
@@ -514,3 +503,51 @@ begins_or_follows_statement w = begins_expression w
 -- the same, at a token
 abbrev pub begins_statement_or_end : List Token → Bool
 begins_statement_or_end ts = begins_or_follows_statement (word_at ts)
+
+-- ---- the operand of `++` and `--`
+
+-- a token that begins an expression where a level is wanted
+abbrev pub begins_operator : Option UnaryOperator → Bool
+begins_operator (Some o) = true
+begins_operator None = false
+
+abbrev pub begins_at : ℕ → Option Word → Bool
+begins_at wanted w = begins_expression w && (leb wanted 13 || not (begins_operator (unary_of w)))
+
+-- an operand in parentheses
+unfoldable pub operand_paren : Parsers → ℕ → List Token → Read Expr
+operand_paren sub at ts = sub.operand 0 true ts >>= λ e. expect is_close_paren e.1 >>= λ rest. Ok (paren at e.0, rest)
+
+-- how an operand begins: a name is a target, what is in parentheses may become one, and behind anything else a member must come
+unfoldable pub operand_first_by : Parsers → ℕ → ℕ → Bool → Option Word → List Token → Read Expr
+operand_first_by sub d wanted free (Some (a_name text)) ts = Ok (name (place_of ts) text, behind ts)
+operand_first_by sub d wanted free (Some (a_sign sign.OpenParen)) ts = room d 0 ts (operand_paren sub (place_of ts) (behind ts))
+operand_first_by sub d wanted free w ts = if begins_at wanted w then room d 0 ts (sub.first wanted free ts) else Err (refused syntax ts)
+
+unfoldable pub operand_first : Parsers → ℕ → ℕ → Bool → List Token → Read Expr
+operand_first sub d wanted free ts = operand_first_by sub d wanted free (word_at ts) ts
+
+-- members and elements are targets
+abbrev pub makes_target : Suffix → Bool
+makes_target by_member = true
+makes_target by_index = true
+makes_target _ = false
+
+-- an expression with what goes on with it, at the token that says what
+unfoldable pub further_at : Parsers → ℕ → Bool → Expr → Suffix → List Token → Read Expr
+further_at sub d free e s ts = room d (depth e) ts (suffix sub free e s (behind ts))
+
+unfoldable pub operand_further : Parsers → ℕ → Bool → Expr → Suffix → List Token → Read Expr
+operand_further sub d free e s ts = if makes_target s then further_at sub d free e s ts else room d 0 ts (sub.further free e s ts)
+
+-- a turn: the operand goes on, or ends
+unfoldable pub operand_step : Parsers → ℕ → ℕ → Bool → Expr → List Token → Read (Turn Expr Expr)
+operand_step sub d wanted free e ts = if applies wanted free e ts then (operand_further sub d free e (suffix_at ts) ts >>= λ x. Ok (again x.0, x.1)) else Ok (done e, ts)
+
+-- an operand with all that goes on with it
+unfoldable pub operand_climb : Parsers → ℕ → ℕ → Bool → Expr → List Token → Read Expr
+operand_climb sub d wanted free e ts = loop (operand_step sub d wanted free) e ts
+
+-- an operand of at least the wanted level: a target whose depth is at most d, or another expression whose depth is below d
+unfoldable pub operand_at : Parsers → ℕ → ℕ → Bool → List Token → Read Expr
+operand_at sub d wanted free ts = operand_first sub d wanted free ts >>= λ x. operand_climb sub d wanted free x.0 x.1

@@ -6,6 +6,7 @@ pub mod Levels
 pub mod Nodes
 pub mod Parsing
 pub mod Reading
+pub mod Refusals
 pub mod StatementParsing
 pub mod Trees
 pub mod Validity

@@ -3,13 +3,13 @@ use Rattle.std.specs.Prelude.{ℕ, zero, suc, true, List, [], ◌∷◌, Ok, Err
 use Rattle.js_ast.specs.declared.token.Token.{Token}
 use Rattle.js_ast.specs.Trees.{Statements}
 use Rattle.js_ast.specs.Reading.{syntax, nesting, refused, Read, ◌>>=◌, Parsers}
-use Rattle.js_ast.specs.ExpressionParsing.{expression_at}
+use Rattle.js_ast.specs.ExpressionParsing.{expression_at, operand_at, primary, further_at}
 use Rattle.js_ast.specs.StatementParsing.{statement_at, statements_at}
 
 -- trees whose depth is below the number
 unfoldable pub parsers : ℕ → Parsers
-parsers zero = record { expression = λ wanted free ts. Err (refused nesting ts); statement = λ ts. Err (refused nesting ts); statements = λ outer ts. Err (refused nesting ts) }
-parsers (suc d) = record { expression = expression_at (parsers d) d; statement = statement_at (parsers d) d; statements = statements_at (parsers d) d }
+parsers zero = record { expression = λ wanted free ts. Err (refused nesting ts); operand = λ wanted free ts. Err (refused nesting ts); first = λ wanted free ts. Err (refused nesting ts); further = λ free e s ts. Err (refused nesting ts); statement = λ ts. Err (refused nesting ts); statements = λ outer ts. Err (refused nesting ts) }
+parsers (suc d) = record { expression = expression_at (parsers d) d; operand = operand_at (parsers d) d; first = primary (parsers d) d; further = further_at (parsers d) d; statement = statement_at (parsers d) d; statements = statements_at (parsers d) d }
 
 unfoldable pub to_end : Statements → List Token → Read Statements
 to_end ss [] = Ok (ss, [])

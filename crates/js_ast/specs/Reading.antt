@@ -1,6 +1,9 @@
 -- How the parser on lists answers: what was read and the tokens behind it, or a fault and the tokens from the one that is refused.
 use Rattle.std.specs.Prelude.{ℕ, zero, suc, Bool, cond, leb, List, [], ◌∷◌, length, Option, Some, None, Result, Ok, Err}
 use Rattle.js_ast.specs.declared.token.Token.{Token}
+use Rattle.js_ast.specs.declared.operators.PostfixOperator.{PostfixOperator}
+use Rattle.js_ast.specs.declared.operators.BinaryOperator.{BinaryOperator}
+use Rattle.js_ast.specs.declared.operators.AssignOperator.{AssignOperator}
 use Rattle.js_ast.specs.Words.{Word, word_of}
 use Rattle.js_ast.specs.Trees.{Expr, Statement, Statements}
 
@@ -52,9 +55,26 @@ loop step s ts = turns step (suc (length ts)) s ts
 abbrev pub room : {A : Type 0} → ℕ → ℕ → List Token → Read A → Read A
 room limit parts ts r = cond (leb limit parts) (Err (refused nesting ts)) r
 
--- the parsers of trees whose depth is below a number: an expression of a level at least, where the operator `in` is allowed or not; a
--- statement that is no function declaration; and the statements of a program or a body (true), or of any other list
+-- what a token behind an expression makes of it
+pub data Suffix : Type 0 where
+  by_member : Suffix
+  by_index : Suffix
+  by_call : Suffix
+  by_postfix : PostfixOperator → Suffix
+  by_binary : BinaryOperator → Suffix
+  by_conditional : Suffix
+  by_assign : AssignOperator → Suffix
+  by_comma : Suffix
+  by_nothing : Suffix
+
+-- The parsers of trees whose depth is below a number: an expression of a level at least, where the operator `in` is allowed or not; how one
+-- begins, and how one goes on at a token; a statement that is no function declaration; and the statements of a program or a body (true), or of
+-- any other list. An operand of `++` and `--` is a target, or what becomes one: since a member must still come then, its depth and one more are
+-- below the number.
 pub record Parsers : Type 0 where
   pub expression : ℕ → Bool → List Token → Read Expr
+  pub operand : ℕ → Bool → List Token → Read Expr
+  pub first : ℕ → Bool → List Token → Read Expr
+  pub further : Bool → Expr → Suffix → List Token → Read Expr
   pub statement : List Token → Read Statement
   pub statements : Bool → List Token → Read Statements

@@ -1,6 +1,6 @@
 -- Identifier names and reserved words (ECMA-262 7.6, 7.6.1).
-use Rattle.std.specs.Prelude.{◌≡◌, ℕ, List, [], ◌∷◌, ◌++◌, Bool, true, false, length, map, codes, if◌then◌else◌}
-use Rattle.std.specs.List.{list_any, flat_map}
+use Rattle.std.specs.Prelude.{◌≡◌, ℕ, List, [], ◌∷◌, ◌++◌, Bool, true, false, not, ◌&&◌, length, map, codes, if◌then◌else◌}
+use Rattle.std.specs.List.{list_all, list_any, flat_map}
 use Rattle.std.specs.Str.Parse.{digits_value, AllDigits}
 use Rattle.std.specs.Str.{bytes_eq}
 use Rattle.js_ast.specs.declared.token.TokenKind.{TokenKind}
@@ -76,3 +76,8 @@ is_reserved text = is_one_of reserved_words text
 -- what a name of this value is
 abbrev pub word_kind : List ℕ → TokenKind
 word_kind text = if is_reserved text then kind.Reserved else kind.Name
+
+-- a name that is no reserved word (ECMA-262 7.6), as its units stand: an escape would be no unit of a name
+unfoldable pub is_identifier : List ℕ → Bool
+is_identifier [] = false
+is_identifier (u ∷ us) = is_identifier_start u && (list_all is_identifier_part us && not (is_reserved (u ∷ us)))

@@ -17,6 +17,7 @@ mod units;
 
 pub use exactness::one_reading;
 pub use fault::ScanFault;
+pub use names::{is_identifier, is_one_of, spells};
 pub use scanning::scan;
 
 #[cfg(test)]

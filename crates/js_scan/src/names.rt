@@ -1,10 +1,11 @@
 //! Names.
 
 ghost use Rattle.std.specs.Prelude.{◌≡◌, ◌↔◌, ◌<◌, true, IfOk, IfSome};
-ghost use Rattle.std.specs.List.{list_any};
+ghost use Rattle.std.specs.List.{list_all, list_any};
 ghost use Rattle.std.specs.Str.{bytes_eq};
-ghost use Rattle.js_scan.specs.Names.{BeginsName, is_reserved};
+ghost use Rattle.js_scan.specs.Names.{BeginsName, is_identifier, is_reserved};
 ghost use Rattle.js_scan.specs.Found.{FindsWord};
+ghost use Rattle.js_scan.specs.Units.{is_identifier_part};
 ghost use Rattle.js_scan.specs.NameReading.{escaped_unit, unit_at, start_at, part_at};
 
 use crate::hexadecimal::hexadecimal_value;
@@ -132,6 +133,25 @@ fn escaped_unit(units: &[u16]) -> Option<u16>
     }
 }
 
+/// Whether the units are a name that is no reserved word; an escape is none.
+#[tactic(auto, unfolding(crate::specs::Names::is_identifier))]
+pub fn is_identifier(text: &[u16]) -> bool
+    ensures { result ≡ is_identifier text.now }
+{
+    match text {
+        [] => false,
+        [first, others @ ..] => {
+            is_identifier_start(*first) && are_identifier_parts(others) && !is_reserved(text)
+        }
+    }
+}
+
+fn are_identifier_parts(units: &[u16]) -> bool
+    ensures { result ≡ list_all is_identifier_part units.now }
+{
+    units.iter().all(|unit| is_identifier_part(*unit))
+}
+
 /// Whether the text is a reserved word.
 #[tactic(auto, unfolding(crate::specs::Names::is_reserved))]
 pub(crate) fn is_reserved(text: &[u16]) -> bool
@@ -140,14 +160,15 @@ pub(crate) fn is_reserved(text: &[u16]) -> bool
     is_one_of(&RESERVED_WORDS, text)
 }
 
-pub(crate) fn is_one_of(words: &[&[u8]], text: &[u16]) -> bool
+/// Whether one of the words has the units of the text, one by one.
+pub fn is_one_of(words: &[&[u8]], text: &[u16]) -> bool
     ensures { result ≡ list_any (λ word. bytes_eq text.now word.now) words.now }
 {
     words.iter().any(|word| spells(word, text))
 }
 
 /// Whether the bytes are the units of the text, one by one.
-pub(crate) fn spells(word: &[u8], text: &[u16]) -> bool
+pub fn spells(word: &[u8], text: &[u16]) -> bool
     ensures { result ≡ bytes_eq text.now word.now }
 {
     if word.len() != text.len() {

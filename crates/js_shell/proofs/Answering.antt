@@ -2,19 +2,19 @@
 use Rattle.std.proofs.Common.{◌≡◌, ℕ, List, true, Option, Some, Ok, Err, refl, sym, ap, subst, ◌∙◌, inl, inr, ◌⊎◌}
 use Rattle.flow_io.specs.Files.{Files}
 use Rattle.flow_io.specs.Sinks.{Appends, AppendsFront}
-use Rattle.js_shell.specs.declared.accepting.Refusal.{Refusal}
-use Rattle.js_shell.specs.declared.accepting.Refusal.TheVariants as refusal
+use Rattle.js_shell.specs.declared.refusals.Refusal.{Refusal}
+use Rattle.js_shell.specs.declared.refusals.Refusal.TheVariants as refusal
 use Rattle.js_shell.specs.declared.status.Status.{Status}
 use Rattle.js_shell.specs.declared.status.Status.TheVariants as status
 use Rattle.js_shell.specs.declared.ending.Ending.{Ending}
 use Rattle.js_shell.specs.declared.ending.Ending.TheVariants.{Done, Left, Stopped}
 use Rattle.js_shell.specs.Written.{erased}
 use Rattle.js_shell.specs.Ran.{Ran}
-use Rattle.js_shell.specs.Sources.{long_source, source_utf8, bad_source, unbuilt}
-use Rattle.js_shell.specs.Replies.{Task, Reply, IsReply, runs, run_reply, tracked_run, status_of, usage_reply, source_reply, policy_reply, input_reply, read_fault_report, too_long, bad_line}
+use Rattle.js_shell.specs.Sources.{long_source, source_utf8, bad_source}
+use Rattle.js_shell.specs.Replies.{Task, Reply, IsReply, runs, accepts_script, accepted_reply, run_reply, tracked_run, status_of, usage_reply, source_reply, policy_reply, input_reply, read_fault_report, too_long, bad_line}
 use Rattle.js_shell.specs.Promises.{UnlessEarly}
 use Rattle.js_shell.specs.Causes.{Exactly}
-use Rattle.js_shell.specs.Accepting.{OfFiles, Accepts, Answers, replies, cuts_off, unread, unread_cut, no_memory, Refuses, puts, breaks_off, puts_nothing, refusal_report, refusal_status, is_reply_status, is_cut_status}
+use Rattle.js_shell.specs.Accepting.{OfFiles, a_run, a_check, Accepts, Answers, PutsAccepted, replies, cuts_off, unread, unread_cut, no_memory, Refuses, puts, breaks_off, puts_nothing, refusal_report, refusal_status, is_reply_status, is_cut_status}
 use Rattle.js_shell.proofs.Asked.{of_map}
 
 of_some : (x y : Reply) → Some x ≡ Some y → x ≡ y
@@ -29,7 +29,7 @@ module _ (words : List (List ℕ)) (contents : Option Files) (StoreFailed : Type
   ending_replies (Left name) = refl
   ending_replies (Stopped rule need have) = refl
 
-  module _ (task : Task) (asked : Accepts words contents (Ok task)) where
+  module _ (task : Task) (asked : Accepts words contents (Ok (a_run task))) where
     is_reply : OfFiles contents (λ files. IsReply words files (run_reply task))
     is_reply = of_map contents _ _ (λ files h. runs task h refl) asked
 
@@ -47,6 +47,24 @@ module _ (words : List (List ℕ)) (contents : Option Files) (StoreFailed : Type
     ran_answers status.Left h = whole status.Left h
     ran_answers status.ReadFault h = whole status.ReadFault h
 
+  -- a script that is checked is accepted
+  pub accepted_answers : (result : Status) → Accepts words contents (Ok a_check) → PutsAccepted result old new → Answers words contents StoreFailed old new result
+  accepted_answers result checked p = by result p
+    where
+      is_accepted : OfFiles contents (λ files. IsReply words files accepted_reply)
+      is_accepted = of_map contents _ _ (λ files h. accepts_script h refl) checked
+
+      by : (s : Status) → PutsAccepted s old new → Answers words contents StoreFailed old new s
+      by status.Done p = replies accepted_reply is_accepted refl refl p
+      by status.WriteFault p = cuts_off accepted_reply is_accepted refl p
+      by status.Usage p = absurd p
+      by status.Source p = absurd p
+      by status.Policy p = absurd p
+      by status.Stopped p = absurd p
+      by status.Left p = absurd p
+      by status.ReadFault p = absurd p
+      by status.OutOfMemory p = absurd p
+
   -- what a refusal puts is a reply, or the report of a read fault
   abbrev Reported : Refusal → Reply → Type 0
   Reported r reply = ((OfFiles contents (λ files. IsReply words files reply)) × (is_reply_status reply.status ≡ true)) ⊎ ((r ≡ refusal.ReadFault) × (reply ≡ read_fault_reply))
@@ -59,7 +77,6 @@ module _ (words : List (List ℕ)) (contents : Option Files) (StoreFailed : Type
   reported refusal.LongSource reply h e = replied refusal.LongSource reply (source_reply long_source) h refl e
   reported (refusal.SourceUtf8 at) reply h e = replied (refusal.SourceUtf8 at) reply (source_reply (source_utf8 at)) h refl e
   reported (refusal.BadSource kind place) reply h e = replied (refusal.BadSource kind place) reply (source_reply (bad_source kind place)) h refl e
-  reported refusal.Unbuilt reply h e = replied refusal.Unbuilt reply (source_reply unbuilt) h refl e
   reported refusal.LongPolicy reply h e = replied refusal.LongPolicy reply (policy_reply too_long) h refl e
   reported (refusal.BadPolicy line kind) reply h e = replied (refusal.BadPolicy line kind) reply (policy_reply (bad_line (record { line = line; kind = kind }))) h refl e
   reported refusal.LongInput reply h e = replied refusal.LongInput reply (input_reply too_long) h refl e
@@ -87,7 +104,6 @@ usage_of refusal.Usage e = refl
 usage_of refusal.LongSource e = cc
 usage_of (refusal.SourceUtf8 at) e = cc
 usage_of (refusal.BadSource kind place) e = cc
-usage_of refusal.Unbuilt e = cc
 usage_of refusal.LongPolicy e = cc
 usage_of (refusal.BadPolicy line kind) e = cc
 usage_of refusal.LongInput e = cc

@@ -14,7 +14,7 @@ use Rattle.js_shell.specs.declared.ending.Leaving.{Leaving}
 use Rattle.js_shell.specs.declared.ending.Rule.{Rule}
 use Rattle.js_shell.specs.Plain as plain
 use Rattle.js_shell.specs.Written.{written, erased, erased_line, lines_bytes, report}
-use Rattle.js_shell.specs.Replies.{Task, IsAsked, Reply, IsReply, refuses_words, refuses_script, refuses_policy, refuses_input, runs, run_reply, plain_run, tracked_run, status_of, usage_reply, source_reply, policy_reply, input_reply, read_fault_report, ReachesAbsent}
+use Rattle.js_shell.specs.Replies.{Task, IsAsked, IsChecked, Reply, IsReply, refuses_words, refuses_script, accepts_script, accepted_reply, refuses_policy, refuses_input, runs, run_reply, plain_run, tracked_run, status_of, usage_reply, source_reply, policy_reply, input_reply, read_fault_report, ReachesAbsent}
 use Rattle.js_shell.specs.Promises.{Erases, goes_on, stops, Told, UnlessEarly, IfEarly, Isolates, IsPlain, IsStop, Stops}
 use Rattle.js_shell.specs.Causes.{Exactly, IsSource, IsBadPolicy, IsDone, IsStopped, IsLeft, IsEarlyFront}
 use Rattle.js_shell.specs.Accepting.{OfFiles, Answers, replies, cuts_off, unread, unread_cut, no_memory, is_reply_status, is_cut_status}
@@ -258,6 +258,7 @@ module _ (words : List (List ℕ)) (files : Files) where
   to_source : (reply : Reply) → IsReply words files reply → reply.status ≡ status.Source → IsSource words files
   to_source reply (refuses_words none is) e = let bad : status.Usage ≡ status.Source = status_is reply usage_reply _ is e in cc
   to_source reply (refuses_script c x at none is) e = (c, x, at, none)
+  to_source reply (accepts_script checked is) e = let bad : status.Done ≡ status.Source = status_is reply accepted_reply _ is e in cc
   to_source reply (refuses_policy c s x at script none is) e = let bad : status.Policy ≡ status.Source = status_is reply (policy_reply x) _ is e in cc
   to_source reply (refuses_input c s t x at script policy none is) e = let bad : status.Policy ≡ status.Source = status_is reply (input_reply x) _ is e in cc
   to_source reply (runs task asked is) e = absurd (no_refusal (tracked_run task).ending status.Source (status_is reply (run_reply task) _ is e) (inl refl))
@@ -268,6 +269,7 @@ module _ (words : List (List ℕ)) (files : Files) where
   to_policy : (reply : Reply) → IsReply words files reply → reply.status ≡ status.Policy → IsBadPolicy words files
   to_policy reply (refuses_words none is) e = let bad : status.Usage ≡ status.Policy = status_is reply usage_reply _ is e in cc
   to_policy reply (refuses_script c x at none is) e = let bad : status.Source ≡ status.Policy = status_is reply (source_reply x) _ is e in cc
+  to_policy reply (accepts_script checked is) e = let bad : status.Done ≡ status.Policy = status_is reply accepted_reply _ is e in cc
   to_policy reply (refuses_policy c s x at script none is) e = (c, s, at, script, inl (x, none))
   to_policy reply (refuses_input c s t x at script policy none is) e = (c, s, at, script, inr (t, x, policy, none))
   to_policy reply (runs task asked is) e = absurd (no_refusal (tracked_run task).ending status.Policy (status_is reply (run_reply task) _ is e) (inr refl))
@@ -282,24 +284,32 @@ module _ (words : List (List ℕ)) (files : Files) where
   abbrev IsRuns : Reply → Type 0
   IsRuns reply = (task : Task) × IsAsked words files task × (reply ≡ run_reply task)
 
-  of_run : (reply : Reply) (s : Status) → IsReply words files reply → reply.status ≡ s → (s ≡ status.Usage → ⊥) → (s ≡ status.Source → ⊥) → (s ≡ status.Policy → ⊥) → IsRuns reply
+  of_run : (reply : Reply) (s : Status) → IsReply words files reply → reply.status ≡ s → (s ≡ status.Usage → ⊥) → (s ≡ status.Source → ⊥) → (s ≡ status.Policy → ⊥) → IsRuns reply ⊎ (IsChecked words files × (s ≡ status.Done))
   of_run reply s (refuses_words none is) e a b c = absurd (a (sym (status_is reply usage_reply s is e)))
   of_run reply s (refuses_script k x at none is) e a b c = absurd (b (sym (status_is reply (source_reply x) s is e)))
+  of_run reply s (accepts_script checked is) e a b c = inr (checked, sym (status_is reply accepted_reply s is e))
   of_run reply s (refuses_policy k t x at script none is) e a b c = absurd (c (sym (status_is reply (policy_reply x) s is e)))
   of_run reply s (refuses_input k t u x at script policy none is) e a b c = absurd (c (sym (status_is reply (input_reply x) s is e)))
-  of_run reply s (runs task asked is) e a b c = (task, asked, is)
+  of_run reply s (runs task asked is) e a b c = inl (task, asked, is)
 
   to_done : (reply : Reply) → IsReply words files reply → reply.status ≡ status.Done → IsDone words files
-  to_done reply h e =
-      let run = of_run reply status.Done h e (λ f. cc) (λ f. cc) (λ f. cc) in
-      (run.0, run.1, is_done (tracked_run run.0).ending (status_is reply (run_reply run.0) _ run.2 e))
+  to_done reply h e = elim (of_run reply status.Done h e (λ f. cc) (λ f. cc) (λ f. cc)) [
+    | inl run ↦ inl (run.0, run.1, is_done (tracked_run run.0).ending (status_is reply (run_reply run.0) _ run.2 e))
+    | inr checked ↦ inr checked.0
+  ]
 
   from_done : IsDone words files → (reply : Reply) × IsReply words files reply × (reply.status ≡ status.Done)
-  from_done h = (run_reply h.0, runs h.0 h.1 refl, ap status_of h.2)
+  from_done (inl h) = (run_reply h.0, runs h.0 h.1 refl, ap status_of h.2)
+  from_done (inr checked) = (accepted_reply, accepts_script checked refl, refl)
+
+  -- a status that no check has is a run's
+  of_run_alone : (reply : Reply) (s : Status) → IsRuns reply ⊎ (IsChecked words files × (s ≡ status.Done)) → (s ≡ status.Done → ⊥) → IsRuns reply
+  of_run_alone reply s (inl run) d = run
+  of_run_alone reply s (inr checked) d = absurd (d checked.1)
 
   to_left : (reply : Reply) → IsReply words files reply → reply.status ≡ status.Left → IsLeft words files
   to_left reply h e =
-      let run = of_run reply status.Left h e (λ f. cc) (λ f. cc) (λ f. cc) in
+      let run = of_run_alone reply status.Left (of_run reply status.Left h e (λ f. cc) (λ f. cc) (λ f. cc)) (λ f. cc) in
       let left = is_left (tracked_run run.0).ending (status_is reply (run_reply run.0) _ run.2 e) in
       (run.0, left.0, run.1, left.1, left_erased run.0 left.0 (erasure run.0.statements run.0.tables run.0.given) left.1)
 
@@ -308,7 +318,7 @@ module _ (words : List (List ℕ)) (files : Files) where
 
   to_stopped : (reply : Reply) → IsReply words files reply → reply.status ≡ status.Stopped → IsStopped words files
   to_stopped reply h e =
-      let run = of_run reply status.Stopped h e (λ f. cc) (λ f. cc) (λ f. cc) in
+      let run = of_run_alone reply status.Stopped (of_run reply status.Stopped h e (λ f. cc) (λ f. cc) (λ f. cc)) (λ f. cc) in
       let ends = is_stopped (tracked_run run.0).ending (status_is reply (run_reply run.0) _ run.2 e) in
       let stop = stop_of run.0 (run_reply run.0).bytes refl ends.0 ends.1 ends.2 ends.3 (erasure run.0.statements run.0.tables run.0.given) in
       (run.0, stop.rule, stop.need, stop.have, run.1, stop.ends, stop.broken)

@@ -6,22 +6,33 @@ use Rattle.flow_policy.specs.Inputs.{Given}
 use Rattle.flow_policy.specs.declared.fault.PolicyKind.{PolicyKind}
 use Rattle.flow_policy.specs.declared.fault.InputKind.{InputKind}
 use Rattle.js_shell.specs.Scripts.{Statement}
-use Rattle.js_shell.specs.Sources.{SourceFault, IsScriptOf, RefusesSource}
-use Rattle.js_shell.specs.Replies.{Command, command_of, Task, HasScript, HasNoScript, HasPolicy, HasNoPolicy, HasInput, HasNoInput, Reply, IsReply, refuses_words, refuses_script, refuses_policy, refuses_input, runs, run_reply, usage_reply, source_reply, policy_reply, input_reply, FileFault, policy_in, input_in, ReachesAbsent, reaches_script, reaches_policy, reaches_input}
+use Rattle.js_shell.specs.Sources.{SourceFault, HasProgram, IsScriptOf, RefusesProgram, RefusesSource}
+use Rattle.js_shell.specs.Replies.{Paths, Command, run, check, command_of, Task, IsProgramAt, HasNoProgram, HasScript, HasNoScript, RefusesScript, HasPolicy, HasNoPolicy, HasInput, HasNoInput, Reply, IsReply, refuses_words, refuses_script, accepts_script, refuses_policy, refuses_input, runs, run_reply, usage_reply, source_reply, accepted_reply, policy_reply, input_reply, FileFault, policy_in, input_in, ReachesAbsent, reaches_script, reaches_policy, reaches_input}
 use Rattle.js_shell.specs.Promises.{RepliesOnce}
-use Rattle.js_shell.proofs.Sourced.{some_is, ok_is, err_is, ok_or_err, script_of_bytes, script_or_fault, fault_of_bytes, Judged, accepted, refused, judged}
+use Rattle.js_shell.proofs.Sourced as sourced
+use Rattle.js_shell.proofs.Sourced.{some_is, ok_is, err_is, ok_or_err, ProgramOrFault, ScriptOrFault, program_judged, script_judged}
 
 -- ---- one at most
 
 module _ (files : Files) (path : List ℕ) where
+  -- of one file
+  same_file : (P : List ℕ → Type 0) (p q : List ℕ) → file_at files path ≡ Some p → file_at files path ≡ Some q → P p → P q
+  same_file P p q at at' h = subst P (some_is p q (file_at files path) at at') h
+
   script_is : (s t : List Statement) → HasScript files path s → HasScript files path t → s ≡ t
-  script_is s t p q = script_of_bytes q.bytes s t (subst (λ (b : List ℕ). IsScriptOf b s) (some_is p.bytes q.bytes (file_at files path) p.there q.there) p.spelled) q.spelled
+  script_is s t p q = sourced.script_is q.bytes s t (same_file (λ b. IsScriptOf b s) p.bytes q.bytes p.there q.there p.spelled) q.spelled
 
   script_or_not : (s : List Statement) (fault : SourceFault) → HasScript files path s → HasNoScript files path fault → ⊥
-  script_or_not s fault p q = script_or_fault q.bytes s fault (subst (λ (b : List ℕ). IsScriptOf b s) (some_is p.bytes q.bytes (file_at files path) p.there q.there) p.spelled) q.refused
+  script_or_not s fault p q = sourced.script_or_fault q.bytes s fault (same_file (λ b. IsScriptOf b s) p.bytes q.bytes p.there q.there p.spelled) q.refused
 
   source_fault : (s t : SourceFault) → HasNoScript files path s → HasNoScript files path t → s ≡ t
-  source_fault s t p q = fault_of_bytes q.bytes s t (subst (λ (b : List ℕ). RefusesSource b s) (some_is p.bytes q.bytes (file_at files path) p.there q.there) p.refused) q.refused
+  source_fault s t p q = sourced.source_fault q.bytes s t (same_file (λ b. RefusesSource b s) p.bytes q.bytes p.there q.there p.refused) q.refused
+
+  program_or_not : (fault : SourceFault) → IsProgramAt files path → HasNoProgram files path fault → ⊥
+  program_or_not fault p q = sourced.program_or_fault q.bytes p.program fault (same_file (λ b. HasProgram b p.program) p.bytes q.bytes p.there q.there p.has_program) q.refused
+
+  program_fault : (s t : SourceFault) → HasNoProgram files path s → HasNoProgram files path t → s ≡ t
+  program_fault s t p q = sourced.program_fault q.bytes s t (same_file (λ b. RefusesProgram b s) p.bytes q.bytes p.there q.there p.refused) q.refused
 
 module _ (files : Files) (path : List ℕ) where
   -- what one file's bytes give, the same file's give
@@ -57,36 +68,46 @@ module _ (words : List (List ℕ)) (files : Files) where
   no_command : (a : Command) → command_of words ≡ Some a → command_of words ≡ None → ⊥
   no_command a p q = cc
 
-  -- how far the work goes, without the reply
-  pub data Goes (reply : Reply) (command : Command) : Type 0 where
-    to_script : (fault : SourceFault) → HasNoScript files command.script fault → reply ≡ source_reply fault → Goes reply command
-    to_policy : (statements : List Statement) (fault : FileFault PolicyKind) → HasScript files command.script statements → HasNoPolicy files command.policy fault
-        → reply ≡ policy_reply fault → Goes reply command
-    to_input : (statements : List Statement) (tables : Tables) (fault : FileFault InputKind) → HasScript files command.script statements → HasPolicy files command.policy tables
-        → HasNoInput files command.input tables fault → reply ≡ input_reply fault → Goes reply command
-    to_run : (task : Task) → HasScript files command.script task.statements → HasPolicy files command.policy task.tables
-        → HasInput files command.input task.tables task.given → reply ≡ run_reply task → Goes reply command
+  not_both : (path : List ℕ) (paths : Paths) → command_of words ≡ Some (check path) → command_of words ≡ Some (run paths) → ⊥
+  not_both path paths e f = cc
 
-  goes_with : (reply : Reply) (command : Command) → command_of words ≡ Some command → IsReply words files reply → Goes reply command
-  goes_with reply command stated (refuses_words none is) = absurd (no_command command stated none)
-  goes_with reply command stated (refuses_script c x at none is) = subst (Goes reply) (command_is c command at stated) (to_script x none is)
-  goes_with reply command stated (refuses_policy c s f at script none is) = subst (Goes reply) (command_is c command at stated) (to_policy s f script none is)
-  goes_with reply command stated (refuses_input c s t f at script policy none is) = subst (Goes reply) (command_is c command at stated) (to_input s t f script policy none is)
-  goes_with reply command stated (runs task asked is) = subst (Goes reply) (command_is asked.command command asked.stated stated) (to_run task asked.script asked.policy asked.input is)
+  same_paths : (a b : Paths) → command_of words ≡ Some (run a) → command_of words ≡ Some (run b) → a ≡ b
+  same_paths a b e f = let same : run a ≡ run b = command_is (run a) (run b) e f in cc
 
-  task_is : (command : Command) (a b : Task) → HasScript files command.script a.statements → HasPolicy files command.policy a.tables → HasInput files command.input a.tables a.given
-      → HasScript files command.script b.statements → HasPolicy files command.policy b.tables → HasInput files command.input b.tables b.given → a ≡ b
-  task_is command a b s p i s' p' i' =
-      let same_s : a.statements ≡ b.statements = script_is files command.script a.statements b.statements s s' in
-      let same_t : a.tables ≡ b.tables = policy_same files command.policy a.tables b.tables p p' in
-      let same_g : a.given ≡ b.given = input_same files command.input b.tables a.given b.given (subst (λ (t : Tables). HasInput files command.input t a.given) same_t i) i' in
+  same_path : (a b : List ℕ) → command_of words ≡ Some (check a) → command_of words ≡ Some (check b) → a ≡ b
+  same_path a b e f = let same : check a ≡ check b = command_is (check a) (check b) e f in cc
+
+  -- how far the work of a run goes, without the reply
+  pub data Goes (reply : Reply) (paths : Paths) : Type 0 where
+    to_script : (fault : SourceFault) → HasNoScript files paths.script fault → reply ≡ source_reply fault → Goes reply paths
+    to_policy : (statements : List Statement) (fault : FileFault PolicyKind) → HasScript files paths.script statements → HasNoPolicy files paths.policy fault
+        → reply ≡ policy_reply fault → Goes reply paths
+    to_input : (statements : List Statement) (tables : Tables) (fault : FileFault InputKind) → HasScript files paths.script statements → HasPolicy files paths.policy tables
+        → HasNoInput files paths.input tables fault → reply ≡ input_reply fault → Goes reply paths
+    to_run : (task : Task) → HasScript files paths.script task.statements → HasPolicy files paths.policy task.tables
+        → HasInput files paths.input task.tables task.given → reply ≡ run_reply task → Goes reply paths
+
+  goes_with : (reply : Reply) (paths : Paths) → command_of words ≡ Some (run paths) → IsReply words files reply → Goes reply paths
+  goes_with reply paths stated (refuses_words none is) = absurd (no_command (run paths) stated none)
+  goes_with reply paths stated (refuses_script c x at none is) = to_script x (subst (λ (d : Command). RefusesScript files d x) (command_is c (run paths) at stated) none) is
+  goes_with reply paths stated (accepts_script checked is) = absurd (not_both checked.path paths checked.stated stated)
+  goes_with reply paths stated (refuses_policy p s f at script none is) = subst (Goes reply) (same_paths p paths at stated) (to_policy s f script none is)
+  goes_with reply paths stated (refuses_input p s t f at script policy none is) = subst (Goes reply) (same_paths p paths at stated) (to_input s t f script policy none is)
+  goes_with reply paths stated (runs task asked is) = subst (Goes reply) (same_paths asked.paths paths asked.stated stated) (to_run task asked.script asked.policy asked.input is)
+
+  task_is : (paths : Paths) (a b : Task) → HasScript files paths.script a.statements → HasPolicy files paths.policy a.tables → HasInput files paths.input a.tables a.given
+      → HasScript files paths.script b.statements → HasPolicy files paths.policy b.tables → HasInput files paths.input b.tables b.given → a ≡ b
+  task_is paths a b s p i s' p' i' =
+      let same_s : a.statements ≡ b.statements = script_is files paths.script a.statements b.statements s s' in
+      let same_t : a.tables ≡ b.tables = policy_same files paths.policy a.tables b.tables p p' in
+      let same_g : a.given ≡ b.given = input_same files paths.input b.tables a.given b.given (subst (λ (t : Tables). HasInput files paths.input t a.given) same_t i) i' in
       ap (λ (x : List Statement). record a { statements = x }) same_s ∙ ap (λ (x : Tables). record a { statements = b.statements; tables = x }) same_t ∙ ap (λ (x : Given). record b { given = x }) same_g
 
   -- an input of one table isn't refused by the other, which is the same
-  taken_or_not : (c : Command) (t : Tables) (f : FileFault InputKind) (k : Task) → HasPolicy files c.policy t → HasNoInput files c.input t f → HasPolicy files c.policy k.tables → HasInput files c.input k.tables k.given → ⊥
+  taken_or_not : (c : Paths) (t : Tables) (f : FileFault InputKind) (k : Task) → HasPolicy files c.policy t → HasNoInput files c.input t f → HasPolicy files c.policy k.tables → HasInput files c.input k.tables k.given → ⊥
   taken_or_not c t f k q n q' r = input_or_not files c.input k.tables k.given f r (subst (λ (x : Tables). HasNoInput files c.input x f) (policy_same files c.policy t k.tables q q') n)
 
-  goes_once : (command : Command) (first second : Reply) → Goes first command → Goes second command → first ≡ second
+  goes_once : (paths : Paths) (first second : Reply) → Goes first paths → Goes second paths → first ≡ second
   goes_once c a b (to_script x n e) (to_script y m f) = e ∙ ap source_reply (source_fault files c.script x y n m) ∙ sym f
   goes_once c a b (to_script y n e) (to_policy s x p m f) = absurd (script_or_not files c.script s y p n)
   goes_once c a b (to_script y n e) (to_input s t x p q m f) = absurd (script_or_not files c.script s y p n)
@@ -105,16 +126,37 @@ module _ (words : List (List ℕ)) (files : Files) where
   goes_once c a b (to_run k p q r e) (to_input s' t x p' q' m f) = absurd (taken_or_not c t x k q' m q r)
   goes_once c a b (to_run k p q r e) (to_run k' p' q' r' f) = e ∙ ap run_reply (task_is c k k' p q r p' q' r') ∙ sym f
 
+  -- how a check ends
+  pub data Checks (reply : Reply) (path : List ℕ) : Type 0 where
+    to_refusal : (fault : SourceFault) → HasNoProgram files path fault → reply ≡ source_reply fault → Checks reply path
+    to_end : IsProgramAt files path → reply ≡ accepted_reply → Checks reply path
+
+  checks_with : (reply : Reply) (path : List ℕ) → command_of words ≡ Some (check path) → IsReply words files reply → Checks reply path
+  checks_with reply path stated (refuses_words none is) = absurd (no_command (check path) stated none)
+  checks_with reply path stated (refuses_script c x at none is) = to_refusal x (subst (λ (d : Command). RefusesScript files d x) (command_is c (check path) at stated) none) is
+  checks_with reply path stated (accepts_script checked is) = to_end (subst (IsProgramAt files) (same_path checked.path path checked.stated stated) checked.accepted) is
+  checks_with reply path stated (refuses_policy p s f at script none is) = absurd (not_both path p stated at)
+  checks_with reply path stated (refuses_input p s t f at script policy none is) = absurd (not_both path p stated at)
+  checks_with reply path stated (runs task asked is) = absurd (not_both path asked.paths stated asked.stated)
+
+  checks_once : (path : List ℕ) (first second : Reply) → Checks first path → Checks second path → first ≡ second
+  checks_once path a b (to_refusal x n e) (to_refusal y m f) = e ∙ ap source_reply (program_fault files path x y n m) ∙ sym f
+  checks_once path a b (to_refusal x n e) (to_end h f) = absurd (program_or_not files path x h n)
+  checks_once path a b (to_end h e) (to_refusal y m f) = absurd (program_or_not files path y h m)
+  checks_once path a b (to_end h e) (to_end k f) = e ∙ sym f
+
   once_by : (o : Option Command) (first second : Reply) → command_of words ≡ o → IsReply words files first → IsReply words files second → first ≡ second
-  once_by (Some command) first second e p q = goes_once command first second (goes_with first command e p) (goes_with second command e q)
+  once_by (Some (run paths)) first second e p q = goes_once paths first second (goes_with first paths e p) (goes_with second paths e q)
+  once_by (Some (check path)) first second e p q = checks_once path first second (checks_with first path e p) (checks_with second path e q)
   once_by None first second e p q = usage_of first p ∙ sym (usage_of second q)
     where
       usage_of : (reply : Reply) → IsReply words files reply → reply ≡ usage_reply
       usage_of reply (refuses_words none is) = is
       usage_of reply (refuses_script c x at none is) = absurd (no_command c at e)
-      usage_of reply (refuses_policy c s x at script none is) = absurd (no_command c at e)
-      usage_of reply (refuses_input c s t x at script policy none is) = absurd (no_command c at e)
-      usage_of reply (runs task asked is) = absurd (no_command asked.command asked.stated e)
+      usage_of reply (accepts_script checked is) = absurd (no_command (check checked.path) checked.stated e)
+      usage_of reply (refuses_policy c s x at script none is) = absurd (no_command (run c) at e)
+      usage_of reply (refuses_input c s t x at script policy none is) = absurd (no_command (run c) at e)
+      usage_of reply (runs task asked is) = absurd (no_command (run asked.paths) asked.stated e)
 
 pub replies_once : RepliesOnce
 replies_once words files first second p q = once_by words files (command_of words) first second refl p q
@@ -125,40 +167,47 @@ module _ (words : List (List ℕ)) (files : Files) where
   abbrev Answered : Type 0
   Answered = ((reply : Reply) × IsReply words files reply) ⊎ ReachesAbsent words files
 
-  module _ (command : Command) (stated : command_of words ≡ Some command) where
-    module _ (statements : List Statement) (script : HasScript files command.script statements) where
-      module _ (tables : Tables) (policy : HasPolicy files command.policy tables) where
-        with_input : (bytes : List ℕ) → file_at files command.input ≡ Some bytes → (r : Result Given (FileFault InputKind)) → input_in tables bytes ≡ r → Answered
+  module _ (paths : Paths) (stated : command_of words ≡ Some (run paths)) where
+    module _ (statements : List Statement) (script : HasScript files paths.script statements) where
+      module _ (tables : Tables) (policy : HasPolicy files paths.policy tables) where
+        with_input : (bytes : List ℕ) → file_at files paths.input ≡ Some bytes → (r : Result Given (FileFault InputKind)) → input_in tables bytes ≡ r → Answered
         with_input bytes at (Ok given) e =
             let task : Task = record { statements = statements; tables = tables; given = given } in
-            inl (run_reply task, runs task (record { command = command; stated = stated; script = script; policy = policy; input = record { bytes = bytes; there = at; gives = e } }) refl)
-        with_input bytes at (Err fault) e = inl (input_reply fault, refuses_input command statements tables fault stated script policy (record { bytes = bytes; there = at; refused = e }) refl)
+            inl (run_reply task, runs task (record { paths = paths; stated = stated; script = script; policy = policy; input = record { bytes = bytes; there = at; gives = e } }) refl)
+        with_input bytes at (Err fault) e = inl (input_reply fault, refuses_input paths statements tables fault stated script policy (record { bytes = bytes; there = at; refused = e }) refl)
 
-        from_input : (o : Option (List ℕ)) → file_at files command.input ≡ o → Answered
+        from_input : (o : Option (List ℕ)) → file_at files paths.input ≡ o → Answered
         from_input (Some bytes) at = with_input bytes at (input_in tables bytes) refl
-        from_input None at = inr (command.input, reaches_input command stated refl (statements, tables, script, policy), at)
+        from_input None at = inr (paths.input, reaches_input paths stated refl (statements, tables, script, policy), at)
 
-      with_policy : (bytes : List ℕ) → file_at files command.policy ≡ Some bytes → (r : Result Tables (FileFault PolicyKind)) → policy_in bytes ≡ r → Answered
-      with_policy bytes at (Ok tables) e = from_input tables (record { bytes = bytes; there = at; stated = e }) (file_at files command.input) refl
-      with_policy bytes at (Err fault) e = inl (policy_reply fault, refuses_policy command statements fault stated script (record { bytes = bytes; there = at; refused = e }) refl)
+      with_policy : (bytes : List ℕ) → file_at files paths.policy ≡ Some bytes → (r : Result Tables (FileFault PolicyKind)) → policy_in bytes ≡ r → Answered
+      with_policy bytes at (Ok tables) e = from_input tables (record { bytes = bytes; there = at; stated = e }) (file_at files paths.input) refl
+      with_policy bytes at (Err fault) e = inl (policy_reply fault, refuses_policy paths statements fault stated script (record { bytes = bytes; there = at; refused = e }) refl)
 
-      from_policy : (o : Option (List ℕ)) → file_at files command.policy ≡ o → Answered
+      from_policy : (o : Option (List ℕ)) → file_at files paths.policy ≡ o → Answered
       from_policy (Some bytes) at = with_policy bytes at (policy_in bytes) refl
-      from_policy None at = inr (command.policy, reaches_policy command stated refl (statements, script), at)
+      from_policy None at = inr (paths.policy, reaches_policy paths stated refl (statements, script), at)
 
-    no_script : (fault : SourceFault) → HasNoScript files command.script fault → Answered
-    no_script fault none = inl (source_reply fault, refuses_script command fault stated none refl)
+    with_script : (bytes : List ℕ) → file_at files paths.script ≡ Some bytes → ScriptOrFault bytes → Answered
+    with_script bytes at (inl h) = from_policy h.0 (record { bytes = bytes; there = at; spelled = h.1 }) (file_at files paths.policy) refl
+    with_script bytes at (inr h) = inl (source_reply h.0, refuses_script (run paths) h.0 stated (record { bytes = bytes; there = at; refused = h.1 }) refl)
 
-    with_script : (bytes : List ℕ) → file_at files command.script ≡ Some bytes → Judged bytes → Answered
-    with_script bytes at (accepted statements is) = from_policy statements (record { bytes = bytes; there = at; spelled = is }) (file_at files command.policy) refl
-    with_script bytes at (refused fault is) = no_script fault (record { bytes = bytes; there = at; refused = is })
+    from_script : (o : Option (List ℕ)) → file_at files paths.script ≡ o → Answered
+    from_script (Some bytes) at = with_script bytes at (script_judged bytes)
+    from_script None at = inr (paths.script, reaches_script (run paths) stated refl, at)
 
-    from_script : (o : Option (List ℕ)) → file_at files command.script ≡ o → Answered
-    from_script (Some bytes) at = with_script bytes at (judged bytes)
-    from_script None at = inr (command.script, reaches_script command stated refl, at)
+  module _ (path : List ℕ) (stated : command_of words ≡ Some (check path)) where
+    with_program : (bytes : List ℕ) → file_at files path ≡ Some bytes → ProgramOrFault bytes → Answered
+    with_program bytes at (inl h) = inl (accepted_reply, accepts_script (record { path = path; stated = stated; accepted = record { bytes = bytes; there = at; program = h.0; has_program = h.1 } }) refl)
+    with_program bytes at (inr h) = inl (source_reply h.0, refuses_script (check path) h.0 stated (record { bytes = bytes; there = at; refused = h.1 }) refl)
+
+    from_program : (o : Option (List ℕ)) → file_at files path ≡ o → Answered
+    from_program (Some bytes) at = with_program bytes at (program_judged bytes)
+    from_program None at = inr (path, reaches_script (check path) stated refl, at)
 
   from_words : (o : Option Command) → command_of words ≡ o → Answered
-  from_words (Some command) e = from_script command e (file_at files command.script) refl
+  from_words (Some (run paths)) e = from_script paths e (file_at files paths.script) refl
+  from_words (Some (check path)) e = from_program path e (file_at files path) refl
   from_words None e = inl (usage_reply, refuses_words e refl)
 
   -- there is a reply, or the work reaches an absent file

@@ -1,22 +1,25 @@
--- What the bytes of a source are: a script, or none for one fault.
-use Rattle.std.proofs.Common.{◌≡◌, ℕ, ◌≤◌, List, length, Bool, true, false, Option, Some, None, Result, Ok, Err, refl, sym, subst, ◌∙◌, inl, inr, ◌⊎◌}
+-- What the bytes of a source are: a program, or none for one fault; and a script, or none for one fault.
+use Rattle.std.proofs.Common.{◌≡◌, ℕ, List, length, Bool, true, false, Option, Some, None, Result, Ok, Err, refl, sym, ap, subst, ◌∙◌, inl, inr, ◌⊎◌}
 use Rattle.std.specs.Prelude.{nat_lt, if◌then◌else◌}
-use Rattle.std.proofs.lemmas.Bool.{false≢true, leb-true, le-leb}
-use Rattle.std.proofs.Math.Dec.{leb}
 use Rattle.flow_text.specs.Utf8.{text_of_utf8}
 use Rattle.flow_text.specs.Places.{place_of}
-use Rattle.flow_text.specs.declared.places.Place.{Place}
 use Rattle.js_ast.specs.declared.token.Token.{Token}
+use Rattle.js_ast.specs.Trees.{Statements}
 use Rattle.js_scan.specs.declared.fault.ScanFault.{ScanFault}
-use Rattle.js_scan.specs.declared.fault.ScanFault.TheVariants as fault
+use Rattle.js_scan.specs.declared.fault.ScanFault.TheVariants as scan_fault
 use Rattle.js_scan.specs.Tokens.{IsTokens, IsFault, IsBad, fault_at}
-use Rattle.js_scan.proofs.Laws.{one_tokens, one_fault, never_both, reads_all}
-use Rattle.js_shell.specs.declared.accepting.SourceKind.{SourceKind}
-use Rattle.js_shell.specs.declared.accepting.SourceKind.TheVariants as kind
-use Rattle.js_shell.specs.Scripts.{Statement, Spells}
-use Rattle.js_shell.specs.Sources.{SourceFault, long_source, source_utf8, bad_source, unbuilt, source_text, source_limit, script_limit, read_source, scan_kind, HasTokens, HasNoTokens, IsScriptOf, RefusesSource}
-use Rattle.js_shell.specs.Promises.{IsScriptOnce}
-use Rattle.js_shell.proofs.ReadingLaws.{spells_once, script_or_none}
+use Rattle.js_scan.proofs.Laws as scanned
+use Rattle.js_faults.specs.declared.fault.Fault.{Fault}
+use Rattle.js_parse.specs.declared.fault.ParseFault.{ParseFault}
+use Rattle.js_parse.specs.declared.fault.ParseFault.TheVariants as parse_fault
+use Rattle.js_parse.specs.Programs.{IsProgram, IsFault as IsNoProgram}
+use Rattle.js_parse.proofs.Laws as parsed
+use Rattle.js_early.specs.EarlyErrors.{early_error}
+use Rattle.js_shell.specs.declared.refusals.SourceKind.{SourceKind}
+use Rattle.js_shell.specs.declared.refusals.SourceKind.TheVariants as kind
+use Rattle.js_shell.specs.Scripts.{Statement}
+use Rattle.js_shell.specs.Sources.{SourceFault, long_source, source_utf8, bad_source, source_text, source_limit, read_source, scan_kind, parse_kind, parse_fault_at, early_kind, HasTokens, HasProgram, runnable, IsScriptOf, RefusesProgram, has_no_text, has_no_tokens, is_no_program, has_early_error, RefusesSource, refuses_program, unbuilt}
+use Rattle.js_shell.specs.Promises.{IsProgramOnce, IsScriptOnce, IsProgramOrRefused}
 
 pub ok_is : {X E : Type 0} (x y : X) (r : Result X E) → r ≡ Ok x → r ≡ Ok y → x ≡ y
 ok_is x y (Ok z) p q = cc
@@ -34,6 +37,10 @@ pub some_is : {X : Type 0} (x y : X) (o : Option X) → o ≡ Some x → o ≡ S
 some_is x y (Some z) p q = cc
 some_is x y None p q = cc
 
+none_or_some : {X : Type 0} (x : X) (o : Option X) → o ≡ None → o ≡ Some x → ⊥
+none_or_some x (Some z) p q = cc
+none_or_some x None p q = cc
+
 -- ---- one at most
 
 text_is : (bytes text other : List ℕ) → source_text bytes ≡ Ok text → source_text bytes ≡ Ok other → text ≡ other
@@ -43,115 +50,167 @@ text_is bytes text other e f = ok_is text other (source_text bytes) e f
 text_or_fault : (bytes text : List ℕ) (x : SourceFault) → source_text bytes ≡ Ok text → source_text bytes ≡ Err x → ⊥
 text_or_fault bytes text x e f = ok_or_err text x (source_text bytes) e f
 
+-- one fault of a source from one kind and one place
+fault_is : (x y : SourceFault) (k l : SourceKind) (text other : List ℕ) (at to : ℕ) → x ≡ bad_source k (place_of text at) → y ≡ bad_source l (place_of other to) → k ≡ l → text ≡ other → at ≡ to → x ≡ y
+fault_is x y k l text other at to e f same_kind same_text same_unit = e ∙ (λ i. bad_source (same_kind i) (place_of (same_text i) (same_unit i))) ∙ sym f
+
 module _ (bytes : List ℕ) where
-  tokens_are : (ts us : List Token) → HasTokens bytes ts → HasTokens bytes us → ts ≡ us
-  tokens_are ts us p q = one_tokens q.text ts us (subst (λ (t : List ℕ). IsTokens t ts) (text_is bytes p.text q.text p.decoded q.decoded) p.scanned) q.scanned
+  module _ (ts us : List Token) (p : HasTokens bytes ts) (q : HasTokens bytes us) where
+    same_text : p.text ≡ q.text
+    same_text = text_is bytes p.text q.text p.decoded q.decoded
 
-  tokens_or_none : (ts : List Token) (k : SourceKind) (place : Place) → HasTokens bytes ts → HasNoTokens bytes k place → ⊥
-  tokens_or_none ts k place p q = never_both q.text ts q.fault (subst (λ (t : List ℕ). IsTokens t ts) (text_is bytes p.text q.text p.decoded q.decoded) p.scanned) q.refused
+    same_tokens : ts ≡ us
+    same_tokens = scanned.one_tokens q.text ts us (subst (λ (t : List ℕ). IsTokens t ts) same_text p.scanned) q.scanned
 
-  pub script_of_bytes : (s t : List Statement) → IsScriptOf bytes s → IsScriptOf bytes t → s ≡ t
-  script_of_bytes s t p q = spells_once s t q.tokens (subst (Spells s) (tokens_are p.tokens q.tokens p.has_tokens q.has_tokens) p.spelled) q.spelled
+    same_tree : (a b : Statements) → IsProgram ts a → IsProgram us b → a ≡ b
+    same_tree a b h j = parsed.one_program us a b (subst (λ (t : List Token). IsProgram t a) same_tokens h) j
+
+    tree_or_none : (a : Statements) (end : ℕ) (f : ParseFault) → IsProgram ts a → IsNoProgram us end f → ⊥
+    tree_or_none a end f h j = parsed.never_both us end a f (subst (λ (t : List Token). IsProgram t a) same_tokens h) j
+
+  tokens_or_none : (ts : List Token) (text : List ℕ) (f : ScanFault) → HasTokens bytes ts → source_text bytes ≡ Ok text → IsFault text f → ⊥
+  tokens_or_none ts text f p e bad = scanned.never_both text ts f (subst (λ (t : List ℕ). IsTokens t ts) (text_is bytes p.text text p.decoded e) p.scanned) bad
+
+  pub program_is : (p q : Statements) → HasProgram bytes p → HasProgram bytes q → p ≡ q
+  program_is p q h j = same_tree h.tokens j.tokens h.has_tokens j.has_tokens p q h.parsed j.parsed
+
+  pub program_or_fault : (p : Statements) (x : SourceFault) → HasProgram bytes p → RefusesProgram bytes x → ⊥
+  program_or_fault p x h (has_no_text e) = text_or_fault bytes h.has_tokens.text x h.has_tokens.decoded e
+  program_or_fault p x h (has_no_tokens text f k decoded bad called is) = tokens_or_none h.tokens text f h.has_tokens decoded bad
+  program_or_fault p x h (is_no_program tokens has f k bad called is) = tree_or_none h.tokens tokens h.has_tokens has p (length has.text) f h.parsed bad
+  program_or_fault p x h (has_early_error tokens has program f tree early is) =
+      none_or_some f (early_error program) (ap early_error (sym (same_tree h.tokens tokens h.has_tokens has p program h.parsed tree)) ∙ h.faultless) early
+
+  -- two faults of the tokens of one source
+  module _ (ts us : List Token) (p : HasTokens bytes ts) (q : HasTokens bytes us) where
+    same_parse_fault : (f g : ParseFault) → IsNoProgram ts (length p.text) f → IsNoProgram us (length q.text) g → f ≡ g
+    same_parse_fault f g h j = parsed.one_fault us (length q.text) f g (subst (λ (t : List ℕ). IsNoProgram us (length t) f) (same_text ts us p q) (subst (λ (t : List Token). IsNoProgram t (length p.text) f) (same_tokens ts us p q) h)) j
+
+    two_parse_faults : (x y : SourceFault) (f g : ParseFault) (k l : SourceKind) → IsNoProgram ts (length p.text) f → IsNoProgram us (length q.text) g → parse_kind f ≡ Some k → parse_kind g ≡ Some l
+        → x ≡ bad_source k (place_of p.text (parse_fault_at f)) → y ≡ bad_source l (place_of q.text (parse_fault_at g)) → x ≡ y
+    two_parse_faults x y f g k l h j called named e e' =
+        let same = same_parse_fault f g h j in
+        fault_is x y k l p.text q.text (parse_fault_at f) (parse_fault_at g) e e' (some_is k l (parse_kind g) (ap parse_kind (sym same) ∙ called) named) (same_text ts us p q) (ap parse_fault_at same)
+
+    two_early_errors : (x y : SourceFault) (a b : Statements) (f g : Fault) → IsProgram ts a → IsProgram us b → early_error a ≡ Some f → early_error b ≡ Some g
+        → x ≡ bad_source (early_kind f.kind) (place_of p.text f.at) → y ≡ bad_source (early_kind g.kind) (place_of q.text g.at) → x ≡ y
+    two_early_errors x y a b f g h j early early' e e' =
+        let same : f ≡ g = some_is f g (early_error b) (ap early_error (sym (same_tree ts us p q a b h j)) ∙ early) early' in
+        fault_is x y (early_kind f.kind) (early_kind g.kind) p.text q.text f.at g.at e e' (ap (λ (z : Fault). early_kind z.kind) same) (same_text ts us p q) (ap (λ (z : Fault). z.at) same)
+
+  two_scan_faults : (x y : SourceFault) (text other : List ℕ) (f g : ScanFault) (k l : SourceKind) → source_text bytes ≡ Ok text → source_text bytes ≡ Ok other → IsFault text f → IsFault other g
+      → scan_kind f ≡ Some k → scan_kind g ≡ Some l → x ≡ bad_source k (place_of text (fault_at f)) → y ≡ bad_source l (place_of other (fault_at g)) → x ≡ y
+  two_scan_faults x y text other f g k l d d' h j called named e e' =
+      let texts = text_is bytes text other d d' in
+      let same = scanned.one_fault other f g (subst (λ (t : List ℕ). IsFault t f) texts h) j in
+      fault_is x y k l text other (fault_at f) (fault_at g) e e' (some_is k l (scan_kind g) (ap scan_kind (sym same) ∙ called) named) texts (ap fault_at same)
+
+  pub program_fault : (x y : SourceFault) → RefusesProgram bytes x → RefusesProgram bytes y → x ≡ y
+  program_fault x y (has_no_text e) (has_no_text e') = err_is x y (source_text bytes) e e'
+  program_fault x y (has_no_text e) (has_no_tokens text f k d bad called is) = absurd (text_or_fault bytes text x d e)
+  program_fault x y (has_no_text e) (is_no_program tokens has f k bad called is) = absurd (text_or_fault bytes has.text x has.decoded e)
+  program_fault x y (has_no_text e) (has_early_error tokens has program f tree early is) = absurd (text_or_fault bytes has.text x has.decoded e)
+  program_fault x y (has_no_tokens text f k d bad called is) (has_no_text e) = absurd (text_or_fault bytes text y d e)
+  program_fault x y (has_no_tokens text f k d bad called is) (has_no_tokens text' f' k' d' bad' called' is') = two_scan_faults x y text text' f f' k k' d d' bad bad' called called' is is'
+  program_fault x y (has_no_tokens text f k d bad called is) (is_no_program tokens has f' k' bad' called' is') = absurd (tokens_or_none tokens text f has d bad)
+  program_fault x y (has_no_tokens text f k d bad called is) (has_early_error tokens has program f' tree early is') = absurd (tokens_or_none tokens text f has d bad)
+  program_fault x y (is_no_program tokens has f k bad called is) (has_no_text e) = absurd (text_or_fault bytes has.text y has.decoded e)
+  program_fault x y (is_no_program tokens has f k bad called is) (has_no_tokens text f' k' d' bad' called' is') = absurd (tokens_or_none tokens text f' has d' bad')
+  program_fault x y (is_no_program tokens has f k bad called is) (is_no_program tokens' has' f' k' bad' called' is') = two_parse_faults tokens tokens' has has' x y f f' k k' bad bad' called called' is is'
+  program_fault x y (is_no_program tokens has f k bad called is) (has_early_error tokens' has' program f' tree early is') = absurd (tree_or_none tokens' tokens has' has program (length has.text) f tree bad)
+  program_fault x y (has_early_error tokens has program f tree early is) (has_no_text e) = absurd (text_or_fault bytes has.text y has.decoded e)
+  program_fault x y (has_early_error tokens has program f tree early is) (has_no_tokens text f' k' d' bad' called' is') = absurd (tokens_or_none tokens text f' has d' bad')
+  program_fault x y (has_early_error tokens has program f tree early is) (is_no_program tokens' has' f' k' bad' called' is') = absurd (tree_or_none tokens tokens' has has' program (length has'.text) f' tree bad')
+  program_fault x y (has_early_error tokens has program f tree early is) (has_early_error tokens' has' program' f' tree' early' is') = two_early_errors tokens tokens' has has' x y program program' f f' tree tree' early early' is is'
+
+  -- what of one program can be run, or can't
+  same_runnable : (p q : Statements) (r : Result (List Statement) ℕ) → HasProgram bytes p → HasProgram bytes q → runnable bytes p ≡ r → runnable bytes q ≡ r
+  same_runnable p q r h j e = ap (runnable bytes) (sym (program_is p q h j)) ∙ e
+
+  pub script_is : (s t : List Statement) → IsScriptOf bytes s → IsScriptOf bytes t → s ≡ t
+  script_is s t p q = ok_is s t (runnable bytes q.program) (same_runnable p.program q.program (Ok s) p.has_program q.has_program p.runs) q.runs
 
   pub script_or_fault : (s : List Statement) (x : SourceFault) → IsScriptOf bytes s → RefusesSource bytes x → ⊥
-  script_or_fault s long_source is e = text_or_fault bytes is.has_tokens.text long_source is.has_tokens.decoded e
-  script_or_fault s (source_utf8 at) is e = text_or_fault bytes is.has_tokens.text (source_utf8 at) is.has_tokens.decoded e
-  script_or_fault s (bad_source k place) is e = tokens_or_none is.tokens k place is.has_tokens e
-  script_or_fault s unbuilt is e = e.1 s is
+  script_or_fault s x is (refuses_program r) = program_or_fault is.program x is.has_program r
+  script_or_fault s x is (unbuilt program has at e f) = ok_or_err s at (runnable bytes program) (same_runnable is.program program (Ok s) is.has_program has is.runs) e
 
-  -- a source that has no tokens has one fault
-  bad_source_is : (k l : SourceKind) (p q : Place) → HasNoTokens bytes k p → HasNoTokens bytes l q → bad_source k p ≡ bad_source l q
-  bad_source_is k l p q h j =
-      let same_text : h.text ≡ j.text = text_is bytes h.text j.text h.decoded j.decoded in
-      let same_fault : h.fault ≡ j.fault = one_fault j.text h.fault j.fault (subst (λ (t : List ℕ). IsFault t h.fault) same_text h.refused) j.refused in
-      let same_kind : k ≡ l = some_is k l (scan_kind j.fault) (subst (λ (f : ScanFault). scan_kind f ≡ Some k) same_fault h.kind_is) j.kind_is in
-      let same_place : p ≡ q = h.place_is ∙ (λ i. place_of (same_text i) (fault_at (same_fault i))) ∙ sym j.place_is in
-      λ i. bad_source (same_kind i) (same_place i)
-
-  pub fault_of_bytes : (x y : SourceFault) → RefusesSource bytes x → RefusesSource bytes y → x ≡ y
-  fault_of_bytes long_source long_source e f = refl
-  fault_of_bytes long_source (source_utf8 at) e f = err_is long_source (source_utf8 at) (source_text bytes) e f
-  fault_of_bytes long_source (bad_source k place) e f = absurd (text_or_fault bytes f.text long_source f.decoded e)
-  fault_of_bytes long_source unbuilt e f = absurd (text_or_fault bytes f.0.1.text long_source f.0.1.decoded e)
-  fault_of_bytes (source_utf8 at) long_source e f = err_is (source_utf8 at) long_source (source_text bytes) e f
-  fault_of_bytes (source_utf8 at) (source_utf8 other) e f = err_is (source_utf8 at) (source_utf8 other) (source_text bytes) e f
-  fault_of_bytes (source_utf8 at) (bad_source k place) e f = absurd (text_or_fault bytes f.text (source_utf8 at) f.decoded e)
-  fault_of_bytes (source_utf8 at) unbuilt e f = absurd (text_or_fault bytes f.0.1.text (source_utf8 at) f.0.1.decoded e)
-  fault_of_bytes (bad_source k place) long_source e f = absurd (text_or_fault bytes e.text long_source e.decoded f)
-  fault_of_bytes (bad_source k place) (source_utf8 at) e f = absurd (text_or_fault bytes e.text (source_utf8 at) e.decoded f)
-  fault_of_bytes (bad_source k place) (bad_source l other) e f = bad_source_is k l place other e f
-  fault_of_bytes (bad_source k place) unbuilt e f = absurd (tokens_or_none f.0.0 k place f.0.1 e)
-  fault_of_bytes unbuilt long_source e f = absurd (text_or_fault bytes e.0.1.text long_source e.0.1.decoded f)
-  fault_of_bytes unbuilt (source_utf8 at) e f = absurd (text_or_fault bytes e.0.1.text (source_utf8 at) e.0.1.decoded f)
-  fault_of_bytes unbuilt (bad_source k place) e f = absurd (tokens_or_none e.0.0 k place e.0.1 f)
-  fault_of_bytes unbuilt unbuilt e f = refl
-
-pub is_script_once : IsScriptOnce
-is_script_once first second bytes p q = script_of_bytes bytes first second p q
+  pub source_fault : (x y : SourceFault) → RefusesSource bytes x → RefusesSource bytes y → x ≡ y
+  source_fault x y (refuses_program r) (refuses_program q) = program_fault x y r q
+  source_fault x y (refuses_program r) (unbuilt program has at e is) = absurd (program_or_fault program x has r)
+  source_fault x y (unbuilt program has at e is) (refuses_program q) = absurd (program_or_fault program y has q)
+  source_fault x y (unbuilt p has at e is) (unbuilt q has' at' e' is') =
+      fault_is x y kind.Unbuilt kind.Unbuilt has.has_tokens.text has'.has_tokens.text at at' is is' refl (same_text has.tokens has'.tokens has.has_tokens has'.has_tokens)
+      (err_is at at' (runnable bytes q) (same_runnable p q (Err at) has has' e) e')
 
 -- ---- one at least
 
-at_most : (n limit : ℕ) → (n ≤ limit) ⊎ (n ≤ limit → ⊥)
-at_most n limit = by (leb n limit) refl
-  where
-    by : (b : Bool) → leb n limit ≡ b → (n ≤ limit) ⊎ (n ≤ limit → ⊥)
-    by true e = inl (leb-true n limit e)
-    by false e = inr (λ le. false≢true (sym e ∙ le-leb n limit le))
+-- a fault of the scanner has a kind, and so has one of the parser
+scan_kind_of : (s : _) (rest : List ℕ) (f : ScanFault) → IsBad s rest f → (k : SourceKind) × (scan_kind f ≡ Some k)
+scan_kind_of s rest (scan_fault.BadToken at) bad = (kind.BadToken, refl)
+scan_kind_of s rest (scan_fault.Unterminated at) bad = (kind.Unterminated, refl)
+scan_kind_of s rest (scan_fault.RegExpLiteral at) bad = (kind.RegExpLiteral, refl)
+scan_kind_of s rest (scan_fault.NumberLiteral at) bad = (kind.NumberLiteral, refl)
+scan_kind_of s rest scan_fault.OutOfMemory bad = elim bad [ ]
 
--- a text is refused for its length, or as no UTF-8
-abbrev IsTextFault : SourceFault → Type 0
-IsTextFault long_source = Unit {0}
-IsTextFault (source_utf8 at) = Unit {0}
-IsTextFault (bad_source k place) = ⊥
-IsTextFault unbuilt = ⊥
-
-read_fault : (b : Bool) (r : Result (List ℕ) ℕ) (x : SourceFault) → (if b then Err long_source else read_source r) ≡ Err x → IsTextFault x
-read_fault true r x e = let same : long_source ≡ x = cc in subst IsTextFault same tt
-read_fault false (Ok text) x e = absurd cc
-read_fault false (Err at) x e = let same : source_utf8 at ≡ x = cc in subst IsTextFault same tt
-
-text_fault : (bytes : List ℕ) (x : SourceFault) → source_text bytes ≡ Err x → IsTextFault x
-unfolding source_text
-text_fault bytes x e = read_fault (nat_lt source_limit (length bytes)) (text_of_utf8 bytes) x e
-
--- a fault of a source has a kind
-kind_of : (s : _) (rest : List ℕ) (f : ScanFault) → IsBad s rest f → (k : SourceKind) × (scan_kind f ≡ Some k)
-kind_of s rest (fault.BadToken at) bad = (kind.BadToken, refl)
-kind_of s rest (fault.Unterminated at) bad = (kind.Unterminated, refl)
-kind_of s rest (fault.RegExpLiteral at) bad = (kind.RegExpLiteral, refl)
-kind_of s rest (fault.NumberLiteral at) bad = (kind.NumberLiteral, refl)
-kind_of s rest fault.OutOfMemory bad = elim bad [ ]
-
--- the bytes are a script, or are refused
-pub data Judged (bytes : List ℕ) : Type 0 where
-  accepted : (statements : List Statement) → IsScriptOf bytes statements → Judged bytes
-  refused : (x : SourceFault) → RefusesSource bytes x → Judged bytes
-
-without_text : (bytes : List ℕ) (x : SourceFault) → source_text bytes ≡ Err x → IsTextFault x → Judged bytes
-without_text bytes long_source e is = refused long_source e
-without_text bytes (source_utf8 at) e is = refused (source_utf8 at) e
-without_text bytes (bad_source k place) e is = absurd is
-without_text bytes unbuilt e is = absurd is
-
-with_fault : (bytes text : List ℕ) → source_text bytes ≡ Ok text → (f : ScanFault) → IsFault text f → Judged bytes
-with_fault bytes text decoded f is =
-    let k = kind_of is.1 is.2 f is.4 in
-    refused (bad_source k.0 (place_of text (fault_at f))) (record { text = text; decoded = decoded; fault = f; refused = is; kind_is = k.1; place_is = refl })
+parse_kind_of : (tokens : List Token) (end : ℕ) (f : ParseFault) → IsNoProgram tokens end f → (k : SourceKind) × (parse_kind f ≡ Some k)
+parse_kind_of tokens end (parse_fault.Syntax at) bad = (kind.Syntax, refl)
+parse_kind_of tokens end (parse_fault.With at) bad = (kind.With, refl)
+parse_kind_of tokens end (parse_fault.Nesting at) bad = (kind.Nesting, refl)
+parse_kind_of tokens end (parse_fault.Directive at) bad = (kind.Directive, refl)
+parse_kind_of tokens end parse_fault.OutOfMemory bad = absurd bad
 
 module _ (bytes : List ℕ) where
-  with_tokens : (ts : List Token) → HasTokens bytes ts → ((statements : List Statement) × Spells statements ts) ⊎ ((statements : List Statement) → Spells statements ts → ⊥)
-      → (length bytes ≤ script_limit) ⊎ (length bytes ≤ script_limit → ⊥) → Judged bytes
-  with_tokens ts has (inl spelled) (inl short) = accepted spelled.0 (record { short = short; tokens = ts; has_tokens = has; spelled = spelled.1 })
-  with_tokens ts has (inl spelled) (inr long) = refused unbuilt ((ts, has), λ s is. long is.short)
-  with_tokens ts has (inr none) size = refused unbuilt ((ts, has), λ s is. none s (subst (Spells s) (tokens_are bytes is.tokens ts is.has_tokens has) is.spelled))
+  -- the bytes are a program, or are refused
+  abbrev pub ProgramOrFault : Type 0
+  ProgramOrFault = ((program : Statements) × HasProgram bytes program) ⊎ ((x : SourceFault) × RefusesProgram bytes x)
 
-  with_text : (text : List ℕ) → source_text bytes ≡ Ok text → ((ts : List Token) × IsTokens text ts) ⊎ ((f : ScanFault) × IsFault text f) → Judged bytes
-  with_text text decoded (inl h) = with_tokens h.0 (record { text = text; decoded = decoded; scanned = h.1 }) (script_or_none h.0) (at_most (length bytes) script_limit)
-  with_text text decoded (inr h) = with_fault bytes text decoded h.0 h.1
+  -- the same of a script
+  abbrev pub ScriptOrFault : Type 0
+  ScriptOrFault = ((statements : List Statement) × IsScriptOf bytes statements) ⊎ ((x : SourceFault) × RefusesSource bytes x)
 
-  pub judged : Judged bytes
-  judged = by (source_text bytes) refl
+  module _ (tokens : List Token) (has : HasTokens bytes tokens) where
+    with_early : (program : Statements) → IsProgram tokens program → (o : Option Fault) → early_error program ≡ o → ProgramOrFault
+    with_early program tree None e = inl (program, record { tokens = tokens; has_tokens = has; parsed = tree; faultless = e })
+    with_early program tree (Some f) e = inr (bad_source (early_kind f.kind) (place_of has.text f.at), has_early_error tokens has program f tree e refl)
+
+    with_tokens : ((p : Statements) × IsProgram tokens p) ⊎ ((f : ParseFault) × IsNoProgram tokens (length has.text) f) → ProgramOrFault
+    with_tokens (inl h) = with_early h.0 h.1 (early_error h.0) refl
+    with_tokens (inr h) =
+        let k = parse_kind_of tokens (length has.text) h.0 h.1 in
+        inr (bad_source k.0 (place_of has.text (parse_fault_at h.0)), is_no_program tokens has h.0 k.0 h.1 k.1 refl)
+
+  with_text : (text : List ℕ) → source_text bytes ≡ Ok text → ((ts : List Token) × IsTokens text ts) ⊎ ((f : ScanFault) × IsFault text f) → ProgramOrFault
+  with_text text decoded (inl h) = with_tokens h.0 (record { text = text; decoded = decoded; scanned = h.1 }) (parsed.one_at_least h.0 (length text))
+  with_text text decoded (inr h) =
+      let bad = h.1 in
+      let k = scan_kind_of bad.1 bad.2 h.0 bad.4 in
+      inr (bad_source k.0 (place_of text (fault_at h.0)), has_no_tokens text h.0 k.0 decoded h.1 k.1 refl)
+
+  pub program_judged : ProgramOrFault
+  program_judged = by (source_text bytes) refl
     where
-      by : (r : Result (List ℕ) SourceFault) → source_text bytes ≡ r → Judged bytes
-      by (Ok text) e = with_text text e (reads_all text)
-      by (Err x) e = without_text bytes x e (text_fault bytes x e)
+      by : (r : Result (List ℕ) SourceFault) → source_text bytes ≡ r → ProgramOrFault
+      by (Ok text) e = with_text text e (scanned.reads_all text)
+      by (Err x) e = inr (x, has_no_text e)
+
+  with_program : (program : Statements) (has : HasProgram bytes program) (r : Result (List Statement) ℕ) → runnable bytes program ≡ r → ScriptOrFault
+  with_program program has (Ok statements) e = inl (statements, record { program = program; has_program = has; runs = e })
+  with_program program has (Err at) e = inr (bad_source kind.Unbuilt (place_of has.has_tokens.text at), unbuilt program has at e refl)
+
+  pub script_judged : ScriptOrFault
+  script_judged = by program_judged
+    where
+      by : ProgramOrFault → ScriptOrFault
+      by (inl h) = with_program h.0 h.1 (runnable bytes h.0) refl
+      by (inr h) = inr (h.0, refuses_program h.1)
+
+-- ---- the laws
+
+pub is_program_once : IsProgramOnce
+is_program_once first second bytes p q = program_is bytes first second p q
+
+pub is_script_once : IsScriptOnce
+is_script_once first second bytes p q = script_is bytes first second p q
+
+pub is_program_or_refused : IsProgramOrRefused
+is_program_or_refused bytes = (program_judged bytes, program_or_fault bytes, program_fault bytes)

@@ -12,7 +12,7 @@ use Rattle.js_shell.specs.declared.ending.Rule.{Rule}
 use Rattle.js_shell.specs.declared.ending.Ending.TheVariants.{Done, Left, Stopped}
 use Rattle.js_shell.specs.Scripts.{Statement}
 use Rattle.js_shell.specs.Sources.{SourceFault}
-use Rattle.js_shell.specs.Replies.{Command, command_of, HasScript, HasNoScript, HasPolicy, HasNoPolicy, HasNoInput, FileFault, Task, IsAsked, plain_run, tracked_run, Reply, IsReply, ReachesAbsent, read_fault_report}
+use Rattle.js_shell.specs.Replies.{Paths, Command, run, command_of, HasScript, RefusesScript, HasPolicy, HasNoPolicy, HasNoInput, FileFault, Task, IsAsked, IsChecked, plain_run, tracked_run, Reply, IsReply, ReachesAbsent, read_fault_report}
 use Rattle.js_shell.specs.Promises.{UnlessEarly}
 
 -- the status comes exactly where there is its cause, but for calls that a fault or want of memory ended early
@@ -25,17 +25,18 @@ IsUsage words = command_of words ≡ None
 
 -- the script is there and is refused
 abbrev pub IsSource : List (List ℕ) → Files → Type 0
-IsSource words files = (command : Command) × (fault : SourceFault) × (command_of words ≡ Some command) × HasNoScript files command.script fault
+IsSource words files = (command : Command) × (fault : SourceFault) × (command_of words ≡ Some command) × RefusesScript files command fault
 
 -- the script is accepted, and the policy breaks its rules, or it is accepted too and the input breaks its rules
 abbrev pub IsBadPolicy : List (List ℕ) → Files → Type 0
-IsBadPolicy words files = (command : Command) × (statements : List Statement) × (command_of words ≡ Some command) × HasScript files command.script statements
-    × (((fault : FileFault PolicyKind) × HasNoPolicy files command.policy fault) ⊎ ((tables : Tables) × (fault : FileFault InputKind) × HasPolicy files command.policy tables × HasNoInput files command.input tables fault))
+IsBadPolicy words files = (paths : Paths) × (statements : List Statement) × (command_of words ≡ Some (run paths)) × HasScript files paths.script statements
+    × (((fault : FileFault PolicyKind) × HasNoPolicy files paths.policy fault) ⊎ ((tables : Tables) × (fault : FileFault InputKind) × HasPolicy files paths.policy tables × HasNoInput files paths.input tables fault))
 
--- the labelled run ends so
+-- the labelled run finishes, or the script that is checked is accepted
 abbrev pub IsDone : List (List ℕ) → Files → Type 0
-IsDone words files = (task : Task) × IsAsked words files task × ((tracked_run task).ending ≡ Done)
+IsDone words files = ((task : Task) × IsAsked words files task × ((tracked_run task).ending ≡ Done)) ⊎ IsChecked words files
 
+-- a rule that is broken stops the labelled run
 abbrev pub IsStopped : List (List ℕ) → Files → Type 0
 IsStopped words files = (task : Task) × (rule : Rule) × (need : Label) × (have : Label) × IsAsked words files task
     × ((tracked_run task).ending ≡ Stopped rule need have) × (within need have ≡ false)

@@ -5,7 +5,6 @@ pub mod Evaluated
 pub mod Plain
 pub mod Promises
 pub mod Ran
-pub mod Reading
 pub mod Replies
 pub mod Reports
 pub mod Runs

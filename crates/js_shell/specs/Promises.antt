@@ -1,5 +1,5 @@
 -- The promises of the program, and the laws of the two meanings that they rest on.
-use Rattle.std.specs.Prelude.{◌≡◌, ℕ, false, List, ◌++◌, Option, Some, map}
+use Rattle.std.specs.Prelude.{◌≡◌, ℕ, ◌⊎◌, false, List, ◌++◌, Option, Some, map}
 use Rattle.origin_labels.specs.Label.{Label, within}
 use Rattle.flow_io.specs.Files.{Files}
 use Rattle.flow_policy.specs.Policies.{Tables, IsPolicy}
@@ -9,9 +9,9 @@ use Rattle.js_shell.specs.declared.status.Status.{Status}
 use Rattle.js_shell.specs.declared.status.Status.TheVariants as status
 use Rattle.js_shell.specs.declared.ending.Rule.{Rule}
 use Rattle.js_shell.specs.declared.ending.Ending.TheVariants.{Done, Stopped}
-use Rattle.js_ast.specs.declared.token.Token.{Token}
-use Rattle.js_shell.specs.Scripts.{Statement, Spells}
-use Rattle.js_shell.specs.Sources.{IsScriptOf}
+use Rattle.js_ast.specs.Trees.{Statements}
+use Rattle.js_shell.specs.Scripts.{Statement}
+use Rattle.js_shell.specs.Sources.{SourceFault, HasProgram, IsScriptOf, RefusesProgram}
 use Rattle.js_shell.specs.Runs.{Line}
 use Rattle.js_shell.specs.Plain as plain
 use Rattle.js_shell.specs.Tracked as tracked
@@ -42,12 +42,18 @@ abbrev pub NeverStops : Type 0
 NeverStops = (statements : List Statement) (tables : Tables) (given : Given) (rule : Rule) (need have : Label)
     → (plain.plain statements tables given).ending ≡ Stopped rule need have → ⊥
 
--- one script: tokens spell the statements of one script at most, and so do bytes
-abbrev pub SpellsOnce : Type 0
-SpellsOnce = (first second : List Statement) (tokens : List Token) → Spells first tokens → Spells second tokens → first ≡ second
+-- bytes are one program at most and one script at most
+abbrev pub IsProgramOnce : Type 0
+IsProgramOnce = (first second : Statements) (bytes : List ℕ) → HasProgram bytes first → HasProgram bytes second → first ≡ second
 
 abbrev pub IsScriptOnce : Type 0
 IsScriptOnce = (first second : List Statement) (bytes : List ℕ) → IsScriptOf bytes first → IsScriptOf bytes second → first ≡ second
+
+-- bytes are a program or are refused for one fault, and not both
+abbrev pub IsProgramOrRefused : Type 0
+IsProgramOrRefused = (bytes : List ℕ) → (((program : Statements) × HasProgram bytes program) ⊎ ((fault : SourceFault) × RefusesProgram bytes fault))
+    × ((program : Statements) (fault : SourceFault) → HasProgram bytes program → RefusesProgram bytes fault → ⊥)
+    × ((first second : SourceFault) → RefusesProgram bytes first → RefusesProgram bytes second → first ≡ second)
 
 -- one reply: words over files have one reply at most
 abbrev pub RepliesOnce : Type 0

@@ -1,5 +1,6 @@
 -- What the program writes and answers, without faults and want of memory, in the order of its work: words, script, policy, input, run.
 use Rattle.std.specs.Prelude.{◌≡◌, ℕ, List, [], ◌∷◌, ◌++◌, length, nat_lt, Option, Some, None, Result, Ok, Err, IfSome, codes, if◌then◌else◌}
+use Rattle.js_ast.specs.Trees.{Statements}
 use Rattle.std.specs.Fmt.{decimal}
 use Rattle.origin_labels.specs.Names.{same_name}
 use Rattle.flow_io.specs.Files.{Files, file_at}
@@ -13,24 +14,35 @@ use Rattle.js_shell.specs.declared.status.Status.{Status}
 use Rattle.js_shell.specs.declared.status.Status.TheVariants as status
 use Rattle.js_shell.specs.declared.ending.Ending.{Ending}
 use Rattle.js_shell.specs.declared.ending.Ending.TheVariants.{Done, Left, Stopped}
-use Rattle.js_shell.specs.declared.accepting.SourceKind.{SourceKind}
-use Rattle.js_shell.specs.declared.accepting.SourceKind.TheVariants as source_kind
+use Rattle.js_shell.specs.declared.refusals.SourceKind.{SourceKind}
+use Rattle.js_shell.specs.declared.refusals.SourceKind.TheVariants as source_kind
 use Rattle.js_shell.specs.Scripts.{Statement}
-use Rattle.js_shell.specs.Sources.{SourceFault, long_source, source_utf8, bad_source, unbuilt, IsScriptOf, RefusesSource}
+use Rattle.js_shell.specs.Sources.{SourceFault, long_source, source_utf8, bad_source, HasProgram, IsScriptOf, RefusesProgram, RefusesSource}
 use Rattle.js_shell.specs.Plain as plain
 use Rattle.js_shell.specs.Tracked as tracked
 use Rattle.js_shell.specs.Written.{written, erased}
 
--- the files of a command
-pub record Command : Type 0 where
+-- the files of a run
+pub record Paths : Type 0 where
   pub script : List ℕ
   pub policy : List ℕ
   pub input : List ℕ
 
--- the command that words state: `run SCRIPT POLICY INPUT`
+-- what is asked for: that a script is run under a policy with an input, or that it is checked alone
+pub data Command : Type 0 where
+  run : Paths → Command
+  check : List ℕ → Command
+
+-- the command that words state: `run SCRIPT POLICY INPUT` or `check SCRIPT`
 unfoldable pub command_of : List (List ℕ) → Option Command
-command_of (word ∷ script ∷ policy ∷ input ∷ []) = if same_name word (codes "run") then Some (record { script = script; policy = policy; input = input }) else None
+command_of (word ∷ script ∷ []) = if same_name word (codes "check") then Some (check script) else None
+command_of (word ∷ script ∷ policy ∷ input ∷ []) = if same_name word (codes "run") then Some (run (record { script = script; policy = policy; input = input })) else None
 command_of words = None
+
+-- the script of a command
+abbrev pub script_path : Command → List ℕ
+script_path (run paths) = paths.script
+script_path (check path) = path
 
 -- the most bytes of a policy and of an input
 abbrev pub policy_limit : ℕ
@@ -38,6 +50,19 @@ policy_limit = 65536
 
 abbrev pub input_limit : ℕ
 input_limit = 1048576
+
+-- a file is there at a path, and is a program
+pub record IsProgramAt (files : Files) (path : List ℕ) : Type 0 where
+  pub bytes : List ℕ
+  pub there : file_at files path ≡ Some bytes
+  pub program : Statements
+  pub has_program : HasProgram bytes program
+
+-- a file is there, and is no program for this fault
+pub record HasNoProgram (files : Files) (path : List ℕ) (fault : SourceFault) : Type 0 where
+  pub bytes : List ℕ
+  pub there : file_at files path ≡ Some bytes
+  pub refused : RefusesProgram bytes fault
 
 -- a script is there at a path, and is these statements
 pub record HasScript (files : Files) (path : List ℕ) (statements : List Statement) : Type 0 where
@@ -50,6 +75,11 @@ pub record HasNoScript (files : Files) (path : List ℕ) (fault : SourceFault) :
   pub bytes : List ℕ
   pub there : file_at files path ≡ Some bytes
   pub refused : RefusesSource bytes fault
+
+-- the script of a command is refused for this fault: a check asks for a program, and a run for one that can be run
+abbrev pub RefusesScript : Files → Command → SourceFault → Type 0
+RefusesScript files (run paths) fault = HasNoScript files paths.script fault
+RefusesScript files (check path) fault = HasNoProgram files path fault
 
 -- why a file isn't of its format: it is longer than the format allows, or its first bad line
 pub data FileFault (Kind : Type 0) : Type 0 where
@@ -98,13 +128,19 @@ pub record Task : Type 0 where
   pub tables : Tables
   pub given : Given
 
--- the words are a command whose files are there and accepted, and this is what it runs
+-- the words ask for a run whose files are there and accepted, and this is what it runs
 pub record IsAsked (words : List (List ℕ)) (files : Files) (task : Task) : Type 0 where
-  pub command : Command
-  pub stated : command_of words ≡ Some command
-  pub script : HasScript files command.script task.statements
-  pub policy : HasPolicy files command.policy task.tables
-  pub input : HasInput files command.input task.tables task.given
+  pub paths : Paths
+  pub stated : command_of words ≡ Some (run paths)
+  pub script : HasScript files paths.script task.statements
+  pub policy : HasPolicy files paths.policy task.tables
+  pub input : HasInput files paths.input task.tables task.given
+
+-- the words ask for a check of a script that is there and accepted
+pub record IsChecked (words : List (List ℕ)) (files : Files) : Type 0 where
+  pub path : List ℕ
+  pub stated : command_of words ≡ Some (check path)
+  pub accepted : IsProgramAt files path
 
 -- the two meanings of a task
 abbrev pub plain_run : Task → plain.Run
@@ -129,17 +165,35 @@ run_reply task = record { bytes = written task.tables (erased (tracked_run task)
 abbrev pub usage_reply : Reply
 usage_reply = record { bytes = codes "! usage\n"; status = status.Usage }
 
+abbrev pub accepted_report : List ℕ
+accepted_report = codes "! accepted\n"
+
+-- an accepted script
+abbrev pub accepted_reply : Reply
+accepted_reply = record { bytes = accepted_report; status = status.Done }
+
 abbrev pub source_kind_name : SourceKind → List ℕ
 source_kind_name source_kind.BadToken = codes "BadToken"
 source_kind_name source_kind.Unterminated = codes "Unterminated"
 source_kind_name source_kind.RegExpLiteral = codes "RegExpLiteral"
 source_kind_name source_kind.NumberLiteral = codes "NumberLiteral"
+source_kind_name source_kind.Syntax = codes "Syntax"
+source_kind_name source_kind.With = codes "With"
+source_kind_name source_kind.Nesting = codes "Nesting"
+source_kind_name source_kind.Directive = codes "Directive"
+source_kind_name source_kind.EvalArguments = codes "EvalArguments"
+source_kind_name source_kind.RepeatedParameter = codes "RepeatedParameter"
+source_kind_name source_kind.RepeatedProperty = codes "RepeatedProperty"
+source_kind_name source_kind.DeleteName = codes "DeleteName"
+source_kind_name source_kind.Jump = codes "Jump"
+source_kind_name source_kind.RepeatedLabel = codes "RepeatedLabel"
+source_kind_name source_kind.StrictWord = codes "StrictWord"
+source_kind_name source_kind.Unbuilt = codes "Unbuilt"
 
 abbrev pub source_report : SourceFault → List ℕ
 source_report long_source = codes "! source TooLong\n"
 source_report (source_utf8 at) = codes "! source Utf8 at byte " ++ (decimal at ++ codes "\n")
 source_report (bad_source kind place) = codes "! source " ++ (source_kind_name kind ++ (codes " at " ++ (decimal place.line ++ (codes ":" ++ (decimal place.column ++ codes "\n")))))
-source_report unbuilt = codes "! source Unbuilt\n"
 
 abbrev pub source_reply : SourceFault → Reply
 source_reply fault = record { bytes = source_report fault; status = status.Source }
@@ -181,20 +235,21 @@ read_fault_report = codes "! read fault\n"
 -- This is the reply to the words over the files. Where the order of work reaches an absent file there is none.
 pub data IsReply (words : List (List ℕ)) (files : Files) (reply : Reply) : Type 0 where
   refuses_words : command_of words ≡ None → reply ≡ usage_reply → IsReply words files reply
-  refuses_script : (command : Command) (fault : SourceFault) → command_of words ≡ Some command → HasNoScript files command.script fault → reply ≡ source_reply fault → IsReply words files reply
-  refuses_policy : (command : Command) (statements : List Statement) (fault : FileFault PolicyKind) → command_of words ≡ Some command → HasScript files command.script statements
-      → HasNoPolicy files command.policy fault → reply ≡ policy_reply fault → IsReply words files reply
-  refuses_input : (command : Command) (statements : List Statement) (tables : Tables) (fault : FileFault InputKind) → command_of words ≡ Some command → HasScript files command.script statements
-      → HasPolicy files command.policy tables → HasNoInput files command.input tables fault → reply ≡ input_reply fault → IsReply words files reply
+  refuses_script : (command : Command) (fault : SourceFault) → command_of words ≡ Some command → RefusesScript files command fault → reply ≡ source_reply fault → IsReply words files reply
+  accepts_script : IsChecked words files → reply ≡ accepted_reply → IsReply words files reply
+  refuses_policy : (paths : Paths) (statements : List Statement) (fault : FileFault PolicyKind) → command_of words ≡ Some (run paths) → HasScript files paths.script statements
+      → HasNoPolicy files paths.policy fault → reply ≡ policy_reply fault → IsReply words files reply
+  refuses_input : (paths : Paths) (statements : List Statement) (tables : Tables) (fault : FileFault InputKind) → command_of words ≡ Some (run paths) → HasScript files paths.script statements
+      → HasPolicy files paths.policy tables → HasNoInput files paths.input tables fault → reply ≡ input_reply fault → IsReply words files reply
   runs : (task : Task) → IsAsked words files task → reply ≡ run_reply task → IsReply words files reply
 
 -- The order of work reaches this file. Over a store that doesn't tell its files it may reach each that the words name.
 pub data Reaches (contents : Option Files) (words : List (List ℕ)) (path : List ℕ) : Type 0 where
-  reaches_script : (command : Command) → command_of words ≡ Some command → path ≡ command.script → Reaches contents words path
-  reaches_policy : (command : Command) → command_of words ≡ Some command → path ≡ command.policy
-      → IfSome contents (λ files. (statements : List Statement) × HasScript files command.script statements) → Reaches contents words path
-  reaches_input : (command : Command) → command_of words ≡ Some command → path ≡ command.input
-      → IfSome contents (λ files. (statements : List Statement) × (tables : Tables) × HasScript files command.script statements × HasPolicy files command.policy tables) → Reaches contents words path
+  reaches_script : (command : Command) → command_of words ≡ Some command → path ≡ script_path command → Reaches contents words path
+  reaches_policy : (paths : Paths) → command_of words ≡ Some (run paths) → path ≡ paths.policy
+      → IfSome contents (λ files. (statements : List Statement) × HasScript files paths.script statements) → Reaches contents words path
+  reaches_input : (paths : Paths) → command_of words ≡ Some (run paths) → path ≡ paths.input
+      → IfSome contents (λ files. (statements : List Statement) × (tables : Tables) × HasScript files paths.script statements × HasPolicy files paths.policy tables) → Reaches contents words path
 
 -- it reaches a file that is absent
 abbrev pub ReachesAbsent : List (List ℕ) → Files → Type 0

@@ -1,31 +1,38 @@
--- The bytes of a script file: their text, its tokens, and the script that these spell, or why there is none.
-use Rattle.std.specs.Prelude.{◌≡◌, ℕ, ◌≤◌, List, length, nat_lt, Option, Some, None, Result, Ok, Err, if◌then◌else◌}
+-- The bytes of a script file: their text, its tokens, the program that these spell, and the script that this is, or why there is none.
+use Rattle.std.specs.Prelude.{◌≡◌, ℕ, List, length, nat_lt, Option, Some, None, Result, Ok, Err, if◌then◌else◌}
 use Rattle.flow_text.specs.Utf8.{text_of_utf8}
 use Rattle.flow_text.specs.Places.{place_of}
 use Rattle.flow_text.specs.declared.places.Place.{Place}
 use Rattle.js_ast.specs.declared.token.Token.{Token}
+use Rattle.js_ast.specs.Trees.{Statements}
 use Rattle.js_scan.specs.declared.fault.ScanFault.{ScanFault}
-use Rattle.js_scan.specs.declared.fault.ScanFault.TheVariants as fault
+use Rattle.js_scan.specs.declared.fault.ScanFault.TheVariants as scan_fault
 use Rattle.js_scan.specs.Tokens.{IsTokens, IsFault, fault_at}
-use Rattle.js_shell.specs.declared.accepting.SourceKind.{SourceKind}
-use Rattle.js_shell.specs.declared.accepting.SourceKind.TheVariants as kind
-use Rattle.js_shell.specs.Scripts.{Statement, Spells}
+use Rattle.js_faults.specs.declared.fault.Fault.{Fault}
+use Rattle.js_faults.specs.declared.fault.FaultKind.{FaultKind}
+use Rattle.js_faults.specs.declared.fault.FaultKind.TheVariants as fault_kind
+use Rattle.js_parse.specs.declared.fault.ParseFault.{ParseFault}
+use Rattle.js_parse.specs.declared.fault.ParseFault.TheVariants as parse_fault
+use Rattle.js_parse.specs.Programs.{IsProgram, IsFault as IsNoProgram}
+use Rattle.js_early.specs.EarlyErrors.{early_error}
+use Rattle.js_shell.specs.declared.refusals.SourceKind.{SourceKind}
+use Rattle.js_shell.specs.declared.refusals.SourceKind.TheVariants as kind
+use Rattle.js_shell.specs.Scripts.{Statement, script_of}
 
 -- the most bytes of a source
 abbrev pub source_limit : ℕ
 source_limit = 1048576
 
--- the most bytes of a script of the form that there is so far
+-- the most bytes of a script that can be run so far
 abbrev pub script_limit : ℕ
 script_limit = 65536
 
--- why a file is no script: it is too long; it isn't UTF-8 behind so many bytes; it has a fault of this kind at this place; or it has not
--- the form that there is so far
+-- why a file is no program, or none that can be run: it is too long; it isn't UTF-8 behind so many bytes; or it has a fault of this kind at
+-- this place
 pub data SourceFault : Type 0 where
   long_source : SourceFault
   source_utf8 : ℕ → SourceFault
   bad_source : SourceKind → Place → SourceFault
-  unbuilt : SourceFault
 
 abbrev pub read_source : Result (List ℕ) ℕ → Result (List ℕ) SourceFault
 read_source (Ok text) = Ok text
@@ -41,32 +48,72 @@ pub record HasTokens (bytes : List ℕ) (tokens : List Token) : Type 0 where
   pub decoded : source_text bytes ≡ Ok text
   pub scanned : IsTokens text tokens
 
--- the bytes are the script of these statements
-pub record IsScriptOf (bytes : List ℕ) (statements : List Statement) : Type 0 where
-  pub short : length bytes ≤ script_limit
+-- the bytes are this program, which has no early error
+pub record HasProgram (bytes : List ℕ) (program : Statements) : Type 0 where
   pub tokens : List Token
   pub has_tokens : HasTokens bytes tokens
-  pub spelled : Spells statements tokens
+  pub parsed : IsProgram tokens program
+  pub faultless : early_error program ≡ None
+
+-- the statements of a program that can be run, or the unit where its first node stands that can't; of a program that is too long to be run it
+-- is the first unit
+unfoldable pub runnable : List ℕ → Statements → Result (List Statement) ℕ
+runnable bytes program = if nat_lt script_limit (length bytes) then Err 0 else script_of program
+
+-- the bytes are the script of these statements
+pub record IsScriptOf (bytes : List ℕ) (statements : List Statement) : Type 0 where
+  pub program : Statements
+  pub has_program : HasProgram bytes program
+  pub runs : runnable bytes program ≡ Ok statements
 
 -- how a fault of the scanner is called
 abbrev pub scan_kind : ScanFault → Option SourceKind
-scan_kind (fault.BadToken at) = Some kind.BadToken
-scan_kind (fault.Unterminated at) = Some kind.Unterminated
-scan_kind (fault.RegExpLiteral at) = Some kind.RegExpLiteral
-scan_kind (fault.NumberLiteral at) = Some kind.NumberLiteral
-scan_kind fault.OutOfMemory = None
+scan_kind (scan_fault.BadToken at) = Some kind.BadToken
+scan_kind (scan_fault.Unterminated at) = Some kind.Unterminated
+scan_kind (scan_fault.RegExpLiteral at) = Some kind.RegExpLiteral
+scan_kind (scan_fault.NumberLiteral at) = Some kind.NumberLiteral
+scan_kind scan_fault.OutOfMemory = None
 
--- the bytes are a source that has no tokens, for a fault of this kind at this place
-pub record HasNoTokens (bytes : List ℕ) (k : SourceKind) (place : Place) : Type 0 where
-  pub text : List ℕ
-  pub decoded : source_text bytes ≡ Ok text
-  pub fault : ScanFault
-  pub refused : IsFault text fault
-  pub kind_is : scan_kind fault ≡ Some k
-  pub place_is : place ≡ place_of text (fault_at fault)
+-- how a fault of the parser is called
+abbrev pub parse_kind : ParseFault → Option SourceKind
+parse_kind (parse_fault.Syntax at) = Some kind.Syntax
+parse_kind (parse_fault.With at) = Some kind.With
+parse_kind (parse_fault.Nesting at) = Some kind.Nesting
+parse_kind (parse_fault.Directive at) = Some kind.Directive
+parse_kind parse_fault.OutOfMemory = None
 
-abbrev pub RefusesSource : List ℕ → SourceFault → Type 0
-RefusesSource bytes long_source = source_text bytes ≡ Err long_source
-RefusesSource bytes (source_utf8 at) = source_text bytes ≡ Err (source_utf8 at)
-RefusesSource bytes (bad_source k place) = HasNoTokens bytes k place
-RefusesSource bytes unbuilt = ((tokens : List Token) × HasTokens bytes tokens) × ((statements : List Statement) → IsScriptOf bytes statements → ⊥)
+-- and where it is
+abbrev pub parse_fault_at : ParseFault → ℕ
+parse_fault_at (parse_fault.Syntax at) = at
+parse_fault_at (parse_fault.With at) = at
+parse_fault_at (parse_fault.Nesting at) = at
+parse_fault_at (parse_fault.Directive at) = at
+parse_fault_at parse_fault.OutOfMemory = 0
+
+-- how an early error is called
+abbrev pub early_kind : FaultKind → SourceKind
+early_kind fault_kind.Directive = kind.Directive
+early_kind fault_kind.EvalArguments = kind.EvalArguments
+early_kind fault_kind.RepeatedParameter = kind.RepeatedParameter
+early_kind fault_kind.RepeatedProperty = kind.RepeatedProperty
+early_kind fault_kind.DeleteName = kind.DeleteName
+early_kind fault_kind.Jump = kind.Jump
+early_kind fault_kind.RepeatedLabel = kind.RepeatedLabel
+early_kind fault_kind.StrictWord = kind.StrictWord
+
+-- the bytes are no program without an early error, for this fault: they have no text; their text has no tokens; their tokens are no program; or
+-- their program has an early error
+pub data RefusesProgram (bytes : List ℕ) (fault : SourceFault) : Type 0 where
+  has_no_text : source_text bytes ≡ Err fault → RefusesProgram bytes fault
+  has_no_tokens : (text : List ℕ) (f : ScanFault) (k : SourceKind) → source_text bytes ≡ Ok text → IsFault text f → scan_kind f ≡ Some k
+      → fault ≡ bad_source k (place_of text (fault_at f)) → RefusesProgram bytes fault
+  is_no_program : (tokens : List Token) (has : HasTokens bytes tokens) (f : ParseFault) (k : SourceKind) → IsNoProgram tokens (length has.text) f → parse_kind f ≡ Some k
+      → fault ≡ bad_source k (place_of has.text (parse_fault_at f)) → RefusesProgram bytes fault
+  has_early_error : (tokens : List Token) (has : HasTokens bytes tokens) (program : Statements) (f : Fault) → IsProgram tokens program → early_error program ≡ Some f
+      → fault ≡ bad_source (early_kind f.kind) (place_of has.text f.at) → RefusesProgram bytes fault
+
+-- the bytes are no script, for this fault: they are no program, or one that can't be run
+pub data RefusesSource (bytes : List ℕ) (fault : SourceFault) : Type 0 where
+  refuses_program : RefusesProgram bytes fault → RefusesSource bytes fault
+  unbuilt : (program : Statements) (has : HasProgram bytes program) (at : ℕ) → runnable bytes program ≡ Err at → fault ≡ bad_source kind.Unbuilt (place_of has.has_tokens.text at)
+      → RefusesSource bytes fault

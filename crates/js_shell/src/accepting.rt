@@ -1,33 +1,21 @@
 //! The order of work before a run: the words, the script, the policy, the input.
 
-ghost use Rattle.std.specs.Prelude.{◌≡◌, ◌↔◌, ◌≤◌, ℕ, length, List, Option, Some, true, map, Err, IfOk, IfSome, OnOk};
-ghost use Rattle.std.specs.String.{string_bytes};
+ghost use Rattle.std.specs.Prelude.{◌≡◌, ◌↔◌, ◌≤◌, ℕ, length, List, Option, Some, true, Err, IfOk, IfSome, OnOk};
 ghost use Rattle.flow_io.specs.Files.{Rose, IsStoreKept};
 ghost use Rattle.flow_policy.specs.Inputs.{IsGivenTo};
-ghost use Rattle.js_shell.specs.Scripts.{statements_of};
-ghost use Rattle.js_ast.specs.declared.token.Token.{Token};
-ghost use Rattle.js_scan.specs.Tokens.{fault_at, IsTokens, IsFaultOf};
-ghost use Rattle.js_shell.specs.Sources.{source_limit};
-ghost use Rattle.js_shell.specs.Replies.{Command, command_of, Reaches};
-ghost use Rattle.js_shell.specs.Accepting.{AcceptsScript, AcceptsPolicy, AcceptsInput, Accepts, TakesScript, TakesText, TakesTokens, RefusesTokens, is_usage};
-ghost use Rattle.js_shell.specs.Seen.{seen_command, seen_script, seen_tasks, texts_of};
+ghost use Rattle.js_shell.specs.Replies.{command_of, Reaches};
+ghost use Rattle.js_shell.specs.Accepting.{ReadsSource, AcceptsProgram, AcceptsScript, AcceptsPolicy, AcceptsInput, Accepts, IsGiven, is_usage};
+ghost use Rattle.js_shell.specs.Seen.{seen_commands, seen_script, seen_work, texts_of};
 
-use crate::reader::{ScriptFault, read_script};
+use crate::refusals::Refusal;
 use crate::script::Print;
+use crate::sources::{check_program, script_of};
 use flow_io::{LoadFault, Store, load};
-use flow_policy::{
-    InputFault, InputKind, Inputs, Policy, PolicyFault, PolicyKind, read_inputs, read_policy,
-};
-use flow_text::{Place, Text, TextFault};
-use js_ast::Token;
-use js_scan::{ScanFault, scan};
+use flow_policy::{InputFault, Inputs, Policy, PolicyFault, read_inputs, read_policy};
 use std::alloc::Global;
 
 /// The most bytes of a source.
 const SOURCE_LIMIT: usize = 1_048_576;
-
-/// The most bytes of a script of the form that there is so far.
-const SCRIPT_LIMIT: usize = 65_536;
 
 /// The most bytes of a policy.
 const POLICY_LIMIT: usize = 65_536;
@@ -35,42 +23,17 @@ const POLICY_LIMIT: usize = 65_536;
 /// The most bytes of an input.
 const INPUT_LIMIT: usize = 1_048_576;
 
-/// Why a source has no tokens.
-#[derive(Clone, Copy, Debug, PartialEq, Eq)]
-pub(crate) enum SourceKind {
-    BadToken,
-    Unterminated,
-    RegExpLiteral,
-    NumberLiteral,
-}
-
-/// Why there is no run.
-#[derive(Clone, Copy, Debug, PartialEq, Eq)]
-pub(crate) enum Refusal {
-    Usage,
-    LongSource,
-    /// The source isn't UTF-8 behind so many bytes.
-    SourceUtf8 { at: usize },
-    /// The source has no tokens: why, and where.
-    BadSource { kind: SourceKind, place: Place },
-    /// The source has not the form that there is so far.
-    Unbuilt,
-    LongPolicy,
-    /// The first bad line of the policy.
-    BadPolicy { line: usize, kind: PolicyKind },
-    LongInput,
-    /// The first bad line of the input.
-    BadInput { line: usize, kind: InputKind },
-    ReadFault,
-    OutOfMemory,
-}
-
-/// The files of a command.
+/// What words ask for, by the paths of its files.
 #[derive(Clone, Copy)]
-pub(crate) struct Command<'a> {
-    pub(crate) script: &'a str,
-    pub(crate) policy: &'a str,
-    pub(crate) input: &'a str,
+pub(crate) enum Command<'a> {
+    Run {
+        script: &'a str,
+        policy: &'a str,
+        input: &'a str,
+    },
+    Check {
+        script: &'a str,
+    },
 }
 
 /// A script under a policy with an input.
@@ -81,13 +44,24 @@ pub(crate) struct Task {
     pub(crate) inputs: Inputs,
 }
 
+/// What is left to do where the files of a command are accepted.
+#[derive(Drop)]
+pub(crate) enum Accepted {
+    Run(Task),
+    /// To say that the script is accepted.
+    Program,
+}
+
 /// The command that words state.
 #[tactic(auto, unfolding(crate::specs::Replies::command_of))]
 fn command_of(words: &[String]) -> Option<Command<'_>>
-    ensures { seen_command result ≡ command_of (texts_of words.now) }
+    ensures { seen_commands result ≡ command_of (texts_of words.now) }
 {
     match words {
-        [word, script, policy, input] if word.as_str() == "run" => Some(Command {
+        [word, script] if word.as_str() == "check" => Some(Command::Check {
+            script: script.as_str(),
+        }),
+        [word, script, policy, input] if word.as_str() == "run" => Some(Command::Run {
             script: script.as_str(),
             policy: policy.as_str(),
             input: input.as_str(),
@@ -96,107 +70,80 @@ fn command_of(words: &[String]) -> Option<Command<'_>>
     }
 }
 
-/// Reads what the words name: the script, then the policy, then the input.
+/// Reads what the words name: of a check the script, and of a run the script, then the policy, then the input.
 pub(crate) fn accept<F: Store>(
     alloc: Global,
     words: &[String],
     store: &mut F,
-) -> Result<Task, Refusal>
+) -> Result<Accepted, Refusal>
     requires asked { (path : List ℕ) → Reaches (F.contents store.old) (texts_of words.now) path → F.may_ask store.old path ≡ true }
     ensures kept { IsStoreKept F.contents F.may_ask F.faults store.old store.new }
-    ensures accepts { Accepts (texts_of words.now) (F.contents store.old) (seen_tasks result) }
-    ensures given { IfOk result (λ task. IsGivenTo task.policy task.inputs) }
+    ensures accepts { Accepts (texts_of words.now) (F.contents store.old) (seen_work result) }
+    ensures given { IfOk result (λ accepted. IsGiven accepted) }
     ensures usage { (is_usage result ≡ true) ↔ (command_of (texts_of words.now) ≡ None) }
     ensures read_fault { result ≡ Err Refusal.ReadFault → Rose (F.faults store.old) (F.faults store.new) }
 {
-    let Some(command) = command_of(words) else {
-        return Err(Refusal::Usage);
-    };
-    let script = accept_script(alloc, store, command.script)?;
-    let policy = accept_policy(alloc, store, command.policy)?;
-    let inputs = accept_input(alloc, store, command.input, &policy)?;
-    Ok(Task {
-        script,
-        policy,
-        inputs,
-    })
+    match command_of(words) {
+        None => Err(Refusal::Usage),
+        Some(Command::Check { script }) => {
+            accept_program(alloc, store, script)?;
+            Ok(Accepted::Program)
+        }
+        Some(
+            Command::Run {
+                script,
+                policy,
+                input,
+            },
+        ) => {
+            let script = accept_script(alloc, store, script)?;
+            let policy = accept_policy(alloc, store, policy)?;
+            let inputs = accept_input(alloc, store, input, &policy)?;
+            Ok(Accepted::Run(Task {
+                script,
+                policy,
+                inputs,
+            }))
+        }
+    }
+}
+
+/// Reads the bytes of a source.
+#[tactic(auto, unfolding(crate::specs::Sources::source_text))]
+fn source_bytes<F: Store>(alloc: Global, store: &mut F, path: &str) -> Result<Vec<u8>, Refusal>
+    requires { F.may_ask store.old path.now ≡ true }
+    ensures kept { IsStoreKept F.contents F.may_ask F.faults store.old store.new }
+    ensures reads { ReadsSource (F.contents store.old) path.now result }
+    ensures read_fault { result ≡ Err Refusal.ReadFault → Rose (F.faults store.old) (F.faults store.new) }
+{
+    match load(alloc, store, path, SOURCE_LIMIT) {
+        Ok(bytes) => Ok(bytes),
+        Err(LoadFault::TooLong { .. }) => Err(Refusal::LongSource),
+        Err(LoadFault::ReadFault) => Err(Refusal::ReadFault),
+        Err(LoadFault::OutOfMemory) => Err(Refusal::OutOfMemory),
+    }
+}
+
+/// Reads a source and checks that it is a program.
+fn accept_program<F: Store>(alloc: Global, store: &mut F, path: &str) -> Result<(), Refusal>
+    requires { F.may_ask store.old path.now ≡ true }
+    ensures kept { IsStoreKept F.contents F.may_ask F.faults store.old store.new }
+    ensures accepts { AcceptsProgram (F.contents store.old) path.now result }
+    ensures read_fault { result ≡ Err Refusal.ReadFault → Rose (F.faults store.old) (F.faults store.new) }
+{
+    let bytes = source_bytes(alloc, store, path)?;
+    check_program(alloc, &bytes)
 }
 
 /// Reads a script.
-#[tactic(auto, unfolding(crate::specs::Sources::source_text))]
 fn accept_script<F: Store>(alloc: Global, store: &mut F, path: &str) -> Result<Vec<Print>, Refusal>
     requires { F.may_ask store.old path.now ≡ true }
     ensures kept { IsStoreKept F.contents F.may_ask F.faults store.old store.new }
     ensures accepts { AcceptsScript (F.contents store.old) path.now (seen_script result) }
     ensures read_fault { result ≡ Err Refusal.ReadFault → Rose (F.faults store.old) (F.faults store.new) }
 {
-    let bytes = match load(alloc, store, path, SOURCE_LIMIT) {
-        Ok(bytes) => bytes,
-        Err(LoadFault::TooLong { .. }) => return Err(Refusal::LongSource),
-        Err(LoadFault::ReadFault) => return Err(Refusal::ReadFault),
-        Err(LoadFault::OutOfMemory) => return Err(Refusal::OutOfMemory),
-    };
+    let bytes = source_bytes(alloc, store, path)?;
     script_of(alloc, &bytes)
-}
-
-/// The script that the bytes of a source are.
-fn script_of(alloc: Global, bytes: &[u8]) -> Result<Vec<Print>, Refusal>
-    requires { length bytes.now ≤ source_limit }
-    ensures { TakesScript bytes.now (seen_script result) }
-{
-    let text = text_of(alloc, bytes)?;
-    let tokens = tokens_of(alloc, &text)?;
-    if bytes.len() > SCRIPT_LIMIT {
-        return Err(Refusal::Unbuilt);
-    }
-    match read_script(alloc, &tokens) {
-        Ok(script) => Ok(script),
-        Err(ScriptFault::Unbuilt) => Err(Refusal::Unbuilt),
-        Err(ScriptFault::OutOfMemory) => Err(Refusal::OutOfMemory),
-    }
-}
-
-/// The text that the bytes of a source are.
-#[tactic(auto, unfolding(crate::specs::Sources::source_text))]
-fn text_of(alloc: Global, bytes: &[u8]) -> Result<Text, Refusal>
-    requires { length bytes.now ≤ source_limit }
-    ensures { TakesText bytes.now result }
-{
-    match Text::from_utf8(alloc, bytes) {
-        Ok(text) => Ok(text),
-        Err(TextFault::BadUtf8 { at }) => Err(Refusal::SourceUtf8 { at }),
-        Err(TextFault::OutOfMemory) => Err(Refusal::OutOfMemory),
-    }
-}
-
-/// The tokens of a source.
-fn tokens_of(alloc: Global, text: &Text) -> Result<Vec<Token>, Refusal>
-    ensures takes { TakesTokens text.now result }
-    ensures only { (tokens : List Token) → IsTokens text.now tokens → IfOk result (λ found. found.items ≡ tokens) }
-{
-    match scan(alloc, text) {
-        Ok(tokens) => Ok(tokens),
-        Err(fault) => Err(no_tokens(text, fault)),
-    }
-}
-
-/// The refusal of a source that has no tokens.
-fn no_tokens(text: &Text, fault: ScanFault) -> Refusal
-    requires place { fault_at fault ≤ length text.now }
-    requires fault { IsFaultOf text.now fault }
-    ensures { RefusesTokens text.now result }
-{
-    let (kind, at) = match fault {
-        ScanFault::BadToken { at } => (SourceKind::BadToken, at),
-        ScanFault::Unterminated { at } => (SourceKind::Unterminated, at),
-        ScanFault::RegExpLiteral { at } => (SourceKind::RegExpLiteral, at),
-        ScanFault::NumberLiteral { at } => (SourceKind::NumberLiteral, at),
-        ScanFault::OutOfMemory => return Refusal::OutOfMemory,
-    };
-    Refusal::BadSource {
-        kind,
-        place: text.place(at),
-    }
 }
 
 /// Reads a policy.

@@ -1,6 +1,6 @@
 //! The laws of the two meanings of a script, and of replies.
 
-ghost use Rattle.js_shell.specs.Promises.{IsIsolating, IsErasing, NeverStops, SpellsOnce, IsScriptOnce, RepliesOnce};
+ghost use Rattle.js_shell.specs.Promises.{IsIsolating, IsErasing, NeverStops, IsProgramOnce, IsScriptOnce, IsProgramOrRefused, RepliesOnce};
 
 /// Isolation: two labelled runs that finish, on inputs that agree for an observer, write the same view.
 #[tactic(auto, using(crate::proofs::Meanings::isolation))]
@@ -19,10 +19,11 @@ pub fn never_stops()
     ensures { NeverStops }
 {}
 
-/// Tokens spell one script at most, and so do the bytes of a source.
-pub fn spells_once()
-    ensures tokens { SpellsOnce }
-    ensures bytes { IsScriptOnce }
+/// The bytes of a source are one program at most and one script at most, and where they are no program they are refused for one fault.
+pub fn one_script()
+    ensures program { IsProgramOnce }
+    ensures script { IsScriptOnce }
+    ensures refused { IsProgramOrRefused }
 {}
 
 /// Words over files have one reply at most.

@@ -5,19 +5,20 @@ ghost use Rattle.flow_io.specs.Files.{Rose, IsStoreKept};
 ghost use Rattle.js_shell.specs.Ran.{is_write_fault};
 ghost use Rattle.js_shell.specs.Replies.{Reaches, IsReply, read_fault_report};
 ghost use Rattle.js_shell.specs.Promises.{Told, UnlessEarly, IfEarly, Isolates, IsPlain, Stops};
-ghost use Rattle.js_shell.specs.Accepting.{Answers, Refuses};
+ghost use Rattle.js_shell.specs.Accepting.{Answers, PutsAccepted, Refuses};
 ghost use Rattle.js_shell.specs.Causes.{Exactly, IsUsage, IsSource, IsBadPolicy, IsDone, IsStopped, IsLeft, IsEarlyFront};
 ghost use Rattle.js_shell.specs.Seen.{texts_of};
 
-use crate::accepting::{Refusal, accept};
-use crate::refusals::refusal_bytes;
+use crate::accepting::{Accepted, accept};
+use crate::refusals::{Refusal, refusal_bytes};
 use crate::running::run;
 use crate::status::Status;
 use flow_io::{Failed, Sink, Store};
 use origin_labels::Masks;
 use std::alloc::Global;
 
-/// Does all of `jsflow`: reads what the words name, runs the script under the policy with the input, and puts its lines and its report.
+/// Does all of `jsflow`: reads what the words name, runs the script under the policy with the input or checks it alone, and puts its lines
+/// and its report.
 pub fn shell<F: Store, K: Sink>(
     alloc: Global,
     words: &[String],
@@ -47,7 +48,7 @@ pub fn shell<F: Store, K: Sink>(
     answer(alloc, words, store, sink)
 }
 
-/// Works through a command: its words, script, policy, input and run.
+/// Works through a command: its words, script, policy, input and run, or its words and script alone.
 fn answer<F: Store, K: Sink>(alloc: Global, words: &[String], store: &mut F, sink: &mut K) -> Status
     requires asked { (path : List ℕ) → Reaches (F.contents store.old) (texts_of words.now) path → F.may_ask store.old path ≡ true }
     requires open { K.shut sink.old ≡ false }
@@ -59,7 +60,8 @@ fn answer<F: Store, K: Sink>(alloc: Global, words: &[String], store: &mut F, sin
     ensures failed { result ≡ Status.WriteFault → Rose (K.faults sink.old) (K.faults sink.new) }
 {
     let task = match accept(alloc, words, store) {
-        Ok(task) => task,
+        Ok(Accepted::Run(task)) => task,
+        Ok(Accepted::Program) => return put_accepted(sink),
         Err(refusal) => return refuse(alloc, refusal, sink),
     };
     let mut labels = Masks;
@@ -73,7 +75,21 @@ fn answer<F: Store, K: Sink>(alloc: Global, words: &[String], store: &mut F, sin
     )
 }
 
-/// Puts why there is no run, and answers the status.
+/// Puts that a script is accepted, and answers the status.
+fn put_accepted<K: Sink>(sink: &mut K) -> Status
+    requires open { K.shut sink.old ≡ false }
+    ensures puts { PutsAccepted result (K.taken sink.old) (K.taken sink.new) }
+    ensures shut { K.shut sink.new ≡ is_write_fault result }
+    ensures faults_stay { K.faults sink.old ≤ K.faults sink.new }
+    ensures failed { result ≡ Status.WriteFault → Rose (K.faults sink.old) (K.faults sink.new) }
+{
+    match sink.put(b"! accepted\n") {
+        Ok(()) => Status::Done,
+        Err(Failed) => Status::WriteFault,
+    }
+}
+
+/// Puts why a command does nothing, and answers the status.
 fn refuse<K: Sink>(alloc: Global, refusal: Refusal, sink: &mut K) -> Status
     requires open { K.shut sink.old ≡ false }
     ensures refuses { Refuses refusal result (K.taken sink.old) (K.taken sink.new) }

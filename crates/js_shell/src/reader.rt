@@ -1,23 +1,24 @@
-//! Scripts from tokens.
+//! Scripts from trees: the code follows the definitions of `Scripts` one to one.
 
-ghost use Rattle.std.specs.Prelude.{◌≡◌, IfOk, List, Err};
+ghost use Rattle.std.specs.Prelude.{◌≡◌, ℕ, IfOk, List, Result, Ok, Err};
 ghost use Rattle.std.specs.Option.{option_map};
 ghost use Rattle.std.specs.Str.{bytes_eq};
+ghost use Rattle.js_ast.specs.Nodes.{nodes_of};
+ghost use Rattle.js_ast.specs.Views.{view_expr, view_exprs, view_stmt, view_stmts, view_program};
 ghost use Rattle.js_shell.specs.declared.reader.ScriptFault.TheVariants.{OutOfMemory};
 ghost use Rattle.js_shell.specs.Answers.{Reads};
-ghost use Rattle.js_shell.specs.Reading.{is_word, is_sign, behind_word, behind_sign, behind_end, string_at, argument_at, term_at, terms_at, statement_at, script_at};
-ghost use Rattle.js_shell.specs.Scripts.{Statement, statement_of, statements_of, Spells};
+ghost use Rattle.js_shell.specs.Scripts.{statement_of, statements_of, literal_of, callee_of, no_more, reading_of, term_of, terms_of, printing_of, print_of, statement_in, script_of};
 
 use crate::script::{Print, Term};
 use flow_text::Text;
-use js_ast::{Token, TokenKind};
+use js_ast::{BinaryOperator, Expr, ExprKind, Program, Stmt, StmtKind};
 use std::alloc::{AllocFailed, Global};
 
-/// Why tokens gave no script.
+/// Why a tree gave no script.
 #[derive(Clone, Copy, Debug, PartialEq, Eq)]
 pub(crate) enum ScriptFault {
-    /// They spell no script of the form that there is so far.
-    Unbuilt,
+    /// The place of its first node that can't be run so far.
+    Unbuilt { at: usize },
     OutOfMemory,
 }
 
@@ -37,134 +38,137 @@ impl<T: Drop> From<AllocFailed<T>> for ScriptFault {
     }
 }
 
-/// The statements that the tokens spell.
-pub(crate) fn read_script(alloc: Global, tokens: &[Token]) -> Result<Vec<Print>, ScriptFault>
-    ensures spelled { IfOk result (λ prints. Spells (statements_of prints.items) tokens.now) }
-    ensures refused { result ≡ Err ScriptFault.Unbuilt → (statements : List Statement) → Spells statements tokens.now → ⊥ }
+/// The script that a program is.
+pub(crate) fn read_script(alloc: Global, program: &Program) -> Result<Vec<Print>, ScriptFault>
+    ensures { Reads (λ prints. statements_of prints.items) result (script_of (view_program program.now)) }
 {
-    statements(alloc, tokens)
+    statements(alloc, program.body.items())
 }
 
-fn statements(alloc: Global, tokens: &[Token]) -> Result<Vec<Print>, ScriptFault>
-    ensures { Reads (λ prints. statements_of prints.items) result (script_at tokens.now) }
+fn statements(alloc: Global, statements: &[Stmt]) -> Result<Vec<Print>, ScriptFault>
+    ensures { Reads (λ prints. statements_of prints.items) result (script_of (view_stmts statements.now)) }
 {
-    let mut statements = Vec::new(alloc);
-    let mut rest = tokens;
-    while !rest.is_empty() {
-        let (print, after) = statement(alloc, rest)?;
-        statements.push(print)?;
-        rest = after;
+    let mut script = Vec::new(alloc);
+    let mut rest = statements;
+    while let [first, others @ ..] = rest {
+        script.push(statement(alloc, first)?)?;
+        rest = others;
     }
-    Ok(statements)
+    Ok(script)
 }
 
-#[tactic(auto, unfolding(crate::specs::Reading::statement_at))]
-fn statement(alloc: Global, tokens: &[Token]) -> Result<(Print, &[Token]), ScriptFault>
-    ensures { Reads (λ x. (statement_of x.0, x.1.now)) result (statement_at tokens.now) }
+#[tactic(auto, unfolding(crate::specs::Scripts::statement_in))]
+fn statement(alloc: Global, statement: &Stmt) -> Result<Print, ScriptFault>
+    ensures { Reads statement_of result (statement_in (view_stmt statement.now)) }
 {
-    let (channel, rest) = argument(tokens, b"print", b",").ok_or(ScriptFault::Unbuilt)?;
-    let (first, rest) = term(alloc, rest)?;
-    let (more, rest) = more_terms(alloc, rest)?;
-    let rest = after_end(rest).ok_or(ScriptFault::Unbuilt)?;
-    let channel = channel.copy(alloc)?;
-    Ok((
-        Print {
-            channel,
-            first,
-            more,
-        },
-        rest,
-    ))
-}
-
-/// The further terms of a sum.
-fn more_terms(alloc: Global, tokens: &[Token]) -> Result<(Vec<Term>, &[Token]), ScriptFault>
-    ensures { Reads (λ x. (x.0.items, x.1.now)) result (terms_at tokens.now) }
-{
-    let mut more = Vec::new(alloc);
-    let mut rest = tokens;
-    while let Some(value) = after_sign(rest, b"+") {
-        let (next, after) = term(alloc, value)?;
-        more.push(next)?;
-        rest = after;
-    }
-    Ok((more, rest))
-}
-
-#[tactic(auto, unfolding(crate::specs::Reading::term_at, crate::specs::Reading::reading_at))]
-fn term(alloc: Global, tokens: &[Token]) -> Result<(Term, &[Token]), ScriptFault>
-    ensures { Reads (λ x. (x.0, x.1.now)) result (term_at tokens.now) }
-{
-    if let Some((value, rest)) = string_value(tokens) {
-        return Ok((Term::Literal(value.copy(alloc)?), rest));
-    }
-    let (channel, rest) = argument(tokens, b"read", b")").ok_or(ScriptFault::Unbuilt)?;
-    Ok((Term::Read(channel.copy(alloc)?), rest))
-}
-
-/// The value of the string literal behind `name` and `(`, and the tokens behind the `end` that follows it.
-#[tactic(auto, unfolding(crate::specs::Reading::argument_at))]
-fn argument<'a>(tokens: &'a [Token], name: &[u8], end: &[u8]) -> Option<(&'a Text, &'a [Token])>
-    ensures { option_map (λ x. (x.0.now, x.1.now)) result ≡ argument_at name.now end.now tokens.now }
-{
-    let opened = after_sign(after_word(tokens, name)?, b"(")?;
-    let (value, rest) = string_value(opened)?;
-    Some((value, after_sign(rest, end)?))
-}
-
-#[tactic(auto, unfolding(crate::specs::Reading::behind_end))]
-fn after_end(tokens: &[Token]) -> Option<&[Token]>
-    ensures { option_map (λ rest. rest.now) result ≡ behind_end tokens.now }
-{
-    after_sign(after_sign(tokens, b")")?, b";")
-}
-
-#[tactic(auto, unfolding(crate::specs::Reading::string_at))]
-fn string_value(tokens: &[Token]) -> Option<(&Text, &[Token])>
-    ensures { option_map (λ x. (x.0.now, x.1.now)) result ≡ string_at tokens.now }
-{
-    match tokens {
-        [
-            Token {
-                kind: TokenKind::String(value),
-                ..
-            },
-            rest @ ..,
-        ] => Some((value, rest)),
-        _ => None,
+    match &*statement.kind {
+        StmtKind::Expr { expr, .. } => print(alloc, expr),
+        _ => Err(ScriptFault::Unbuilt { at: statement.at }),
     }
 }
 
-#[tactic(auto, unfolding(crate::specs::Reading::behind_word))]
-fn after_word<'a>(tokens: &'a [Token], name: &[u8]) -> Option<&'a [Token]>
-    ensures { option_map (λ rest. rest.now) result ≡ behind_word name.now tokens.now }
+#[tactic(auto, using(js_ast::proofs::ViewLaws::held_exprs, js_ast::specs::declared::trees::ExprKind::TheViews::the_lemmas), unfolding(crate::specs::Scripts::print_of))]
+fn print(alloc: Global, e: &Expr) -> Result<Print, ScriptFault>
+    ensures { Reads statement_of result (print_of (view_expr e.now)) }
 {
-    match tokens {
-        [first, rest @ ..] if is_word(first, name) => Some(rest),
-        _ => None,
+    match &*e.kind {
+        ExprKind::Call { callee, args } => printing(alloc, e.at, callee, args.items()),
+        _ => Err(ScriptFault::Unbuilt { at: e.at }),
     }
 }
 
-#[tactic(auto, unfolding(crate::specs::Reading::behind_sign))]
-fn after_sign<'a>(tokens: &'a [Token], punctuator: &[u8]) -> Option<&'a [Token]>
-    ensures { option_map (λ rest. rest.now) result ≡ behind_sign punctuator.now tokens.now }
+#[tactic(auto, unfolding(crate::specs::Scripts::printing_of))]
+fn printing(alloc: Global, at: usize, callee: &Expr, args: &[Expr]) -> Result<Print, ScriptFault>
+    ensures { Reads statement_of result (printing_of at (view_expr callee.now) (view_exprs args.now)) }
 {
-    match tokens {
-        [first, rest @ ..] if is_sign(first, punctuator) => Some(rest),
-        _ => None,
+    let [channel, sum, others @ ..] = args else {
+        return Err(ScriptFault::Unbuilt { at });
+    };
+    is_callee(callee, b"print")?;
+    let channel = literal(channel)?;
+    let (first, more) = terms(alloc, sum)?;
+    no_more(others)?;
+    Ok(Print {
+        channel: channel.copy(alloc)?,
+        first,
+        more,
+    })
+}
+
+/// A sum from the left: its first term and the others.
+#[tactic(auto, unfolding(crate::specs::Scripts::terms_of))]
+fn terms(alloc: Global, e: &Expr) -> Result<(Term, Vec<Term>), ScriptFault>
+    ensures { Reads (λ x. (x.0, x.1.items)) result (terms_of (view_expr e.now)) }
+{
+    match &*e.kind {
+        ExprKind::Binary {
+            left,
+            operator: BinaryOperator::Add,
+            right,
+        } => {
+            let (first, mut more) = terms(alloc, left)?;
+            more.push(term(alloc, right)?)?;
+            Ok((first, more))
+        }
+        _ => Ok((term(alloc, e)?, Vec::new(alloc))),
     }
 }
 
-fn is_word(token: &Token, name: &[u8]) -> bool
-    ensures { result ≡ is_word name.now token.now }
+#[tactic(auto, using(js_ast::proofs::ViewLaws::held_exprs, js_ast::specs::declared::trees::ExprKind::TheViews::the_lemmas), unfolding(crate::specs::Scripts::term_of))]
+fn term(alloc: Global, e: &Expr) -> Result<Term, ScriptFault>
+    ensures { Reads (λ x. x) result (term_of (view_expr e.now)) }
 {
-    matches!(token.kind, TokenKind::Name) && is_text(token.text.units(), name)
+    match &*e.kind {
+        ExprKind::String { value, .. } => Ok(Term::Literal(value.copy(alloc)?)),
+        ExprKind::Call { callee, args } => reading(alloc, e.at, callee, args.items()),
+        _ => Err(ScriptFault::Unbuilt { at: e.at }),
+    }
 }
 
-fn is_sign(token: &Token, punctuator: &[u8]) -> bool
-    ensures { result ≡ is_sign punctuator.now token.now }
+#[tactic(auto, unfolding(crate::specs::Scripts::reading_of))]
+fn reading(alloc: Global, at: usize, callee: &Expr, args: &[Expr]) -> Result<Term, ScriptFault>
+    ensures { Reads (λ x. x) result (reading_of at (view_expr callee.now) (view_exprs args.now)) }
 {
-    matches!(token.kind, TokenKind::Punctuator) && is_text(token.text.units(), punctuator)
+    let [channel, others @ ..] = args else {
+        return Err(ScriptFault::Unbuilt { at });
+    };
+    is_callee(callee, b"read")?;
+    let channel = literal(channel)?;
+    no_more(others)?;
+    Ok(Term::Read(channel.copy(alloc)?))
+}
+
+/// The value of a string literal.
+#[tactic(auto, unfolding(crate::specs::Scripts::literal_of))]
+fn literal(e: &Expr) -> Result<&Text, ScriptFault>
+    ensures { Reads (λ x. x.now) result (literal_of (view_expr e.now)) }
+{
+    match &*e.kind {
+        ExprKind::String { value, .. } => Ok(value),
+        _ => Err(ScriptFault::Unbuilt { at: e.at }),
+    }
+}
+
+/// The function that is called has this name.
+#[tactic(auto, unfolding(crate::specs::Scripts::callee_of))]
+fn is_callee(e: &Expr, name: &[u8]) -> Result<(), ScriptFault>
+    ensures { Reads (λ x. x) result (callee_of name.now (view_expr e.now)) }
+{
+    match &*e.kind {
+        ExprKind::Name(text) if is_text(text.units(), name) => Ok(()),
+        _ => Err(ScriptFault::Unbuilt { at: e.at }),
+    }
+}
+
+/// There is no argument more.
+#[tactic(auto, unfolding(crate::specs::Scripts::no_more))]
+fn no_more(args: &[Expr]) -> Result<(), ScriptFault>
+    ensures { Reads (λ x. x) result (no_more (view_exprs args.now)) }
+{
+    match args {
+        [] => Ok(()),
+        [first, ..] => Err(ScriptFault::Unbuilt { at: first.at }),
+    }
 }
 
 /// Whether the units are the bytes, one by one.

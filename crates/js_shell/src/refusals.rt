@@ -1,4 +1,4 @@
-//! Reports of commands that aren't run.
+//! Why a command does nothing, and how that is told.
 
 ghost use Rattle.std.specs.Prelude.{◌≡◌, ◌++◌, ◌^◌, ◌<◌, ℕ, List, Some, IfOk, codes};
 ghost use Rattle.std.specs.Fmt.{decimal};
@@ -6,12 +6,52 @@ ghost use Rattle.js_shell.specs.Sources.{bad_source};
 ghost use Rattle.js_shell.specs.Replies.{source_kind_name, source_report, policy_kind_name, input_kind_name, at_line};
 ghost use Rattle.js_shell.specs.Accepting.{refusal_report, refusal_status};
 
-use crate::accepting::{Refusal, SourceKind};
 use crate::status::Status;
 use flow_policy::{InputKind, PolicyKind};
 use flow_text::{OutOfMemory, Place};
 use itoa::Buffer;
 use std::alloc::Global;
+
+/// Why a source is no program, or none that can be run.
+#[derive(Clone, Copy, Debug, PartialEq, Eq)]
+pub(crate) enum SourceKind {
+    BadToken,
+    Unterminated,
+    RegExpLiteral,
+    NumberLiteral,
+    Syntax,
+    With,
+    Nesting,
+    Directive,
+    EvalArguments,
+    RepeatedParameter,
+    RepeatedProperty,
+    DeleteName,
+    Jump,
+    RepeatedLabel,
+    StrictWord,
+    /// It is a program that can't be run so far.
+    Unbuilt,
+}
+
+/// Why there is no run, or a script that is checked isn't accepted.
+#[derive(Clone, Copy, Debug, PartialEq, Eq)]
+pub(crate) enum Refusal {
+    Usage,
+    LongSource,
+    /// The source isn't UTF-8 behind so many bytes.
+    SourceUtf8 { at: usize },
+    /// The source is refused: why, and where.
+    BadSource { kind: SourceKind, place: Place },
+    LongPolicy,
+    /// The first bad line of the policy.
+    BadPolicy { line: usize, kind: PolicyKind },
+    LongInput,
+    /// The first bad line of the input.
+    BadInput { line: usize, kind: InputKind },
+    ReadFault,
+    OutOfMemory,
+}
 
 impl Refusal {
     /// The status that answers it.
@@ -20,10 +60,9 @@ impl Refusal {
     {
         match self {
             Refusal::Usage => Status::Usage,
-            Refusal::LongSource
-            | Refusal::SourceUtf8 { .. }
-            | Refusal::BadSource { .. }
-            | Refusal::Unbuilt => Status::Source,
+            Refusal::LongSource | Refusal::SourceUtf8 { .. } | Refusal::BadSource { .. } => {
+                Status::Source
+            }
             Refusal::LongPolicy
             | Refusal::BadPolicy { .. }
             | Refusal::LongInput
@@ -42,8 +81,7 @@ pub(crate) fn refusal_bytes(alloc: Global, refusal: Refusal) -> Result<Vec<u8>, 
         Refusal::Usage => Ok(Vec::from_slice(alloc, b"! usage\n")?),
         Refusal::LongSource => Ok(Vec::from_slice(alloc, b"! source TooLong\n")?),
         Refusal::SourceUtf8 { at } => bad_byte(alloc, at),
-        Refusal::BadSource { kind, place } => bad_token(alloc, kind, place),
-        Refusal::Unbuilt => Ok(Vec::from_slice(alloc, b"! source Unbuilt\n")?),
+        Refusal::BadSource { kind, place } => bad_source(alloc, kind, place),
         Refusal::LongPolicy => Ok(Vec::from_slice(alloc, b"! policy TooLong\n")?),
         Refusal::BadPolicy { line, kind } => bad_line(
             alloc,
@@ -73,8 +111,8 @@ fn bad_byte(alloc: Global, at: usize) -> Result<Vec<u8>, OutOfMemory>
     Ok(bytes)
 }
 
-/// The report of a source that has no tokens.
-fn bad_token(alloc: Global, kind: SourceKind, place: Place) -> Result<Vec<u8>, OutOfMemory>
+/// The report of a source that is refused at a place.
+fn bad_source(alloc: Global, kind: SourceKind, place: Place) -> Result<Vec<u8>, OutOfMemory>
     ensures { IfOk result (λ bytes. bytes.items ≡ source_report (bad_source kind place)) }
 {
     let mut bytes = Vec::from_slice(alloc, b"! source ")?;
@@ -107,6 +145,18 @@ fn source_kind_name(kind: SourceKind) -> &'static [u8]
         SourceKind::Unterminated => b"Unterminated",
         SourceKind::RegExpLiteral => b"RegExpLiteral",
         SourceKind::NumberLiteral => b"NumberLiteral",
+        SourceKind::Syntax => b"Syntax",
+        SourceKind::With => b"With",
+        SourceKind::Nesting => b"Nesting",
+        SourceKind::Directive => b"Directive",
+        SourceKind::EvalArguments => b"EvalArguments",
+        SourceKind::RepeatedParameter => b"RepeatedParameter",
+        SourceKind::RepeatedProperty => b"RepeatedProperty",
+        SourceKind::DeleteName => b"DeleteName",
+        SourceKind::Jump => b"Jump",
+        SourceKind::RepeatedLabel => b"RepeatedLabel",
+        SourceKind::StrictWord => b"StrictWord",
+        SourceKind::Unbuilt => b"Unbuilt",
     }
 }
 

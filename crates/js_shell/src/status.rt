@@ -6,7 +6,7 @@ ghost use Rattle.js_shell.specs.Statuses.{number_of};
 /// How a command ended.
 #[derive(Clone, Copy, Debug, PartialEq, Eq)]
 pub enum Status {
-    /// The script ran to its end.
+    /// The script ran to its end, or it was checked and is accepted.
     Done,
     /// The words are no command.
     Usage,

@@ -78,8 +78,13 @@ const RUNS: [(&str, &str, &str, Status); 13] = [
 ];
 
 // A script, and what a run of it without input writes. It finishes.
-const SPELLINGS: [(&str, &str); 10] = [
+const SPELLINGS: [(&str, &str); 12] = [
     ("print(\"pub\",\"hi\");", "pub hi\n! done\n"),
+    ("print(\"pub\", \"hi\")", "pub hi\n! done\n"),
+    (
+        "print(\"pub\", \"a\")\nprint(\"pub\", \"b\")",
+        "pub a\npub b\n! done\n",
+    ),
     (
         "\tprint (\r\n\"pub\" ,\t\"hi\"\u{a0}) ;\u{2028}",
         "pub hi\n! done\n",
@@ -103,7 +108,7 @@ const SPELLINGS: [(&str, &str); 10] = [
     ),
 ];
 
-// A source that is refused, and its report.
+// A source that is no program, and its report, of a run and of a check.
 const REFUSED: [(&str, &str); 24] = [
     ("var r = /a/;", "! source RegExpLiteral at 1:9\n"),
     ("#", "! source BadToken at 1:1\n"),
@@ -120,21 +125,58 @@ const REFUSED: [(&str, &str); 24] = [
     ),
     ("print(\"pub\", '\\x4');", "! source BadToken at 1:15\n"),
     ("var x; #", "! source BadToken at 1:8\n"),
-    ("print(\"pub\", 1);", "! source Unbuilt\n"),
-    ("print(\"pub\", \"hi\")", "! source Unbuilt\n"),
-    ("var x;", "! source Unbuilt\n"),
-    (";", "! source Unbuilt\n"),
-    ("print", "! source Unbuilt\n"),
-    ("Print(\"pub\", \"hi\");", "! source Unbuilt\n"),
-    ("'print'(\"pub\", \"hi\");", "! source Unbuilt\n"),
-    ("print[\"pub\", \"hi\"];", "! source Unbuilt\n"),
-    ("print(pub, \"hi\");", "! source Unbuilt\n"),
-    ("print(\"pub\" \"hi\");", "! source Unbuilt\n"),
-    ("print(\"pub\", );", "! source Unbuilt\n"),
-    ("print(\"pub\", \"a\" \"b\");", "! source Unbuilt\n"),
-    ("print(\"pub\", \"a\" + );", "! source Unbuilt\n"),
-    ("print(\"pub\", \"a\" ++ \"b\");", "! source Unbuilt\n"),
-    ("read(\"pin\");", "! source Unbuilt\n"),
+    ("print(\"pub\" \"hi\");", "! source Syntax at 1:13\n"),
+    ("print(\"pub\", );", "! source Syntax at 1:14\n"),
+    ("print(\"pub\", \"a\" \"b\");", "! source Syntax at 1:18\n"),
+    ("print(\"pub\", \"a\" + );", "! source Syntax at 1:20\n"),
+    (
+        "print(\"pub\", \"a\" ++ \"b\");",
+        "! source Syntax at 1:18\n",
+    ),
+    ("if (1 { }", "! source Syntax at 1:7\n"),
+    ("with (a) {}", "! source With at 1:1\n"),
+    ("\"flow bad -\";", "! source Directive at 1:1\n"),
+    ("eval = 1;", "! source EvalArguments at 1:1\n"),
+    (
+        "function f(a, a) {}",
+        "! source RepeatedParameter at 1:15\n",
+    ),
+    ("({ a: 1, a: 2 });", "! source RepeatedProperty at 1:10\n"),
+    ("delete x;", "! source DeleteName at 1:8\n"),
+    ("break;", "! source Jump at 1:1\n"),
+    ("a: a: ;", "! source RepeatedLabel at 1:4\n"),
+    ("var yield;", "! source StrictWord at 1:5\n"),
+];
+
+// A program, and where its first node stands that can't be run so far.
+const UNBUILT: [(&str, &str); 27] = [
+    ("var x;", "1:1"),
+    (";", "1:1"),
+    ("{ print(\"pub\", \"hi\"); }", "1:1"),
+    ("print(\"pub\", \"a\"); debugger;", "1:20"),
+    ("x\n++\ny", "1:1"),
+    ("\"use strict\"; print(\"pub\", \"a\");", "1:1"),
+    ("print", "1:1"),
+    ("Print(\"pub\", \"hi\");", "1:1"),
+    ("'print'(\"pub\", \"hi\");", "1:1"),
+    ("print[\"pub\", \"hi\"];", "1:1"),
+    ("print.x(\"pub\", \"hi\");", "1:1"),
+    ("read(\"pin\");", "1:1"),
+    ("print();", "1:1"),
+    ("print(1);", "1:1"),
+    ("print(pub, \"hi\");", "1:7"),
+    ("print(\"pub\", 1);", "1:14"),
+    ("print(\"pub\", \"a\", \"b\");", "1:19"),
+    ("print(\"pub\", 1, \"b\");", "1:14"),
+    ("print(\"pub\", (\"a\"));", "1:14"),
+    ("print(\"pub\", \"a\" - \"b\");", "1:14"),
+    ("print(\"pub\", \"a\" + 1 + \"b\");", "1:20"),
+    ("print(\"pub\", \"a\" + (\"b\" + \"c\"));", "1:20"),
+    ("print(\"pub\",\n\"a\" + read());", "2:7"),
+    ("print(\"pub\", read(x));", "1:19"),
+    ("print(\"pub\", read(\"a\", \"b\"));", "1:24"),
+    ("print(\"pub\", write(\"a\"));", "1:14"),
+    ("print(\"pub\", \"a\");\nprint(\"pub\", \"b\" + c);", "2:20"),
 ];
 
 // A policy, and what a run of the empty script under it writes.
@@ -158,8 +200,13 @@ const POLICIES: [(&str, &str, Status); 8] = [
 ];
 
 // Words, and what a call with them writes over files that are there.
-const WORDS: [(&[&str], &str, Status); 8] = [
+const WORDS: [(&[&str], &str, Status); 13] = [
     (&[], "! usage\n", Status::Usage),
+    (&["check"], "! usage\n", Status::Usage),
+    (&["check", "s", "s"], "! usage\n", Status::Usage),
+    (&["run", "s"], "! usage\n", Status::Usage),
+    (&["check", "s"], "! accepted\n", Status::Done),
+    (&["check", "absent"], "! read fault\n", Status::ReadFault),
     (&["run", "a", "b"], "! usage\n", Status::Usage),
     (&["run", "s", "p", "i", "x"], "! usage\n", Status::Usage),
     (&["check", "s", "p", "i"], "! usage\n", Status::Usage),
@@ -248,16 +295,95 @@ fn spellings(rt: HostRuntime) -> Result<(), Fail> {
 #[test]
 fn refused_sources(rt: HostRuntime) -> Result<(), Fail> {
     let alloc = rt.alloc();
-    let words = words_of(alloc, &["run", "s", "p", "i"])?;
-    for (script, report) in REFUSED {
+    for texts in [["run", "s", "p", "i"].as_slice(), ["check", "s"].as_slice()] {
+        let words = words_of(alloc, texts)?;
+        for (script, report) in REFUSED {
+            let mut store = files(alloc, script, POLICY, "")?;
+            let mut sink = MemorySink::new(alloc);
+            assert_eq!(rt;
+                shell(alloc, &words, &mut store, &mut sink),
+                Status::Source,
+                "{script}"
+            );
+            assert_eq!(rt; sink.taken(), report.as_bytes(), "{script}");
+        }
+    }
+    Ok(())
+}
+
+// A check accepts what a run can't do yet.
+#[test]
+fn unbuilt_sources(rt: HostRuntime) -> Result<(), Fail> {
+    let alloc = rt.alloc();
+    let run = words_of(alloc, &["run", "s", "p", "i"])?;
+    let check = words_of(alloc, &["check", "s"])?;
+    for (script, place) in UNBUILT {
         let mut store = files(alloc, script, POLICY, "")?;
         let mut sink = MemorySink::new(alloc);
+        let report = format!(in alloc; "! source Unbuilt at {place}\n")?;
         assert_eq!(rt;
-            shell(alloc, &words, &mut store, &mut sink),
+            shell(alloc, &run, &mut store, &mut sink),
             Status::Source,
             "{script}"
         );
         assert_eq!(rt; sink.taken(), report.as_bytes(), "{script}");
+        let mut sink = MemorySink::new(alloc);
+        assert_eq!(rt;
+            shell(alloc, &check, &mut store, &mut sink),
+            Status::Done,
+            "{script}"
+        );
+        assert_eq!(rt; sink.taken(), b"! accepted\n".as_slice(), "{script}");
+    }
+    Ok(())
+}
+
+// So many parentheses round a number.
+fn nested(alloc: Global, depth: usize) -> Result<Vec<u8>, Fail> {
+    let mut script = Vec::new(alloc);
+    script.resize(depth, b'(')?;
+    script.push(b'1')?;
+    for _ in 0..depth {
+        script.push(b')')?;
+    }
+    script.push(b';')?;
+    Ok(script)
+}
+
+#[test]
+fn the_deepest_program(rt: HostRuntime) -> Result<(), Fail> {
+    let alloc = rt.alloc();
+    for (texts, depth, report, status) in [
+        (["check", "s"].as_slice(), 200, "! accepted\n", Status::Done),
+        (
+            ["check", "s"].as_slice(),
+            201,
+            "! source Nesting at 1:201\n",
+            Status::Source,
+        ),
+        (
+            ["run", "s", "p", "i"].as_slice(),
+            200,
+            "! source Unbuilt at 1:1\n",
+            Status::Source,
+        ),
+        (
+            ["run", "s", "p", "i"].as_slice(),
+            201,
+            "! source Nesting at 1:201\n",
+            Status::Source,
+        ),
+    ] {
+        let words = words_of(alloc, texts)?;
+        let mut store = files(alloc, "", POLICY, "")?;
+        store.add("s", nested(alloc, depth)?)?;
+        let mut sink = MemorySink::new(alloc);
+        assert_eq!(rt;
+            shell(alloc, &words, &mut store, &mut sink),
+            status,
+            "{report}"
+        );
+        assert_eq!(rt; sink.taken(), report.as_bytes(), "{report}");
     }
     Ok(())
 }
@@ -411,7 +537,12 @@ fn limits_of_files(rt: HostRuntime) -> Result<(), Fail> {
             Status::Source,
         ),
         ("s", script, "! done\n", Status::Done),
-        ("s", longer_script, "! source Unbuilt\n", Status::Source),
+        (
+            "s",
+            longer_script,
+            "! source Unbuilt at 1:1\n",
+            Status::Source,
+        ),
         (
             "s",
             bad_token,
@@ -455,6 +586,6 @@ fn laws() {
     isolation();
     erasure();
     never_stops();
-    spells_once();
+    one_script();
     replies_once();
 }

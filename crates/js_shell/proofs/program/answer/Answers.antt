@@ -1,8 +1,13 @@
 use Rattle.std.proofs.Common.{Err, ap}
 use Rattle.flow_io.specs.Files.{Rose}
 use Rattle.js_shell.specs.Seen.{texts_of, seen_task}
-use Rattle.js_shell.proofs.Answering.{ran_answers, refused_answers}
+use Rattle.js_shell.proofs.Answering.{ran_answers, accepted_answers, refused_answers}
 use Rattle.js_shell.proofs.program.answer.Goals as goal
+
+pub returns-in-Ok-Program-clause-answers : goal.returns-in-Ok-Program-clause-answers
+returns-in-Ok-Program-clause-answers g c =
+    accepted_answers (texts_of c.args.words.now) (g.F.Store.contents c.args.store.now) (Rose (g.F.Store.faults c.args.store.now) (g.F.Store.faults c.accept.new.store)) (g.K.Sink.taken c.args.sink.now) (g.K.Sink.taken c.put_accepted.new.sink)
+    c.put_accepted.result (rw c.in-Ok-Program.field-0-is at c.in-Ok-Program.ensures.accepts) c.put_accepted.ensures.puts
 
 pub returns-in-Err-clause-answers : goal.returns-in-Err-clause-answers
 returns-in-Err-clause-answers g c =
@@ -12,4 +17,4 @@ returns-in-Err-clause-answers g c =
 pub returns-clause-answers : goal.returns-clause-answers
 returns-clause-answers g c =
     ran_answers (texts_of c.args.words.now) (g.F.Store.contents c.args.store.now) (Rose (g.F.Store.faults c.args.store.now) (g.F.Store.faults c.accept.new.store)) (g.K.Sink.taken c.args.sink.now) (g.K.Sink.taken c.run.new.sink)
-    (seen_task c.in-Ok.task) c.in-Ok.ensures.accepts c.run.result (rw c.deref.ensures.value at c.run.ensures.ran)
+    (seen_task c.in-Ok-Run.task) (rw c.in-Ok-Run.field-0-is at c.in-Ok-Run.ensures.accepts) c.run.result (rw c.deref.ensures.value at c.run.ensures.ran)

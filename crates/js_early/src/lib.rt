@@ -1,0 +1,8 @@
+//! Early errors.
+#![tactic(auto)]
+
+mod checking;
+mod fault;
+
+pub use checking::early;
+pub use fault::EarlyFault;

@@ -1,0 +1,6 @@
+pub mod Directives
+pub mod Early
+pub mod Faults
+pub mod ScopeViews
+pub mod Scopes
+pub mod WordViews

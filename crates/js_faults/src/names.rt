@@ -1,0 +1,133 @@
+//! Early errors of names, of parameters, and of what is assigned to or deleted.
+
+ghost use Rattle.std.specs.Prelude.{◌≡◌, [], ◌++◌};
+ghost use Rattle.std.specs.List.{list_any};
+ghost use Rattle.std.specs.Str.{bytes_eq};
+ghost use Rattle.js_ast.specs.Nodes.{nodes_of};
+ghost use Rattle.js_ast.specs.Views.{view_ident, view_name, view_idents, view_expr};
+ghost use Rattle.js_faults.specs.Early.{is_eval_or_arguments, is_strict_word, of_name, of_bound, of_bound_maybe, of_parameters, fault_if, has_text, of_assigned, of_deleted};
+ghost use Rattle.js_faults.specs.declared.fault.FaultKind.TheVariants as kind;
+ghost use Rattle.js_faults.specs.Faults.{first_of};
+
+use crate::fault::{Fault, FaultKind, earlier, fault_if};
+use flow_text::Text;
+use js_ast::{Expr, ExprKind, Ident, IdentList};
+use js_scan::{is_one_of, spells};
+
+// The words that are reserved in strict code alone.
+const STRICT_WORDS: [&[u8]; 9] = [
+    b"implements",
+    b"interface",
+    b"let",
+    b"package",
+    b"private",
+    b"protected",
+    b"public",
+    b"static",
+    b"yield",
+];
+
+fn is_eval_or_arguments(text: &Text) -> bool
+    ensures { result ≡ is_eval_or_arguments text.now }
+{
+    spells(b"eval", text.units()) || spells(b"arguments", text.units())
+}
+
+#[tactic(auto, unfolding(crate::specs::Early::is_strict_word))]
+fn is_strict_word(text: &Text) -> bool
+    ensures { result ≡ is_strict_word text.now }
+{
+    is_one_of(&STRICT_WORDS, text.units())
+}
+
+/// A name that stands for a value, or a label.
+pub(crate) fn of_name(at: usize, text: &Text) -> Option<Fault>
+    ensures { result ≡ first_of (of_name at text.now) }
+{
+    fault_if(is_strict_word(text), at, FaultKind::StrictWord)
+}
+
+/// A name that is bound.
+#[tactic(auto, using(crate::proofs::Told::first_of_append), unfolding(crate::specs::Early::of_bound))]
+pub(crate) fn of_bound(name: &Ident) -> Option<Fault>
+    ensures { result ≡ first_of (of_bound (view_ident name.now)) }
+{
+    earlier(
+        fault_if(
+            is_eval_or_arguments(&name.text),
+            name.at,
+            FaultKind::EvalArguments,
+        ),
+        of_name(name.at, &name.text),
+    )
+}
+
+/// The name of a function, if it has one.
+#[tactic(auto, unfolding(crate::specs::Early::of_bound_maybe))]
+pub(crate) fn of_bound_maybe(name: &Option<Ident>) -> Option<Fault>
+    ensures { result ≡ first_of (of_bound_maybe (view_name name.now)) }
+{
+    match name {
+        Some(name) => of_bound(name),
+        None => None,
+    }
+}
+
+fn has_text(text: &Text, names: &[Ident]) -> bool
+    ensures { result ≡ list_any (λ i. bytes_eq i.text text.now) names.now }
+{
+    names.iter().any(|name| name.text == *text)
+}
+
+/// A parameter behind others.
+#[tactic(auto, using(crate::proofs::Told::first_of_append, crate::proofs::Words::has_text_is))]
+fn of_parameter(earlier_ones: &[Ident], name: &Ident) -> Option<Fault>
+    ensures { result ≡ first_of (of_bound (view_ident name.now) ++ fault_if (has_text name.now.text (view_idents earlier_ones.now)) name.now.at kind.RepeatedParameter) }
+{
+    earlier(
+        of_bound(name),
+        fault_if(
+            has_text(&name.text, earlier_ones),
+            name.at,
+            FaultKind::RepeatedParameter,
+        ),
+    )
+}
+
+/// Parameters.
+pub(crate) fn of_parameters(params: &IdentList) -> Option<Fault>
+    ensures { result ≡ first_of (of_parameters [] (view_idents (nodes_of params.now))) }
+{
+    let names = params.items();
+    let mut first = None;
+    'names: for (i, name) in names.iter().enumerate() {
+        first = earlier(first, of_parameter(&names[..i], name));
+    }
+    first
+}
+
+/// What is assigned to, also in parentheses.
+#[tactic(auto, unfolding(crate::specs::Early::of_assigned))]
+pub(crate) fn of_assigned(e: &Expr) -> Option<Fault>
+    ensures { result ≡ first_of (of_assigned (view_expr e.now)) }
+{
+    match &*e.kind {
+        ExprKind::Name(text) => {
+            fault_if(is_eval_or_arguments(text), e.at, FaultKind::EvalArguments)
+        }
+        ExprKind::Paren(inner) => of_assigned(inner),
+        _ => None,
+    }
+}
+
+/// What is deleted, also in parentheses.
+#[tactic(auto, unfolding(crate::specs::Early::of_deleted))]
+pub(crate) fn of_deleted(e: &Expr) -> Option<Fault>
+    ensures { result ≡ first_of (of_deleted (view_expr e.now)) }
+{
+    match &*e.kind {
+        ExprKind::Name(_) => fault_if(true, e.at, FaultKind::DeleteName),
+        ExprKind::Paren(inner) => of_deleted(inner),
+        _ => None,
+    }
+}

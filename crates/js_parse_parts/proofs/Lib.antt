@@ -1,0 +1,7 @@
+pub mod DepthLaws
+pub mod LabelLaws
+pub mod ListLaws
+pub mod Loops
+pub mod NodeLaws
+pub mod Parts
+pub mod StatementTurns

@@ -1,0 +1,5 @@
+pub mod Answers
+pub mod Clauses
+pub mod Labels
+pub mod Suffixes
+pub mod Words

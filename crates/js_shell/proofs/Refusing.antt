@@ -1,0 +1,115 @@
+-- From what a part refuses to what is refused of the bytes of a source.
+use Rattle.std.proofs.Common.{◌≡◌, ℕ, ◌≤◌, ◌<◌, Bool, true, false, List, length, Result, Ok, Err, refl, sym, ap, arith}
+use Rattle.std.proofs.lemmas.Bool.Decides.{nat_tests}
+use Rattle.std.specs.Prelude.{nat_lt, if◌then◌else◌}
+use Rattle.flow_text.specs.declared.places.Place.{Place}
+use Rattle.flow_text.specs.Places.{place_of}
+use Rattle.js_ast.specs.declared.token.Token.{Token}
+use Rattle.js_ast.specs.Trees.{Statements}
+use Rattle.js_parse.specs.Programs.{IsProgram}
+use Rattle.js_shell.specs.declared.refusals.SourceKind.{SourceKind}
+use Rattle.js_shell.specs.declared.refusals.SourceKind.TheVariants as kind
+use Rattle.js_shell.specs.declared.refusals.Refusal.{Refusal}
+use Rattle.js_shell.specs.declared.refusals.Refusal.TheVariants as refusal
+use Rattle.js_ast.specs.Views.{view_program}
+use Rattle.js_shell.specs.declared.sources.Source.{Source}
+use Rattle.js_shell.specs.Scripts.{Statement, script_of}
+use Rattle.js_shell.specs.Sources.{SourceFault, source_utf8, bad_source, source_text, script_limit, HasTokens, runnable, RefusesProgram, has_no_text, has_no_tokens, is_no_program, has_early_error, RefusesSource, refuses_program, unbuilt}
+use Rattle.js_shell.specs.Accepting.{IsBadText, AreBadTokens, IsBadProgram, TakesText, TakesTokens, TakesTree, TakesEarly, IsSourceOf, Takes}
+
+module _ {X : Type 0} (bytes : List ℕ) (Is : X → Type 0) where
+  pub text_refused : (r : Refusal) → TakesText bytes (Err r) → Takes Is (RefusesProgram bytes) (Err r)
+  text_refused refusal.Usage p = absurd p
+  text_refused refusal.LongSource p = absurd p
+  text_refused (refusal.SourceUtf8 at) p = has_no_text p
+  text_refused (refusal.BadSource k place) p = absurd p
+  text_refused refusal.LongPolicy p = absurd p
+  text_refused (refusal.BadPolicy line k) p = absurd p
+  text_refused refusal.LongInput p = absurd p
+  text_refused (refusal.BadInput line k) p = absurd p
+  text_refused refusal.ReadFault p = absurd p
+  text_refused refusal.OutOfMemory p = tt
+
+  module _ (text : List ℕ) (decoded : source_text bytes ≡ Ok text) where
+    bad_text : (k : SourceKind) (place : Place) → IsBadText text k place → RefusesProgram bytes (bad_source k place)
+    bad_text k place p = has_no_tokens text p.0 k decoded p.1 p.2 (ap (bad_source k) p.3)
+
+    pub tokens_refused : (r : Refusal) → TakesTokens text (Err r) → Takes Is (RefusesProgram bytes) (Err r)
+    tokens_refused refusal.Usage p = absurd p
+    tokens_refused refusal.LongSource p = absurd p
+    tokens_refused (refusal.SourceUtf8 at) p = absurd p
+    tokens_refused (refusal.BadSource k place) p = bad_text k place p
+    tokens_refused refusal.LongPolicy p = absurd p
+    tokens_refused (refusal.BadPolicy line k) p = absurd p
+    tokens_refused refusal.LongInput p = absurd p
+    tokens_refused (refusal.BadInput line k) p = absurd p
+    tokens_refused refusal.ReadFault p = absurd p
+    tokens_refused refusal.OutOfMemory p = tt
+
+  module _ (tokens : List Token) (has : HasTokens bytes tokens) where
+    bad_tokens : (k : SourceKind) (place : Place) → AreBadTokens has.text tokens k place → RefusesProgram bytes (bad_source k place)
+    bad_tokens k place p = is_no_program tokens has p.0 k p.1 p.2 (ap (bad_source k) p.3)
+
+    pub tree_refused : (r : Refusal) → TakesTree has.text tokens (Err r) → Takes Is (RefusesProgram bytes) (Err r)
+    tree_refused refusal.Usage p = absurd p
+    tree_refused refusal.LongSource p = absurd p
+    tree_refused (refusal.SourceUtf8 at) p = absurd p
+    tree_refused (refusal.BadSource k place) p = bad_tokens k place p
+    tree_refused refusal.LongPolicy p = absurd p
+    tree_refused (refusal.BadPolicy line k) p = absurd p
+    tree_refused refusal.LongInput p = absurd p
+    tree_refused (refusal.BadInput line k) p = absurd p
+    tree_refused refusal.ReadFault p = absurd p
+    tree_refused refusal.OutOfMemory p = tt
+
+    module _ (program : Statements) (parsed : IsProgram tokens program) where
+      bad_program : (k : SourceKind) (place : Place) → IsBadProgram has.text program k place → RefusesProgram bytes (bad_source k place)
+      bad_program k place p = has_early_error tokens has program p.0 parsed p.1 (λ i. bad_source (p.2 i) (p.3 i))
+
+      pub early_refused : (r : Refusal) → TakesEarly has.text program (Err r) → Takes Is (RefusesProgram bytes) (Err r)
+      early_refused refusal.Usage p = absurd p
+      early_refused refusal.LongSource p = absurd p
+      early_refused (refusal.SourceUtf8 at) p = absurd p
+      early_refused (refusal.BadSource k place) p = bad_program k place p
+      early_refused refusal.LongPolicy p = absurd p
+      early_refused (refusal.BadPolicy line k) p = absurd p
+      early_refused refusal.LongInput p = absurd p
+      early_refused (refusal.BadInput line k) p = absurd p
+      early_refused refusal.ReadFault p = absurd p
+      early_refused refusal.OutOfMemory p = absurd p
+
+-- what isn't a program is refused for the same fault where something else is wanted
+module _ {X Y : Type 0} (Is : X → Type 0) (Wanted : Y → Type 0) (Refuses Others : SourceFault → Type 0) (more : (fault : SourceFault) → Refuses fault → Others fault) where
+  pub refused_too : (r : Refusal) → Takes Is Refuses (Err r) → Takes Wanted Others (Err r)
+  refused_too refusal.Usage p = absurd p
+  refused_too refusal.LongSource p = absurd p
+  refused_too (refusal.SourceUtf8 at) p = more _ p
+  refused_too (refusal.BadSource k place) p = more _ p
+  refused_too refusal.LongPolicy p = absurd p
+  refused_too (refusal.BadPolicy line k) p = absurd p
+  refused_too refusal.LongInput p = absurd p
+  refused_too (refusal.BadInput line k) p = absurd p
+  refused_too refusal.ReadFault p = absurd p
+  refused_too refusal.OutOfMemory p = tt
+
+-- ---- what can be run of a program
+
+too_long_by : (b : Bool) (r : Result (List Statement) ℕ) → b ≡ true → (if b then Err 0 else r) ≡ Err 0
+too_long_by true r e = refl
+too_long_by false r e = absurd cc
+
+pub too_long : (bytes : List ℕ) (program : Statements) → script_limit < length bytes → runnable bytes program ≡ Err 0
+unfolding runnable
+too_long bytes program lt = too_long_by (nat_lt script_limit (length bytes)) (script_of program) (grind (arith, nat_tests))
+
+short_by : (b : Bool) (r : Result (List Statement) ℕ) → b ≡ false → (if b then Err 0 else r) ≡ r
+short_by true r e = absurd cc
+short_by false r e = refl
+
+pub short_enough : (bytes : List ℕ) (program : Statements) → length bytes ≤ script_limit → runnable bytes program ≡ script_of program
+unfolding runnable
+short_enough bytes program le = short_by (nat_lt script_limit (length bytes)) (script_of program) (grind (arith, nat_tests))
+
+pub refused_unbuilt : {X : Type 0} (bytes : List ℕ) (Is : X → Type 0) (source : Source) → IsSourceOf bytes source → (at : ℕ) → runnable bytes (view_program source.program) ≡ Err at
+    → (r : Refusal) → r ≡ refusal.BadSource kind.Unbuilt (place_of source.text at) → Takes Is (RefusesSource bytes) (Err r)
+refused_unbuilt bytes Is source is at e r h = rw h (unbuilt (view_program source.program) is.0 at e (ap (λ (t : List ℕ). bad_source kind.Unbuilt (place_of t at)) (sym is.1)))

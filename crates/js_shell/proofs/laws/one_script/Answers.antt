@@ -1,0 +1,11 @@
+use Rattle.js_shell.proofs.Sourced.{is_program_once, is_script_once, is_program_or_refused}
+use Rattle.js_shell.proofs.laws.one_script.Goals as goal
+
+pub returns-clause-program : goal.returns-clause-program
+returns-clause-program c = is_program_once
+
+pub returns-clause-script : goal.returns-clause-script
+returns-clause-script c = is_script_once
+
+pub returns-clause-refused : goal.returns-clause-refused
+returns-clause-refused c = is_program_or_refused
