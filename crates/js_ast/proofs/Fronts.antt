@@ -1,12 +1,11 @@
--- What spells a tree goes on spelling it where other tokens follow: of an expression any, of statements those that begin alike, or with `}`, before
--- which each semicolon may be left out.
+-- What spells a tree goes on spelling it where other tokens follow: of an expression any, of statements those that begin alike, or with `}`, or none:
+-- there each semicolon may be left out.
 use Rattle.std.proofs.Common.{◌≡◌, ℕ, ◌<◌, ◌⊎◌, inl, inr, Bool, true, false, List, [], ◌∷◌, ◌++◌, length, Option, Some, None, refl, sym, ap, ◌∙◌, append_assoc, arith}
 use Rattle.js_ast.specs.declared.token.Token.{Token}
 use Rattle.js_ast.specs.declared.words.Sign.TheVariants as sign
 use Rattle.js_ast.specs.Words.{Word, a_sign, word_of}
 use Rattle.js_ast.specs.Trees.{Ident, Key, name_key, string_key, number_key, Semi, written, elided, Expr, name, number, string, this, null, boolean, paren, array, object, function, member, index, new_with, new_bare, call, postfix, unary, binary, conditional, assign, comma, Exprs, no_exprs, more_exprs, MaybeExpr, absent, present, Items, no_items, hole, item, Property, value, getter, setter, Properties, no_properties, more_properties, Declarations, one_declaration, more_declarations, First, first_expr, first_var, Target, target_expr, target_var, Clauses, no_clauses, case, default, Block, block_of, Statement, block, var, empty, expression, if_then, if_else, do_while, while, for, for_in, continue, break, return, throw, switch, labelled, try_catch, try_finally, try_both, debugger, function_declaration, Statements, no_statements, more_statements}
-use Rattle.js_ast.specs.Grammar.{Part, ◌⨾◌, nothing, place_of, on_line, At, OnLine, Takes, TakesName, ReadsIdent, MaybeIdent, MaybeLabel, ReadsIdents, ReadsKey, FinalComma, may_elide, Ends, last_initialiser, starts_expression, Reads, ReadsExprs, ReadsMaybe, ReadsItems, ReadsProperty, ReadsProperties, ReadsInitialiser, ReadsDeclarations, ReadsFirst, ReadsTarget, ReadsClauses, ReadsBlock, ReadsStatement, ReadsStatements}
-use Rattle.js_ast.specs.Reading.{word_at}
+use Rattle.js_ast.specs.Grammar.{Part, ◌⨾◌, nothing, place_of, on_line, closes, At, OnLine, Takes, TakesName, ReadsIdent, MaybeIdent, MaybeLabel, ReadsIdents, ReadsKey, FinalComma, may_elide, Ends, last_initialiser, starts_expression, Reads, ReadsExprs, ReadsMaybe, ReadsItems, ReadsProperty, ReadsProperties, ReadsInitialiser, ReadsDeclarations, ReadsFirst, ReadsTarget, ReadsClauses, ReadsBlock, ReadsStatement, ReadsStatements}
 use Rattle.js_ast.proofs.Lengths.{Shortens, takes_shortens, at_shortens, first_shortens, end_keeps, expr_shortens, property_shortens, ident_shortens, block_shortens, statement_shortens}
 
 -- ts is a word and then z, and Q holds of the word with any tokens behind it that may stand in place of z
@@ -26,9 +25,9 @@ abbrev pub first_of : List Token → Option Token
 first_of [] = None
 first_of (t ∷ ts) = Some t
 
--- what begins with the same token, or with `}`
+-- what begins with the same token, or with `}`, or nothing
 abbrev pub SameEnd : List Token → List Token → Type 0
-SameEnd z y = (first_of z ≡ first_of y) ⊎ (word_at y ≡ Some (a_sign sign.CloseBrace))
+SameEnd z y = (first_of z ≡ first_of y) ⊎ (closes y ≡ true)
 
 -- the same behind a word
 pub same_end : (w m z y : List Token) → m ≡ w ++ z → SameEnd z y → SameEnd m (w ++ y)
@@ -45,7 +44,7 @@ Fronts R p = (ts z : List Token) → p ts z → Front R ts z p
 abbrev pub Fixed : Part → Type 0
 Fixed p = Fronts Any p
 
--- where what begins alike may follow, or `}`
+-- where what begins alike may follow, or `}`, or nothing
 abbrev pub Loose : Part → Type 0
 Loose p = Fronts SameEnd p
 
@@ -164,7 +163,7 @@ elide_same before [] [] e h = refl
 elide_same before (t ∷ z) [] e h = refl
 elide_same before [] (s ∷ y) (inl e) h = absurd cc
 elide_same before (t ∷ z) (s ∷ y) (inl e) h = let same : t ≡ s = cc in rw (← same) h
-elide_same before z (s ∷ y) (inr e) h = let w : word_of s ≡ a_sign sign.CloseBrace = cc in rw w refl
+elide_same before z (s ∷ y) (inr e) h = rw e refl
 
 -- the end of a statement
 pub end_loose : (before : Option Expr) (semi : Semi) → Loose (Ends before semi)

@@ -40,6 +40,7 @@ pub mod StatementParts
 pub mod StatementRefused
 pub mod StatementShapes
 pub mod StatementSound
+pub mod Stopping
 pub mod Stops
 pub mod SwitchRefused
 pub mod TryRefused

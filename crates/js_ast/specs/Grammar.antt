@@ -108,6 +108,11 @@ abbrev pub is_close_brace : Word → Bool
 is_close_brace (a_sign sign.CloseBrace) = true
 is_close_brace w = false
 
+-- the end of the tokens, or `}`
+abbrev pub closes : List Token → Bool
+closes [] = true
+closes (t ∷ ts) = is_close_brace (word_of t)
+
 abbrev pub is_semicolon : Word → Bool
 is_semicolon (a_sign sign.Semicolon) = true
 is_semicolon w = false

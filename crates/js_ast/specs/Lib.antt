@@ -4,6 +4,7 @@ pub mod Grammar
 pub mod Laws
 pub mod Levels
 pub mod Nodes
+pub mod NodesLent
 pub mod Parsing
 pub mod Reading
 pub mod Refusals

@@ -1,6 +1,7 @@
 //! The lists of trees.
 
 ghost use Rattle.std.specs.Prelude.{◌≡◌, [], ◌∷◌, ◌++◌, OnOk, OnErr};
+ghost use Rattle.std.specs.Borrow.{sem};
 ghost use Rattle.js_ast.specs.Nodes.{nodes_of};
 
 use flow_text::OutOfMemory;
@@ -13,6 +14,8 @@ pub struct NodeList<T> {
 }
 
 impl<T: Drop> NodeList<T> {
+    ghost use Rattle.js_ast.specs.NodesLent.{LendsNodes};
+
     /// The empty list. It takes no memory.
     pub fn new(alloc: Global) -> NodeList<T>
         ensures { nodes_of result ≡ [] }
@@ -36,6 +39,14 @@ impl<T: Drop> NodeList<T> {
         ensures { result.now ≡ nodes_of self.now }
     {
         &self.nodes
+    }
+
+    /// Its nodes, to be changed one by one.
+    pub fn items_mut(&mut self) -> &mut [T]
+        ensures* writes_back { sem 𝓛 (LendsNodes T.row self.entry result) }
+        ensures value { result.now ≡ nodes_of self.old }
+    {
+        &mut self.nodes
     }
 
     /// The list of these nodes.

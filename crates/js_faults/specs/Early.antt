@@ -27,6 +27,7 @@ is_eval_or_arguments text = bytes_eq text (codes "eval") || bytes_eq text (codes
 abbrev pub strict_words : List (List ℕ)
 strict_words = codes "implements" ∷ codes "interface" ∷ codes "let" ∷ codes "package" ∷ codes "private" ∷ codes "protected" ∷ codes "public" ∷ codes "static" ∷ codes "yield" ∷ []
 
+-- one of them
 unfoldable pub is_strict_word : List ℕ → Bool
 is_strict_word text = list_any (λ word. bytes_eq text word) strict_words
 
@@ -38,14 +39,16 @@ of_name at text = fault_if (is_strict_word text) at kind.StrictWord
 unfoldable pub of_bound : Ident → List Fault
 of_bound i = fault_if (is_eval_or_arguments i.text) i.at kind.EvalArguments ++ of_name i.at i.text
 
+-- the same of a function's name, which may be missing
 unfoldable pub of_bound_maybe : Option Ident → List Fault
 of_bound_maybe None = []
 of_bound_maybe (Some i) = of_bound i
 
--- a parameter with the name of an earlier one (ECMA-262 13.1)
+-- one of the names is this one: so a parameter repeats an earlier one (ECMA-262 13.1)
 abbrev pub has_text : List ℕ → List Ident → Bool
 has_text text is = list_any (λ i. bytes_eq i.text text) is
 
+-- all parameters, behind earlier ones
 unfoldable pub of_parameters : List Ident → List Ident → List Fault
 of_parameters earlier [] = []
 of_parameters earlier (i ∷ is) = of_bound i ++ (fault_if (has_text i.text earlier) i.at kind.RepeatedParameter ++ of_parameters (earlier ++ i ∷ []) is)
@@ -70,24 +73,29 @@ key_text (name_key text) = text
 key_text (string_key text v) = v
 key_text (number_key n) = signed_decimal n
 
+-- the key of a property
 abbrev pub key_of : Property → Key
 key_of (value at k e) = k
 key_of (getter at k body) = k
 key_of (setter at k param body) = k
 
+-- its place
 abbrev pub place_of_property : Property → ℕ
 place_of_property (value at k e) = at
 place_of_property (getter at k body) = at
 place_of_property (setter at k param body) = at
 
+-- a property that is read by a function
 abbrev pub is_getter : Property → Bool
 is_getter (getter at k body) = true
 is_getter _ = false
 
+-- a property that is written by a function
 abbrev pub is_setter : Property → Bool
 is_setter (setter at k param body) = true
 is_setter _ = false
 
+-- two properties of one key
 abbrev pub same_key : Property → Property → Bool
 same_key p q = bytes_eq (key_text (key_of p)) (key_text (key_of q))
 
@@ -95,6 +103,7 @@ same_key p q = bytes_eq (key_text (key_of p)) (key_text (key_of q))
 abbrev pub is_pair : Property → Property → Bool
 is_pair p q = (is_getter p && is_setter q) || (is_setter p && is_getter q)
 
+-- properties in their order
 abbrev pub property_list : Properties → List Property
 property_list no_properties = []
 property_list (more_properties p ps) = p ∷ property_list ps
@@ -103,10 +112,12 @@ property_list (more_properties p ps) = p ∷ property_list ps
 abbrev pub clashes : List Property → Property → Property → Bool
 clashes all p q = same_key p q && (not (is_pair p q) || not (length (filter (same_key p) all) == 2))
 
+-- properties behind earlier ones, of all that stand in the literal
 unfoldable pub of_repeated : List Property → List Property → List Property → List Fault
 of_repeated all earlier [] = []
 of_repeated all earlier (p ∷ ps) = fault_if (list_any (clashes all p) earlier) (place_of_property p) kind.RepeatedProperty ++ of_repeated all (earlier ++ p ∷ []) ps
 
+-- the properties of a literal
 unfoldable pub of_properties : List Property → List Fault
 of_properties ps = of_repeated ps [] ps
 
@@ -117,12 +128,14 @@ of_property _ = []
 
 -- ---- expressions
 
+-- `delete`, `++` and `--`
 abbrev pub of_unary : UnaryOperator → Expr → List Fault
 of_unary unary_operator.Delete e = of_deleted e
 of_unary unary_operator.Increment e = of_assigned e
 of_unary unary_operator.Decrement e = of_assigned e
 of_unary _ e = []
 
+-- an expression, without its parts
 unfoldable pub of_expr : Expr → List Fault
 of_expr (name at text) = of_name at text
 of_expr (object at props final) = of_properties (property_list props)
@@ -134,14 +147,17 @@ of_expr _ = []
 
 -- ---- jumps (ECMA-262 12.7, 12.8, 12.9)
 
+-- a `break` has a statement to leave: without a label a loop or a `switch`
 abbrev pub may_break : Option (List ℕ) → Scope → Bool
 may_break None s = s.in_loop || s.in_switch
 may_break (Some label) s = names_statement label s
 
+-- a `continue` has a loop to go on with
 abbrev pub may_continue : Option (List ℕ) → Scope → Bool
 may_continue None s = s.in_loop
 may_continue (Some label) s = names_loop label s
 
+-- the text of a label, or none
 abbrev pub label_text : Option Ident → Option (List ℕ)
 label_text None = None
 label_text (Some i) = Some i.text
@@ -158,6 +174,7 @@ abbrev pub behind_mark : List ℕ → List ℕ
 behind_mark [] = []
 behind_mark (u ∷ text) = text
 
+-- the label of a directive, or none
 abbrev pub marked_label : Option (List ℕ) → Option (List ℕ)
 marked_label None = None
 marked_label (Some label) = Some (behind_mark label)
@@ -167,24 +184,29 @@ abbrev pub parts_may_jump : Option (List ℕ × (Option (List ℕ) × List ℕ))
 parts_may_jump (Some (what, (label, list))) s = may_jump what (marked_label label) s
 parts_may_jump None s = true
 
+-- a statement that is no directive, or whose jump has a statement or function to leave
 unfoldable pub directive_may_jump : Option (List ℕ) → Scope → Bool
 directive_may_jump (Some units) s = parts_may_jump (parts_in units) s
 directive_may_jump None s = true
 
 -- ---- statements
 
+-- the variables that are declared
 unfoldable pub of_declarations : Declarations → List Fault
 of_declarations (one_declaration ident init) = of_bound ident
 of_declarations (more_declarations ident init ds) = of_bound ident ++ of_declarations ds
 
+-- those of a `for` header
 abbrev pub of_first : First → List Fault
 of_first (first_expr e) = []
 of_first (first_var ds) = of_declarations ds
 
+-- what a `for` with `in` assigns to
 abbrev pub of_target : Target → List Fault
 of_target (target_expr e) = of_assigned e
 of_target (target_var i) = of_bound i
 
+-- a statement, without its parts
 unfoldable pub of_statement : Scope → Statement → List Fault
 of_statement s (var at ds semi) = of_declarations ds
 of_statement s (for at first test step body) = of_first first

@@ -3,7 +3,7 @@
 ghost use Rattle.std.specs.Prelude.{◌≡◌, ◌⊎◌, ℕ, List};
 ghost use Rattle.js_ast.specs.declared.token.Token.{Token};
 ghost use Rattle.js_ast.specs.Trees.{Statements};
-ghost use Rattle.js_parse.specs.declared.fault.ParseFault.{ParseFault};
+ghost use Rattle.js_parse_expr.specs.declared.fault.ParseFault.{ParseFault};
 ghost use Rattle.js_parse.specs.Programs.{IsProgram, IsFault};
 
 /// Tokens are one program, or they have one fault.

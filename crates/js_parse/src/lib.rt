@@ -2,11 +2,10 @@
 #![tactic(auto)]
 
 mod exactness;
-mod fault;
 mod parsing;
 
 pub use exactness::one_program;
-pub use fault::ParseFault;
+pub use js_parse_expr::ParseFault;
 pub use parsing::parse;
 
 #[cfg(test)]

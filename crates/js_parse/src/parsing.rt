@@ -5,16 +5,19 @@ ghost use Rattle.std.specs.Result.{MatchResult};
 ghost use Rattle.js_ast.specs.Trees.{Statements};
 ghost use Rattle.js_ast.specs.Nodes.{nodes_of};
 ghost use Rattle.js_ast.specs.Views.{view_program, view_stmts};
-ghost use Rattle.js_parse_parts.specs.Answers.{fault_of};
-ghost use Rattle.js_parse.specs.declared.fault.ParseFault.TheVariants.{OutOfMemory};
-ghost use Rattle.js_parse.specs.declared.fault.ParseFault.{ParseFault};
-ghost use Rattle.js_parse.specs.Programs.{place_or, told, IsTree, IsProgram, IsFault, IsReadFault};
+ghost use Rattle.js_parse_expr.specs.declared.fault.ParseFault.TheVariants.{OutOfMemory};
+ghost use Rattle.js_parse_expr.specs.declared.fault.ParseFault.{ParseFault};
+ghost use Rattle.js_ast.specs.Refusals.{a_program};
+ghost use Rattle.js_functions.specs.IsMarked.{IsMarked};
+ghost use Rattle.js_parse_expr.specs.Parsed.{IsReadFault};
+ghost use Rattle.js_parse.specs.Programs.{IsTree, IsProgram, IsFault};
 
-use crate::fault::ParseFault;
 use js_ast::{Program, StmtList, Token};
 use js_faults::{Check, fault_in_statements};
-use js_parse_expr::program;
-use js_parse_parts::{Fault, ReadFault};
+use js_functions::marked_program;
+use js_parse_cycle::program;
+use js_parse_expr::{ParseFault, refused};
+use js_parse_parts::ReadFault;
 use std::alloc::Global;
 
 /// The depth of a program is below this.
@@ -23,6 +26,7 @@ const DEPTHS: u32 = 201;
 /// The program that the tokens of a source spell; `end` is the place behind the source's last unit.
 pub fn parse(alloc: Global, tokens: &[Token], end: usize) -> Result<Program, ParseFault>
     ensures program { IfOk result (λ p. IsProgram tokens.now (view_program p)) }
+    ensures marks { IfOk result IsMarked }
     ensures fault { IfErr result (λ f. (f ≡ OutOfMemory) ⊎ IsFault tokens.now end f) }
     ensures only_program { (p : Statements) → IsProgram tokens.now p → MatchResult result (λ found. view_program found ≡ p) (λ f. f ≡ OutOfMemory) }
     ensures only_fault { (f : ParseFault) → IsFault tokens.now end f → MatchResult result (λ p. ⊥) (λ found. (found ≡ f) ⊎ (found ≡ OutOfMemory)) }
@@ -33,46 +37,24 @@ pub fn parse(alloc: Global, tokens: &[Token], end: usize) -> Result<Program, Par
 /// The program of the tokens, or their fault.
 fn read(alloc: Global, tokens: &[Token], end: usize) -> Result<Program, ParseFault>
     ensures program { IfOk result (λ p. IsProgram tokens.now (view_program p)) }
+    ensures marks { IfOk result IsMarked }
     ensures fault { IfErr result (λ f. (f ≡ OutOfMemory) ⊎ IsFault tokens.now end f) }
 {
     let body = tree(alloc, tokens, end)?;
     if let Some(fault) = fault_in_statements(Check::Directives, &body) {
         return Err(ParseFault::Directive { at: fault.at });
     }
-    Ok(Program {
-        body,
-        strict: false,
-    })
+    Ok(marked_program(body)?)
 }
 
 /// The statements that the tokens spell, whatever their directives are.
 fn tree(alloc: Global, tokens: &[Token], end: usize) -> Result<StmtList, ParseFault>
     ensures tree { IfOk result (λ list. IsTree tokens.now (view_stmts (nodes_of list))) }
-    ensures fault { IfErr result (λ f. (f ≡ OutOfMemory) ⊎ IsReadFault tokens.now end f) }
+    ensures fault { IfErr result (λ f. (f ≡ OutOfMemory) ⊎ IsReadFault a_program 201 tokens.now end f) }
 {
     match program(alloc, DEPTHS, tokens) {
         Ok(body) => Ok(body),
-        Err(ReadFault::Refused(fault, rest)) => Err(told(fault, place_or(end, rest))),
+        Err(ReadFault::Refused(fault, rest)) => Err(refused(fault, rest, end)),
         Err(ReadFault::OutOfMemory) => Err(ParseFault::OutOfMemory),
-    }
-}
-
-fn told(fault: Fault, at: usize) -> ParseFault
-    ensures { result ≡ told (fault_of fault) at }
-{
-    match fault {
-        Fault::Syntax => ParseFault::Syntax { at },
-        Fault::With => ParseFault::With { at },
-        Fault::Nesting => ParseFault::Nesting { at },
-    }
-}
-
-/// The place of the first token, or of the end.
-fn place_or(end: usize, tokens: &[Token]) -> usize
-    ensures { result ≡ place_or end tokens.now }
-{
-    match tokens {
-        [first, ..] => first.from,
-        [] => end,
     }
 }

@@ -106,3 +106,42 @@ fn postfix_and_parenthesis(rt: HostRuntime) -> Result<(), Fail> {
     assert!(rt; found);
     Ok(())
 }
+
+// The number of the function that a program's last statement declares, and whether its code is strict.
+fn last_function(program: &Program) -> Option<(u32, bool)> {
+    match &*program.body.items().last()?.kind {
+        StmtKind::Function { body, .. } => Some((body.number, body.strict)),
+        _ => None,
+    }
+}
+
+// Whether a program is strict, and its last function.
+fn marks_of(alloc: Global, source: &str) -> Option<(bool, (u32, bool))> {
+    let program = parsed(alloc, source).ok()?;
+    Some((program.strict, last_function(&program)?))
+}
+
+#[test]
+fn marks(rt: HostRuntime) -> Result<(), Fail> {
+    let rows = [
+        ("function f() { }", (false, (0, false))),
+        ("a(function () { }); function f() { }", (false, (1, false))),
+        ("'use strict'; function f() { }", (true, (0, true))),
+        (
+            "'a'; \"use strict\"\n({ get a() { }, set a(b) { } }); function f() { }",
+            (false, (2, false)),
+        ),
+        (
+            "'a'; \"use strict\"; ({ get a() { }, set a(b) { } }); function f() { }",
+            (true, (2, true)),
+        ),
+        ("function f() { 'use strict' }", (false, (0, true))),
+        ("'use\\x20strict'; function f() { }", (false, (0, false))),
+        ("('use strict'); function f() { }", (false, (0, false))),
+        ("a; 'use strict'; function f() { }", (false, (0, false))),
+    ];
+    for (source, marks) in rows {
+        assert_eq!(rt; marks_of(rt.alloc(), source), Some(marks), "{source}");
+    }
+    Ok(())
+}

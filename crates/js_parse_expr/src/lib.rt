@@ -1,19 +1,13 @@
-//! The parser of expressions and statements: one cycle of functions.
+//! Expressions and lists of statements from tokens.
 #![tactic(auto)]
 
-mod blocks;
-mod branches;
-mod expression;
-mod for_loops;
-mod functions;
-mod list;
-mod lists;
-mod objects;
-mod operand;
-mod primary;
-mod programs;
-mod statement;
-mod values;
-mod variables;
+mod exactness;
+mod fault;
+mod parts;
 
-pub use programs::program;
+pub use exactness::{one_expression, one_list};
+pub use fault::{ParseFault, refused};
+pub use parts::{expression, statements};
+
+#[cfg(test)]
+mod tests;

@@ -5,6 +5,7 @@ use Rattle.std.specs.Str.{bytes_eq}
 use Rattle.js_ast.specs.declared.token.Token.{Token}
 use Rattle.js_ast.specs.declared.operators.BinaryOperator.{BinaryOperator}
 use Rattle.js_ast.specs.declared.operators.BinaryOperator.TheVariants as binary_operator
+use Rattle.js_ast.specs.Refusals.{a_program}
 use Rattle.js_ast.specs.Trees as trees
 use Rattle.js_ast.specs.Trees.{Expr, name, number, string, this, null, boolean, paren, array, object, function, member, index, new_with, new_bare, call, postfix, unary, binary, conditional, assign, comma, Exprs, no_exprs, more_exprs, Block, block_of, block, var, empty, expression, if_then, if_else, do_while, while, for, for_in, continue, break, return, throw, switch, labelled, try_catch, try_finally, try_both, debugger, function_declaration, Statements, no_statements, more_statements}
 use Rattle.js_ast.specs.ExpressionParsing.{at_of}
@@ -12,9 +13,11 @@ use Rattle.js_scan.specs.Tokens.{IsTokens}
 use Rattle.js_faults.specs.declared.fault.Check.TheVariants as check
 use Rattle.js_faults.specs.declared.fault.Fault.{Fault}
 use Rattle.js_faults.specs.Scopes.{outermost}
-use Rattle.js_parse.specs.declared.fault.ParseFault.{ParseFault}
-use Rattle.js_parse.specs.declared.fault.ParseFault.TheVariants as parse_fault
-use Rattle.js_parse.specs.Programs.{IsTree, IsProgram, place_or, IsRefusedAt, IsFault as IsNoProgram}
+use Rattle.js_parse_expr.specs.declared.fault.ParseFault.{ParseFault}
+use Rattle.js_parse_expr.specs.declared.fault.ParseFault.TheVariants as parse_fault
+use Rattle.js_parse_expr.specs.Parsed.{place_or, IsRefusedAt}
+use Rattle.js_parse.specs.Programs.{IsTree, IsProgram, IsFault as IsNoProgram}
+use Rattle.js_parse.proofs.Laws.{tree_of}
 use Rattle.js_early.specs.EarlyErrors.{early_error}
 use Rattle.js_shell.specs.declared.script.Term.{Term}
 use Rattle.js_shell.specs.Scripts.{Statement, ◌>>=◌, place_of_block, place_of_statement, literal_of, callee_of, no_more, reading_of, term_of, terms_of, printing_of, print_of, statement_in, script_of}
@@ -38,7 +41,7 @@ place_by n [] by = omega arith
 place_by n (t ∷ ts) by = by.0
 
 module _ (text : List ℕ) (tokens : List Token) (are : IsTokens text tokens) where
-  refused_within : (at : ℕ) (kind : _) → IsRefusedAt tokens (length text) at kind → at ≤ length text
+  refused_within : (at : ℕ) (kind : _) → IsRefusedAt a_program 201 tokens (length text) at kind → at ≤ length text
   refused_within at kind r =
       let by = others_by (length text) r.refused.taken r.others (subst (BeginBy (length text)) r.refused.parts (tokens_within text tokens are)) in
       subst (λ k. k ≤ length text) (sym r.place) (place_by (length text) r.others by)
@@ -51,7 +54,7 @@ module _ (text : List ℕ) (tokens : List Token) (are : IsTokens text tokens) wh
   parse_within (parse_fault.With at) r = refused_within at _ r
   parse_within (parse_fault.Nesting at) r = refused_within at _ r
   parse_within (parse_fault.Directive at) r =
-      let le = first_by (length text) _ (statements (length text) check.Directives outermost r.program (tree_within r.program r.tree)) r.directive r.first in
+      let le = first_by (length text) _ (statements (length text) check.Directives outermost r.tree (tree_within r.tree (tree_of tokens r.tree r.to r.tree_at))) r.directive r.first in
       subst (λ k. k ≤ length text) (sym r.place) le
   parse_within parse_fault.OutOfMemory r = absurd r
 

@@ -10,8 +10,8 @@ use Rattle.js_scan.specs.declared.fault.ScanFault.TheVariants as scan_fault
 use Rattle.js_scan.specs.Tokens.{IsTokens, IsFault, IsBad, fault_at}
 use Rattle.js_scan.proofs.Laws as scanned
 use Rattle.js_faults.specs.declared.fault.Fault.{Fault}
-use Rattle.js_parse.specs.declared.fault.ParseFault.{ParseFault}
-use Rattle.js_parse.specs.declared.fault.ParseFault.TheVariants as parse_fault
+use Rattle.js_parse_expr.specs.declared.fault.ParseFault.{ParseFault}
+use Rattle.js_parse_expr.specs.declared.fault.ParseFault.TheVariants as parse_fault
 use Rattle.js_parse.specs.Programs.{IsProgram, IsFault as IsNoProgram}
 use Rattle.js_parse.proofs.Laws as parsed
 use Rattle.js_early.specs.EarlyErrors.{early_error}

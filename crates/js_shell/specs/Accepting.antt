@@ -12,8 +12,8 @@ use Rattle.js_ast.specs.Views.{view_program}
 use Rattle.js_scan.specs.declared.fault.ScanFault.{ScanFault}
 use Rattle.js_scan.specs.Tokens.{IsTokens, IsFault, fault_at}
 use Rattle.js_faults.specs.declared.fault.Fault.{Fault}
-use Rattle.js_parse.specs.declared.fault.ParseFault.{ParseFault}
-use Rattle.js_parse.specs.declared.fault.ParseFault.TheVariants as parse_fault
+use Rattle.js_parse_expr.specs.declared.fault.ParseFault.{ParseFault}
+use Rattle.js_parse_expr.specs.declared.fault.ParseFault.TheVariants as parse_fault
 use Rattle.js_parse.specs.Programs.{IsProgram, IsFault as IsNoProgram}
 use Rattle.js_early.specs.EarlyErrors.{early_error}
 use Rattle.flow_policy.specs.Policies.{Tables}

@@ -11,8 +11,8 @@ use Rattle.js_scan.specs.Tokens.{IsTokens, IsFault, fault_at}
 use Rattle.js_faults.specs.declared.fault.Fault.{Fault}
 use Rattle.js_faults.specs.declared.fault.FaultKind.{FaultKind}
 use Rattle.js_faults.specs.declared.fault.FaultKind.TheVariants as fault_kind
-use Rattle.js_parse.specs.declared.fault.ParseFault.{ParseFault}
-use Rattle.js_parse.specs.declared.fault.ParseFault.TheVariants as parse_fault
+use Rattle.js_parse_expr.specs.declared.fault.ParseFault.{ParseFault}
+use Rattle.js_parse_expr.specs.declared.fault.ParseFault.TheVariants as parse_fault
 use Rattle.js_parse.specs.Programs.{IsProgram, IsFault as IsNoProgram}
 use Rattle.js_early.specs.EarlyErrors.{early_error}
 use Rattle.js_shell.specs.declared.refusals.SourceKind.{SourceKind}

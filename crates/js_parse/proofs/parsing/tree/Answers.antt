@@ -7,4 +7,4 @@ pub returns-in-Ok-clause-tree : goal.returns-in-Ok-clause-tree
 returns-in-Ok-clause-tree c = tree_read _ _ c.in-Ok.ensures
 
 pub returns-in-Err-Refused-clause-fault : goal.returns-in-Err-Refused-clause-fault
-returns-in-Err-Refused-clause-fault c = rw (c.told.ensures, c.place_or.ensures) (inr (fault_read c.args.tokens.now c.args.end (fault_of c.in-Err-Refused.fault) c.in-Err-Refused.rest.now (rw c.in-Err-Refused.field-0-is at c.in-Err-Refused.ensures)))
+returns-in-Err-Refused-clause-fault c = rw c.refused.ensures (inr (fault_read c.args.tokens.now c.args.end (fault_of c.in-Err-Refused.fault) c.in-Err-Refused.rest.now (rw c.in-Err-Refused.field-0-is at c.in-Err-Refused.ensures)))

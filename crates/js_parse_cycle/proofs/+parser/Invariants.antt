@@ -8,7 +8,7 @@ use Rattle.js_ast.specs.StatementParsing.{declaration_step, declarations_from, c
 use Rattle.js_ast.specs.Trees.{no_items, no_properties, no_clauses}
 use Rattle.js_ast.specs.Views.{view_ident, view_expr, view_exprs, view_items, view_properties, view_declarations, view_clauses, view_stmts}
 use Rattle.js_parse_parts.specs.Answers.{Deep}
-use Rattle.js_parse_expr.proofs.+parser.Given as goal
+use Rattle.js_parse_cycle.proofs.+parser.Given as goal
 
 abbrev pub decreases-expression::expression : goal.decreases-expression::expression
 decreases-expression::expression l = 32 * l.limit + 0

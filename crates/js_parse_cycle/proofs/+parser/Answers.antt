@@ -9,9 +9,9 @@ use Rattle.js_ast.proofs.ExpressionTurns.{climb_turns, argument_turns, item_turn
 use Rattle.js_ast.proofs.Remaining.{no_longer}
 use Rattle.js_parse_parts.proofs.Loops.{loop_on, loop_done, loop_fails, loop_shrinks}
 use Rattle.js_parse_parts.proofs.StatementTurns.{declaration_turns, clause_turns, statements_turns}
-use Rattle.js_parse_expr.proofs.Layers.{inner_is}
-use Rattle.js_parse_expr.proofs.+parser.Goals as goal
-use Rattle.js_parse_expr.proofs.+parser.Goals.{blocks::try_statement-in_default-via-in-Some+in-Key+in_default, blocks::try_statement-in_default-via-in-Some+in_default, blocks::try_statement-in_default-via-in_default}
+use Rattle.js_parse_cycle.proofs.Layers.{inner_is}
+use Rattle.js_parse_cycle.proofs.+parser.Goals as goal
+use Rattle.js_parse_cycle.proofs.+parser.Goals.{blocks::try_statement-in_default-via-in-Some+in-Key+in_default, blocks::try_statement-in_default-via-in-Some+in_default, blocks::try_statement-in_default-via-in_default}
 
 pub expression::climb-returns-in_err-turn-clause-gives : goal.expression::climb-returns-in_err-turn-clause-gives
 expression::climb-returns-in_err-turn-clause-gives t c =

@@ -1,0 +1,5 @@
+pub mod ListLaws
+pub mod Loops
+pub mod MarkLaws
+pub mod Numbered
+pub mod Parts

@@ -1,0 +1,19 @@
+use Rattle.std.proofs.Common.{inr}
+use Rattle.js_ast.specs.Nodes.{nodes_of}
+use Rattle.js_ast.specs.Views.{view_stmts}
+use Rattle.js_ast.specs.Parsing.{list_at}
+use Rattle.js_ast.specs.Refusals.{a_list}
+use Rattle.js_parse_parts.specs.Answers.{fault_of}
+use Rattle.js_parse_expr.specs.Parts.{depths_left}
+use Rattle.js_parse_expr.proofs.PartLaws.{of_lists, some_left}
+use Rattle.js_parse_expr.proofs.ParsedLaws as laws
+use Rattle.js_parse_expr.proofs.parts.statement_trees.Goals as goal
+
+pub overflow_sub-result : goal.overflow_sub-result
+overflow_sub-result c = laws.rest_fits a_list list_at of_lists (depths_left c.args.deep) (some_left c.args.deep c.requires.deep) c.args.tokens.now c.args.from (view_stmts (nodes_of c.in-Ok.list)) c.in-Ok.rest.now c.in-Ok.ensures
+
+pub returns-in-Ok-clause-tree : goal.returns-in-Ok-clause-tree
+returns-in-Ok-clause-tree c = laws.part_read a_list list_at of_lists (depths_left c.args.deep) (some_left c.args.deep c.requires.deep) c.args.tokens.now c.args.from c.requires.from (view_stmts (nodes_of c.in-Ok.list)) c.in-Ok.rest.now c.in-Ok.ensures
+
+pub returns-in-Err-Refused-clause-fault : goal.returns-in-Err-Refused-clause-fault
+returns-in-Err-Refused-clause-fault c = rw c.refused.ensures (inr (laws.part_fault a_list list_at of_lists (depths_left c.args.deep) (some_left c.args.deep c.requires.deep) c.args.tokens.now c.args.from c.args.end (fault_of c.in-Err-Refused.fault) c.in-Err-Refused.rest.now (rw c.in-Err-Refused.field-0-is at c.in-Err-Refused.ensures)))
