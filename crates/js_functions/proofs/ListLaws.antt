@@ -1,5 +1,5 @@
 -- The lists of the trees, node by node.
-use Rattle.std.proofs.Common.{refl, sym, ap, ◌∙◌, ◌≡◌, ℕ, Bool, List, [], ◌∷◌, ◌++◌, length, append-nil, append_assoc}
+use Rattle.std.proofs.Common.{refl, sym, ap, ◌∙◌, ◌≡◌, Bool, List, [], ◌∷◌, ◌++◌, append-nil, append_assoc}
 use Rattle.js_ast.specs.declared.trees.Item.{Item}
 use Rattle.js_ast.specs.declared.trees.Item as an_item
 use Rattle.js_ast.specs.declared.trees.Clause.{Clause, Clause'}

@@ -1,5 +1,5 @@
 -- Loops over the nodes of a list that mark them in turn.
-use Rattle.std.proofs.Common.{refl, sym, ap, ◌∙◌, ◌≡◌, ◌+◌, ◌<◌, ◌≤◌, ℕ, zero, suc, Bool, List, [], ◌∷◌, ◌++◌, length, take, drop, get_or, set, append_assoc, append-nil, length-append, arith}
+use Rattle.std.proofs.Common.{refl, sym, ap, ◌∙◌, ◌≡◌, ◌+◌, ◌<◌, ◌≤◌, ℕ, zero, suc, Bool, List, [], ◌∷◌, ◌++◌, length, take, drop, get_or, set, append_assoc, append-nil, arith}
 use Rattle.std.proofs.lemmas.List.{drop_more, at_drop_all, take_all, drop-set-lt, get_or-set_other, take_more_set}
 use Rattle.js_functions.specs.Functions.{numbered, after}
 use Rattle.js_functions.proofs.Numbered.{numbered_append, after_append, after_none}

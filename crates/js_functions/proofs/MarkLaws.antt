@@ -1,18 +1,17 @@
 -- The marks of what lists and nodes hold, part by part.
-use Rattle.std.proofs.Common.{refl, sym, ap, ◌∙◌, ◌≡◌, ℕ, Bool, List, [], ◌∷◌, ◌++◌, Option, Some, None}
+use Rattle.std.proofs.Common.{refl, ap, ◌∙◌, ◌≡◌, ℕ, Bool, ◌∷◌, ◌++◌, Option, Some, None}
 use Rattle.js_ast.specs.declared.node_list.NodeList.{NodeList}
 use Rattle.js_ast.specs.declared.trees.Expr.{Expr}
 use Rattle.js_ast.specs.declared.trees.Item.{Item}
 use Rattle.js_ast.specs.declared.trees.Property.{Property}
-use Rattle.js_ast.specs.declared.trees.FunctionBody.{FunctionBody, out-FunctionBody, roll-FunctionBody, roll-out-FunctionBody, rolls-FunctionBody'}
+use Rattle.js_ast.specs.declared.trees.FunctionBody.{roll-FunctionBody, rolls-FunctionBody'}
 use Rattle.js_ast.specs.declared.trees.Stmt.{Stmt}
-use Rattle.js_ast.specs.declared.trees.Declaration.{Declaration, out-Declaration, roll-Declaration, roll-out-Declaration, rolls-Declaration'}
-use Rattle.js_ast.specs.declared.trees.Declarations.{Declarations, out-Declarations, roll-Declarations, roll-out-Declarations, rolls-Declarations'}
-use Rattle.js_ast.specs.declared.trees.Block.{Block, out-Block, roll-Block, roll-out-Block, rolls-Block'}
-use Rattle.js_ast.specs.declared.trees.Clause.{Clause, out-Clause, roll-Clause, roll-out-Clause, rolls-Clause'}
+use Rattle.js_ast.specs.declared.trees.Declaration.{Declaration}
+use Rattle.js_ast.specs.declared.trees.Block.{roll-Block, rolls-Block'}
+use Rattle.js_ast.specs.declared.trees.Clause.{Clause}
 use Rattle.js_ast.specs.declared.trees.ExprKind.TheBlock.{back-ForFirst-Expr-0, Row_of-Item, end_of-Item, more_of-Item, items-the_row-Item, hidden-the_row-Item-0, items_hidden-the_row-Item-0, Row_of-Property, end_of-Property, more_of-Property, items-the_row-Property, hidden-the_row-Property-1, items_hidden-the_row-Property-1, Row_of-Expr, end_of-Expr, more_of-Expr, items-the_row-Expr, hidden-the_row-Expr-2, items_hidden-the_row-Expr-2, Row_of-Stmt, end_of-Stmt, more_of-Stmt, items-the_row-Stmt, hidden-the_row-Stmt-3, items_hidden-the_row-Stmt-3, Row_of-Clause, end_of-Clause, more_of-Clause, items-the_row-Clause, hidden-the_row-Clause-4, items_hidden-the_row-Clause-4, Row_of-Declaration, end_of-Declaration, more_of-Declaration, items-the_row-Declaration, hidden-the_row-Declaration-5, items_hidden-the_row-Declaration-5}
 use Rattle.js_ast.specs.Nodes.{nodes_of}
-use Rattle.js_functions.specs.Marks.{marks_expr_kind, marks_expr_row, marks_held_expr, marks_item, marks_item_row, marks_property_kind, marks_property_row, marks_function_body, marks_declaration, marks_declaration_row, marks_declarations, marks_clause, marks_clause_row, marks_block, marks_stmt_kind, marks_stmt_row, marks_maybe_expr, marks_exprs, marks_items, marks_properties, marks_other_declarations, marks_clauses, marks_stmts}
+use Rattle.js_functions.specs.Marks.{marks_expr_kind, marks_expr_row, marks_held_expr, marks_item, marks_item_row, marks_property_kind, marks_property_row, marks_function_body, marks_declaration, marks_declaration_row, marks_clause, marks_clause_row, marks_block, marks_stmt_kind, marks_stmt_row, marks_maybe_expr, marks_exprs, marks_items, marks_properties, marks_other_declarations, marks_clauses, marks_stmts}
 
 -- ---- lists as the trees in memory hold them
 

@@ -1,5 +1,5 @@
 -- Numbers of functions that stand in two parts.
-use Rattle.std.proofs.Common.{refl, sym, ap, ◌∙◌, ◌≡◌, ◌+◌, ℕ, Bool, List, [], ◌∷◌, ◌++◌, length, length-append, append-nil, arith}
+use Rattle.std.proofs.Common.{sym, ap, ◌∙◌, ◌≡◌, ◌+◌, ℕ, Bool, List, [], ◌∷◌, ◌++◌, length-append, append-nil, arith}
 use Rattle.js_functions.specs.Functions.{numbered, after}
 
 pub after_none : (n : ℕ) → after n [] ≡ n

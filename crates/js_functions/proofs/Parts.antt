@@ -1,18 +1,17 @@
 -- Nodes that are structs, by their parts.
 use Rattle.std.proofs.Common.{refl, sym, ap, ◌∙◌, ◌≡◌, ℕ, Bool, List, [], ◌∷◌, ◌++◌, Option, Some, None, append-nil}
 use Rattle.js_ast.specs.declared.node_list.NodeList.{NodeList}
-use Rattle.js_ast.specs.declared.trees.Ident.{Ident}
 use Rattle.js_ast.specs.declared.trees.Expr.{Expr}
 use Rattle.js_ast.specs.declared.trees.Stmt.{Stmt}
 use Rattle.js_ast.specs.declared.trees.FunctionBody.{FunctionBody, out-FunctionBody, roll-FunctionBody, roll-out-FunctionBody, out-roll-FunctionBody}
-use Rattle.js_ast.specs.declared.trees.Declaration.{Declaration, out-Declaration, roll-Declaration, roll-out-Declaration, rolls-Declaration'}
+use Rattle.js_ast.specs.declared.trees.Declaration.{Declaration}
 use Rattle.js_ast.specs.declared.trees.Declarations.{Declarations, out-Declarations, roll-Declarations, roll-out-Declarations, out-roll-Declarations, rolls-Declarations'}
 use Rattle.js_ast.specs.declared.trees.Clause.{Clause, out-Clause, roll-Clause, roll-out-Clause, out-roll-Clause, rolls-Clause'}
 use Rattle.js_ast.specs.declared.trees.Block.{Block, out-Block, roll-Block, roll-out-Block, out-roll-Block}
 use Rattle.js_ast.specs.Nodes.{nodes_of}
 use Rattle.js_ast.specs.Trees as trees
 use Rattle.js_ast.specs.Trees.{no_clauses, block_of}
-use Rattle.js_ast.specs.Views.{view_ident, view_maybe_expr, view_function_body, view_declaration, view_declarations, view_other_declarations, declarations_from, clause_by, view_clause, view_block, view_stmts}
+use Rattle.js_ast.specs.Views.{view_maybe_expr, view_function_body, view_declaration, view_declarations, view_other_declarations, declarations_from, clause_by, view_clause, view_block, view_stmts}
 use Rattle.js_ast.proofs.ViewLaws.{seen_function_body, seen_block_of, parts_declarations, seen_case, seen_default}
 use Rattle.js_functions.specs.Functions.{functions_of_expr, functions_of_maybe, functions_of_others, functions_of_declarations, functions_of_clauses, functions_of_statements}
 use Rattle.js_functions.specs.Marks.{marks_maybe_expr, marks_function_body, marks_declaration, marks_declarations, marks_other_declarations, marks_clause, marks_block, marks_stmts}

@@ -11,7 +11,7 @@ use flow_text::OutOfMemory;
 use js_ast::{Program, StmtList};
 
 /// The program of these statements. It gives each function its number, and marks which code is strict. It takes no
-/// memory, and finds none only for a program of more than 2^32 functions.
+/// memory, and answers that there is none only for a program of 2^32 functions or more.
 pub fn marked_program(body: StmtList) -> Result<Program, OutOfMemory>
     ensures kept { IfOk result (λ p. view_program p ≡ view_stmts (nodes_of body)) }
     ensures marks { IfOk result IsMarked }

@@ -5,6 +5,7 @@ use Rattle.js_ast.specs.declared.token.Token.{Token}
 use Rattle.std.specs.Result.{MatchResult}
 use Rattle.js_ast.specs.Reading.{Fault, syntax, with_statement, nesting, refused, Read}
 use Rattle.js_ast.specs.Refusals.{Nonterminal, IsRefused, FindsExactly, RefusesExactly, OneFound, OneRefusal, FoundOrRefused}
+use Rattle.js_ast.proofs.Outcomes.{same_tree as same_tree_of, same_rest}
 use Rattle.js_faults.specs.declared.fault.Fault.{Fault as Found}
 use Rattle.js_parse_expr.specs.declared.fault.ParseFault.{ParseFault}
 use Rattle.js_parse_expr.specs.declared.fault.ParseFault.TheVariants as fault
@@ -38,7 +39,7 @@ module _ {T : Type 0} (kind : Nonterminal T) (read : ℕ → List Token → Read
 
   -- two answers of one parser agree
   same_answer : (a b : T) (y z : List Token) → (let r : Read T = Ok (a, y) in r ≡ Ok (b, z)) → (a ≡ b) × (y ≡ z)
-  same_answer a b y z e = let p : (let t : T × List Token = (a, y) in t ≡ (b, z)) = cc in (ap (λ (t : T × List Token). t.0) p, ap (λ (t : T × List Token). t.1) p)
+  same_answer a b y z e = (same_tree_of a b y z e, same_rest a b y z e)
 
   not_both : (a : T) (z : List Token) (f : Fault) (y : List Token) → (let r : Read T = Ok (a, z) in r ≡ Err (refused f y)) → ⊥
   not_both a z f y e = cc
