@@ -6,6 +6,7 @@ use Rattle.js_ast.specs.declared.token.Token.{Token}
 use Rattle.js_ast.specs.declared.words.Keyword.TheVariants as key
 use Rattle.js_ast.specs.Words.{a_key, word_of}
 use Rattle.js_ast.specs.Reading.{Fault, syntax, with_statement, nesting, refused, Read}
+use Rattle.js_ast.proofs.Outcomes.{same_tree, same_rest}
 use Rattle.js_ast.proofs.Local.{Local, never, Instead, Swapped}
 use Rattle.js_ast.specs.Refusals.{Nonterminal, BeginsAny, IsAny, InPlaceOf, Why, IsRefused, IsFound, IsRefusedSomewhere, FindsExactly, RefusesExactly, OneFound, OneRefusal, FoundOrRefused}
 
@@ -51,10 +52,6 @@ pub record Finds {T : Type 0} (kind : Nonterminal T) (read : ℕ → List Token 
 
 -- ---- one parser
 
--- two answers of one parser agree
-same_answer : {T : Type 0} (a b : T) (y z : List Token) → (let r : Read T = Ok (a, y) in r ≡ Ok (b, z)) → (a ≡ b) × (y ≡ z)
-same_answer {T} a b y z e = let p : (let t : T × List Token = (a, y) in t ≡ (b, z)) = cc in (ap (λ (t : T × List Token). t.0) p, ap (λ (t : T × List Token). t.1) p)
-
 not_both : {T : Type 0} (a : T) (z : List Token) (f : Fault) (y : List Token) → (let r : Read T = Ok (a, z) in r ≡ Err (refused f y)) → ⊥
 not_both a z f y e = cc
 
@@ -91,7 +88,7 @@ module _ {T : Type 0} (kind : Nonterminal T) (read : ℕ → List Token → Read
       let big = max limit b.0 in
       let goes = all_grows b.0 big (omega arith) h.1 (taken ++ x ∷ h.0) (subst (λ (v : List Token). read b.0 v ≡ Ok (h.1, [])) (one_more taken x h.0) h.2) in
       let stops = ok_grows limit big (omega arith) tree taken x z h.0 e in
-      let bad : [] ≡ x ∷ h.0 = (same_answer h.1 tree [] (x ∷ h.0) (sym goes ∙ stops)).1 in cc
+      let bad : [] ≡ x ∷ h.0 = same_rest h.1 tree [] (x ∷ h.0) (sym goes ∙ stops) in cc
 
   -- ---- refusals
 
@@ -205,8 +202,9 @@ module _ {T : Type 0} (kind : Nonterminal T) (read : ℕ → List Token → Read
     -- one tree, and one end
     pub one_found : OneFound kind
     one_found limit p q a b y z e h k =
-        let same = same_answer p q y z (sym (finds.complete limit p a y h) ∙ ap (read limit) e ∙ finds.complete limit q b z k) in
-        (same.0, append_cancel_right a b z (subst (λ (v : List Token). a ++ v ≡ b ++ z) same.1 e), same.1)
+        let same = sym (finds.complete limit p a y h) ∙ ap (read limit) e ∙ finds.complete limit q b z k in
+        let rest = same_rest p q y z same in
+        (same_tree p q y z same, append_cancel_right a b z (subst (λ (v : List Token). a ++ v ≡ b ++ z) rest e), rest)
 
     -- where a tree ends nothing is refused
     here_not : (limit : ℕ) (tree : T) (f : Fault) (taken others : List Token) → kind.Is limit tree taken others → Why kind limit f taken others → ⊥

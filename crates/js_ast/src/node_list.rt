@@ -48,18 +48,4 @@ impl<T: Drop> NodeList<T> {
     {
         &mut self.nodes
     }
-
-    /// The list of these nodes.
-    pub fn from_items(nodes: Vec<T>) -> NodeList<T>
-        ensures { nodes_of result ≡ nodes.items }
-    {
-        NodeList { nodes }
-    }
-
-    /// Its nodes, by value.
-    pub fn into_items(self) -> Vec<T>
-        ensures { result.items ≡ nodes_of self }
-    {
-        self.nodes
-    }
 }

@@ -37,10 +37,6 @@ pub record Lawful {T : Type 0} (kind : Nonterminal T) (read : ℕ → List Token
 module _ {T : Type 0} (kind : Nonterminal T) (read : ℕ → List Token → Read T) (lawful : Lawful kind read) where
   -- ---- the parser on lists
 
-  -- two answers of one parser agree
-  same_answer : (a b : T) (y z : List Token) → (let r : Read T = Ok (a, y) in r ≡ Ok (b, z)) → (a ≡ b) × (y ≡ z)
-  same_answer a b y z e = (same_tree_of a b y z e, same_rest a b y z e)
-
   not_both : (a : T) (z : List Token) (f : Fault) (y : List Token) → (let r : Read T = Ok (a, z) in r ≡ Err (refused f y)) → ⊥
   not_both a z f y e = cc
 
@@ -48,8 +44,10 @@ module _ {T : Type 0} (kind : Nonterminal T) (read : ℕ → List Token → Read
   pub found_at : (limit : ℕ) → 1 ≤ limit → (tokens : List Token) (tree : T) (others : List Token) → read limit tokens ≡ Ok (tree, others) → (taken : List Token) × (tokens ≡ taken ++ others) × kind.Is limit tree taken others
   found_at limit pos tokens tree others e = elim ((lawful.found_or_refused limit tokens pos).0) [
     | inl h ↦
-        let same = same_answer tree h.0 others h.2 (sym e ∙ ap (read limit) h.3 ∙ (lawful.finds limit h.0 h.1 h.2).1 h.4) in
-        (h.1, h.3 ∙ ap (λ (v : List Token). h.1 ++ v) (sym same.1), subst (λ (v : List Token). kind.Is limit tree h.1 v) (sym same.1) (subst (λ (t : T). kind.Is limit t h.1 h.2) (sym same.0) h.4))
+        let same = sym e ∙ ap (read limit) h.3 ∙ (lawful.finds limit h.0 h.1 h.2).1 h.4 in
+        let tree_is : tree ≡ h.0 = same_tree_of tree h.0 others h.2 same in
+        let rest_is : others ≡ h.2 = same_rest tree h.0 others h.2 same in
+        (h.1, h.3 ∙ ap (λ (v : List Token). h.1 ++ v) (sym rest_is), subst (λ (v : List Token). kind.Is limit tree h.1 v) (sym rest_is) (subst (λ (t : T). kind.Is limit t h.1 h.2) (sym tree_is) h.4))
     | inr h ↦ absurd (not_both tree others h.0 h.1 (sym e ∙ (lawful.refuses limit tokens h.1 h.0 pos).1 h.2))
   ]
 

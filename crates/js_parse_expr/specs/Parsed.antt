@@ -1,5 +1,5 @@
 -- What a parser answers, of whatever kind of tree: the tree that the tokens are from a place on, or why they are none.
-use Rattle.std.specs.Prelude.{◌≡◌, ℕ, suc, ◌+◌, List, [], ◌∷◌, ◌++◌, length, drop, Option, Some, None}
+use Rattle.std.specs.Prelude.{◌≡◌, ℕ, ◌+◌, List, [], ◌∷◌, ◌++◌, length, drop, Option, Some, None}
 use Rattle.js_ast.specs.declared.token.Token.{Token}
 use Rattle.js_ast.specs.Reading.{Fault, syntax, with_statement, nesting}
 use Rattle.js_ast.specs.Refusals.{Nonterminal, IsRefused}
@@ -58,11 +58,3 @@ abbrev pub told : Fault → ℕ → ParseFault
 told syntax at = fault.Syntax at
 told with_statement at = fault.With at
 told nesting at = fault.Nesting at
-
--- the place of a fault
-abbrev pub fault_at : ParseFault → ℕ
-fault_at (fault.Syntax at) = at
-fault_at (fault.With at) = at
-fault_at (fault.Nesting at) = at
-fault_at (fault.Directive at) = at
-fault_at fault.OutOfMemory = 0
