@@ -1,0 +1,9 @@
+pub mod Bindings
+pub mod Declared
+pub mod Evaluation
+pub mod Laws
+pub mod Operations
+pub mod Operators
+pub mod Outcomes
+pub mod Plain
+pub mod Rows

@@ -1,0 +1,115 @@
+-- Operators on primitive values (ECMA-262 11.4 to 11.11), where what they give is in the profile, and else the name by which the run leaves.
+use Rattle.std.specs.Prelude.{ℕ, List, Bool, not, ℤ, neg_ℤ, ◌-ℤ◌, ◌*ℤ◌, Result, Ok, Err, codes}
+use Rattle.js_ast.specs.declared.operators.UnaryOperator.{UnaryOperator}
+use Rattle.js_ast.specs.declared.operators.UnaryOperator.TheVariants as unary_operator
+use Rattle.js_ast.specs.declared.operators.BinaryOperator.{BinaryOperator}
+use Rattle.js_ast.specs.declared.operators.BinaryOperator.TheVariants as binary_operator
+use Rattle.js_number.specs.declared.int.LeftNumbers.{LeftNumbers}
+use Rattle.js_number.specs.declared.prim.Prim.{Prim}
+use Rattle.js_number.specs.declared.prim.Prim.TheVariants.{Undefined, Null, Num, Str}
+use Rattle.js_number.specs.declared.prim.Prim.TheVariants as prims
+use Rattle.js_number.specs.declared.sum.AddFault.{AddFault}
+use Rattle.js_number.specs.declared.sum.AddFault.TheVariants as faults
+use Rattle.js_number.specs.Number.{number, some_number}
+use Rattle.js_number.specs.Conversions.{boolean_of, number_of}
+use Rattle.js_number.specs.Arithmetic.{quotient, remainder}
+use Rattle.js_number.specs.Bits.{shifted_left, shifted_right, shifted_with_zeros, and_of, xor_of, or_of, not_of}
+use Rattle.js_number.specs.Compare.{strictly_equal, loosely_equal, is_less}
+use Rattle.js_number.specs.Sum.{sum_of}
+
+-- a value, or the name by which the run leaves
+abbrev pub Given : Type 0
+Given = Result Prim (List ℕ)
+
+-- the run leaves since a result is no number of the profile, or a text is too long
+abbrev pub leaves_numbers : List ℕ
+leaves_numbers = codes "number"
+
+abbrev pub leaves_strings : List ℕ
+leaves_strings = codes "string"
+
+-- a part of the language that can't be run yet
+abbrev pub not_built : List ℕ
+not_built = codes "unbuilt"
+
+abbrev pub as_number : Result ℤ LeftNumbers → Given
+as_number (Ok n) = Ok (Num n)
+as_number (Err e) = Err leaves_numbers
+
+abbrev pub as_boolean : Result Bool LeftNumbers → Given
+as_boolean (Ok b) = Ok (prims.Bool b)
+as_boolean (Err e) = Err leaves_numbers
+
+-- that of two values turned
+abbrev pub turned : Result Bool LeftNumbers → Result Bool LeftNumbers
+turned (Ok b) = Ok (not b)
+turned (Err e) = Err e
+
+abbrev pub as_sum : Result Prim AddFault → Given
+as_sum (Ok v) = Ok v
+as_sum (Err faults.LeftNumbers) = Err leaves_numbers
+as_sum (Err faults.LeftString) = Err leaves_strings
+-- the sum is a function of its operands, and knows no memory
+as_sum (Err faults.OutOfMemory) = Err leaves_strings
+
+-- a function of a value as a number (ECMA-262 9.3)
+abbrev pub of_number : (ℤ → Result ℤ LeftNumbers) → Result ℤ LeftNumbers → Given
+of_number f (Ok n) = as_number (f n)
+of_number f (Err e) = Err leaves_numbers
+
+abbrev pub to_number : Prim → Result ℤ LeftNumbers
+to_number v = some_number (number_of v)
+
+-- a function of two values as numbers, of which the left one is converted first
+abbrev pub both : (ℤ → ℤ → Result ℤ LeftNumbers) → Result ℤ LeftNumbers → Result ℤ LeftNumbers → Given
+both f (Ok m) n = of_number (f m) n
+both f (Err e) n = Err leaves_numbers
+
+abbrev pub of_numbers : (ℤ → ℤ → Result ℤ LeftNumbers) → Prim → Prim → Given
+of_numbers f v u = both f (to_number v) (to_number u)
+
+-- what `typeof` says of a value (ECMA-262 11.4.3)
+abbrev pub type_of : Prim → List ℕ
+type_of Undefined = codes "undefined"
+type_of Null = codes "object"
+type_of (prims.Bool b) = codes "boolean"
+type_of (Num n) = codes "number"
+type_of (Str text) = codes "string"
+
+-- an operator in front of its operand; those that take a name, and not its value, can't stand here
+unfoldable pub unary_of : UnaryOperator → Prim → Given
+unary_of unary_operator.Void v = Ok Undefined
+unary_of unary_operator.Typeof v = Ok (Str (type_of v))
+unary_of unary_operator.Plus v = as_number (to_number v)
+unary_of unary_operator.Minus v = of_number (λ n. number (neg_ℤ n)) (to_number v)
+unary_of unary_operator.BitNot v = of_number (λ n. Ok (not_of n)) (to_number v)
+unary_of unary_operator.Not v = Ok (prims.Bool (not (boolean_of v)))
+unary_of unary_operator.Delete v = Err not_built
+unary_of unary_operator.Increment v = Err not_built
+unary_of unary_operator.Decrement v = Err not_built
+
+-- an operator between two operands; `&&` and `||` choose what is evaluated, and can't stand here
+unfoldable pub binary_of : BinaryOperator → Prim → Prim → Given
+binary_of binary_operator.Multiply v u = of_numbers (λ m n. number (m *ℤ n)) v u
+binary_of binary_operator.Divide v u = of_numbers (λ m n. some_number (quotient m n)) v u
+binary_of binary_operator.Remainder v u = of_numbers (λ m n. some_number (remainder m n)) v u
+binary_of binary_operator.Add v u = as_sum (sum_of v u)
+binary_of binary_operator.Subtract v u = of_numbers (λ m n. number (m -ℤ n)) v u
+binary_of binary_operator.ShiftLeft v u = of_numbers (λ m n. Ok (shifted_left m n)) v u
+binary_of binary_operator.ShiftRight v u = of_numbers (λ m n. Ok (shifted_right m n)) v u
+binary_of binary_operator.ShiftRightZero v u = of_numbers (λ m n. Ok (shifted_with_zeros m n)) v u
+binary_of binary_operator.Less v u = as_boolean (is_less v u)
+binary_of binary_operator.Greater v u = as_boolean (is_less u v)
+binary_of binary_operator.LessEqual v u = as_boolean (turned (is_less u v))
+binary_of binary_operator.GreaterEqual v u = as_boolean (turned (is_less v u))
+binary_of binary_operator.Equal v u = as_boolean (loosely_equal v u)
+binary_of binary_operator.NotEqual v u = as_boolean (turned (loosely_equal v u))
+binary_of binary_operator.StrictEqual v u = Ok (prims.Bool (strictly_equal v u))
+binary_of binary_operator.StrictNotEqual v u = Ok (prims.Bool (not (strictly_equal v u)))
+binary_of binary_operator.BitAnd v u = of_numbers (λ m n. Ok (and_of m n)) v u
+binary_of binary_operator.BitXor v u = of_numbers (λ m n. Ok (xor_of m n)) v u
+binary_of binary_operator.BitOr v u = of_numbers (λ m n. Ok (or_of m n)) v u
+binary_of binary_operator.And v u = Err not_built
+binary_of binary_operator.Or v u = Err not_built
+binary_of binary_operator.In v u = Err not_built
+binary_of binary_operator.Instanceof v u = Err not_built

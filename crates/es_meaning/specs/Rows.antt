@@ -1,0 +1,172 @@
+-- Small scripts, and what they print, worked out by hand or asked of another engine. Their trees stand without places.
+use Rattle.std.specs.Prelude.{◌≡◌, ℕ, List, [], ◌∷◌, true, pos, codes}
+use Rattle.flow_policy.specs.Policies.{Tables}
+use Rattle.flow_policy.specs.Inputs.{Given}
+use Rattle.js_ast.specs.declared.operators.UnaryOperator.TheVariants as unary_operator
+use Rattle.js_ast.specs.declared.operators.PostfixOperator.TheVariants as postfix_operator
+use Rattle.js_ast.specs.declared.operators.BinaryOperator.{BinaryOperator}
+use Rattle.js_ast.specs.declared.operators.BinaryOperator.TheVariants as binary_operator
+use Rattle.js_ast.specs.declared.operators.AssignOperator.TheVariants as assign_operator
+use Rattle.js_ast.specs.Trees.{Ident, Expr, name, number, string, boolean, paren, call, postfix, unary, binary, conditional, assign, comma, no_exprs, more_exprs, present, one_declaration, more_declarations, first_var, block_of, Statement, block, var, expression, do_while, while, for, written, Statements, no_statements, more_statements}
+use Rattle.es_meaning.specs.Outcomes.{Ending, done, threw, left, out_of_turns}
+use Rattle.es_meaning.specs.Plain.{Line, Run, plain_run}
+
+-- ---- the policy: origin A, origin B, in pin A, in note -, out all A,B, out pub -; and the input of one line on pin
+
+abbrev pub tables : Tables
+tables = record {
+  origins = codes "A" ∷ codes "B" ∷ [];
+  inputs = record { name = codes "pin"; label = 0 ∷ [] } ∷ record { name = codes "note"; label = [] } ∷ [];
+  outputs = record { name = codes "all"; label = 0 ∷ 1 ∷ [] } ∷ record { name = codes "pub"; label = [] } ∷ [];
+}
+
+abbrev pub pin : List ℕ → Given
+pin text = (text ∷ []) ∷ [] ∷ []
+
+-- ---- trees
+
+abbrev pub ident : List ℕ → Ident
+ident x = record { at = 0; text = x }
+
+abbrev pub named : List ℕ → Expr
+named x = name 0 x
+
+abbrev pub text : List ℕ → Expr
+text t = string 0 t t
+
+abbrev pub num : ℕ → Expr
+num n = number 0 (pos n)
+
+abbrev pub minus : Expr → Expr
+minus e = unary 0 unary_operator.Minus e
+
+abbrev pub op : Expr → BinaryOperator → Expr → Expr
+op l o r = binary 0 l o r
+
+abbrev pub plus : Expr → Expr → Expr
+plus l r = op l binary_operator.Add r
+
+abbrev pub sets : List ℕ → Expr → Expr
+sets x e = assign 0 (named x) assign_operator.Assign e
+
+abbrev pub adds : List ℕ → Expr → Expr
+adds x e = assign 0 (named x) assign_operator.Add e
+
+abbrev pub reads : List ℕ → Expr
+reads c = call 0 (named (codes "read")) (more_exprs (text c) no_exprs)
+
+abbrev pub labels : Expr → List ℕ → Expr
+labels e o = call 0 (named (codes "lbl")) (more_exprs e (more_exprs (text o) no_exprs))
+
+abbrev pub prints_on : List ℕ → Expr → Expr
+prints_on c e = call 0 (named (codes "print")) (more_exprs (text c) (more_exprs e no_exprs))
+
+abbrev pub does : Expr → Statement
+does e = expression 0 e written
+
+abbrev pub prints : List ℕ → Expr → Statement
+prints c e = does (prints_on c e)
+
+abbrev pub var_is : List ℕ → Expr → Statement
+var_is x e = var 0 (one_declaration (ident x) (present e)) written
+
+abbrev pub list : List Statement → Statements
+list [] = no_statements
+list (s ∷ ss) = more_statements s (list ss)
+
+-- ---- runs
+
+abbrev pub line : List ℕ → List ℕ → Line
+line c t = record { channel = c; text = t }
+
+abbrev pub prints_and : List Line → Ending → Run
+prints_and lines ending = record { lines = lines; ending = ending }
+
+-- a script gives this, on the line 1, with so many turns
+abbrev pub Gives : List Statement → ℕ → Run → Type 0
+Gives script turns run = plain_run tables (pin (codes "1")) (list script) turns ≡ run
+
+abbrev pub Prints : List Statement → List ℕ → Type 0
+Prints script t = Gives script 200 (prints_and (line (codes "pub") t ∷ []) done)
+
+-- ---- the scripts
+
+-- print("pub", "hi");
+abbrev pub hello : List Statement
+hello = prints (codes "pub") (text (codes "hi")) ∷ []
+
+-- var a=1,b=2; a; ++b; print("pub", a+","+b);
+abbrev pub steps : List Statement
+steps = var 0 (more_declarations (ident (codes "a")) (present (num 1)) (one_declaration (ident (codes "b")) (present (num 2)))) written
+    ∷ does (named (codes "a")) ∷ does (unary 0 unary_operator.Increment (named (codes "b"))) ∷ prints (codes "pub") (plus (plus (named (codes "a")) (text (codes ","))) (named (codes "b"))) ∷ []
+
+-- print("pub", 9007199254740990 + 1); print("pub", 9007199254740991 + 1);
+abbrev pub greatest : List Statement
+greatest = prints (codes "pub") (plus (num 9007199254740990) (num 1)) ∷ prints (codes "pub") (plus (num 9007199254740991) (num 1)) ∷ []
+
+-- (-7 % 3) + "," + (1 << 31) + "," + (-1 >>> 0) + "," + "5" * "4" + "," + ("5" + 4)
+abbrev pub with_comma : Expr → Expr → Expr
+with_comma l r = plus (plus l (text (codes ","))) r
+
+abbrev pub operators : List Statement
+operators = prints (codes "pub") (with_comma (with_comma (with_comma (with_comma (paren 0 (op (minus (num 7)) binary_operator.Remainder (num 3))) (paren 0 (op (num 1) binary_operator.ShiftLeft (num 31))))
+    (paren 0 (op (minus (num 1)) binary_operator.ShiftRightZero (num 0)))) (op (text (codes "5")) binary_operator.Multiply (text (codes "4")))) (paren 0 (plus (text (codes "5")) (num 4)))) ∷ []
+
+-- print("pub", 7 / 2);
+abbrev pub fraction : List Statement
+fraction = prints (codes "pub") (op (num 7) binary_operator.Divide (num 2)) ∷ []
+
+-- while (true) {}
+abbrev pub endless : List Statement
+endless = while 0 (boolean 0 true) (block (block_of 0 no_statements)) ∷ []
+
+-- var i = 0; while (i < 1) i = 1;
+abbrev pub one_turn : List Statement
+one_turn = var_is (codes "i") (num 0) ∷ while 0 (op (named (codes "i")) binary_operator.Less (num 1)) (does (sets (codes "i") (num 1))) ∷ []
+
+-- var s = 0; for (var i = 0; i < 4; i++) s += i; print("pub", s);
+abbrev pub sum : List Statement
+sum = var_is (codes "s") (num 0)
+    ∷ for 0 (first_var (one_declaration (ident (codes "i")) (present (num 0)))) (present (op (named (codes "i")) binary_operator.Less (num 4))) (present (postfix 0 (named (codes "i")) postfix_operator.Increment)) (does (adds (codes "s") (named (codes "i"))))
+    ∷ prints (codes "pub") (named (codes "s")) ∷ []
+
+-- var s = "a"; do s += "a"; while (s != "aaa"); print("pub", s);
+abbrev pub tail_test : List Statement
+tail_test = var_is (codes "s") (text (codes "a")) ∷ do_while 0 (does (adds (codes "s") (text (codes "a")))) (op (named (codes "s")) binary_operator.NotEqual (text (codes "aaa"))) written ∷ prints (codes "pub") (named (codes "s")) ∷ []
+
+-- print("pub", (0 || "b") && typeof nothing);
+abbrev pub chosen : List Statement
+chosen = prints (codes "pub") (op (paren 0 (op (num 0) binary_operator.Or (text (codes "b")))) binary_operator.And (unary 0 unary_operator.Typeof (named (codes "nothing")))) ∷ []
+
+-- var i = 5; print("pub", (i--, i) ? i++ + i : 0);
+abbrev pub old_and_new : List Statement
+old_and_new = var_is (codes "i") (num 5) ∷ prints (codes "pub") (conditional 0 (paren 0 (comma 0 (postfix 0 (named (codes "i")) postfix_operator.Decrement) (named (codes "i")))) (plus (postfix 0 (named (codes "i")) postfix_operator.Increment) (named (codes "i"))) (num 0)) ∷ []
+
+-- print("all", read("pin")); print("all", read("pin"));
+abbrev pub past_the_end : List Statement
+past_the_end = prints (codes "all") (reads (codes "pin")) ∷ prints (codes "all") (reads (codes "pin")) ∷ []
+
+-- what they give
+pub record WorkedRows : Type 0 where
+  -- five parts are evaluated: the statement, the call, the name that is called, and two arguments
+  pub hello_in_five : Gives hello 5 (prints_and (line (codes "pub") (codes "hi") ∷ []) done)
+  pub hello_in_four : Gives hello 4 (prints_and [] out_of_turns)
+  pub steps_print : Prints steps (codes "1,3")
+  pub greatest_leaves : Gives greatest 200 (prints_and (line (codes "pub") (codes "9007199254740991") ∷ []) (left (codes "number")))
+  pub operators_print : Prints operators (codes "-1,-2147483648,4294967295,20,54")
+  pub fraction_leaves : Gives fraction 200 (prints_and [] (left (codes "number")))
+  -- the statement and its condition, and then the turn, the block and the condition, again and again
+  pub endless_ends : Gives endless 41 (prints_and [] out_of_turns)
+  -- 2 parts of the variable, the loop, 3 of its condition, a turn, 4 of its body, and again 3 of the condition
+  pub one_turn_in_fourteen : Gives one_turn 14 (prints_and [] done)
+  pub one_turn_in_thirteen : Gives one_turn 13 (prints_and [] out_of_turns)
+  pub sum_prints : Prints sum (codes "6")
+  pub tail_test_prints : Prints tail_test (codes "aaa")
+  pub chosen_prints : Prints chosen (codes "undefined")
+  pub old_and_new_prints : Prints old_and_new (codes "9")
+  pub past_the_end_prints : Gives past_the_end 200 (prints_and (line (codes "all") (codes "1") ∷ line (codes "all") (codes "undefined") ∷ []) done)
+  pub no_channel : Gives (prints (codes "zzz") (num 1) ∷ []) 200 (prints_and [] (left (codes "channel")))
+  pub no_origin : Gives (does (labels (num 1) (codes "Z")) ∷ []) 200 (prints_and [] (left (codes "origin")))
+  -- undefined = 1; and nothing = 1;
+  pub immutable : Gives (does (sets (codes "undefined") (num 1)) ∷ []) 200 (prints_and [] (threw (codes "object Error TypeError")))
+  pub unbound : Gives (does (sets (codes "nothing") (num 1)) ∷ []) 200 (prints_and [] (threw (codes "object Error ReferenceError")))

@@ -1,0 +1,14 @@
+//! The laws of the meaning, as functions that do nothing.
+
+ghost use Rattle.es_meaning.specs.Laws.{MoreTurns};
+ghost use Rattle.es_meaning.specs.Rows.{WorkedRows};
+
+/// More turns change no run that ends otherwise than by their want.
+pub fn more_turns()
+    ensures { MoreTurns }
+{}
+
+/// Small scripts print what was worked out by hand.
+pub fn rows()
+    ensures { WorkedRows }
+{}

@@ -1,0 +1,156 @@
+-- The meaning of a part is its plan, performed with the meaning of the parts that it asks for: the turns bound the depth.
+use Rattle.std.proofs.Common.{◌≡◌, ℕ, zero, suc, ◌≤◌, refl, sym, ap, ◌∙◌, subst, arith}
+use Rattle.flow_policy.specs.Policies.{Tables}
+use Rattle.flow_policy.specs.Inputs.{Given}
+use Rattle.js_ast.specs.Trees.{Statements}
+use Rattle.es_meaning.specs.Outcomes.{out_of_turns, Outcome, Goes, Ends}
+use Rattle.es_meaning.specs.Operations.{One, Res}
+use Rattle.es_meaning.specs.Evaluation.{statements, eval, program_step}
+use Rattle.flow_meaning.specs.Laws.{IsPerformed, performed_run}
+use Rattle.flow_meaning.specs.Tracked.{Labelled, Ending, as_plain, State, spend, labelled, timed, start, run_of, tracked_run}
+use Rattle.flow_meaning.specs.Planned.{Part, an_expr, a_place, a_stmt, a_turn, Plan, Give, Ask, End, plan, program_plan, Ran, Evaluator, untyped, of_rec, and_go, perform, meaning, program_meaning}
+use Rattle.flow_meaning.proofs.Steady.{with_turns}
+use Rattle.flow_meaning.proofs.Performing.{Keeps, perform_step, plan_keeps, perform_program, program_keeps}
+
+-- no more than so many turns are left
+abbrev IsWithin : ℕ → Ran → Type 0
+IsWithin n (Goes v s) = s.turns ≤ n
+IsWithin n (Ends ending s) = Unit {0}
+
+-- no part adds turns
+abbrev Spends : Evaluator → Type 0
+Spends e = (part : Part) (s : State) → IsWithin s.turns (e part s)
+
+-- within more
+within_more : (n m : ℕ) (o : Ran) → n ≤ m → IsWithin n o → IsWithin m o
+within_more n m (Goes v s) le h = omega arith
+within_more n m (Ends ending s) le h = tt
+
+-- what follows
+go_within : (n : ℕ) (o : Ran) (next : Labelled → State → Ran) → IsWithin n o → ((v : Labelled) (s : State) → s.turns ≤ n → IsWithin n (next v s)) → IsWithin n (and_go o next)
+unfolding and_go
+go_within n (Goes v s) next h f = f v s h
+go_within n (Ends ending s) next h f = tt
+
+-- a plan
+perform_within : (e : Evaluator) → Spends e → (n : ℕ) (p : Plan) → Keeps n p → IsWithin n (perform e p)
+unfolding perform
+perform_within e h n (Give v s) k = omega arith
+perform_within e h n (Ask part s go_on) k =
+    go_within n (e part s) _ (subst (λ m. IsWithin m (e part s)) k.0 (h part s)) (λ v t le. within_more t.turns n _ le (perform_within e h t.turns (go_on v t) (k.1 v t)))
+perform_within e h n (End ending s) k = tt
+
+-- two evaluators that agree as long as no more than n turns are left
+abbrev Agree : ℕ → Evaluator → Evaluator → Type 0
+Agree n e f = (part : Part) (s : State) → s.turns ≤ n → e part s ≡ f part s
+
+-- what follows
+go_same : (n : ℕ) (o : Ran) (f g : Labelled → State → Ran) → IsWithin n o → ((v : Labelled) (s : State) → s.turns ≤ n → f v s ≡ g v s) → and_go o f ≡ and_go o g
+unfolding and_go
+go_same n (Goes v s) f g h same = same v s h
+go_same n (Ends ending s) f g h same = refl
+
+-- a plan
+perform_same : (n : ℕ) (e f : Evaluator) → Spends e → Agree n e f → (m : ℕ) (p : Plan) → m ≤ n → Keeps m p → perform e p ≡ perform f p
+unfolding perform
+perform_same n e f h agree m (Give v s) le k = refl
+perform_same n e f h agree m (Ask part s go_on) le k =
+    let at_most : s.turns ≤ n = let q = k.0 in omega arith in
+    go_same n (e part s) _ (λ v t. perform f (go_on v t)) (within_more s.turns n (e part s) at_most (h part s)) (λ v t less. perform_same n e f h agree t.turns (go_on v t) less (k.1 v t))
+    ∙ ap (λ o. and_go o (λ v t. perform f (go_on v t))) (agree part s at_most)
+perform_same n e f h agree m (End ending s) le k = refl
+
+module _ (tables : Tables) (inputs : Given) where
+  -- the meaning of a part, up to a depth
+  abbrev depth : ℕ → Evaluator
+  depth n = of_rec tables inputs (eval (timed tables inputs) n)
+
+  -- with no turn left the run ends, to any depth
+  none_left : (n : ℕ) (part : Part) (s : State) → depth n part (with_turns 0 s) ≡ Ends (as_plain out_of_turns) (with_turns 0 s)
+  unfolding eval spend
+  none_left zero (an_expr e) s = refl
+  none_left zero (a_place e) s = refl
+  none_left zero (a_stmt stmt) s = refl
+  none_left zero (a_turn round) s = refl
+  none_left (suc n) (an_expr e) s = refl
+  none_left (suc n) (a_place e) s = refl
+  none_left (suc n) (a_stmt stmt) s = refl
+  none_left (suc n) (a_turn round) s = refl
+
+  -- and so it does out of depth
+  no_depth : (part : Part) (s : State) → depth zero part s ≡ Ends (as_plain out_of_turns) s
+  unfolding eval
+  no_depth (an_expr e) s = refl
+  no_depth (a_place e) s = refl
+  no_depth (a_stmt stmt) s = refl
+  no_depth (a_turn round) s = refl
+
+  -- with a turn left it is the plan, performed with one level less
+  turn_left : (n : ℕ) (part : Part) (s : State) (t : ℕ) → depth (suc n) part (with_turns (suc t) s) ≡ perform (depth n) (plan tables inputs part (with_turns t s))
+  unfolding eval spend
+  turn_left n (an_expr e) s t = sym (perform_step tables inputs (eval (timed tables inputs) n) (an_expr e) (with_turns t s))
+  turn_left n (a_place e) s t = sym (perform_step tables inputs (eval (timed tables inputs) n) (a_place e) (with_turns t s))
+  turn_left n (a_stmt stmt) s t = sym (perform_step tables inputs (eval (timed tables inputs) n) (a_stmt stmt) (with_turns t s))
+  turn_left n (a_turn round) s t = sym (perform_step tables inputs (eval (timed tables inputs) n) (a_turn round) (with_turns t s))
+
+  -- the plan itself changes no turns, whatever its parts mean
+  keeps : (part : Part) (s : State) → Keeps s.turns (plan tables inputs part s)
+  keeps part s = plan_keeps tables inputs (eval (timed tables inputs) 0) part s
+
+  -- up to a depth no part adds turns
+  within_at : (n t : ℕ) (part : Part) (s : State) → IsWithin t (depth n part (with_turns t s))
+  within_at n zero part s = subst (IsWithin zero) (sym (none_left n part s)) tt
+  within_at zero (suc t) part s = subst (IsWithin (suc t)) (sym (no_depth part (with_turns (suc t) s))) tt
+  within_at (suc n) (suc t) part s = subst (IsWithin (suc t)) (sym (turn_left n part s t))
+      (within_more t (suc t) _ (omega arith) (perform_within (depth n) (λ part s. within_at n s.turns part s) t (plan tables inputs part (with_turns t s)) (keeps part (with_turns t s))))
+
+  -- whatever turns are left
+  depth_within : (n : ℕ) → Spends (depth n)
+  depth_within n part s = within_at n s.turns part s
+
+  -- two depths that are no less than the turns
+  depths_same : (d g t : ℕ) (part : Part) (s : State) → t ≤ d → t ≤ g → depth d part (with_turns t s) ≡ depth g part (with_turns t s)
+  depths_same d g zero part s h k = none_left d part s ∙ sym (none_left g part s)
+  depths_same zero g (suc t) part s h k = absurd (omega arith)
+  depths_same (suc d) zero (suc t) part s h k = absurd (omega arith)
+  depths_same (suc d) (suc g) (suc t) part s h k =
+      turn_left d part s t
+      ∙ perform_same t (depth d) (depth g) (depth_within d) (λ part s le. depths_same d g s.turns part s (omega arith) (omega arith)) t (plan tables inputs part (with_turns t s)) (omega arith) (keeps part (with_turns t s))
+      ∙ sym (turn_left g part s t)
+
+  -- with depth to spare the evaluator gives the meaning
+  pub deep_enough : (n : ℕ) (part : Part) (s : State) → s.turns ≤ n → depth n part s ≡ meaning tables inputs part s
+  unfolding meaning
+  deep_enough n part s h = depths_same n s.turns s.turns part s h (omega arith)
+
+  -- a plan, performed with depth to spare
+  perform_deep : (n : ℕ) (p : Plan) → Keeps n p → perform (depth n) p ≡ perform (meaning tables inputs) p
+  perform_deep n p k = perform_same n (depth n) (meaning tables inputs) (depth_within n) (deep_enough n) n p (omega arith) k
+
+  -- with no turn left
+  pub meaning_zero : (part : Part) (s : State) → meaning tables inputs part (record s { turns = 0 }) ≡ Ends (as_plain out_of_turns) (record s { turns = 0 })
+  unfolding meaning
+  meaning_zero part s = none_left 0 part s
+
+  -- with a turn left
+  pub meaning_suc : (part : Part) (s : State) (t : ℕ) → meaning tables inputs part (record s { turns = suc t }) ≡ perform (meaning tables inputs) (plan tables inputs part (record s { turns = t }))
+  unfolding meaning
+  meaning_suc part s t = turn_left t part s t ∙ perform_deep t (plan tables inputs part (with_turns t s)) (keeps part (with_turns t s))
+
+-- the lines of a run and how it ends
+run_same : (o : Outcome Ending (Res Labelled One) State) → performed_run (untyped One o) ≡ run_of o
+run_same (Goes a s) = refl
+run_same (Ends ending s) = refl
+
+-- a program's plan, performed
+program_same : (tables : Tables) (inputs : Given) (program : Statements) (turns : ℕ) → performed_run (program_meaning tables inputs program turns) ≡ tracked_run tables inputs program turns
+unfolding program_meaning tracked_run program_step
+program_same tables inputs program turns =
+    let s = start tables inputs program turns in
+    let parts = eval (timed tables inputs) turns in
+    let deep = perform_deep tables inputs turns (program_plan tables inputs program s) (program_keeps tables inputs parts program s) in
+    ap performed_run (sym deep ∙ perform_program tables inputs parts program s) ∙ run_same (statements (labelled tables inputs) parts program s)
+
+-- what a part does, and a program, is its plan, performed
+pub is_performed : IsPerformed
+is_performed = record { none_left = meaning_zero; some_left = meaning_suc; programs = program_same }

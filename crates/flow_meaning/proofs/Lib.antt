@@ -1,0 +1,4 @@
+pub mod Depth
+pub mod Longer
+pub mod Performing
+pub mod Steady

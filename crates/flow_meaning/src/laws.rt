@@ -1,0 +1,19 @@
+//! The laws of the meaning, as functions that do nothing.
+
+ghost use Rattle.flow_meaning.specs.Laws.{MoreTurns, IsPerformed};
+ghost use Rattle.flow_meaning.specs.Rows.{WorkedRows};
+
+/// More turns change no run that ends otherwise than by their want.
+pub fn more_turns()
+    ensures { MoreTurns }
+{}
+
+/// The meaning of a part of a script is its plan, performed.
+pub fn performed()
+    ensures { IsPerformed }
+{}
+
+/// Small scripts print, or are stopped, as was worked out by hand.
+pub fn rows()
+    ensures { WorkedRows }
+{}

@@ -1,0 +1,12 @@
+pub mod Acts
+pub mod Channels
+pub mod Directs
+pub mod Erased
+pub mod ErasedActs
+pub mod ErasedRuns
+pub mod FrameLaws
+pub mod Labels
+pub mod Lock
+pub mod Observed
+pub mod Runs
+pub mod States

@@ -1,0 +1,5 @@
+use Rattle.low_equal.proofs.Runs.{confinement}
+use Rattle.low_equal.proofs.laws.confinement.Goals as goal
+
+pub returns : goal.returns
+returns c = confinement

@@ -1,0 +1,3 @@
+pub mod Erasure
+pub mod Isolation
+pub mod LowEqual
