@@ -1,8 +1,8 @@
 -- If two records of operations are linked, so are their evaluators: one proof for all readings of a script.
 use Rattle.std.proofs.Common.{ℕ, zero, suc, List, [], ◌∷◌, ◌++◌, pos, Option, Some, None, ◌≤◌, arith}
-use Rattle.js_number.specs.declared.prim.Prim.{Prim}
-use Rattle.js_number.specs.declared.prim.Prim.TheVariants.{Undefined, Null, Num, Str}
-use Rattle.js_number.specs.declared.prim.Prim.TheVariants as prims
+use Rattle.js_number.specs.declared.primitive.Primitive.{Primitive}
+use Rattle.js_number.specs.declared.primitive.Primitive.TheVariants.{Undefined, Null, Num, Str}
+use Rattle.js_number.specs.declared.primitive.Primitive.TheVariants as prims
 use Rattle.js_ast.specs.declared.operators.UnaryOperator.{UnaryOperator}
 use Rattle.js_ast.specs.declared.operators.UnaryOperator.TheVariants as unary_operator
 use Rattle.js_ast.specs.declared.operators.PostfixOperator.TheVariants as postfix_operator
@@ -37,7 +37,7 @@ pub record Link (A B : Ops) : Type 1 where
   pub bind : (t u : Ty) {w : W} {m : A.M t} {n : B.M t} (f : Res A.V t → A.M u) (g : Res B.V t → B.M u)
       → Lift t w m n → ((w' : W) → Le w w' → (a : Res A.V t) (b : Res B.V t) → Rel RV t w' a b → Lift u w' (f a) (g b)) → Lift u w (A.bind t u m f) (B.bind t u n g)
   -- values
-  pub literal : (w : W) (v : Prim) → RV w (A.literal v) (B.literal v)
+  pub literal : (w : W) (v : Primitive) → RV w (A.literal v) (B.literal v)
   -- acts
   pub unary : {w : W} (o : UnaryOperator) {v : A.V} {v' : B.V} → RV w v v' → Lift Value w (A.unary o v) (B.unary o v')
   pub binary : {w : W} (o : BinaryOperator) {v u : A.V} {v' u' : B.V} → RV w v v' → RV w u u' → Lift Value w (A.binary o v u) (B.binary o v' u')

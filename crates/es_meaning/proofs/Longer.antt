@@ -2,7 +2,7 @@
 use Rattle.std.proofs.Common.{◌≡◌, ℕ, zero, suc, ◌+◌, ◌-◌, ◌≤◌, List, ◌∷◌, Bool, true, false, Option, Some, None, Result, Ok, Err, refl, ap₂, subst, arith}
 use Rattle.flow_policy.specs.Policies.{Tables}
 use Rattle.flow_policy.specs.Inputs.{Given}
-use Rattle.js_number.specs.declared.prim.Prim.{Prim}
+use Rattle.js_number.specs.declared.primitive.Primitive.{Primitive}
 use Rattle.js_number.specs.Conversions.{boolean_of}
 use Rattle.js_ast.specs.Trees.{Statements}
 use Rattle.es_meaning.specs.Outcomes.{Ending, out_of_turns, Outcome, Goes, Ends, From, ret, and_then, ◌>>=◌}
@@ -94,31 +94,31 @@ module _ (k : ℕ) where
   spend_on (suc n) s = goes
 
   -- an operator's value
-  given_on : (r : Result Prim (List ℕ)) → On Prim (given r) (given r)
+  given_on : (r : Result Primitive (List ℕ)) → On Primitive (given r) (given r)
   unfolding given
   given_on (Ok v) = record { on = λ s. goes }
   given_on (Err name) = record { on = λ s. ends }
 
   -- the value of a name
-  bound_on : (b : Option (Binding Prim)) → On Prim (bound b) (bound b)
+  bound_on : (b : Option (Binding Primitive)) → On Primitive (bound b) (bound b)
   unfolding bound
   bound_on (Some b) = record { on = λ s. goes }
   bound_on None = record { on = λ s. ends }
 
   -- or undefined
-  bound_or_undefined_on : (b : Option (Binding Prim)) → On Prim (bound_or_undefined b) (bound_or_undefined b)
+  bound_or_undefined_on : (b : Option (Binding Primitive)) → On Primitive (bound_or_undefined b) (bound_or_undefined b)
   unfolding bound_or_undefined
   bound_or_undefined_on (Some b) = record { on = λ s. goes }
   bound_or_undefined_on None = record { on = λ s. goes }
 
   -- a value for a binding
-  assigned_on : (mutable : Bool) (x : List ℕ) (v : Prim) → On (Unit {0}) (assigned mutable x v) (assigned mutable x v)
+  assigned_on : (mutable : Bool) (x : List ℕ) (v : Primitive) → On (Unit {0}) (assigned mutable x v) (assigned mutable x v)
   unfolding assigned
   assigned_on true x v = record { on = λ s. goes }
   assigned_on false x v = record { on = λ s. ends }
 
   -- or for what may be one
-  assigned_to_on : (b : Option (Binding Prim)) (x : List ℕ) (v : Prim) → On (Unit {0}) (assigned_to b x v) (assigned_to b x v)
+  assigned_to_on : (b : Option (Binding Primitive)) (x : List ℕ) (v : Primitive) → On (Unit {0}) (assigned_to b x v) (assigned_to b x v)
   unfolding assigned_to
   assigned_to_on (Some b) x v = assigned_on b.mutable x v
   assigned_to_on None x v = record { on = λ s. ends }
@@ -129,25 +129,25 @@ module _ (k : ℕ) where
     A = plain tables inputs
 
     -- a line is read
-    read_on : (i : Option ℕ) → On Prim (read_channel tables inputs i) (read_channel tables inputs i)
+    read_on : (i : Option ℕ) → On Primitive (read_channel tables inputs i) (read_channel tables inputs i)
     unfolding read_channel
     read_on None = record { on = λ s. ends }
     read_on (Some i) = record { on = λ s. goes }
 
     -- a line is printed
-    print_on : (i : Option ℕ) (v : Prim) → On Prim (print_channel tables inputs i v) (print_channel tables inputs i v)
+    print_on : (i : Option ℕ) (v : Primitive) → On Primitive (print_channel tables inputs i v) (print_channel tables inputs i v)
     unfolding print_channel
     print_on None v = record { on = λ s. ends }
     print_on (Some i) v = record { on = λ s. goes }
 
     -- origins are joined
-    label_on : (os : Option (List ℕ)) (v : Prim) → On Prim (label_by tables inputs os v) (label_by tables inputs os v)
+    label_on : (os : Option (List ℕ)) (v : Primitive) → On Primitive (label_by tables inputs os v) (label_by tables inputs os v)
     unfolding label_by
     label_on None v = record { on = λ s. ends }
     label_on (Some os) v = record { on = λ s. goes }
 
     -- a function of the product
-    direct_on : (f : Direct) (vs : List Prim) → On Prim (direct tables inputs f vs) (direct tables inputs f vs)
+    direct_on : (f : Direct) (vs : List Primitive) → On Primitive (direct tables inputs f vs) (direct tables inputs f vs)
     unfolding direct
     direct_on read vs = read_on _
     direct_on print vs = print_on _ _
@@ -159,13 +159,13 @@ module _ (k : ℕ) where
       W = Unit {0};
       Le = λ v w. Unit {0};
       RV = λ w v u. v ≡ u;
-      Lift = λ t w m n. On (Res Prim t) m n;
+      Lift = λ t w m n. On (Res Primitive t) m n;
       le_refl = λ w. tt;
       le_trans = λ p q. tt;
       more_v = λ p r. r;
       ret_one = λ w. record { on = λ s. goes };
       ret_value = λ r. at_equal ret ret r (record { on = λ s. goes });
-      bind = λ t u {w = w} f g l h. bind_longer f g l (λ a. h w tt a a (equal_results Prim t w a));
+      bind = λ t u {w = w} f g l h. bind_longer f g l (λ a. h w tt a a (equal_results Primitive t w a));
       literal = λ w v. refl;
       unary = λ o {v = v} r. at_equal (A.unary o) (A.unary o) r (given_on (unary_of o v));
       binary = λ o {v = v} {u = u} {u' = u'} r q. at_equal (λ x. A.binary o x u) (λ x. A.binary o x u') r

@@ -1,9 +1,9 @@
 -- The evaluator, node by node (ECMA-262 11 and 12). What is done with the value of a part stands under a name of its own.
 use Rattle.std.specs.Prelude.{ℕ, zero, suc, List, [], ◌∷◌, ◌++◌, pos, Option, Some, None, codes, if◌then◌else◌}
 use Rattle.origin_labels.specs.Names.{same_name}
-use Rattle.js_number.specs.declared.prim.Prim.{Prim}
-use Rattle.js_number.specs.declared.prim.Prim.TheVariants.{Undefined, Null, Num, Str}
-use Rattle.js_number.specs.declared.prim.Prim.TheVariants as prims
+use Rattle.js_number.specs.declared.primitive.Primitive.{Primitive}
+use Rattle.js_number.specs.declared.primitive.Primitive.TheVariants.{Undefined, Null, Num, Str}
+use Rattle.js_number.specs.declared.primitive.Primitive.TheVariants as prims
 use Rattle.js_ast.specs.declared.operators.UnaryOperator.{UnaryOperator}
 use Rattle.js_ast.specs.declared.operators.UnaryOperator.TheVariants as unary_operator
 use Rattle.js_ast.specs.declared.operators.PostfixOperator.TheVariants as postfix_operator

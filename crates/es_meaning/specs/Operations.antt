@@ -1,7 +1,7 @@
 -- What an evaluation is made of. The evaluator of a script is written once, over any values and computations: read with those that have no
 -- labels it is the unlabelled meaning, and read with labelled ones the labelled meaning.
 use Rattle.std.specs.Prelude.{ℕ, List}
-use Rattle.js_number.specs.declared.prim.Prim.{Prim}
+use Rattle.js_number.specs.declared.primitive.Primitive.{Primitive}
 use Rattle.js_ast.specs.declared.operators.UnaryOperator.{UnaryOperator}
 use Rattle.js_ast.specs.declared.operators.BinaryOperator.{BinaryOperator}
 use Rattle.js_ast.specs.Trees.{Expr, Statement, MaybeExpr}
@@ -31,7 +31,7 @@ pub record Ops : Type 1 where
   pub bind : (t u : Ty) → M t → (Res V t → M u) → M u
   -- ---- values
   -- a value that stands in the script
-  pub literal : Prim → V
+  pub literal : Primitive → V
   -- ---- acts
   -- operators on values
   pub unary : UnaryOperator → V → M Value

@@ -5,9 +5,9 @@ use Rattle.js_ast.specs.declared.operators.UnaryOperator.TheVariants as unary_op
 use Rattle.js_ast.specs.declared.operators.BinaryOperator.{BinaryOperator}
 use Rattle.js_ast.specs.declared.operators.BinaryOperator.TheVariants as binary_operator
 use Rattle.js_number.specs.declared.int.LeftNumbers.{LeftNumbers}
-use Rattle.js_number.specs.declared.prim.Prim.{Prim}
-use Rattle.js_number.specs.declared.prim.Prim.TheVariants.{Undefined, Null, Num, Str}
-use Rattle.js_number.specs.declared.prim.Prim.TheVariants as prims
+use Rattle.js_number.specs.declared.primitive.Primitive.{Primitive}
+use Rattle.js_number.specs.declared.primitive.Primitive.TheVariants.{Undefined, Null, Num, Str}
+use Rattle.js_number.specs.declared.primitive.Primitive.TheVariants as prims
 use Rattle.js_number.specs.declared.sum.AddFault.{AddFault}
 use Rattle.js_number.specs.declared.sum.AddFault.TheVariants as faults
 use Rattle.js_number.specs.Number.{number, some_number}
@@ -19,7 +19,7 @@ use Rattle.js_number.specs.Sum.{sum_of}
 
 -- a value, or the name by which the run leaves
 abbrev pub Given : Type 0
-Given = Result Prim (List ℕ)
+Given = Result Primitive (List ℕ)
 
 -- the run leaves since a result is no number of the profile, or a text is too long
 abbrev pub leaves_numbers : List ℕ
@@ -45,7 +45,7 @@ abbrev pub turned : Result Bool LeftNumbers → Result Bool LeftNumbers
 turned (Ok b) = Ok (not b)
 turned (Err e) = Err e
 
-abbrev pub as_sum : Result Prim AddFault → Given
+abbrev pub as_sum : Result Primitive AddFault → Given
 as_sum (Ok v) = Ok v
 as_sum (Err faults.LeftNumbers) = Err leaves_numbers
 as_sum (Err faults.LeftString) = Err leaves_strings
@@ -57,7 +57,7 @@ abbrev pub of_number : (ℤ → Result ℤ LeftNumbers) → Result ℤ LeftNumbe
 of_number f (Ok n) = as_number (f n)
 of_number f (Err e) = Err leaves_numbers
 
-abbrev pub to_number : Prim → Result ℤ LeftNumbers
+abbrev pub to_number : Primitive → Result ℤ LeftNumbers
 to_number v = some_number (number_of v)
 
 -- a function of two values as numbers, of which the left one is converted first
@@ -65,11 +65,11 @@ abbrev pub both : (ℤ → ℤ → Result ℤ LeftNumbers) → Result ℤ LeftNu
 both f (Ok m) n = of_number (f m) n
 both f (Err e) n = Err leaves_numbers
 
-abbrev pub of_numbers : (ℤ → ℤ → Result ℤ LeftNumbers) → Prim → Prim → Given
+abbrev pub of_numbers : (ℤ → ℤ → Result ℤ LeftNumbers) → Primitive → Primitive → Given
 of_numbers f v u = both f (to_number v) (to_number u)
 
 -- what `typeof` says of a value (ECMA-262 11.4.3)
-abbrev pub type_of : Prim → List ℕ
+abbrev pub type_of : Primitive → List ℕ
 type_of Undefined = codes "undefined"
 type_of Null = codes "object"
 type_of (prims.Bool b) = codes "boolean"
@@ -77,7 +77,7 @@ type_of (Num n) = codes "number"
 type_of (Str text) = codes "string"
 
 -- an operator in front of its operand; those that take a name, and not its value, can't stand here
-unfoldable pub unary_of : UnaryOperator → Prim → Given
+unfoldable pub unary_of : UnaryOperator → Primitive → Given
 unary_of unary_operator.Void v = Ok Undefined
 unary_of unary_operator.Typeof v = Ok (Str (type_of v))
 unary_of unary_operator.Plus v = as_number (to_number v)
@@ -89,7 +89,7 @@ unary_of unary_operator.Increment v = Err not_built
 unary_of unary_operator.Decrement v = Err not_built
 
 -- an operator between two operands; `&&` and `||` choose what is evaluated, and can't stand here
-unfoldable pub binary_of : BinaryOperator → Prim → Prim → Given
+unfoldable pub binary_of : BinaryOperator → Primitive → Primitive → Given
 binary_of binary_operator.Multiply v u = of_numbers (λ m n. number (m *ℤ n)) v u
 binary_of binary_operator.Divide v u = of_numbers (λ m n. some_number (quotient m n)) v u
 binary_of binary_operator.Remainder v u = of_numbers (λ m n. some_number (remainder m n)) v u

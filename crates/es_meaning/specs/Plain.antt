@@ -5,8 +5,8 @@ use Rattle.origin_labels.specs.Names.{same_name}
 use Rattle.flow_policy.specs.declared.policy.Channel.{Channel}
 use Rattle.flow_policy.specs.Policies.{Tables}
 use Rattle.flow_policy.specs.Inputs.{Given, given_on}
-use Rattle.js_number.specs.declared.prim.Prim.{Prim}
-use Rattle.js_number.specs.declared.prim.Prim.TheVariants.{Undefined, Str}
+use Rattle.js_number.specs.declared.primitive.Primitive.{Primitive}
+use Rattle.js_number.specs.declared.primitive.Primitive.TheVariants.{Undefined, Str}
 use Rattle.js_number.specs.Conversions.{boolean_of, text_of}
 use Rattle.js_ast.specs.Trees.{Statements}
 use Rattle.es_meaning.specs.Outcomes.{Ending, done, threw, left, out_of_turns, Outcome, Goes, Ends, From, ret, ◌>>=◌}
@@ -53,12 +53,12 @@ abbrev pub number_of_channel : List ℕ → List Channel → Option ℕ
 number_of_channel name channels = position (λ c. same_name c.name name) channels
 
 -- the number of the channel that a value names, which must be a text
-abbrev pub channel_of : List Channel → Prim → Option ℕ
+abbrev pub channel_of : List Channel → Primitive → Option ℕ
 channel_of channels (Str name) = number_of_channel name channels
 channel_of channels _ = None
 
 -- the number of the origin that a value names, which must be a text
-abbrev pub origin_of : List (List ℕ) → Prim → Option ℕ
+abbrev pub origin_of : List (List ℕ) → Primitive → Option ℕ
 origin_of origins (Str name) = position (λ o. same_name o name) origins
 origin_of origins _ = None
 
@@ -67,12 +67,12 @@ abbrev pub and_origin : Option ℕ → Option (List ℕ) → Option (List ℕ)
 and_origin (Some o) (Some os) = Some (o ∷ os)
 and_origin _ _ = None
 
-abbrev pub origins_of : List (List ℕ) → List Prim → Option (List ℕ)
+abbrev pub origins_of : List (List ℕ) → List Primitive → Option (List ℕ)
 origins_of origins [] = Some []
 origins_of origins (v ∷ vs) = and_origin (origin_of origins v) (origins_of origins vs)
 
 -- what `read` gives where this line stands next: the line, or undefined past the end
-abbrev pub value_read : Option (List ℕ) → Prim
+abbrev pub value_read : Option (List ℕ) → Primitive
 value_read (Some text) = Str text
 value_read None = Undefined
 
@@ -112,7 +112,7 @@ variables_of value program = with_names value (declared_statements program) (rec
 -- ---- the plain state
 
 pub record State : Type 0 where
-  pub variables : Bindings Prim
+  pub variables : Bindings Primitive
   -- how many lines of each input channel were read
   pub positions : List ℕ
   pub lines : List Line
@@ -122,25 +122,25 @@ abbrev pub P : Type 0 → Type 0
 P X = From Ending State X
 
 -- an operator's value, or the run leaves
-unfoldable pub given : Result Prim (List ℕ) → P Prim
+unfoldable pub given : Result Primitive (List ℕ) → P Primitive
 given (Ok v) s = Goes v s
 given (Err name) s = Ends (left name) s
 
 -- the value of a binding, or an exception where there is none (ECMA-262 8.7.1, 10.2.1.1.4)
-unfoldable pub bound : Option (Binding Prim) → P Prim
+unfoldable pub bound : Option (Binding Primitive) → P Primitive
 bound (Some b) s = Goes b.value s
 bound None s = Ends (threw reference_error) s
 
-unfoldable pub bound_or_undefined : Option (Binding Prim) → P Prim
+unfoldable pub bound_or_undefined : Option (Binding Primitive) → P Primitive
 bound_or_undefined (Some b) s = Goes b.value s
 bound_or_undefined None s = Goes Undefined s
 
 -- an assignment to a binding that can be changed, to one that can't, and to a name without one (ECMA-262 8.7.2, 10.2.1.1.3)
-unfoldable pub assigned : Bool → List ℕ → Prim → P (Unit {0})
+unfoldable pub assigned : Bool → List ℕ → Primitive → P (Unit {0})
 assigned true name v s = Goes tt (record s { variables = rebound name v s.variables })
 assigned false name v s = Ends (threw type_error) s
 
-unfoldable pub assigned_to : Option (Binding Prim) → List ℕ → Prim → P (Unit {0})
+unfoldable pub assigned_to : Option (Binding Primitive) → List ℕ → Primitive → P (Unit {0})
 assigned_to (Some b) name v s = assigned b.mutable name v s
 assigned_to None name v s = Ends (threw reference_error) s
 
@@ -155,27 +155,27 @@ spend zero s = Ends out_of_turns s
 spend (suc n) s = Goes tt (record s { turns = n })
 
 module _ (tables : Tables) (inputs : Given) where
-  unfoldable pub read_channel : Option ℕ → P Prim
+  unfoldable pub read_channel : Option ℕ → P Primitive
   read_channel None s = Ends (left leaves_channels) s
   read_channel (Some i) s = let line = line_at inputs i s.positions in Goes (value_read line) (record s { positions = positions_behind i line s.positions })
 
-  unfoldable pub print_channel : Option ℕ → Prim → P Prim
+  unfoldable pub print_channel : Option ℕ → Primitive → P Primitive
   print_channel None v s = Ends (left leaves_channels) s
   print_channel (Some i) v s = Goes Undefined (record s { lines = s.lines ++ record { channel = channel_name tables.outputs i; text = text_of v } ∷ [] })
 
-  unfoldable pub label_by : Option (List ℕ) → Prim → P Prim
+  unfoldable pub label_by : Option (List ℕ) → Primitive → P Primitive
   label_by None v s = Ends (left leaves_origins) s
   label_by (Some origins) v s = Goes v s
 
-  unfoldable pub direct : Direct → List Prim → P Prim
+  unfoldable pub direct : Direct → List Primitive → P Primitive
   direct read vs = read_channel (channel_of tables.inputs (argument_or Undefined 0 vs))
   direct print vs = print_channel (channel_of tables.outputs (argument_or Undefined 0 vs)) (argument_or Undefined 1 vs)
   direct lbl vs = label_by (origins_of tables.origins (others vs)) (argument_or Undefined 0 vs)
 
   abbrev pub plain : Ops
   plain = record {
-    V = Prim;
-    M = λ t. P (Res Prim t);
+    V = Primitive;
+    M = λ t. P (Res Primitive t);
     ret = λ t a. ret a;
     bind = λ t u m f. m >>= f;
     literal = λ v. v;

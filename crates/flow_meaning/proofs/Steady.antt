@@ -7,7 +7,7 @@ use Rattle.flow_frames.specs.declared.faults.Rule.{Rule}
 use Rattle.flow_frames.specs.Frames.{context}
 use Rattle.flow_frames.specs.Held.{meant_at}
 use Rattle.flow_frames.specs.Rules.{jump_need}
-use Rattle.js_number.specs.declared.prim.Prim.{Prim}
+use Rattle.js_number.specs.declared.primitive.Primitive.{Primitive}
 use Rattle.es_meaning.specs.Outcomes as es
 use Rattle.es_meaning.specs.Outcomes.{Outcome, Goes, Ends, ret}
 use Rattle.es_meaning.specs.Operations.{Direct, read, print, lbl, Ops}
@@ -65,7 +65,7 @@ throws_steady X error cause = record { steady = λ n s. (guard_steady (within (j
 -- ---- acts
 
 -- an operator's value
-pub given_steady : (label : Label) (r : Result Prim (List ℕ)) → Steady (given label r)
+pub given_steady : (label : Label) (r : Result Primitive (List ℕ)) → Steady (given label r)
 unfolding given
 given_steady label (Ok v) = record { steady = λ n s. refl }
 given_steady label (Err name) = record { steady = λ n s. refl }

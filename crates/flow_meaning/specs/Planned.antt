@@ -5,7 +5,7 @@ use Rattle.flow_policy.specs.Policies.{Tables}
 use Rattle.flow_policy.specs.Inputs.{Given}
 use Rattle.flow_frames.specs.declared.kind.Kind.TheVariants as kind
 use Rattle.origin_labels.specs.Label.{bottom}
-use Rattle.js_number.specs.declared.prim.Prim.TheVariants.{Undefined}
+use Rattle.js_number.specs.declared.primitive.Primitive.TheVariants.{Undefined}
 use Rattle.js_number.specs.Conversions.{boolean_of}
 use Rattle.js_ast.specs.Trees.{Expr, Statement, Statements}
 use Rattle.es_meaning.specs.Outcomes.{Outcome, Goes, Ends}

@@ -12,8 +12,8 @@ use Rattle.flow_frames.specs.Frames.{Frame, context}
 use Rattle.flow_frames.specs.Held.{meant_at}
 use Rattle.flow_frames.specs.Changes.{pushed, raised}
 use Rattle.flow_frames.specs.Rules.{jump_need}
-use Rattle.js_number.specs.declared.prim.Prim.{Prim}
-use Rattle.js_number.specs.declared.prim.Prim.TheVariants.{Undefined}
+use Rattle.js_number.specs.declared.primitive.Primitive.{Primitive}
+use Rattle.js_number.specs.declared.primitive.Primitive.TheVariants.{Undefined}
 use Rattle.js_number.specs.Conversions.{boolean_of, text_of}
 use Rattle.js_ast.specs.Trees.{Statements}
 use Rattle.es_meaning.specs.Outcomes as es
@@ -26,7 +26,7 @@ use Rattle.es_meaning.specs.Plain.{Line, leaves_channels, leaves_origins, refere
 
 -- a value with the origins that it depends on
 pub record Labelled : Type 0 where
-  pub value : Prim
+  pub value : Primitive
   pub label : Label
 
 -- a printed line with its recorded label, the need of the rule for `print`
@@ -52,7 +52,7 @@ abbrev pub L : Type 0 → Type 0
 L X = From Ending State X
 
 -- a value that nothing decides
-abbrev pub unlabelled : Prim → Labelled
+abbrev pub unlabelled : Primitive → Labelled
 unlabelled v = record { value = v; label = bottom }
 
 -- a value, and what else it depends on
@@ -124,7 +124,7 @@ throws error cause s = under W9 (jump_need s.frames 0 cause) (meant_at s.frames 
 
 -- ---- acts
 
-unfoldable pub given : Label → Result Prim (List ℕ) → L Labelled
+unfoldable pub given : Label → Result Primitive (List ℕ) → L Labelled
 given label (Ok v) s = Goes (record { value = v; label = label }) s
 given label (Err name) s = ends (left name) s
 

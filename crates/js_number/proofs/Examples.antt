@@ -1,6 +1,6 @@
 -- The definitions at worked values.
 use Rattle.std.proofs.Common.{◌≡◌, [], ◌∷◌, refl, codes, pos, negsuc, Some, None, Ok, Err, true, false}
-use Rattle.js_number.specs.declared.prim.Prim.TheVariants.{Undefined, Null, Num, Str}
+use Rattle.js_number.specs.declared.primitive.Primitive.TheVariants.{Undefined, Null, Num, Str}
 use Rattle.js_number.specs.Number.{number}
 use Rattle.js_number.specs.Arithmetic.{quotient, remainder}
 use Rattle.js_number.specs.Bits.{shifted_left, shifted_right, shifted_with_zeros, and_of, not_of}

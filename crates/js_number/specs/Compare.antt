@@ -5,15 +5,15 @@ use mathlib.Core.Bool.{beq}
 use Rattle.std.specs.Cmp.Lexicographic.{slice_cmp}
 use Rattle.std.specs.Str.{bytes_eq}
 use Rattle.js_number.specs.declared.int.LeftNumbers.{LeftNumbers}
-use Rattle.js_number.specs.declared.prim.Prim.{Prim}
-use Rattle.js_number.specs.declared.prim.Prim.TheVariants.{Undefined, Null, Num, Str}
-use Rattle.js_number.specs.declared.prim.Prim.TheVariants as prims
+use Rattle.js_number.specs.declared.primitive.Primitive.{Primitive}
+use Rattle.js_number.specs.declared.primitive.Primitive.TheVariants.{Undefined, Null, Num, Str}
+use Rattle.js_number.specs.declared.primitive.Primitive.TheVariants as prims
 use Rattle.js_number.specs.NumericText.{number_of_text}
 use Rattle.js_number.specs.Number.{some_number, number_of_bool}
 use Rattle.js_number.specs.Conversions.{number_of}
 
 -- x === y (ECMA-262 11.9.6)
-abbrev pub strictly_equal : Prim → Prim → Bool
+abbrev pub strictly_equal : Primitive → Primitive → Bool
 strictly_equal Undefined Undefined = true
 strictly_equal Null Null = true
 strictly_equal (prims.Bool a) (prims.Bool b) = beq a b
@@ -27,7 +27,7 @@ equals_converted n (Ok m) = Ok (int_eq n m)
 equals_converted n (Err left) = Err left
 
 -- a number == y, or y == a number (ECMA-262 11.9.3, steps 1.c, 4, 5 and 7)
-abbrev pub equals_number : ℤ → Prim → Result Bool LeftNumbers
+abbrev pub equals_number : ℤ → Primitive → Result Bool LeftNumbers
 equals_number n Undefined = Ok false
 equals_number n Null = Ok false
 equals_number n (prims.Bool b) = Ok (int_eq n (number_of_bool b))
@@ -35,7 +35,7 @@ equals_number n (Num m) = Ok (int_eq n m)
 equals_number n (Str text) = equals_converted n (some_number (number_of_text text))
 
 -- x == y (ECMA-262 11.9.3) of primitive values: true and false count as 1 and 0, also with each other, and undefined equals null
-abbrev pub loosely_equal : Prim → Prim → Result Bool LeftNumbers
+abbrev pub loosely_equal : Primitive → Primitive → Result Bool LeftNumbers
 loosely_equal (Num n) y = equals_number n y
 loosely_equal (prims.Bool b) y = equals_number (number_of_bool b) y
 loosely_equal Undefined (Num n) = Ok false
@@ -58,6 +58,6 @@ less_converted (Ok m) (Err left) = Err left
 less_converted (Err left) _ = Err left
 
 -- x < y (ECMA-262 11.8.5) of primitive values: two texts by their units, and all else by numbers
-abbrev pub is_less : Prim → Prim → Result Bool LeftNumbers
+abbrev pub is_less : Primitive → Primitive → Result Bool LeftNumbers
 is_less (Str s) (Str t) = Ok (is_lt (slice_cmp nat_cmp s t))
 is_less x y = less_converted (some_number (number_of x)) (some_number (number_of y))

@@ -1,14 +1,14 @@
 -- The conversions of primitive values (ECMA-262 9.2, 9.3, 9.8).
 use Rattle.std.specs.Prelude.{ℕ, ◌==◌, Bool, true, false, not, List, length, codes, ℤ, pos, unsigned_abs, Option, Some, None}
 use Rattle.std.specs.Fmt.{signed_decimal}
-use Rattle.js_number.specs.declared.prim.Prim.{Prim}
-use Rattle.js_number.specs.declared.prim.Prim.TheVariants.{Undefined, Null, Num, Str}
-use Rattle.js_number.specs.declared.prim.Prim.TheVariants as prims
+use Rattle.js_number.specs.declared.primitive.Primitive.{Primitive}
+use Rattle.js_number.specs.declared.primitive.Primitive.TheVariants.{Undefined, Null, Num, Str}
+use Rattle.js_number.specs.declared.primitive.Primitive.TheVariants as prims
 use Rattle.js_number.specs.Number.{number_of_bool}
 use Rattle.js_number.specs.NumericText.{number_of_text}
 
 -- ToBoolean (ECMA-262 9.2): 0 and the empty text are false
-abbrev pub boolean_of : Prim → Bool
+abbrev pub boolean_of : Primitive → Bool
 boolean_of Undefined = false
 boolean_of Null = false
 boolean_of (prims.Bool b) = b
@@ -16,7 +16,7 @@ boolean_of (Num n) = not (unsigned_abs n == 0)
 boolean_of (Str text) = not (length text == 0)
 
 -- ToNumber (ECMA-262 9.3), where it gives an integer
-abbrev pub number_of : Prim → Option ℤ
+abbrev pub number_of : Primitive → Option ℤ
 number_of Undefined = None
 number_of Null = Some (pos 0)
 number_of (prims.Bool b) = Some (number_of_bool b)
@@ -24,7 +24,7 @@ number_of (Num n) = Some n
 number_of (Str text) = number_of_text text
 
 -- ToString (ECMA-262 9.8)
-abbrev pub text_of : Prim → List ℕ
+abbrev pub text_of : Primitive → List ℕ
 text_of Undefined = codes "undefined"
 text_of Null = codes "null"
 text_of (prims.Bool true) = codes "true"

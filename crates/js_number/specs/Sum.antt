@@ -1,35 +1,35 @@
 -- The operator + (ECMA-262 11.6.1).
 use Rattle.std.specs.Prelude.{◌≡◌, ℕ, ◌+◌, List, ◌++◌, length, nat_le, ◌+ℤ◌, ℤ, Result, Ok, Err, if◌then◌else◌}
 use Rattle.js_number.specs.declared.int.LeftNumbers.{LeftNumbers}
-use Rattle.js_number.specs.declared.prim.Prim.{Prim}
-use Rattle.js_number.specs.declared.prim.Prim.TheVariants.{Num, Str}
+use Rattle.js_number.specs.declared.primitive.Primitive.{Primitive}
+use Rattle.js_number.specs.declared.primitive.Primitive.TheVariants.{Num, Str}
 use Rattle.js_number.specs.declared.sum.AddFault.{AddFault}
 use Rattle.js_number.specs.declared.sum.AddFault.TheVariants as faults
 use Rattle.js_number.specs.Number.{number, some_number}
 use Rattle.js_number.specs.Conversions.{number_of, text_of}
 
 -- two texts joined, unless they are together longer than a string may be
-abbrev pub joined : List ℕ → List ℕ → Result Prim AddFault
+abbrev pub joined : List ℕ → List ℕ → Result Primitive AddFault
 joined s t = if nat_le (length s + length t) 1_048_576 then Ok (Str (s ++ t)) else Err faults.LeftString
 
 -- a sum as a primitive value
-abbrev pub as_sum : Result ℤ LeftNumbers → Result Prim AddFault
+abbrev pub as_sum : Result ℤ LeftNumbers → Result Primitive AddFault
 as_sum (Ok n) = Ok (Num n)
 as_sum (Err left) = Err faults.LeftNumbers
 
 -- the sum of two numbers, where both are there
-abbrev pub summed : Result ℤ LeftNumbers → Result ℤ LeftNumbers → Result Prim AddFault
+abbrev pub summed : Result ℤ LeftNumbers → Result ℤ LeftNumbers → Result Primitive AddFault
 summed (Ok m) (Ok n) = as_sum (number (m +ℤ n))
 summed (Ok m) (Err left) = Err faults.LeftNumbers
 summed (Err left) _ = Err faults.LeftNumbers
 
 -- x + y (ECMA-262 11.6.1) of primitive values: texts where one of them is one, and else numbers
-abbrev pub sum_of : Prim → Prim → Result Prim AddFault
+abbrev pub sum_of : Primitive → Primitive → Result Primitive AddFault
 sum_of (Str s) y = joined s (text_of y)
 sum_of x (Str t) = joined (text_of x) t
 sum_of x y = summed (some_number (number_of x)) (some_number (number_of y))
 
 -- the answer is that sum, unless memory ran out
-abbrev pub GivesSum : Result Prim AddFault → Result Prim AddFault → Type 0
+abbrev pub GivesSum : Result Primitive AddFault → Result Primitive AddFault → Type 0
 GivesSum (Err faults.OutOfMemory) sum = Unit {0}
 GivesSum answer sum = answer ≡ sum

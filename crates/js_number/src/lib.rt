@@ -7,7 +7,7 @@ mod compare;
 mod digits;
 mod int;
 mod numeric_text;
-mod prim;
+mod primitive;
 mod sum;
 
 pub use arithmetic::{add, div, mul, negate, rem, sub};
@@ -17,7 +17,7 @@ pub use bits::{
 pub use compare::{less, loose_equal, strict_equal};
 pub use int::{Int, LeftNumbers};
 pub use numeric_text::text_to_number;
-pub use prim::{Prim, number_to_text, to_boolean, to_number, to_text};
+pub use primitive::{Primitive, number_to_text, to_boolean, to_number, to_text};
 pub use sum::{AddFault, add_prims};
 
 #[cfg(test)]

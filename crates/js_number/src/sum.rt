@@ -7,7 +7,7 @@ ghost use Rattle.js_number.specs.declared.sum.AddFault.TheVariants as faults;
 
 use crate::arithmetic::add;
 use crate::int::LeftNumbers;
-use crate::prim::{Prim, to_number, to_text};
+use crate::primitive::{Primitive, to_number, to_text};
 use flow_text::OutOfMemory;
 use std::alloc::Global;
 
@@ -39,21 +39,21 @@ impl From<OutOfMemory> for AddFault {
 const LONGEST: usize = 1_048_576;
 
 /// `a + b`.
-pub fn add_prims(alloc: Global, a: &Prim, b: &Prim) -> Result<Prim, AddFault>
+pub fn add_prims(alloc: Global, a: &Primitive, b: &Primitive) -> Result<Primitive, AddFault>
     ensures { GivesSum result (sum_of a.now b.now) }
 {
     match (a, b) {
-        (Prim::Str(_), _) | (_, Prim::Str(_)) => joined(alloc, a, b),
-        _ => Ok(Prim::Num(add(to_number(a)?, to_number(b)?)?)),
+        (Primitive::Str(_), _) | (_, Primitive::Str(_)) => joined(alloc, a, b),
+        _ => Ok(Primitive::Num(add(to_number(a)?, to_number(b)?)?)),
     }
 }
 
-fn joined(alloc: Global, a: &Prim, b: &Prim) -> Result<Prim, AddFault>
+fn joined(alloc: Global, a: &Primitive, b: &Primitive) -> Result<Primitive, AddFault>
     ensures { GivesSum result (joined (text_of a.now) (text_of b.now)) }
 {
     let (a, b) = (to_text(alloc, a)?, to_text(alloc, b)?);
     if LONGEST < a.len() || LONGEST - a.len() < b.len() {
         return Err(AddFault::LeftString);
     }
-    Ok(Prim::Str(a.concat(alloc, &b)?))
+    Ok(Primitive::Str(a.concat(alloc, &b)?))
 }

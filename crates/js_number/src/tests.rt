@@ -14,17 +14,17 @@ fn value(answer: Result<Int, LeftNumbers>) -> Option<i64> {
 }
 
 // A primitive value by its spelling: a text stands behind a quote.
-fn prim(alloc: Global, spelling: &str) -> Result<Prim, OutOfMemory> {
+fn prim(alloc: Global, spelling: &str) -> Result<Primitive, OutOfMemory> {
     match spelling {
-        "undefined" => Ok(Prim::Undefined),
-        "null" => Ok(Prim::Null),
-        "true" => Ok(Prim::Bool(true)),
-        "false" => Ok(Prim::Bool(false)),
+        "undefined" => Ok(Primitive::Undefined),
+        "null" => Ok(Primitive::Null),
+        "true" => Ok(Primitive::Bool(true)),
+        "false" => Ok(Primitive::Bool(false)),
         _ => match spelling.strip_prefix('\'') {
-            Some(text) => Ok(Prim::Str(Text::spelled(alloc, text)?)),
+            Some(text) => Ok(Primitive::Str(Text::spelled(alloc, text)?)),
             None => match text_to_number(&Text::spelled(alloc, spelling)?) {
-                Ok(n) => Ok(Prim::Num(n)),
-                Err(LeftNumbers) => Ok(Prim::Undefined),
+                Ok(n) => Ok(Primitive::Num(n)),
+                Err(LeftNumbers) => Ok(Primitive::Undefined),
             },
         },
     }
@@ -550,9 +550,9 @@ fn the_longest_string(rt: HostRuntime) -> Result<(), Fail> {
         text.push(0x61)?;
     }
     let one = prim(rt.alloc(), "'b")?;
-    let short = Prim::Str(text);
+    let short = Primitive::Str(text);
     let longest = add_prims(rt.alloc(), &short, &one)?;
-    if let Prim::Str(text) = &longest {
+    if let Primitive::Str(text) = &longest {
         assert_eq!(rt; text.len(), 1_048_576);
     }
     assert!(rt; longest != short);

@@ -8,8 +8,8 @@ use Rattle.flow_frames.specs.Frames.{Frame, context}
 use Rattle.flow_frames.specs.Held.{meant_at}
 use Rattle.flow_frames.specs.Changes.{raised}
 use Rattle.flow_frames.specs.Rules.{jump_need}
-use Rattle.js_number.specs.declared.prim.Prim.{Prim}
-use Rattle.js_number.specs.declared.prim.Prim.TheVariants.{Undefined}
+use Rattle.js_number.specs.declared.primitive.Primitive.{Primitive}
+use Rattle.js_number.specs.declared.primitive.Primitive.TheVariants.{Undefined}
 use Rattle.js_ast.specs.declared.operators.UnaryOperator.{UnaryOperator}
 use Rattle.js_ast.specs.declared.operators.BinaryOperator.{BinaryOperator}
 use Rattle.es_meaning.specs.Outcomes.{Ends}
@@ -53,19 +53,19 @@ module _ (observer : Label) (tables : Tables) where
   -- ---- operators
 
   -- an operator's value
-  pub conf_given : (label : Label) (r : Result Prim (List ℕ)) → Conf observer tables (given label r)
+  pub conf_given : (label : Label) (r : Result Primitive (List ℕ)) → Conf observer tables (given label r)
   unfolding given
   conf_given label (Ok v) = record { still = λ d s e h. goes (level_refl observer tables d s e) }
   conf_given label (Err name) = record { still = λ d s e h. cut (λ x. x) }
 
   -- one result in both
-  lock_given_same : (label : Label) (r : Result Prim (List ℕ)) → Lock observer tables (Agree observer) (given label r) (given label r)
+  lock_given_same : (label : Label) (r : Result Primitive (List ℕ)) → Lock observer tables (Agree observer) (given label r) (given label r)
   unfolding given
   lock_given_same label (Ok v) = record { after = λ d s t r w. level r w (agree_refl observer (record { value = v; label = label })) }
   lock_given_same label (Err name) = record { after = λ d s t r w. first_cut (λ x. x) }
 
   -- results with hidden labels
-  lock_given_hidden : (l k : Label) (q r : Result Prim (List ℕ)) → Hides observer l → Hides observer k → Lock observer tables (Agree observer) (given l q) (given k r)
+  lock_given_hidden : (l k : Label) (q r : Result Primitive (List ℕ)) → Hides observer l → Hides observer k → Lock observer tables (Agree observer) (given l q) (given k r)
   unfolding given
   lock_given_hidden l k (Ok a) (Ok b) h j = record { after = λ d s t r w. level r w (Agree.hidden h j) }
   lock_given_hidden l k (Ok a) (Err name) h j = record { after = λ d s t r w. second_cut (λ x. x) }

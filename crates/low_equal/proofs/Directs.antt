@@ -7,8 +7,8 @@ use Rattle.flow_policy.specs.Inputs.{Given, given_on}
 use Rattle.flow_policy.specs.Observed.{Agree as AgreeOn, sees_channel}
 use Rattle.flow_frames.specs.declared.faults.Rule.TheVariants.{W11, W12}
 use Rattle.flow_frames.specs.Frames.{Frame, context}
-use Rattle.js_number.specs.declared.prim.Prim.{Prim}
-use Rattle.js_number.specs.declared.prim.Prim.TheVariants.{Undefined}
+use Rattle.js_number.specs.declared.primitive.Primitive.{Primitive}
+use Rattle.js_number.specs.declared.primitive.Primitive.TheVariants.{Undefined}
 use Rattle.js_number.specs.Conversions.{text_of}
 use Rattle.es_meaning.specs.Outcomes.{Goes}
 use Rattle.es_meaning.specs.Operations.{Direct, read, print, lbl}

@@ -7,8 +7,8 @@ use Rattle.origin_labels.specs.Names.{same_name}
 use Rattle.flow_frames.specs.declared.faults.Rule.TheVariants.{W1, W9, W11, W12}
 use Rattle.flow_policy.specs.Policies.{Tables}
 use Rattle.flow_policy.specs.Inputs.{Given}
-use Rattle.js_number.specs.declared.prim.Prim.{Prim}
-use Rattle.js_number.specs.declared.prim.Prim.TheVariants.{Undefined}
+use Rattle.js_number.specs.declared.primitive.Primitive.{Primitive}
+use Rattle.js_number.specs.declared.primitive.Primitive.TheVariants.{Undefined}
 use Rattle.es_meaning.specs.Outcomes.{Ending, threw, Ends}
 use Rattle.es_meaning.specs.Operations.{Ty, One, Value, Direct, read, print, lbl}
 use Rattle.es_meaning.specs.Bindings.{Binding, Bindings, found, rebound}
@@ -23,7 +23,7 @@ use Rattle.low_equal.proofs.Erased.{erased_binding, erased_bindings, erased, Ext
 -- ---- operators, and variables
 
 -- what an operator gives
-pub given_lifts : {w : Unit {0}} (label : Label) (r : Result Prim (List ℕ)) → Lift Value w (tracked.given label r) (plain.given r)
+pub given_lifts : {w : Unit {0}} (label : Label) (r : Result Primitive (List ℕ)) → Lift Value w (tracked.given label r) (plain.given r)
 unfolding tracked.given plain.given
 given_lifts label (Ok v) = record { yields = λ s. goes; extends = goes_extends v }
 given_lifts label (Err name) = record { yields = λ s. ends; extends = ends_extends _ }
@@ -62,7 +62,7 @@ bound_yields (Some b) s = goes
 bound_yields None s = throws_yields _ _ s
 
 -- the value of a binding, or an exception, prints nothing
-bound_extends : (o : Option (Binding Prim)) (s : State) → Extends s.lines (plain.bound o s)
+bound_extends : (o : Option (Binding Primitive)) (s : State) → Extends s.lines (plain.bound o s)
 unfolding plain.bound
 bound_extends (Some b) s = goes_extends _ s
 bound_extends None s = ends_extends _ s
@@ -81,7 +81,7 @@ bound_or_undefined_yields (Some b) s = goes
 bound_or_undefined_yields None s = goes
 
 -- the value of a binding, or undefined, prints nothing
-bound_or_undefined_extends : (o : Option (Binding Prim)) (s : State) → Extends s.lines (plain.bound_or_undefined o s)
+bound_or_undefined_extends : (o : Option (Binding Primitive)) (s : State) → Extends s.lines (plain.bound_or_undefined o s)
 unfolding plain.bound_or_undefined
 bound_or_undefined_extends (Some b) s = goes_extends _ s
 bound_or_undefined_extends None s = goes_extends _ s
@@ -97,7 +97,7 @@ look_or_undefined_lifts name = record {
 assigned_yields : (mutable : Bool) (have : Label) (name : List ℕ) (v : Labelled) (s : tracked.State) → Yields One (tracked.assigned mutable have name v s) (plain.assigned mutable name v.value (erased s))
 unfolding tracked.assigned plain.assigned
 assigned_yields true have name v s =
-    under_yields W1 _ have _ s (goes_to refl (ap (λ (x : Bindings Prim). record (erased s) { variables = x }) (sym (rebound_erased name (joined _ v) s.variables))))
+    under_yields W1 _ have _ s (goes_to refl (ap (λ (x : Bindings Primitive). record (erased s) { variables = x }) (sym (rebound_erased name (joined _ v) s.variables))))
     (goes_extends tt (record (erased s) { variables = rebound name v.value (erased s).variables }))
 assigned_yields false have name v s = throws_yields _ _ s
 
@@ -109,13 +109,13 @@ assigned_to_yields (Some b) name v s = assigned_yields b.mutable _ name v s
 assigned_to_yields None name v s = throws_yields _ _ s
 
 -- an assignment to a binding that can be changed, or that can't, prints nothing
-assigned_extends : (mutable : Bool) (name : List ℕ) (v : Prim) (s : State) → Extends s.lines (plain.assigned mutable name v s)
+assigned_extends : (mutable : Bool) (name : List ℕ) (v : Primitive) (s : State) → Extends s.lines (plain.assigned mutable name v s)
 unfolding plain.assigned
 assigned_extends true name v s = goes_extends tt (record s { variables = rebound name v s.variables })
 assigned_extends false name v s = ends_extends _ s
 
 -- an assignment to a binding, or to none, prints nothing
-assigned_to_extends : (o : Option (Binding Prim)) (name : List ℕ) (v : Prim) (s : State) → Extends s.lines (plain.assigned_to o name v s)
+assigned_to_extends : (o : Option (Binding Primitive)) (name : List ℕ) (v : Primitive) (s : State) → Extends s.lines (plain.assigned_to o name v s)
 unfolding plain.assigned_to
 assigned_to_extends (Some b) name v s = assigned_extends b.mutable name v s
 assigned_to_extends None name v s = ends_extends _ s
@@ -152,7 +152,7 @@ ends_lifts ending = record { yields = λ s. ends; extends = ends_extends ending 
 -- ---- the functions of the product
 
 -- the values of labelled arguments
-pub values_are : {vs : List Labelled} {us : List Prim} → Rels (λ v r. v.value ≡ r) vs us → map (λ v. v.value) vs ≡ us
+pub values_are : {vs : List Labelled} {us : List Primitive} → Rels (λ v r. v.value ≡ r) vs us → map (λ v. v.value) vs ≡ us
 values_are nils = refl
 values_are (conses e r) = ap₂ (λ x xs. x ∷ xs) e (values_are r)
 

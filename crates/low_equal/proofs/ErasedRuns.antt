@@ -4,8 +4,8 @@ use Rattle.std.specs.Option.{option_map}
 use Rattle.std.proofs.lemmas.List.{map-append}
 use Rattle.flow_policy.specs.Policies.{Tables}
 use Rattle.flow_policy.specs.Inputs.{Given}
-use Rattle.js_number.specs.declared.prim.Prim.{Prim}
-use Rattle.js_number.specs.declared.prim.Prim.TheVariants.{Undefined}
+use Rattle.js_number.specs.declared.primitive.Primitive.{Primitive}
+use Rattle.js_number.specs.declared.primitive.Primitive.TheVariants.{Undefined}
 use Rattle.js_ast.specs.Trees.{Statements}
 use Rattle.es_meaning.specs.Outcomes.{Ending, done, left, out_of_turns, Outcome, Goes, Ends}
 use Rattle.es_meaning.specs.Operations.{Ty, One, Value, Res}
@@ -24,7 +24,7 @@ use Rattle.low_equal.proofs.Erased.{erased_result, erased_binding, erased_bindin
 use Rattle.low_equal.proofs.ErasedActs.{found_erased, given_lifts, look_lifts, look_or_undefined_lifts, assign_lifts, spend_lifts, ends_lifts, values_are, direct_lifts}
 
 -- a value, and what is left of it without its label
-abbrev Same : Unit {0} → Labelled → Prim → Type 0
+abbrev Same : Unit {0} → Labelled → Primitive → Type 0
 Same w v r = v.value ≡ r
 
 -- each result is related to what is left of it
@@ -33,7 +33,7 @@ same_result One w a = tt
 same_result Value w a = refl
 
 -- the unlabelled computation of equal values
-at_equal : {A : Type 0} {t : Ty} {w : Unit {0}} {m : L (Res Labelled t)} {a b : A} (n : A → P (Res Prim t)) → a ≡ b → Lift t w m (n a) → Lift t w m (n b)
+at_equal : {A : Type 0} {t : Ty} {w : Unit {0}} {m : L (Res Labelled t)} {a b : A} (n : A → P (Res Primitive t)) → a ≡ b → Lift t w m (n a) → Lift t w m (n b)
 at_equal {t = t} {w = w} {m = m} n e l = subst (λ x. Lift t w m (n x)) e l
 
 module _ (tables : Tables) (inputs : Given) where
@@ -89,7 +89,7 @@ with_names_erased (name ∷ names) bindings = with_names_erased names (with_name
 -- a run with labels starts as one without
 start_erased : (tables : Tables) (inputs : Given) (program : Statements) (turns : ℕ) → erased (tracked.start tables inputs program turns) ≡ plain.start tables inputs program turns
 start_erased tables inputs program turns =
-    ap (λ (bs : Bindings Prim). record { variables = bs; positions = replicate (length tables.inputs) 0; lines = []; turns = turns }) (with_names_erased (declared_statements program) _)
+    ap (λ (bs : Bindings Primitive). record { variables = bs; positions = replicate (length tables.inputs) 0; lines = []; turns = turns }) (with_names_erased (declared_statements program) _)
 
 -- ---- runs
 

@@ -3,7 +3,7 @@ use Rattle.std.proofs.Common.{◌≡◌, true, false, ◌⊎◌, ⊎_elim, refl,
 use Rattle.std.proofs.lemmas.Bool.{cases_Bool, and_parts, and_from, and_cases, and_left, and_right}
 use Rattle.origin_labels.specs.Label.{Label, bottom, union, within, sees}
 use Rattle.origin_labels.proofs.LabelLaws.{within-union, within-trans, within-bottom}
-use Rattle.js_number.specs.declared.prim.Prim.{Prim}
+use Rattle.js_number.specs.declared.primitive.Primitive.{Primitive}
 use Rattle.flow_meaning.specs.Tracked.{Labelled, joined}
 use Rattle.low_equal.specs.LowEqual.{Agree}
 

@@ -6,7 +6,7 @@ use Rattle.flow_policy.specs.Inputs.{Given}
 use Rattle.flow_policy.specs.Observed.{Agree as AgreeOn}
 use Rattle.flow_frames.specs.declared.kind.Kind.{Kind}
 use Rattle.flow_frames.specs.declared.kind.Kind.TheVariants as kind
-use Rattle.js_number.specs.declared.prim.Prim.TheVariants.{Undefined}
+use Rattle.js_number.specs.declared.primitive.Primitive.TheVariants.{Undefined}
 use Rattle.js_number.specs.Conversions.{boolean_of}
 use Rattle.js_ast.specs.Trees.{Expr, Statement, Statements}
 use Rattle.es_meaning.specs.Outcomes.{out_of_turns, left, ret, ◌>>=◌}
