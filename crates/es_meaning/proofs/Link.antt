@@ -1,5 +1,6 @@
--- If two records of operations are linked, so are their evaluators: one proof for all readings of a script.
-use Rattle.std.proofs.Common.{ℕ, zero, suc, List, [], ◌∷◌, ◌++◌, pos, Option, Some, None, ◌≤◌, arith}
+-- If two records of operations are linked, so are their evaluators: one proof for all readings of a script. What is done with the value of a part
+-- has a lemma of its own, since work that is pending in a machine is that.
+use Rattle.std.proofs.Common.{ℕ, zero, suc, Bool, true, false, List, [], ◌∷◌, ◌++◌, pos, Option, Some, None, ◌≤◌, arith}
 use Rattle.js_number.specs.declared.primitive.Primitive.{Primitive}
 use Rattle.js_number.specs.declared.primitive.Primitive.TheVariants.{Undefined, Null, Num, Str}
 use Rattle.js_number.specs.declared.primitive.Primitive.TheVariants as prims
@@ -8,9 +9,10 @@ use Rattle.js_ast.specs.declared.operators.UnaryOperator.TheVariants as unary_op
 use Rattle.js_ast.specs.declared.operators.PostfixOperator.TheVariants as postfix_operator
 use Rattle.js_ast.specs.declared.operators.BinaryOperator.{BinaryOperator}
 use Rattle.js_ast.specs.declared.operators.BinaryOperator.TheVariants as binary_operator
-use Rattle.js_ast.specs.Trees.{Ident, Expr, name, number, string, this, null, boolean, paren, array, object, function, member, index, new_with, new_bare, call, postfix, unary, binary, conditional, assign, comma, Exprs, no_exprs, more_exprs, MaybeExpr, absent, present, Declarations, one_declaration, more_declarations, First, first_expr, first_var, Block, block_of, Statement, block, var, empty, expression, if_then, if_else, do_while, while, for, for_in, continue, break, return, throw, switch, labelled, try_catch, try_finally, try_both, debugger, function_declaration, Statements, no_statements, more_statements}
-use Rattle.es_meaning.specs.Operations.{Ty, One, Value, Res, Direct, Ops, Round, Rec}
-use Rattle.es_meaning.specs.Evaluation.{target_name, direct_of, operator_of, discard, give, unary_done, binary_done, type_of_name, assign_to, assign_giving, postfix_by, prefix_by, postfix_number, prefix_number, postfix_name, prefix_name, binary_right, and_right, or_right, choose_expr, comma_right, assign_value, compound_done, compound_right, compound_name, assign_by, assign_step, arguments, call_arguments, call_step, typeof_step, prefix_step, postfix_step, unary_step, binary_step, expr_step, place_step, variable_list, variables, turn_test, tested_by, tested, updated, turned_by, turned_round, turn_step, looped, looped_value, first_step, choose_stmt, choose_stmts, statements, block_step, stmt_step, step, Timed, ticking, eval, program_step}
+use Rattle.js_ast.specs.Trees.{Ident, Expr, name, number, string, this, null, boolean, paren, array, object, function, member, index, new_with, new_bare, call, postfix, unary, binary, conditional, assign, comma, Exprs, no_exprs, more_exprs, MaybeExpr, absent, present, First, first_expr, first_var, Block, block_of, Statement, block, var, empty, expression, if_then, if_else, do_while, while, for, for_in, continue, break, return, throw, switch, labelled, try_catch, try_finally, try_both, debugger, function_declaration, Statements, no_statements, more_statements}
+use Rattle.es_meaning.specs.Environments.{Env}
+use Rattle.es_meaning.specs.Operations.{Ty, One, Value, Res, Direct, Hint, number_hint, Ops, Use, assigned, updated_by, prefixed, postfixed, asked, Round, Rec}
+use Rattle.es_meaning.specs.Evaluation.{is_name, direct_of, operator_of, assigned_by, Conversion, unconverted, compared, numbers, primitives, conversion_of, takes_number, discard, give, enters, unary_done, binary_done, compared_left, primitive_left, number_left, binary_by, binary_values, unary_by, unary_value, assign_to, assign_giving, postfix_by, prefix_by, postfix_number, prefix_number, postfix_value, prefix_value, binary_right, and_right, or_right, choose_expr, comma_right, compound_done, compound_right, used, use_step, read_name, arguments, more_arguments, call_step, typeof_step, unary_step, binary_step, expr_step, variable_list, variables, more_variables, turn_test, tested_by, tested, updated, turned_by, turned_round, turn_step, loop, looped, looped_value, first_step, choose_stmt, choose_stmts, statements, more_statements_behind, block_step, stmt_step, step, Timed, ticking, eval, program_step}
 
 -- related results
 abbrev pub Rel : {W V V' : Type 0} → (W → V → V' → Type 0) → (t : Ty) → W → Res V t → Res V' t → Type 0
@@ -22,15 +24,23 @@ pub data Rels {V V' : Type 0} (R : V → V' → Type 0) : List V → List V' →
   nils : Rels R [] []
   conses : {a : V} {b : V'} {vs : List V} {us : List V'} → R a b → Rels R vs us → Rels R (a ∷ vs) (b ∷ us)
 
--- worlds, related values in them, related computations, and a law for each operation
+-- worlds, what is related in them, related computations, and a law for each operation
 pub record Link (A B : Ops) : Type 1 where
   pub W : Type 0
   pub Le : W → W → Type 0
+  -- values, references, numbers of records, and environments
   pub RV : W → A.V → B.V → Type 0
+  pub RN : W → A.N → B.N → Type 0
+  pub RP : W → ℕ → ℕ → Type 0
+  pub RE : W → Env A.H → Env B.H → Type 0
   pub Lift : (t : Ty) → W → A.M t → B.M t → Type 0
   pub le_refl : (w : W) → Le w w
   pub le_trans : {u v w : W} → Le u v → Le v w → Le u w
   pub more_v : {w w' : W} {a : A.V} {b : B.V} → Le w w' → RV w a b → RV w' a b
+  pub more_n : {w w' : W} {n : A.N} {n' : B.N} → Le w w' → RN w n n' → RN w' n n'
+  pub more_p : {w w' : W} {i j : ℕ} → Le w w' → RP w i j → RP w' i j
+  pub more_e : {w w' : W} {e : Env A.H} {d : Env B.H} → Le w w' → RE w e d → RE w' e d
+  pub place_of : {w : W} {e : Env A.H} {d : Env B.H} → RE w e d → RP w e.place d.place
   -- computations that follow each other
   pub ret_one : (w : W) → Lift One w (A.ret One tt) (B.ret One tt)
   pub ret_value : {w : W} {a : A.V} {b : B.V} → RV w a b → Lift Value w (A.ret Value a) (B.ret Value b)
@@ -41,24 +51,33 @@ pub record Link (A B : Ops) : Type 1 where
   -- acts
   pub unary : {w : W} (o : UnaryOperator) {v : A.V} {v' : B.V} → RV w v v' → Lift Value w (A.unary o v) (B.unary o v')
   pub binary : {w : W} (o : BinaryOperator) {v u : A.V} {v' u' : B.V} → RV w v v' → RV w u u' → Lift Value w (A.binary o v u) (B.binary o v' u')
-  pub look : (w : W) (x : List ℕ) → Lift Value w (A.look x) (B.look x)
-  pub look_or_undefined : (w : W) (x : List ℕ) → Lift Value w (A.look_or_undefined x) (B.look_or_undefined x)
-  pub assign : {w : W} (x : List ℕ) {v : A.V} {v' : B.V} → RV w v v' → Lift One w (A.assign x v) (B.assign x v')
+  pub primitive : {w : W} (hint : Hint) {v : A.V} {v' : B.V} → RV w v v' → Lift Value w (A.primitive hint v) (B.primitive hint v')
+  pub comparable : {w : W} {v u : A.V} {v' u' : B.V} → RV w v v' → RV w u u' → Lift Value w (A.comparable v u) (B.comparable v' u')
   pub direct : {w : W} (f : Direct) {vs : List A.V} {us : List B.V} → Rels (RV w) vs us → Lift Value w (A.direct f vs) (B.direct f us)
   pub unbuilt : (t : Ty) (w : W) → Lift t w (A.unbuilt t) (B.unbuilt t)
+  -- names
+  pub resolve : (t : Ty) {w : W} {i j : ℕ} (x : List ℕ) (k : A.N → A.M t) (k' : B.N → B.M t) → RP w i j
+      → ((w' : W) → Le w w' → (n : A.N) (n' : B.N) → RN w' n n' → Lift t w' (k n) (k' n')) → Lift t w (A.resolve t i x k) (B.resolve t j x k')
+  pub get_name : {w : W} {n : A.N} {n' : B.N} (k : A.V → A.M Value) (k' : B.V → B.M Value) → RN w n n'
+      → ((w' : W) → Le w w' → (v : A.V) (v' : B.V) → RV w' v v' → Lift Value w' (k v) (k' v')) → Lift Value w (A.get_name n k) (B.get_name n' k')
+  pub typeof_name : {w : W} {n : A.N} {n' : B.N} (k : A.V → A.M Value) (k' : B.V → B.M Value) → RN w n n'
+      → ((w' : W) → Le w w' → (v : A.V) (v' : B.V) → RV w' v v' → Lift Value w' (k v) (k' v')) → Lift Value w (A.typeof_name n k) (B.typeof_name n' k')
+  pub put_name : {w : W} {n : A.N} {n' : B.N} {v : A.V} {v' : B.V} (k : A.V → A.M Value) (k' : B.V → B.M Value) → RN w n n' → RV w v v'
+      → ((w' : W) → Le w w' → (f : A.V) (f' : B.V) → RV w' f f' → Lift Value w' (k f) (k' f')) → Lift One w (A.put_name n v k) (B.put_name n' v' k')
   -- scopes
-  pub fork : (t : Ty) {w : W} {v : A.V} {v' : B.V} {m n : A.M t} {m' n' : B.M t} → RV w v v' → Lift t w m m' → Lift t w n n' → Lift t w (A.fork t v m n) (B.fork t v' m' n')
-  pub loop : {w : W} {m : A.M One} {m' : B.M One} → Lift One w m m' → Lift One w (A.loop m) (B.loop m')
+  pub fork : (t : Ty) {w : W} {v : A.V} {v' : B.V} {m n : A.M t} {m' n' : B.M t} → RV w v v'
+      → ((w' : W) → Le w w' → Lift t w' m m') → ((w' : W) → Le w w' → Lift t w' n n') → Lift t w (A.fork t v m n) (B.fork t v' m' n')
+  pub round : {w : W} (turn : Bool) (labels : List (Option (List ℕ))) {e : Env A.H} {d : Env B.H} (k : Env A.H → A.M One) (k' : Env B.H → B.M One) → RE w e d
+      → ((w' : W) (e' : Env A.H) (d' : Env B.H) → RE w' e' d' → Lift One w' (k e') (k' d')) → Lift One w (A.round turn labels e k) (B.round turn labels d k')
   pub again : {w : W} {v : A.V} {v' : B.V} {m n : A.M One} {m' n' : B.M One} → RV w v v' → Lift One w m m' → Lift One w n n' → Lift One w (A.again v m n) (B.again v' m' n')
-  pub turn : {w : W} {m : A.M One} {m' : B.M One} → Lift One w m m' → Lift One w (A.turn m) (B.turn m')
 
 module _ (A B : Ops) (K : Link A B) where
   -- linked meanings of parts
   pub record Linked (R : Rec A) (Q : Rec B) : Type 0 where
-    pub expr : (e : Expr) (w : K.W) → K.Lift Value w (R.expr e) (Q.expr e)
-    pub place : (e : Expr) (w : K.W) → K.Lift One w (R.place e) (Q.place e)
-    pub stmt : (s : Statement) (w : K.W) → K.Lift One w (R.stmt s) (Q.stmt s)
-    pub turn : (round : Round) (w : K.W) → K.Lift One w (R.turn round) (Q.turn round)
+    pub expr : (e : Expr) (w : K.W) (i j : ℕ) → K.RP w i j → K.Lift Value w (R.expr e i) (Q.expr e j)
+    pub use_of : (use_as : Use) (e : Expr) (w : K.W) (i j : ℕ) → K.RP w i j → K.Lift Value w (R.use_of use_as e i) (Q.use_of use_as e j)
+    pub stmt : (s : Statement) (w : K.W) (e : Env A.H) (d : Env B.H) → K.RE w e d → K.Lift One w (R.stmt s e) (Q.stmt s d)
+    pub turn : (round : Round) (w : K.W) (e : Env A.H) (d : Env B.H) → K.RE w e d → K.Lift One w (R.turn round e) (Q.turn round d)
 
   more_rels : {w w' : K.W} {vs : List A.V} {us : List B.V} → K.Le w w' → Rels (K.RV w) vs us → Rels (K.RV w') vs us
   more_rels l nils = nils
@@ -70,275 +89,386 @@ module _ (A B : Ops) (K : Link A B) where
 
   -- ---- what is done with values
 
-  assign_to_linked : (x : List ℕ) {w : K.W} {v : A.V} {v' : B.V} → K.RV w v v' → K.Lift Value w (assign_to A x v) (assign_to B x v')
-  unfolding assign_to give
-  assign_to_linked x r = K.bind One Value _ _ (K.assign x r) λ w1 l1 u u' ru. K.ret_value (K.more_v l1 r)
+  pub discard_linked : {w : K.W} {v : A.V} {v' : B.V} → K.RV w v v' → K.Lift One w (discard A v) (discard B v')
+  unfolding discard
+  discard_linked {w = w} r = K.ret_one w
 
-  assign_giving_linked : (x : List ℕ) {w : K.W} {a v : A.V} {a' v' : B.V} → K.RV w a a' → K.RV w v v' → K.Lift Value w (assign_giving A x a v) (assign_giving B x a' v')
-  unfolding assign_giving give
-  assign_giving_linked x q r = K.bind One Value _ _ (K.assign x r) λ w1 l1 u u' ru. K.ret_value (K.more_v l1 q)
+  pub give_linked : {w : K.W} {v : A.V} {v' : B.V} → K.RV w v v' → K.Lift Value w (give A v tt) (give B v' tt)
+  unfolding give
+  give_linked r = K.ret_value r
 
-  prefix_linked : (o : BinaryOperator) (x : List ℕ) (w : K.W) → K.Lift Value w (prefix_name A o x tt) (prefix_name B o x tt)
-  unfolding prefix_name prefix_number prefix_by
-  prefix_linked o x w =
-      K.bind Value Value _ _ (K.look w x) λ w1 l1 v v' rv.
-      K.bind Value Value _ _ (K.unary unary_operator.Plus rv) λ w2 l2 a a' ra.
-      K.bind Value Value _ _ (K.binary o ra (K.literal w2 (Num (pos 1)))) λ w3 l3 b b' rb.
-      assign_to_linked x rb
+  pub enters_linked : {w : K.W} {f : A.V} {f' : B.V} → K.RV w f f' → K.Lift Value w (enters A f) (enters B f')
+  unfolding enters
+  enters_linked {w = w} r = K.unbuilt Value w
 
-  postfix_linked : (o : BinaryOperator) (x : List ℕ) (w : K.W) → K.Lift Value w (postfix_name A o x tt) (postfix_name B o x tt)
-  unfolding postfix_name postfix_number postfix_by
-  postfix_linked o x w =
-      K.bind Value Value _ _ (K.look w x) λ w1 l1 v v' rv.
-      K.bind Value Value _ _ (K.unary unary_operator.Plus rv) λ w2 l2 a a' ra.
-      K.bind Value Value _ _ (K.binary o ra (K.literal w2 (Num (pos 1)))) λ w3 l3 b b' rb.
-      assign_giving_linked x (K.more_v l3 ra) rb
+  pub unary_done_linked : (o : UnaryOperator) {w : K.W} {v : A.V} {v' : B.V} → K.RV w v v' → K.Lift Value w (unary_done A o v) (unary_done B o v')
+  unfolding unary_done
+  unary_done_linked o r = K.unary o r
 
-  type_linked : (x : List ℕ) (w : K.W) → K.Lift Value w (type_of_name A x tt) (type_of_name B x tt)
-  unfolding type_of_name unary_done
-  type_linked x w = K.bind Value Value _ _ (K.look_or_undefined w x) λ w1 l1 v v' rv. K.unary unary_operator.Typeof rv
+  pub binary_done_linked : (o : BinaryOperator) {w : K.W} {v u : A.V} {v' u' : B.V} → K.RV w v v' → K.RV w u u' → K.Lift Value w (binary_done A o v u) (binary_done B o v' u')
+  unfolding binary_done
+  binary_done_linked o rv ru = K.binary o rv ru
+
+  pub compared_left_linked : (o : BinaryOperator) {w : K.W} {u v : A.V} {u' v' : B.V} → K.RV w u u' → K.RV w v v' → K.Lift Value w (compared_left A o u v) (compared_left B o u' v')
+  unfolding compared_left
+  compared_left_linked o ru rv = K.bind Value Value _ _ (K.comparable ru rv) λ w1 l1 a b r. binary_done_linked o (K.more_v l1 rv) r
+
+  pub primitive_left_linked : (hint : Hint) (o : BinaryOperator) {w : K.W} {u v : A.V} {u' v' : B.V} → K.RV w u u' → K.RV w v v' → K.Lift Value w (primitive_left A hint o u v) (primitive_left B hint o u' v')
+  unfolding primitive_left
+  primitive_left_linked hint o ru rv = K.bind Value Value _ _ (K.primitive hint ru) λ w1 l1 a b r. binary_done_linked o (K.more_v l1 rv) r
+
+  pub number_left_linked : (o : BinaryOperator) {w : K.W} {u v : A.V} {u' v' : B.V} → K.RV w u u' → K.RV w v v' → K.Lift Value w (number_left A o u v) (number_left B o u' v')
+  unfolding number_left
+  number_left_linked o ru rv = K.bind Value Value _ _ (K.unary unary_operator.Plus rv) λ w1 l1 a b r. primitive_left_linked number_hint o (K.more_v l1 ru) r
+
+  binary_by_linked : (c : Conversion) (o : BinaryOperator) {w : K.W} {v u : A.V} {v' u' : B.V} → K.RV w v v' → K.RV w u u' → K.Lift Value w (binary_by A c o v u) (binary_by B c o v' u')
+  binary_by_linked unconverted o rv ru = K.binary o rv ru
+  binary_by_linked compared o rv ru = K.bind Value Value _ _ (K.comparable rv ru) λ w1 l1 a b r. compared_left_linked o (K.more_v l1 ru) r
+  binary_by_linked (primitives hint) o rv ru = K.bind Value Value _ _ (K.primitive hint rv) λ w1 l1 a b r. primitive_left_linked hint o (K.more_v l1 ru) r
+  binary_by_linked numbers o rv ru = K.bind Value Value _ _ (K.primitive number_hint rv) λ w1 l1 a b r. number_left_linked o (K.more_v l1 ru) r
+
+  pub binary_values_linked : (o : BinaryOperator) {w : K.W} {v u : A.V} {v' u' : B.V} → K.RV w v v' → K.RV w u u' → K.Lift Value w (binary_values A o v u) (binary_values B o v' u')
+  unfolding binary_values
+  binary_values_linked o rv ru = binary_by_linked (conversion_of o) o rv ru
+
+  unary_by_linked : (b : Bool) (o : UnaryOperator) {w : K.W} {v : A.V} {v' : B.V} → K.RV w v v' → K.Lift Value w (unary_by A b o v) (unary_by B b o v')
+  unary_by_linked true o rv = K.bind Value Value _ _ (K.primitive number_hint rv) λ w1 l1 a b r. unary_done_linked o r
+  unary_by_linked false o rv = K.unary o rv
+
+  pub unary_value_linked : (o : UnaryOperator) {w : K.W} {v : A.V} {v' : B.V} → K.RV w v v' → K.Lift Value w (unary_value A o v) (unary_value B o v')
+  unfolding unary_value
+  unary_value_linked o rv = unary_by_linked (takes_number o) o rv
+
+  pub assign_to_linked : {w : K.W} {n : A.N} {n' : B.N} {v : A.V} {v' : B.V} → K.RN w n n' → K.RV w v v' → K.Lift Value w (assign_to A n v) (assign_to B n' v')
+  unfolding assign_to
+  assign_to_linked rn rv = K.bind One Value _ _ (K.put_name _ _ rn rv λ w1 l1 f f' rf. enters_linked rf) λ w1 l1 u u' ru. give_linked (K.more_v l1 rv)
+
+  pub assign_giving_linked : {w : K.W} {n : A.N} {n' : B.N} {a v : A.V} {a' v' : B.V} → K.RN w n n' → K.RV w a a' → K.RV w v v' → K.Lift Value w (assign_giving A n a v) (assign_giving B n' a' v')
+  unfolding assign_giving
+  assign_giving_linked rn ra rv = K.bind One Value _ _ (K.put_name _ _ rn rv λ w1 l1 f f' rf. enters_linked rf) λ w1 l1 u u' ru. give_linked (K.more_v l1 ra)
+
+  pub postfix_by_linked : (o : BinaryOperator) {w : K.W} {n : A.N} {n' : B.N} {v : A.V} {v' : B.V} → K.RN w n n' → K.RV w v v' → K.Lift Value w (postfix_by A o n v) (postfix_by B o n' v')
+  unfolding postfix_by
+  postfix_by_linked o {w = w} rn rv = K.bind Value Value _ _ (K.binary o rv (K.literal w (Num (pos 1)))) λ w1 l1 a b r. assign_giving_linked (K.more_n l1 rn) (K.more_v l1 rv) r
+
+  pub postfix_number_linked : (o : BinaryOperator) {w : K.W} {n : A.N} {n' : B.N} {v : A.V} {v' : B.V} → K.RN w n n' → K.RV w v v' → K.Lift Value w (postfix_number A o n v) (postfix_number B o n' v')
+  unfolding postfix_number
+  postfix_number_linked o rn rv = K.bind Value Value _ _ (K.unary unary_operator.Plus rv) λ w1 l1 a b r. postfix_by_linked o (K.more_n l1 rn) r
+
+  pub postfix_value_linked : (o : BinaryOperator) {w : K.W} {n : A.N} {n' : B.N} {v : A.V} {v' : B.V} → K.RN w n n' → K.RV w v v' → K.Lift Value w (postfix_value A o n v) (postfix_value B o n' v')
+  unfolding postfix_value
+  postfix_value_linked o rn rv = K.bind Value Value _ _ (K.primitive number_hint rv) λ w1 l1 a b r. postfix_number_linked o (K.more_n l1 rn) r
+
+  pub prefix_by_linked : (o : BinaryOperator) {w : K.W} {n : A.N} {n' : B.N} {v : A.V} {v' : B.V} → K.RN w n n' → K.RV w v v' → K.Lift Value w (prefix_by A o n v) (prefix_by B o n' v')
+  unfolding prefix_by
+  prefix_by_linked o {w = w} rn rv = K.bind Value Value _ _ (K.binary o rv (K.literal w (Num (pos 1)))) λ w1 l1 a b r. assign_to_linked (K.more_n l1 rn) r
+
+  pub prefix_number_linked : (o : BinaryOperator) {w : K.W} {n : A.N} {n' : B.N} {v : A.V} {v' : B.V} → K.RN w n n' → K.RV w v v' → K.Lift Value w (prefix_number A o n v) (prefix_number B o n' v')
+  unfolding prefix_number
+  prefix_number_linked o rn rv = K.bind Value Value _ _ (K.unary unary_operator.Plus rv) λ w1 l1 a b r. prefix_by_linked o (K.more_n l1 rn) r
+
+  pub prefix_value_linked : (o : BinaryOperator) {w : K.W} {n : A.N} {n' : B.N} {v : A.V} {v' : B.V} → K.RN w n n' → K.RV w v v' → K.Lift Value w (prefix_value A o n v) (prefix_value B o n' v')
+  unfolding prefix_value
+  prefix_value_linked o rn rv = K.bind Value Value _ _ (K.primitive number_hint rv) λ w1 l1 a b r. prefix_number_linked o (K.more_n l1 rn) r
 
   module _ (R : Rec A) (Q : Rec B) (h : Linked R Q) where
     -- ---- expressions
 
-    unary_linked : (o : UnaryOperator) (e : Expr) (w : K.W) → K.Lift Value w (A.bind Value Value (R.expr e) (unary_done A o)) (B.bind Value Value (Q.expr e) (unary_done B o))
-    unfolding unary_done
-    unary_linked o e w = K.bind Value Value _ _ (h.expr e w) λ w1 l1 v v' rv. K.unary o rv
+    pub binary_right_linked : (o : BinaryOperator) (r : Expr) {w : K.W} {i j : ℕ} {v : A.V} {v' : B.V} → K.RP w i j → K.RV w v v' → K.Lift Value w (binary_right A R o r i v) (binary_right B Q o r j v')
+    unfolding binary_right
+    binary_right_linked o r p rv = K.bind Value Value _ _ (h.expr r _ _ _ p) λ w1 l1 u u' ru. binary_values_linked o (K.more_v l1 rv) ru
 
-    typeof_linked : (x : Option (List ℕ)) (e : Expr) (w : K.W) → K.Lift Value w (typeof_step A R x e) (typeof_step B Q x e)
-    typeof_linked None e w = unary_linked unary_operator.Typeof e w
-    typeof_linked (Some x) e w = K.bind One Value _ _ (h.place e w) λ w1 l1 u u' ru. type_linked x w1
+    pub and_right_linked : (r : Expr) {w : K.W} {i j : ℕ} {v : A.V} {v' : B.V} → K.RP w i j → K.RV w v v' → K.Lift Value w (and_right A R r i v) (and_right B Q r j v')
+    unfolding and_right
+    and_right_linked r p rv = K.fork Value rv (λ w1 l1. h.expr r w1 _ _ (K.more_p l1 p)) (λ w1 l1. K.ret_value (K.more_v l1 rv))
 
-    prefix_step_linked : (o : BinaryOperator) (x : Option (List ℕ)) (e : Expr) (w : K.W) → K.Lift Value w (prefix_step A R o x e) (prefix_step B Q o x e)
-    prefix_step_linked o None e w = K.unbuilt Value w
-    prefix_step_linked o (Some x) e w = K.bind One Value _ _ (h.place e w) λ w1 l1 u u' ru. prefix_linked o x w1
+    pub or_right_linked : (r : Expr) {w : K.W} {i j : ℕ} {v : A.V} {v' : B.V} → K.RP w i j → K.RV w v v' → K.Lift Value w (or_right A R r i v) (or_right B Q r j v')
+    unfolding or_right
+    or_right_linked r p rv = K.fork Value rv (λ w1 l1. K.ret_value (K.more_v l1 rv)) (λ w1 l1. h.expr r w1 _ _ (K.more_p l1 p))
 
-    postfix_step_linked : (o : BinaryOperator) (x : Option (List ℕ)) (e : Expr) (w : K.W) → K.Lift Value w (postfix_step A R o x e) (postfix_step B Q o x e)
-    postfix_step_linked o None e w = K.unbuilt Value w
-    postfix_step_linked o (Some x) e w = K.bind One Value _ _ (h.place e w) λ w1 l1 u u' ru. postfix_linked o x w1
+    pub choose_expr_linked : (a b : Expr) {w : K.W} {i j : ℕ} {v : A.V} {v' : B.V} → K.RP w i j → K.RV w v v' → K.Lift Value w (choose_expr A R a b i v) (choose_expr B Q a b j v')
+    unfolding choose_expr
+    choose_expr_linked a b p rv = K.fork Value rv (λ w1 l1. h.expr a w1 _ _ (K.more_p l1 p)) (λ w1 l1. h.expr b w1 _ _ (K.more_p l1 p))
 
-    unary_step_linked : (o : UnaryOperator) (e : Expr) (w : K.W) → K.Lift Value w (unary_step A R o e) (unary_step B Q o e)
-    unfolding unary_step
-    unary_step_linked unary_operator.Delete e w = K.unbuilt Value w
-    unary_step_linked unary_operator.Typeof e w = typeof_linked (target_name e) e w
-    unary_step_linked unary_operator.Increment e w = prefix_step_linked binary_operator.Add (target_name e) e w
-    unary_step_linked unary_operator.Decrement e w = prefix_step_linked binary_operator.Subtract (target_name e) e w
-    unary_step_linked unary_operator.Void e w = unary_linked unary_operator.Void e w
-    unary_step_linked unary_operator.Plus e w = unary_linked unary_operator.Plus e w
-    unary_step_linked unary_operator.Minus e w = unary_linked unary_operator.Minus e w
-    unary_step_linked unary_operator.BitNot e w = unary_linked unary_operator.BitNot e w
-    unary_step_linked unary_operator.Not e w = unary_linked unary_operator.Not e w
+    pub comma_right_linked : (r : Expr) {w : K.W} {i j : ℕ} {v : A.V} {v' : B.V} → K.RP w i j → K.RV w v v' → K.Lift Value w (comma_right A R r i v) (comma_right B Q r j v')
+    unfolding comma_right
+    comma_right_linked r p rv = h.expr r _ _ _ p
 
-    binary_linked : (l : Expr) (o : BinaryOperator) (r : Expr) (w : K.W) → K.Lift Value w (A.bind Value Value (R.expr l) (binary_right A R o r)) (B.bind Value Value (Q.expr l) (binary_right B Q o r))
-    unfolding binary_right binary_done
-    binary_linked l o r w =
-        K.bind Value Value _ _ (h.expr l w) λ w1 l1 v v' rv.
-        K.bind Value Value _ _ (h.expr r w1) λ w2 l2 u u' ru.
-        K.binary o (K.more_v l2 rv) ru
+    pub compound_done_linked : (o : BinaryOperator) {w : K.W} {n : A.N} {n' : B.N} {a v : A.V} {a' v' : B.V} → K.RN w n n' → K.RV w a a' → K.RV w v v' → K.Lift Value w (compound_done A R o n a v) (compound_done B Q o n' a' v')
+    unfolding compound_done
+    compound_done_linked o rn ra rv = K.bind Value Value _ _ (binary_values_linked o ra rv) λ w1 l1 b b' rb. assign_to_linked (K.more_n l1 rn) rb
 
-    binary_step_linked : (l : Expr) (o : BinaryOperator) (r : Expr) (w : K.W) → K.Lift Value w (binary_step A R l o r) (binary_step B Q l o r)
-    unfolding binary_step and_right or_right
-    binary_step_linked l binary_operator.And r w = K.bind Value Value _ _ (h.expr l w) λ w1 l1 v v' rv. K.fork Value rv (h.expr r w1) (K.ret_value rv)
-    binary_step_linked l binary_operator.Or r w = K.bind Value Value _ _ (h.expr l w) λ w1 l1 v v' rv. K.fork Value rv (K.ret_value rv) (h.expr r w1)
-    binary_step_linked l binary_operator.In r w = K.unbuilt Value w
-    binary_step_linked l binary_operator.Instanceof r w = K.unbuilt Value w
-    binary_step_linked l binary_operator.Multiply r w = binary_linked l binary_operator.Multiply r w
-    binary_step_linked l binary_operator.Divide r w = binary_linked l binary_operator.Divide r w
-    binary_step_linked l binary_operator.Remainder r w = binary_linked l binary_operator.Remainder r w
-    binary_step_linked l binary_operator.Add r w = binary_linked l binary_operator.Add r w
-    binary_step_linked l binary_operator.Subtract r w = binary_linked l binary_operator.Subtract r w
-    binary_step_linked l binary_operator.ShiftLeft r w = binary_linked l binary_operator.ShiftLeft r w
-    binary_step_linked l binary_operator.ShiftRight r w = binary_linked l binary_operator.ShiftRight r w
-    binary_step_linked l binary_operator.ShiftRightZero r w = binary_linked l binary_operator.ShiftRightZero r w
-    binary_step_linked l binary_operator.Less r w = binary_linked l binary_operator.Less r w
-    binary_step_linked l binary_operator.Greater r w = binary_linked l binary_operator.Greater r w
-    binary_step_linked l binary_operator.LessEqual r w = binary_linked l binary_operator.LessEqual r w
-    binary_step_linked l binary_operator.GreaterEqual r w = binary_linked l binary_operator.GreaterEqual r w
-    binary_step_linked l binary_operator.Equal r w = binary_linked l binary_operator.Equal r w
-    binary_step_linked l binary_operator.NotEqual r w = binary_linked l binary_operator.NotEqual r w
-    binary_step_linked l binary_operator.StrictEqual r w = binary_linked l binary_operator.StrictEqual r w
-    binary_step_linked l binary_operator.StrictNotEqual r w = binary_linked l binary_operator.StrictNotEqual r w
-    binary_step_linked l binary_operator.BitAnd r w = binary_linked l binary_operator.BitAnd r w
-    binary_step_linked l binary_operator.BitXor r w = binary_linked l binary_operator.BitXor r w
-    binary_step_linked l binary_operator.BitOr r w = binary_linked l binary_operator.BitOr r w
+    pub compound_right_linked : (o : BinaryOperator) (r : Expr) {w : K.W} {i j : ℕ} {n : A.N} {n' : B.N} {a : A.V} {a' : B.V} → K.RP w i j → K.RN w n n' → K.RV w a a' → K.Lift Value w (compound_right A R o r i n a) (compound_right B Q o r j n' a')
+    unfolding compound_right
+    compound_right_linked o r p rn ra = K.bind Value Value _ _ (h.expr r _ _ _ p) λ w1 l1 v v' rv. compound_done_linked o (K.more_n l1 rn) (K.more_v l1 ra) rv
 
-    assign_by_linked : (o : Option BinaryOperator) (x : List ℕ) (r : Expr) (w : K.W) → K.Lift Value w (assign_by A R o x r tt) (assign_by B Q o x r tt)
-    unfolding assign_value compound_name compound_right compound_done
-    assign_by_linked None x r w = K.bind Value Value _ _ (h.expr r w) λ w1 l1 v v' rv. assign_to_linked x rv
-    assign_by_linked (Some o) x r w =
-        K.bind Value Value _ _ (K.look w x) λ w1 l1 a a' ra.
-        K.bind Value Value _ _ (h.expr r w1) λ w2 l2 v v' rv.
-        K.bind Value Value _ _ (K.binary o (K.more_v l2 ra) rv) λ w3 l3 b b' rb.
-        assign_to_linked x rb
+    pub used_linked : (use_as : Use) {w : K.W} {i j : ℕ} {n : A.N} {n' : B.N} → K.RP w i j → K.RN w n n' → K.Lift Value w (used A R use_as i n) (used B Q use_as j n')
+    unfolding used
+    used_linked (assigned r) p rn = K.bind Value Value _ _ (h.expr r _ _ _ p) λ w1 l1 v v' rv. assign_to_linked (K.more_n l1 rn) rv
+    used_linked (updated_by o r) p rn = K.bind Value Value _ _ (K.get_name _ _ rn λ w1 l1 f f' rf. enters_linked rf) λ w1 l1 v v' rv. compound_right_linked o r (K.more_p l1 p) (K.more_n l1 rn) rv
+    used_linked (prefixed o) p rn = K.bind Value Value _ _ (K.get_name _ _ rn λ w1 l1 f f' rf. enters_linked rf) λ w1 l1 v v' rv. prefix_value_linked o (K.more_n l1 rn) rv
+    used_linked (postfixed o) p rn = K.bind Value Value _ _ (K.get_name _ _ rn λ w1 l1 f f' rf. enters_linked rf) λ w1 l1 v v' rv. postfix_value_linked o (K.more_n l1 rn) rv
+    used_linked asked p rn = K.bind Value Value _ _ (K.typeof_name _ _ rn λ w1 l1 f f' rf. enters_linked rf) λ w1 l1 v v' rv. unary_done_linked unary_operator.Typeof rv
 
-    assign_step_linked : (x : Option (List ℕ)) (l : Expr) (o : Option BinaryOperator) (r : Expr) (w : K.W) → K.Lift Value w (assign_step A R x l o r) (assign_step B Q x l o r)
-    assign_step_linked None l o r w = K.unbuilt Value w
-    assign_step_linked (Some x) l o r w = K.bind One Value _ _ (h.place l w) λ w1 l1 u u' ru. assign_by_linked o x r w1
+    use_linked : (use_as : Use) (e : Expr) (w : K.W) (i j : ℕ) → K.RP w i j → K.Lift Value w (use_step A R use_as e i) (use_step B Q use_as e j)
+    unfolding use_step
+    use_linked use_as (name at text) w i j p = K.resolve Value text _ _ p λ w1 l1 n n' rn. used_linked use_as (K.more_p l1 p) rn
+    use_linked use_as (paren at e) w i j p = h.use_of use_as e w i j p
+    use_linked use_as (number there n) w i j p = K.unbuilt Value w
+    use_linked use_as (string there text v) w i j p = K.unbuilt Value w
+    use_linked use_as (this there) w i j p = K.unbuilt Value w
+    use_linked use_as (null there) w i j p = K.unbuilt Value w
+    use_linked use_as (boolean there b) w i j p = K.unbuilt Value w
+    use_linked use_as (array there is final) w i j p = K.unbuilt Value w
+    use_linked use_as (object there ps final) w i j p = K.unbuilt Value w
+    use_linked use_as (function there n ps ss) w i j p = K.unbuilt Value w
+    use_linked use_as (member there e text) w i j p = K.unbuilt Value w
+    use_linked use_as (index there e n) w i j p = K.unbuilt Value w
+    use_linked use_as (new_with there e fs) w i j p = K.unbuilt Value w
+    use_linked use_as (new_bare there e) w i j p = K.unbuilt Value w
+    use_linked use_as (call there e fs) w i j p = K.unbuilt Value w
+    use_linked use_as (postfix there e o) w i j p = K.unbuilt Value w
+    use_linked use_as (unary there o e) w i j p = K.unbuilt Value w
+    use_linked use_as (binary there l o r) w i j p = K.unbuilt Value w
+    use_linked use_as (conditional there c a b) w i j p = K.unbuilt Value w
+    use_linked use_as (assign there l o r) w i j p = K.unbuilt Value w
+    use_linked use_as (comma there l r) w i j p = K.unbuilt Value w
 
-    arguments_linked : (f : Direct) (es : Exprs) {w : K.W} {vs : List A.V} {us : List B.V} → Rels (K.RV w) vs us → K.Lift Value w (arguments A R f vs es) (arguments B Q f us es)
+    pub read_name_linked : {w : K.W} {n : A.N} {n' : B.N} → K.RN w n n' → K.Lift Value w (read_name A R n) (read_name B Q n')
+    unfolding read_name
+    read_name_linked rn = K.get_name _ _ rn λ w1 l1 f f' rf. enters_linked rf
+
+    arguments_linked : (f : Direct) (es : Exprs) {w : K.W} {i j : ℕ} {vs : List A.V} {us : List B.V} → K.RP w i j → Rels (K.RV w) vs us → K.Lift Value w (arguments A R f vs es i) (arguments B Q f us es j)
     unfolding arguments
-    arguments_linked f no_exprs rs = K.direct f rs
-    arguments_linked f (more_exprs e es) {w = w} rs = K.bind Value Value _ _ (h.expr e w) λ w1 l1 v v' rv. arguments_linked f es (one_more (more_rels l1 rs) rv)
+    arguments_linked f no_exprs p rs = K.direct f rs
+    arguments_linked f (more_exprs e es) p rs = K.bind Value Value _ _ (h.expr e _ _ _ p) λ w1 l1 v v' rv. arguments_linked f es (K.more_p l1 p) (one_more (more_rels l1 rs) rv)
 
-    call_linked : (f : Expr) (d : Option Direct) (es : Exprs) (w : K.W) → K.Lift Value w (call_step A R f d es) (call_step B Q f d es)
-    unfolding call_arguments
-    call_linked f None es w = K.unbuilt Value w
-    call_linked f (Some d) es w = K.bind One Value _ _ (h.place f w) λ w1 l1 u u' ru. arguments_linked d es nils
+    pub more_arguments_linked : (f : Direct) (es : Exprs) {w : K.W} {i j : ℕ} {vs : List A.V} {us : List B.V} {v : A.V} {v' : B.V} → K.RP w i j → Rels (K.RV w) vs us → K.RV w v v'
+        → K.Lift Value w (more_arguments A R f vs es i v) (more_arguments B Q f us es j v')
+    unfolding more_arguments
+    more_arguments_linked f es p rs rv = arguments_linked f es p (one_more rs rv)
 
-    callee_linked : (f : Expr) (at : ℕ) (es : Exprs) (w : K.W) → K.Lift Value w (expr_step A R (call at f es)) (expr_step B Q (call at f es))
+    call_linked : (f : Option Direct) (es : Exprs) (w : K.W) (i j : ℕ) → K.RP w i j → K.Lift Value w (call_step A R f es i) (call_step B Q f es j)
+    call_linked None es w i j p = K.unbuilt Value w
+    call_linked (Some f) es w i j p = arguments_linked f es p nils
+
+    callee_linked : (f : Expr) (at : ℕ) (es : Exprs) (w : K.W) (i j : ℕ) → K.RP w i j → K.Lift Value w (expr_step A R (call at f es) i) (expr_step B Q (call at f es) j)
     unfolding expr_step
-    callee_linked (name there text) at es w = call_linked (name there text) (direct_of text) es w
-    callee_linked (number there n) at es w = K.unbuilt Value w
-    callee_linked (string there text v) at es w = K.unbuilt Value w
-    callee_linked (this there) at es w = K.unbuilt Value w
-    callee_linked (null there) at es w = K.unbuilt Value w
-    callee_linked (boolean there b) at es w = K.unbuilt Value w
-    callee_linked (paren there e) at es w = K.unbuilt Value w
-    callee_linked (array there is final) at es w = K.unbuilt Value w
-    callee_linked (object there ps final) at es w = K.unbuilt Value w
-    callee_linked (function there i ps ss) at es w = K.unbuilt Value w
-    callee_linked (member there e text) at es w = K.unbuilt Value w
-    callee_linked (index there e i) at es w = K.unbuilt Value w
-    callee_linked (new_with there e fs) at es w = K.unbuilt Value w
-    callee_linked (new_bare there e) at es w = K.unbuilt Value w
-    callee_linked (call there e fs) at es w = K.unbuilt Value w
-    callee_linked (postfix there e o) at es w = K.unbuilt Value w
-    callee_linked (unary there o e) at es w = K.unbuilt Value w
-    callee_linked (binary there l o r) at es w = K.unbuilt Value w
-    callee_linked (conditional there c a b) at es w = K.unbuilt Value w
-    callee_linked (assign there l o r) at es w = K.unbuilt Value w
-    callee_linked (comma there l r) at es w = K.unbuilt Value w
+    callee_linked (name there text) at es w i j p = call_linked (direct_of text) es w i j p
+    callee_linked (number there n) at es w i j p = K.unbuilt Value w
+    callee_linked (string there text v) at es w i j p = K.unbuilt Value w
+    callee_linked (this there) at es w i j p = K.unbuilt Value w
+    callee_linked (null there) at es w i j p = K.unbuilt Value w
+    callee_linked (boolean there b) at es w i j p = K.unbuilt Value w
+    callee_linked (paren there e) at es w i j p = K.unbuilt Value w
+    callee_linked (array there is final) at es w i j p = K.unbuilt Value w
+    callee_linked (object there ps final) at es w i j p = K.unbuilt Value w
+    callee_linked (function there n ps ss) at es w i j p = K.unbuilt Value w
+    callee_linked (member there e text) at es w i j p = K.unbuilt Value w
+    callee_linked (index there e n) at es w i j p = K.unbuilt Value w
+    callee_linked (new_with there e fs) at es w i j p = K.unbuilt Value w
+    callee_linked (new_bare there e) at es w i j p = K.unbuilt Value w
+    callee_linked (call there e fs) at es w i j p = K.unbuilt Value w
+    callee_linked (postfix there e o) at es w i j p = K.unbuilt Value w
+    callee_linked (unary there o e) at es w i j p = K.unbuilt Value w
+    callee_linked (binary there l o r) at es w i j p = K.unbuilt Value w
+    callee_linked (conditional there c a b) at es w i j p = K.unbuilt Value w
+    callee_linked (assign there l o r) at es w i j p = K.unbuilt Value w
+    callee_linked (comma there l r) at es w i j p = K.unbuilt Value w
 
-    expr_linked : (e : Expr) (w : K.W) → K.Lift Value w (expr_step A R e) (expr_step B Q e)
-    unfolding expr_step choose_expr comma_right
-    expr_linked (name at text) w = K.look w text
-    expr_linked (number at n) w = K.ret_value (K.literal w (Num n))
-    expr_linked (string at text v) w = K.ret_value (K.literal w (Str v))
-    expr_linked (this at) w = K.unbuilt Value w
-    expr_linked (null at) w = K.ret_value (K.literal w Null)
-    expr_linked (boolean at b) w = K.ret_value (K.literal w (prims.Bool b))
-    expr_linked (paren at e) w = h.expr e w
-    expr_linked (array at is final) w = K.unbuilt Value w
-    expr_linked (object at ps final) w = K.unbuilt Value w
-    expr_linked (function at i ps ss) w = K.unbuilt Value w
-    expr_linked (member at e text) w = K.unbuilt Value w
-    expr_linked (index at e i) w = K.unbuilt Value w
-    expr_linked (new_with at e es) w = K.unbuilt Value w
-    expr_linked (new_bare at e) w = K.unbuilt Value w
-    expr_linked (call at e es) w = callee_linked e at es w
-    expr_linked (postfix at e postfix_operator.Increment) w = postfix_step_linked binary_operator.Add (target_name e) e w
-    expr_linked (postfix at e postfix_operator.Decrement) w = postfix_step_linked binary_operator.Subtract (target_name e) e w
-    expr_linked (unary at o e) w = unary_step_linked o e w
-    expr_linked (binary at l o r) w = binary_step_linked l o r w
-    expr_linked (conditional at c a b) w = K.bind Value Value _ _ (h.expr c w) λ w1 l1 v v' rv. K.fork Value rv (h.expr a w1) (h.expr b w1)
-    expr_linked (assign at l o r) w = assign_step_linked (target_name l) l (operator_of A o) r w
-    expr_linked (comma at l r) w = K.bind Value Value _ _ (h.expr l w) λ w1 l1 v v' rv. h.expr r w1
+    unary_linked : (o : UnaryOperator) (e : Expr) (w : K.W) (i j : ℕ) → K.RP w i j → K.Lift Value w (A.bind Value Value (R.expr e i) (unary_value A o)) (B.bind Value Value (Q.expr e j) (unary_value B o))
+    unary_linked o e w i j p = K.bind Value Value _ _ (h.expr e w i j p) λ w1 l1 v v' rv. unary_value_linked o rv
 
-    place_linked : (e : Expr) (w : K.W) → K.Lift One w (place_step A R e) (place_step B Q e)
-    unfolding place_step
-    place_linked (name at text) w = K.ret_one w
-    place_linked (number at n) w = K.unbuilt One w
-    place_linked (string at text v) w = K.unbuilt One w
-    place_linked (this at) w = K.unbuilt One w
-    place_linked (null at) w = K.unbuilt One w
-    place_linked (boolean at b) w = K.unbuilt One w
-    place_linked (paren at e) w = h.place e w
-    place_linked (array at is final) w = K.unbuilt One w
-    place_linked (object at ps final) w = K.unbuilt One w
-    place_linked (function at i ps ss) w = K.unbuilt One w
-    place_linked (member at e text) w = K.unbuilt One w
-    place_linked (index at e i) w = K.unbuilt One w
-    place_linked (new_with at e es) w = K.unbuilt One w
-    place_linked (new_bare at e) w = K.unbuilt One w
-    place_linked (call at e es) w = K.unbuilt One w
-    place_linked (postfix at e o) w = K.unbuilt One w
-    place_linked (unary at o e) w = K.unbuilt One w
-    place_linked (binary at l o r) w = K.unbuilt One w
-    place_linked (conditional at c a b) w = K.unbuilt One w
-    place_linked (assign at l o r) w = K.unbuilt One w
-    place_linked (comma at l r) w = K.unbuilt One w
+    typeof_linked : (b : Bool) (e : Expr) (w : K.W) (i j : ℕ) → K.RP w i j → K.Lift Value w (typeof_step A R b e i) (typeof_step B Q b e j)
+    typeof_linked false e w i j p = unary_linked unary_operator.Typeof e w i j p
+    typeof_linked true e w i j p = h.use_of asked e w i j p
+
+    unary_step_linked : (o : UnaryOperator) (e : Expr) (w : K.W) (i j : ℕ) → K.RP w i j → K.Lift Value w (unary_step A R o e i) (unary_step B Q o e j)
+    unfolding unary_step
+    unary_step_linked unary_operator.Delete e w i j p = K.unbuilt Value w
+    unary_step_linked unary_operator.Typeof e w i j p = typeof_linked (is_name e) e w i j p
+    unary_step_linked unary_operator.Increment e w i j p = h.use_of (prefixed binary_operator.Add) e w i j p
+    unary_step_linked unary_operator.Decrement e w i j p = h.use_of (prefixed binary_operator.Subtract) e w i j p
+    unary_step_linked unary_operator.Void e w i j p = unary_linked unary_operator.Void e w i j p
+    unary_step_linked unary_operator.Plus e w i j p = unary_linked unary_operator.Plus e w i j p
+    unary_step_linked unary_operator.Minus e w i j p = unary_linked unary_operator.Minus e w i j p
+    unary_step_linked unary_operator.BitNot e w i j p = unary_linked unary_operator.BitNot e w i j p
+    unary_step_linked unary_operator.Not e w i j p = unary_linked unary_operator.Not e w i j p
+
+    binary_linked : (l : Expr) (o : BinaryOperator) (r : Expr) (w : K.W) (i j : ℕ) → K.RP w i j → K.Lift Value w (A.bind Value Value (R.expr l i) (binary_right A R o r i)) (B.bind Value Value (Q.expr l j) (binary_right B Q o r j))
+    binary_linked l o r w i j p = K.bind Value Value _ _ (h.expr l w i j p) λ w1 l1 v v' rv. binary_right_linked o r (K.more_p l1 p) rv
+
+    binary_step_linked : (l : Expr) (o : BinaryOperator) (r : Expr) (w : K.W) (i j : ℕ) → K.RP w i j → K.Lift Value w (binary_step A R l o r i) (binary_step B Q l o r j)
+    unfolding binary_step
+    binary_step_linked l binary_operator.And r w i j p = K.bind Value Value _ _ (h.expr l w i j p) λ w1 l1 v v' rv. and_right_linked r (K.more_p l1 p) rv
+    binary_step_linked l binary_operator.Or r w i j p = K.bind Value Value _ _ (h.expr l w i j p) λ w1 l1 v v' rv. or_right_linked r (K.more_p l1 p) rv
+    binary_step_linked l binary_operator.In r w i j p = K.unbuilt Value w
+    binary_step_linked l binary_operator.Instanceof r w i j p = K.unbuilt Value w
+    binary_step_linked l binary_operator.Multiply r w i j p = binary_linked l binary_operator.Multiply r w i j p
+    binary_step_linked l binary_operator.Divide r w i j p = binary_linked l binary_operator.Divide r w i j p
+    binary_step_linked l binary_operator.Remainder r w i j p = binary_linked l binary_operator.Remainder r w i j p
+    binary_step_linked l binary_operator.Add r w i j p = binary_linked l binary_operator.Add r w i j p
+    binary_step_linked l binary_operator.Subtract r w i j p = binary_linked l binary_operator.Subtract r w i j p
+    binary_step_linked l binary_operator.ShiftLeft r w i j p = binary_linked l binary_operator.ShiftLeft r w i j p
+    binary_step_linked l binary_operator.ShiftRight r w i j p = binary_linked l binary_operator.ShiftRight r w i j p
+    binary_step_linked l binary_operator.ShiftRightZero r w i j p = binary_linked l binary_operator.ShiftRightZero r w i j p
+    binary_step_linked l binary_operator.Less r w i j p = binary_linked l binary_operator.Less r w i j p
+    binary_step_linked l binary_operator.Greater r w i j p = binary_linked l binary_operator.Greater r w i j p
+    binary_step_linked l binary_operator.LessEqual r w i j p = binary_linked l binary_operator.LessEqual r w i j p
+    binary_step_linked l binary_operator.GreaterEqual r w i j p = binary_linked l binary_operator.GreaterEqual r w i j p
+    binary_step_linked l binary_operator.Equal r w i j p = binary_linked l binary_operator.Equal r w i j p
+    binary_step_linked l binary_operator.NotEqual r w i j p = binary_linked l binary_operator.NotEqual r w i j p
+    binary_step_linked l binary_operator.StrictEqual r w i j p = binary_linked l binary_operator.StrictEqual r w i j p
+    binary_step_linked l binary_operator.StrictNotEqual r w i j p = binary_linked l binary_operator.StrictNotEqual r w i j p
+    binary_step_linked l binary_operator.BitAnd r w i j p = binary_linked l binary_operator.BitAnd r w i j p
+    binary_step_linked l binary_operator.BitXor r w i j p = binary_linked l binary_operator.BitXor r w i j p
+    binary_step_linked l binary_operator.BitOr r w i j p = binary_linked l binary_operator.BitOr r w i j p
+
+    expr_linked : (e : Expr) (w : K.W) (i j : ℕ) → K.RP w i j → K.Lift Value w (expr_step A R e i) (expr_step B Q e j)
+    unfolding expr_step
+    expr_linked (name at text) w i j p = K.resolve Value text _ _ p λ w1 l1 n n' rn. read_name_linked rn
+    expr_linked (number at n) w i j p = K.ret_value (K.literal w (Num n))
+    expr_linked (string at text v) w i j p = K.ret_value (K.literal w (Str v))
+    expr_linked (this at) w i j p = K.unbuilt Value w
+    expr_linked (null at) w i j p = K.ret_value (K.literal w Null)
+    expr_linked (boolean at b) w i j p = K.ret_value (K.literal w (prims.Bool b))
+    expr_linked (paren at e) w i j p = h.expr e w i j p
+    expr_linked (array at is final) w i j p = K.unbuilt Value w
+    expr_linked (object at ps final) w i j p = K.unbuilt Value w
+    expr_linked (function at n ps ss) w i j p = K.unbuilt Value w
+    expr_linked (member at e text) w i j p = K.unbuilt Value w
+    expr_linked (index at e n) w i j p = K.unbuilt Value w
+    expr_linked (new_with at e es) w i j p = K.unbuilt Value w
+    expr_linked (new_bare at e) w i j p = K.unbuilt Value w
+    expr_linked (call at e es) w i j p = callee_linked e at es w i j p
+    expr_linked (postfix at e postfix_operator.Increment) w i j p = h.use_of (postfixed binary_operator.Add) e w i j p
+    expr_linked (postfix at e postfix_operator.Decrement) w i j p = h.use_of (postfixed binary_operator.Subtract) e w i j p
+    expr_linked (unary at o e) w i j p = unary_step_linked o e w i j p
+    expr_linked (binary at l o r) w i j p = binary_step_linked l o r w i j p
+    expr_linked (conditional at c a b) w i j p = K.bind Value Value _ _ (h.expr c w i j p) λ w1 l1 v v' rv. choose_expr_linked a b (K.more_p l1 p) rv
+    expr_linked (assign at l o r) w i j p = h.use_of (assigned_by (operator_of o) r) l w i j p
+    expr_linked (comma at l r) w i j p = K.bind Value Value _ _ (h.expr l w i j p) λ w1 l1 v v' rv. comma_right_linked r (K.more_p l1 p) rv
 
     -- ---- statements
 
-    variables_linked : (ds : List (Ident × MaybeExpr)) (w : K.W) → K.Lift One w (variables A R ds) (variables B Q ds)
+    variables_linked : (ds : List (Ident × MaybeExpr)) (w : K.W) (i j : ℕ) → K.RP w i j → K.Lift One w (variables A R ds i) (variables B Q ds j)
     unfolding variables
-    variables_linked [] w = K.ret_one w
-    variables_linked ((ident, absent) ∷ ds) w = variables_linked ds w
-    variables_linked ((ident, present e) ∷ ds) w =
-        K.bind Value One _ _ (h.expr e w) λ w1 l1 v v' rv.
-        K.bind One One _ _ (K.assign ident.text rv) λ w2 l2 u u' ru.
-        variables_linked ds w2
+    variables_linked [] w i j p = K.ret_one w
+    variables_linked ((ident, absent) ∷ ds) w i j p = variables_linked ds w i j p
+    variables_linked ((ident, present e) ∷ ds) w i j p =
+        K.resolve One ident.text _ _ p λ w1 l1 n n' rn.
+        K.bind Value One _ _ (h.expr e w1 i j (K.more_p l1 p)) λ w2 l2 v v' rv.
+        K.bind One One _ _ (K.put_name _ _ (K.more_n l2 rn) rv λ w3 l3 f f' rf. enters_linked rf) λ w3 l3 u u' ru.
+        variables_linked ds w3 i j (K.more_p l3 (K.more_p l2 (K.more_p l1 p)))
 
-    tested_by_linked : (test : MaybeExpr) (round : Round) (w : K.W) → K.Lift One w (tested_by A R test round) (tested_by B Q test round)
+    pub more_variables_linked : (ds : List (Ident × MaybeExpr)) {w : K.W} {i j : ℕ} {n : A.N} {n' : B.N} {v : A.V} {v' : B.V} → K.RP w i j → K.RN w n n' → K.RV w v v' → K.Lift One w (more_variables A R n ds i v) (more_variables B Q n' ds j v')
+    unfolding more_variables
+    more_variables_linked ds p rn rv = K.bind One One _ _ (K.put_name _ _ rn rv λ w1 l1 f f' rf. enters_linked rf) λ w1 l1 u u' ru. variables_linked ds w1 _ _ (K.more_p l1 p)
+
+    pub turn_test_linked : (round : Round) {w : K.W} {e : Env A.H} {d : Env B.H} {v : A.V} {v' : B.V} → K.RE w e d → K.RV w v v' → K.Lift One w (turn_test A R round e v) (turn_test B Q round d v')
     unfolding turn_test
-    tested_by_linked absent round w = h.turn round w
-    tested_by_linked (present e) round w = K.bind Value One _ _ (h.expr e w) λ w1 l1 v v' rv. K.again rv (h.turn round w1) (K.ret_one w1)
+    turn_test_linked round {w = w} r rv = K.again rv (h.turn round w _ _ r) (K.ret_one w)
 
-    tested_linked : (round : Round) (w : K.W) → K.Lift One w (tested A R round) (tested B Q round)
+    tested_by_linked : (test : MaybeExpr) (round : Round) {w : K.W} {e : Env A.H} {d : Env B.H} → K.RE w e d → K.Lift One w (tested_by A R test round e) (tested_by B Q test round d)
+    tested_by_linked absent round r = h.turn round _ _ _ r
+    tested_by_linked (present c) round r = K.bind Value One _ _ (h.expr c _ _ _ (K.place_of r)) λ w1 l1 v v' rv. turn_test_linked round (K.more_e l1 r) rv
+
+    pub tested_linked : (round : Round) {w : K.W} {e : Env A.H} {d : Env B.H} → K.RE w e d → K.Lift One w (tested A R round e) (tested B Q round d)
     unfolding tested
-    tested_linked round w = tested_by_linked round.test round w
+    tested_linked round r = tested_by_linked round.test round r
 
-    turned_by_linked : (update : MaybeExpr) (round : Round) (w : K.W) → K.Lift One w (turned_by A R update round) (turned_by B Q update round)
+    pub updated_linked : (round : Round) {w : K.W} {e : Env A.H} {d : Env B.H} (v : A.V) (v' : B.V) → K.RE w e d → K.Lift One w (updated A R round e v) (updated B Q round d v')
     unfolding updated
-    turned_by_linked absent round w = tested_linked round w
-    turned_by_linked (present e) round w = K.bind Value One _ _ (h.expr e w) λ w1 l1 v v' rv. tested_linked round w1
+    updated_linked round v v' r = tested_linked round r
 
-    turn_linked : (round : Round) (w : K.W) → K.Lift One w (turn_step A R round) (turn_step B Q round)
-    unfolding turn_step turned_round
-    turn_linked round w = K.bind One One _ _ (K.turn (h.stmt round.body w)) λ w1 l1 u u' ru. turned_by_linked round.update round w1
+    turned_by_linked : (update : MaybeExpr) (round : Round) {w : K.W} {e : Env A.H} {d : Env B.H} → K.RE w e d → K.Lift One w (turned_by A R update round e) (turned_by B Q update round d)
+    turned_by_linked absent round r = tested_linked round r
+    turned_by_linked (present c) round r = K.bind Value One _ _ (h.expr c _ _ _ (K.place_of r)) λ w1 l1 v v' rv. updated_linked round v v' (K.more_e l1 r)
 
-    first_linked : (first : First) (round : Round) (w : K.W) → K.Lift One w (first_step A R first round) (first_step B Q first round)
-    unfolding first_step looped looped_value
-    first_linked (first_expr absent) round w = K.loop (tested_linked round w)
-    first_linked (first_expr (present e)) round w = K.bind Value One _ _ (h.expr e w) λ w1 l1 v v' rv. K.loop (tested_linked round w1)
-    first_linked (first_var ds) round w = K.bind One One _ _ (variables_linked (variable_list ds) w) λ w1 l1 u u' ru. K.loop (tested_linked round w1)
+    pub turned_round_linked : (round : Round) {w : K.W} {e : Env A.H} {d : Env B.H} → K.RE w e d → K.Lift One w (turned_round A R round e tt) (turned_round B Q round d tt)
+    unfolding turned_round
+    turned_round_linked round r = turned_by_linked round.update round r
 
-    pub statements_linked : (ss : Statements) (w : K.W) → K.Lift One w (statements A R ss) (statements B Q ss)
+    turn_linked : (round : Round) (w : K.W) (e : Env A.H) (d : Env B.H) → K.RE w e d → K.Lift One w (turn_step A R round e) (turn_step B Q round d)
+    unfolding turn_step
+    turn_linked round w e d r = K.bind One One _ _ (K.round true round.labels _ _ r λ w1 e' d' r'. h.stmt round.body w1 e' d' r') λ w1 l1 u u' ru. turned_round_linked round (K.more_e l1 r)
+
+    pub loop_linked : (round : Round) {w : K.W} {e : Env A.H} {d : Env B.H} → K.RE w e d → K.Lift One w (loop A R round e) (loop B Q round d)
+    unfolding loop
+    loop_linked round r = K.round false round.labels _ _ r λ w1 e' d' r'. tested_linked round r'
+
+    pub looped_linked : (round : Round) {w : K.W} {e : Env A.H} {d : Env B.H} → K.RE w e d → K.Lift One w (looped A R round e tt) (looped B Q round d tt)
+    unfolding looped
+    looped_linked round r = loop_linked round r
+
+    pub looped_value_linked : (round : Round) {w : K.W} {e : Env A.H} {d : Env B.H} (v : A.V) (v' : B.V) → K.RE w e d → K.Lift One w (looped_value A R round e v) (looped_value B Q round d v')
+    unfolding looped_value
+    looped_value_linked round v v' r = loop_linked round r
+
+    first_linked : (first : First) (round : Round) {w : K.W} {e : Env A.H} {d : Env B.H} → K.RE w e d → K.Lift One w (first_step A R first round e) (first_step B Q first round d)
+    unfolding first_step
+    first_linked (first_expr absent) round r = loop_linked round r
+    first_linked (first_expr (present c)) round r = K.bind Value One _ _ (h.expr c _ _ _ (K.place_of r)) λ w1 l1 v v' rv. looped_value_linked round v v' (K.more_e l1 r)
+    first_linked (first_var ds) round r = K.bind One One _ _ (variables_linked (variable_list ds) _ _ _ (K.place_of r)) λ w1 l1 u u' ru. looped_linked round (K.more_e l1 r)
+
+    pub choose_stmt_linked : (s : Statement) {w : K.W} {e : Env A.H} {d : Env B.H} {v : A.V} {v' : B.V} → K.RE w e d → K.RV w v v' → K.Lift One w (choose_stmt A R s e v) (choose_stmt B Q s d v')
+    unfolding choose_stmt
+    choose_stmt_linked s r rv = K.fork One rv (λ w1 l1. h.stmt s w1 _ _ (K.more_e l1 r)) (λ w1 l1. K.ret_one w1)
+
+    pub choose_stmts_linked : (s t : Statement) {w : K.W} {e : Env A.H} {d : Env B.H} {v : A.V} {v' : B.V} → K.RE w e d → K.RV w v v' → K.Lift One w (choose_stmts A R s t e v) (choose_stmts B Q s t d v')
+    unfolding choose_stmts
+    choose_stmts_linked s t r rv = K.fork One rv (λ w1 l1. h.stmt s w1 _ _ (K.more_e l1 r)) (λ w1 l1. h.stmt t w1 _ _ (K.more_e l1 r))
+
+    pub statements_linked : (ss : Statements) {w : K.W} {e : Env A.H} {d : Env B.H} → K.RE w e d → K.Lift One w (statements A R ss e) (statements B Q ss d)
     unfolding statements
-    statements_linked no_statements w = K.ret_one w
-    statements_linked (more_statements s ss) w = K.bind One One _ _ (h.stmt s w) λ w1 l1 u u' ru. statements_linked ss w1
+    statements_linked no_statements {w = w} r = K.ret_one w
+    statements_linked (more_statements s ss) r = K.bind One One _ _ (h.stmt s _ _ _ r) λ w1 l1 u u' ru. statements_linked ss (K.more_e l1 r)
 
-    block_linked : (b : Block) (w : K.W) → K.Lift One w (block_step A R b) (block_step B Q b)
-    block_linked (block_of at ss) w = statements_linked ss w
+    pub behind_linked : (ss : Statements) {w : K.W} {e : Env A.H} {d : Env B.H} → K.RE w e d → K.Lift One w (more_statements_behind A R ss e tt) (more_statements_behind B Q ss d tt)
+    unfolding more_statements_behind
+    behind_linked ss r = statements_linked ss r
 
-    stmt_linked : (s : Statement) (w : K.W) → K.Lift One w (stmt_step A R s) (stmt_step B Q s)
-    unfolding stmt_step discard choose_stmt choose_stmts
-    stmt_linked (block b) w = block_linked b w
-    stmt_linked (var at ds semi) w = variables_linked (variable_list ds) w
-    stmt_linked (empty at) w = K.ret_one w
-    stmt_linked (expression at e semi) w = K.bind Value One _ _ (h.expr e w) λ w1 l1 v v' rv. K.ret_one w1
-    stmt_linked (if_then at e s) w = K.bind Value One _ _ (h.expr e w) λ w1 l1 v v' rv. K.fork One rv (h.stmt s w1) (K.ret_one w1)
-    stmt_linked (if_else at e s t) w = K.bind Value One _ _ (h.expr e w) λ w1 l1 v v' rv. K.fork One rv (h.stmt s w1) (h.stmt t w1)
-    stmt_linked (do_while at s e semi) w = K.loop (h.turn _ w)
-    stmt_linked (while at e s) w = K.loop (tested_linked _ w)
-    stmt_linked (for at first test update s) w = first_linked first _ w
-    stmt_linked (for_in at target e s) w = K.unbuilt One w
-    stmt_linked (continue at label semi) w = K.unbuilt One w
-    stmt_linked (break at label semi) w = K.unbuilt One w
-    stmt_linked (return at e semi) w = K.unbuilt One w
-    stmt_linked (throw at e semi) w = K.unbuilt One w
-    stmt_linked (switch at e cs) w = K.unbuilt One w
-    stmt_linked (labelled at text s) w = K.unbuilt One w
-    stmt_linked (try_catch at b ident handler) w = K.unbuilt One w
-    stmt_linked (try_finally at b final) w = K.unbuilt One w
-    stmt_linked (try_both at b ident handler final) w = K.unbuilt One w
-    stmt_linked (debugger at semi) w = K.ret_one w
-    stmt_linked (function_declaration at ident params body) w = K.unbuilt One w
+    block_linked : (b : Block) {w : K.W} {e : Env A.H} {d : Env B.H} → K.RE w e d → K.Lift One w (block_step A R b e) (block_step B Q b d)
+    block_linked (block_of at ss) r = statements_linked ss r
+
+    stmt_linked : (s : Statement) (w : K.W) (e : Env A.H) (d : Env B.H) → K.RE w e d → K.Lift One w (stmt_step A R s e) (stmt_step B Q s d)
+    unfolding stmt_step
+    stmt_linked (block b) w e d r = block_linked b r
+    stmt_linked (var at ds semi) w e d r = variables_linked (variable_list ds) w _ _ (K.place_of r)
+    stmt_linked (empty at) w e d r = K.ret_one w
+    stmt_linked (expression at c semi) w e d r = K.bind Value One _ _ (h.expr c w _ _ (K.place_of r)) λ w1 l1 v v' rv. discard_linked rv
+    stmt_linked (if_then at c s) w e d r = K.bind Value One _ _ (h.expr c w _ _ (K.place_of r)) λ w1 l1 v v' rv. choose_stmt_linked s (K.more_e l1 r) rv
+    stmt_linked (if_else at c s t) w e d r = K.bind Value One _ _ (h.expr c w _ _ (K.place_of r)) λ w1 l1 v v' rv. choose_stmts_linked s t (K.more_e l1 r) rv
+    stmt_linked (do_while at s c semi) w e d r = K.round false (None ∷ []) _ _ r λ w1 e' d' r'. h.turn _ w1 e' d' r'
+    stmt_linked (while at c s) w e d r = loop_linked _ r
+    stmt_linked (for at first test update s) w e d r = first_linked first _ r
+    stmt_linked (for_in at target c s) w e d r = K.unbuilt One w
+    stmt_linked (continue at label semi) w e d r = K.unbuilt One w
+    stmt_linked (break at label semi) w e d r = K.unbuilt One w
+    stmt_linked (return at c semi) w e d r = K.unbuilt One w
+    stmt_linked (throw at c semi) w e d r = K.unbuilt One w
+    stmt_linked (switch at c cs) w e d r = K.unbuilt One w
+    stmt_linked (labelled at text s) w e d r = K.unbuilt One w
+    stmt_linked (try_catch at b ident handler) w e d r = K.unbuilt One w
+    stmt_linked (try_finally at b final) w e d r = K.unbuilt One w
+    stmt_linked (try_both at b ident handler final) w e d r = K.unbuilt One w
+    stmt_linked (debugger at semi) w e d r = K.ret_one w
+    stmt_linked (function_declaration at ident params body) w e d r = K.unbuilt One w
 
     pub step_linked : Linked (step A R) (step B Q)
-    step_linked = record { expr = expr_linked; place = place_linked; stmt = stmt_linked; turn = turn_linked }
+    step_linked = record { expr = expr_linked; use_of = use_linked; stmt = stmt_linked; turn = turn_linked }
 
 -- with turns
 module _ (A B : Timed) (K : Link A.ops B.ops) (tick : (w : K.W) → K.Lift One w A.tick B.tick) where
-  -- one level more costs a turn on both sides
-  ticking_linked : (R : Rec A.ops) (Q : Rec B.ops) → Linked A.ops B.ops K R Q → Linked A.ops B.ops K (ticking A (step A.ops R)) (ticking B (step B.ops Q))
+  -- one depth more
+  pub ticking_linked : (R : Rec A.ops) (Q : Rec B.ops) → Linked A.ops B.ops K R Q → Linked A.ops B.ops K (ticking A (step A.ops R)) (ticking B (step B.ops Q))
   ticking_linked R Q l =
       let h = step_linked A.ops B.ops K R Q l in
       record {
-        expr = λ e w. K.bind One Value _ _ (tick w) λ w1 l1 u u' ru. h.expr e w1;
-        place = λ e w. K.bind One One _ _ (tick w) λ w1 l1 u u' ru. h.place e w1;
-        stmt = λ s w. K.bind One One _ _ (tick w) λ w1 l1 u u' ru. h.stmt s w1;
-        turn = λ round w. K.bind One One _ _ (tick w) λ w1 l1 u u' ru. h.turn round w1;
+        expr = λ e w i j p. K.bind One Value _ _ (tick w) λ w1 l1 u u' ru. h.expr e w1 i j (K.more_p l1 p);
+        use_of = λ use_as e w i j p. K.bind One Value _ _ (tick w) λ w1 l1 u u' ru. h.use_of use_as e w1 i j (K.more_p l1 p);
+        stmt = λ s w e d r. K.bind One One _ _ (tick w) λ w1 l1 u u' ru. h.stmt s w1 e d (K.more_e l1 r);
+        turn = λ round w e d r. K.bind One One _ _ (tick w) λ w1 l1 u u' ru. h.turn round w1 e d (K.more_e l1 r);
       }
 
   -- to one depth
@@ -346,24 +476,24 @@ module _ (A B : Timed) (K : Link A.ops B.ops) (tick : (w : K.W) → K.Lift One w
     -- the parts
     pub linked : (n : ℕ) → Linked A.ops B.ops K (eval A n) (eval B n)
     unfolding eval
-    linked zero = record { expr = λ e w. ended Value w; place = λ e w. ended One w; stmt = λ s w. ended One w; turn = λ round w. ended One w }
+    linked zero = record { expr = λ e w i j p. ended Value w; use_of = λ use_as e w i j p. ended Value w; stmt = λ s w e d r. ended One w; turn = λ round w e d r. ended One w }
     linked (suc n) = ticking_linked (eval A n) (eval B n) (linked n)
 
     -- and programs
-    pub program_linked : (n : ℕ) (ss : Statements) (w : K.W) → K.Lift One w (program_step A n ss) (program_step B n ss)
+    pub program_linked : (n : ℕ) (ss : Statements) {w : K.W} {e : Env A.ops.H} {d : Env B.ops.H} → K.RE w e d → K.Lift One w (program_step A n ss e) (program_step B n ss d)
     unfolding program_step
-    program_linked n ss w = statements_linked A.ops B.ops K (eval A n) (eval B n) (linked n) ss w
+    program_linked n ss r = statements_linked A.ops B.ops K (eval A n) (eval B n) (linked n) ss r
 
   -- to a depth and a larger one, where what is out of depth is related to anything
   module _ (ended : (t : Ty) (w : K.W) (x : B.ops.M t) → K.Lift t w (A.ended t) x) where
     -- the parts
     pub longer : (n m : ℕ) → n ≤ m → Linked A.ops B.ops K (eval A n) (eval B m)
     unfolding eval
-    longer zero m le = record { expr = λ e w. ended Value w _; place = λ e w. ended One w _; stmt = λ s w. ended One w _; turn = λ round w. ended One w _ }
+    longer zero m le = record { expr = λ e w i j p. ended Value w _; use_of = λ use_as e w i j p. ended Value w _; stmt = λ s w e d r. ended One w _; turn = λ round w e d r. ended One w _ }
     longer (suc n) zero le = absurd (omega arith)
     longer (suc n) (suc m) le = ticking_linked (eval A n) (eval B m) (longer n m (omega arith))
 
     -- and programs
-    pub program_longer : (n m : ℕ) → n ≤ m → (ss : Statements) (w : K.W) → K.Lift One w (program_step A n ss) (program_step B m ss)
+    pub program_longer : (n m : ℕ) → n ≤ m → (ss : Statements) {w : K.W} {e : Env A.ops.H} {d : Env B.ops.H} → K.RE w e d → K.Lift One w (program_step A n ss e) (program_step B m ss d)
     unfolding program_step
-    program_longer n m le ss w = statements_linked A.ops B.ops K (eval A n) (eval B m) (longer n m le) ss w
+    program_longer n m le ss r = statements_linked A.ops B.ops K (eval A n) (eval B m) (longer n m le) ss r

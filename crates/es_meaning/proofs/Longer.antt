@@ -1,17 +1,21 @@
 -- With more turns a run that is over is the same.
-use Rattle.std.proofs.Common.{◌≡◌, ℕ, zero, suc, ◌+◌, ◌-◌, ◌≤◌, List, ◌∷◌, Bool, true, false, Option, Some, None, Result, Ok, Err, refl, ap₂, subst, arith}
+use Rattle.std.proofs.Common.{◌≡◌, ℕ, zero, suc, ◌+◌, ◌-◌, ◌≤◌, List, ◌∷◌, Bool, true, false, length, Option, Some, None, Result, Ok, Err, refl, ap₂, subst, arith}
 use Rattle.flow_policy.specs.Policies.{Tables}
 use Rattle.flow_policy.specs.Inputs.{Given}
 use Rattle.js_number.specs.declared.primitive.Primitive.{Primitive}
-use Rattle.js_number.specs.Conversions.{boolean_of}
+use Rattle.js_values.specs.declared.value.Value.{Value}
+use Rattle.js_values.specs.declared.value.Value.TheVariants as value
+use Rattle.js_values.specs.Records.{Binding}
 use Rattle.js_ast.specs.Trees.{Statements}
-use Rattle.es_meaning.specs.Outcomes.{Ending, out_of_turns, Outcome, Goes, Ends, From, ret, and_then, ◌>>=◌}
-use Rattle.es_meaning.specs.Operations.{Ty, One, Value, Res, Direct, read, print, lbl, Ops}
-use Rattle.es_meaning.specs.Operators.{unary_of, binary_of}
-use Rattle.es_meaning.specs.Bindings.{Binding, found}
+use Rattle.es_meaning.specs.Outcomes.{Halt, out_of_turns, halted, Outcome, Goes, Jumps, Ends, From, ret, and_then, ◌>>=◌}
+use Rattle.es_meaning.specs.Environments.{Env, with_around}
+use Rattle.es_meaning.specs.Operations.{Ty, One, Res, Direct, read, print, lbl, Ops}
+use Rattle.es_meaning.specs.Operations.{Value as a_value}
+use Rattle.es_meaning.specs.Operators.{is_object, truth, converts_beside, unary_of, binary_of}
 use Rattle.es_meaning.specs.Evaluation.{program_step}
 use Rattle.es_meaning.specs.Laws.{MoreTurns}
-use Rattle.es_meaning.specs.Plain.{State, P, given, bound, bound_or_undefined, assigned, assigned_to, choose, spend, read_channel, print_channel, label_by, direct, plain, timed, start, run_of, plain_run}
+use Rattle.es_meaning.specs.Start.{ErrorKind}
+use Rattle.es_meaning.specs.Plain.{State, Jump, P, resolved, binding_at, given, unless_object, seen, throw_error, bound, bound_or_undefined, assigned, assigned_to, put_at, choose, spend, leaves_it, ended_round, read_channel, print_value, print_channel, label_by, direct, plain, timed, outermost_env, start, run_of, plain_run}
 use Rattle.es_meaning.proofs.Link.{Rels, nils, conses, Rel, Link, program_longer}
 
 -- ---- turns
@@ -37,39 +41,41 @@ beyond_few few many le = let h = beyond_sum (many - few) few in omega arith
 -- ---- outcomes of two runs, the second of which has more turns
 
 -- the first wants turns, or the second is the first with more turns in its state
-pub data Longer {E S X : Type 0} (out : E) (more : S → S) : Outcome E X S → Outcome E X S → Type 0 where
-  wants : {s : S} {p : Outcome E X S} → Longer out more (Ends out s) p
+pub data Longer {H J S X : Type 0} (out : H) (more : S → S) : Outcome H J X S → Outcome H J X S → Type 0 where
+  wants : {s : S} {p : Outcome H J X S} → Longer out more (Ends out s) p
   goes : {a : X} {s : S} → Longer out more (Goes a s) (Goes a (more s))
-  ends : {ending : E} {s : S} → Longer out more (Ends ending s) (Ends ending (more s))
+  jumps : {j : J} {s : S} → Longer out more (Jumps j s) (Jumps j (more s))
+  ends : {halt : H} {s : S} → Longer out more (Ends halt s) (Ends halt (more s))
 
 -- computations from a state, and from it with more turns
-pub record Lift {E S : Type 0} (out : E) (more : S → S) (X : Type 0) (m n : From E S X) : Type 0 where
+pub record Lift {H J S : Type 0} (out : H) (more : S → S) (X : Type 0) (m n : From H J S X) : Type 0 where
   pub on : (s : S) → Longer out more (m s) (n (more s))
 
-module _ {E S : Type 0} {out : E} {more : S → S} where
+module _ {H J S : Type 0} {out : H} {more : S → S} where
   -- what follows an outcome
-  then_longer : {X Y : Type 0} {o p : Outcome E X S} (f g : X → From E S Y) → Longer out more o p → ((a : X) → Lift out more Y (f a) (g a)) → Longer out more (and_then o f) (and_then p g)
+  then_longer : {X Y : Type 0} {o p : Outcome H J X S} (f g : X → From H J S Y) → Longer out more o p → ((a : X) → Lift out more Y (f a) (g a)) → Longer out more (and_then o f) (and_then p g)
   then_longer f g wants h = wants
   then_longer f g (goes {a = a} {s = s}) h = (h a).on s
+  then_longer f g jumps h = jumps
   then_longer f g ends h = ends
 
   -- one computation, and then the next
-  pub bind_longer : {X Y : Type 0} {m n : From E S X} (f g : X → From E S Y) → Lift out more X m n → ((a : X) → Lift out more Y (f a) (g a)) → Lift out more Y (m >>= f) (n >>= g)
+  pub bind_longer : {X Y : Type 0} {m n : From H J S X} (f g : X → From H J S Y) → Lift out more X m n → ((a : X) → Lift out more Y (f a) (g a)) → Lift out more Y (m >>= f) (n >>= g)
   bind_longer f g l h = record { on = λ s. then_longer f g (l.on s) h }
 
   -- one of two
-  pub choose_longer : {X : Type 0} (b : Bool) {m n m' n' : From E S X} → Lift out more X m m' → Lift out more X n n' → Lift out more X (choose b m n) (choose b m' n')
+  pub choose_longer : {X : Type 0} (b : Bool) {m n m' n' : From H J S X} → Lift out more X m m' → Lift out more X n n' → Lift out more X (choose b m n) (choose b m' n')
   choose_longer true l k = l
   choose_longer false l k = k
 
   -- of equal values
-  pub at_equal : {X V : Type 0} {v u : V} (f g : V → From E S X) → v ≡ u → Lift out more X (f v) (g v) → Lift out more X (f v) (g u)
+  pub at_equal : {X V : Type 0} {v u : V} (f g : V → From H J S X) → v ≡ u → Lift out more X (f v) (g v) → Lift out more X (f v) (g u)
   at_equal {X} {V} {v} {u} f g e l = subst (λ x. Lift out more X (f v) (g x)) e l
 
 -- related results that are equal
 pub equal_results : (V : Type 0) (t : Ty) (w : Unit {0}) (a : Res V t) → Rel {W = Unit {0}} (λ w (v : V) (u : V). v ≡ u) t w a a
 equal_results V One w a = tt
-equal_results V Value w a = refl
+equal_results V a_value w a = refl
 
 -- related lists are equal
 pub rels_equal : {V : Type 0} {vs us : List V} → Rels (λ (v : V) (u : V). v ≡ u) vs us → vs ≡ us
@@ -94,34 +100,64 @@ module _ (k : ℕ) where
   spend_on (suc n) s = goes
 
   -- an operator's value
-  given_on : (r : Result Primitive (List ℕ)) → On Primitive (given r) (given r)
+  given_on : (r : Result Primitive (List ℕ)) → On Value (given r) (given r)
   unfolding given
   given_on (Ok v) = record { on = λ s. goes }
   given_on (Err name) = record { on = λ s. ends }
 
+  -- a value that isn't to be converted
+  unless_on : (b : Bool) (v : Value) → On Value (unless_object b v) (unless_object b v)
+  unfolding unless_object
+  unless_on true v = record { on = λ s. ends }
+  unless_on false v = record { on = λ s. goes }
+
+  -- an exception of the engine
+  throw_on : (X : Type 0) (kind : ErrorKind) → On X (throw_error kind) (throw_error kind)
+  unfolding throw_error
+  throw_on X kind = record { on = λ s. jumps }
+
   -- the value of a name
-  bound_on : (b : Option (Binding Primitive)) → On Primitive (bound b) (bound b)
+  bound_on : (b : Option (Binding Value)) → On Value (bound b) (bound b)
   unfolding bound
   bound_on (Some b) = record { on = λ s. goes }
-  bound_on None = record { on = λ s. ends }
+  bound_on None = record { on = λ s. (throw_on Value _).on s }
 
   -- or undefined
-  bound_or_undefined_on : (b : Option (Binding Primitive)) → On Primitive (bound_or_undefined b) (bound_or_undefined b)
+  bound_or_undefined_on : (b : Option (Binding Value)) → On Value (bound_or_undefined b) (bound_or_undefined b)
   unfolding bound_or_undefined
   bound_or_undefined_on (Some b) = record { on = λ s. goes }
   bound_or_undefined_on None = record { on = λ s. goes }
 
   -- a value for a binding
-  assigned_on : (mutable : Bool) (x : List ℕ) (v : Primitive) → On (Unit {0}) (assigned mutable x v) (assigned mutable x v)
+  assigned_on : (mutable : Bool) (x : List ℕ) (i : ℕ) (v : Value) → On (Unit {0}) (assigned mutable x i v) (assigned mutable x i v)
   unfolding assigned
-  assigned_on true x v = record { on = λ s. goes }
-  assigned_on false x v = record { on = λ s. ends }
+  assigned_on true x i v = record { on = λ s. goes }
+  assigned_on false x i v = record { on = λ s. (throw_on (Unit {0}) _).on s }
 
   -- or for what may be one
-  assigned_to_on : (b : Option (Binding Primitive)) (x : List ℕ) (v : Primitive) → On (Unit {0}) (assigned_to b x v) (assigned_to b x v)
+  assigned_to_on : (b : Option (Binding Value)) (x : List ℕ) (i : ℕ) (v : Value) → On (Unit {0}) (assigned_to b x i v) (assigned_to b x i v)
   unfolding assigned_to
-  assigned_to_on (Some b) x v = assigned_on b.mutable x v
-  assigned_to_on None x v = record { on = λ s. ends }
+  assigned_to_on (Some b) x i v = record { on = λ s. (assigned_on b.mutable x i v).on s }
+  assigned_to_on None x i v = record { on = λ s. (throw_on (Unit {0}) _).on s }
+
+  -- or for a name
+  put_on : (place : Option ℕ) (x : List ℕ) (v : Value) → On (Unit {0}) (put_at place x v) (put_at place x v)
+  unfolding put_at
+  put_on None x v = record { on = λ s. (throw_on (Unit {0}) _).on s }
+  put_on (Some i) x v = record { on = λ s. (assigned_to_on (binding_at s.records (Some i) x) x i v).on s }
+
+  -- what may leave a loop
+  left_on : (b : Bool) (j : Jump) (s : State) → Longer {X = Unit {0}} out_of_turns (more_turns_in k) (choose b (Goes tt s) (Jumps j s)) (choose b (Goes tt (more_turns_in k s)) (Jumps j (more_turns_in k s)))
+  left_on true j s = goes
+  left_on false j s = jumps
+
+  -- the end of a loop
+  round_on : (n : ℕ) (o p : Outcome Halt Jump (Unit {0}) State) → Longer out_of_turns (more_turns_in k) o p → Longer out_of_turns (more_turns_in k) (ended_round n o) (ended_round n p)
+  unfolding ended_round
+  round_on n _ _ wants = wants
+  round_on n _ _ goes = goes
+  round_on n _ _ (jumps {j = j} {s = s}) = left_on (leaves_it n j.exit) j s
+  round_on n _ _ ends = ends
 
   module _ (tables : Tables) (inputs : Given) where
     -- the unlabelled meaning
@@ -129,25 +165,31 @@ module _ (k : ℕ) where
     A = plain tables inputs
 
     -- a line is read
-    read_on : (i : Option ℕ) → On Primitive (read_channel tables inputs i) (read_channel tables inputs i)
+    read_on : (i : Option ℕ) → On Value (read_channel tables inputs i) (read_channel tables inputs i)
     unfolding read_channel
     read_on None = record { on = λ s. ends }
     read_on (Some i) = record { on = λ s. goes }
 
     -- a line is printed
-    print_on : (i : Option ℕ) (v : Primitive) → On Primitive (print_channel tables inputs i v) (print_channel tables inputs i v)
+    print_value_on : (i : ℕ) (v : Value) → On Value (print_value tables inputs i v) (print_value tables inputs i v)
+    unfolding print_value
+    print_value_on i (value.Object o) = record { on = λ s. ends }
+    print_value_on i (value.Primitive v) = record { on = λ s. goes }
+
+    -- on a channel that there may be
+    print_on : (i : Option ℕ) (v : Value) → On Value (print_channel tables inputs i v) (print_channel tables inputs i v)
     unfolding print_channel
     print_on None v = record { on = λ s. ends }
-    print_on (Some i) v = record { on = λ s. goes }
+    print_on (Some i) v = record { on = λ s. (print_value_on i v).on s }
 
     -- origins are joined
-    label_on : (os : Option (List ℕ)) (v : Primitive) → On Primitive (label_by tables inputs os v) (label_by tables inputs os v)
+    label_on : (os : Option (List ℕ)) (v : Value) → On Value (label_by tables inputs os v) (label_by tables inputs os v)
     unfolding label_by
     label_on None v = record { on = λ s. ends }
     label_on (Some os) v = record { on = λ s. goes }
 
     -- a function of the product
-    direct_on : (f : Direct) (vs : List Primitive) → On Primitive (direct tables inputs f vs) (direct tables inputs f vs)
+    direct_on : (f : Direct) (vs : List Value) → On Value (direct tables inputs f vs) (direct tables inputs f vs)
     unfolding direct
     direct_on read vs = read_on _
     direct_on print vs = print_on _ _
@@ -159,45 +201,57 @@ module _ (k : ℕ) where
       W = Unit {0};
       Le = λ v w. Unit {0};
       RV = λ w v u. v ≡ u;
-      Lift = λ t w m n. On (Res Primitive t) m n;
+      RN = λ w n m. n ≡ m;
+      RP = λ w i j. i ≡ j;
+      RE = λ w e d. e ≡ d;
+      Lift = λ t w m n. On (Res Value t) m n;
       le_refl = λ w. tt;
       le_trans = λ p q. tt;
       more_v = λ p r. r;
+      more_n = λ p r. r;
+      more_p = λ p r. r;
+      more_e = λ p r. r;
+      place_of = λ {e = e} r. subst (λ (x : Env (Unit {0})). e.place ≡ x.place) r refl;
       ret_one = λ w. record { on = λ s. goes };
       ret_value = λ r. at_equal ret ret r (record { on = λ s. goes });
-      bind = λ t u {w = w} f g l h. bind_longer f g l (λ a. h w tt a a (equal_results Primitive t w a));
+      bind = λ t u {w = w} f g l h. bind_longer f g l (λ a. h w tt a a (equal_results Value t w a));
       literal = λ w v. refl;
-      unary = λ o {v = v} r. at_equal (A.unary o) (A.unary o) r (given_on (unary_of o v));
+      unary = λ o {v = v} r. at_equal (A.unary o) (A.unary o) r (record { on = λ s. (given_on (unary_of o (seen s.heap v))).on s });
       binary = λ o {v = v} {u = u} {u' = u'} r q. at_equal (λ x. A.binary o x u) (λ x. A.binary o x u') r
           (at_equal (A.binary o v) (A.binary o v) q (given_on (binary_of o v u)));
-      look = λ w x. record { on = λ s. (bound_on (found x s.variables)).on s };
-      look_or_undefined = λ w x. record { on = λ s. (bound_or_undefined_on (found x s.variables)).on s };
-      assign = λ x {v = v} r. at_equal (A.assign x) (A.assign x) r (record { on = λ s. (assigned_to_on (found x s.variables) x v).on s });
+      primitive = λ hint {v = v} r. at_equal (A.primitive hint) (A.primitive hint) r (unless_on (is_object v) v);
+      comparable = λ {v = v} {u = u} {u' = u'} r q. at_equal (λ x. A.comparable x u) (λ x. A.comparable x u') r
+          (at_equal (A.comparable v) (A.comparable v) q (unless_on (converts_beside v u) v));
       direct = λ f {vs = vs} r. at_equal (A.direct f) (A.direct f) (rels_equal r) (direct_on f vs);
       unbuilt = λ t w. record { on = λ s. ends };
-      fork = λ t {v = v} {m = m} {n = n} {m' = m'} {n' = n'} r l q. at_equal (λ x. A.fork t x m n) (λ x. A.fork t x m' n') r (choose_longer (boolean_of v) l q);
-      loop = λ l. l;
-      again = λ {v = v} {m = m} {n = n} {m' = m'} {n' = n'} r l q. at_equal (λ x. A.again x m n) (λ x. A.again x m' n') r (choose_longer (boolean_of v) l q);
-      turn = λ l. l;
+      resolve = λ t {w = w} {i = i} x f g p h. at_equal (λ j. A.resolve t j x f) (λ j. A.resolve t j x g) p (record { on = λ s. (h w tt (resolved s.records i x) (resolved s.records i x) refl).on s });
+      get_name = λ {n = n} f g r h. at_equal (λ m. A.get_name m f) (λ m. A.get_name m g) r (record { on = λ s. (bound_on (binding_at s.records n.place n.name)).on s });
+      typeof_name = λ {n = n} f g r h. at_equal (λ m. A.typeof_name m f) (λ m. A.typeof_name m g) r (record { on = λ s. (bound_or_undefined_on (binding_at s.records n.place n.name)).on s });
+      put_name = λ {n = n} {v = v} {v' = v'} f g r q h. at_equal (λ m. A.put_name m v f) (λ m. A.put_name m v' g) r (at_equal (λ x. A.put_name n x f) (λ x. A.put_name n x g) q (put_on n.place n.name v));
+      fork = λ t {w = w} {v = v} {m = m} {n = n} {m' = m'} {n' = n'} r l q. at_equal (λ x. A.fork t x m n) (λ x. A.fork t x m' n') r (choose_longer (truth v) (l w tt) (q w tt));
+      round = λ {w = w} turn labels {e = e} f g r h. at_equal (λ d. A.round turn labels d f) (λ d. A.round turn labels d g) r
+          (record { on = λ s. round_on (length e.around) _ _ ((h w (with_around turn labels tt e) (with_around turn labels tt e) refl).on s) });
+      again = λ {v = v} {m = m} {n = n} {m' = m'} {n' = n'} r l q. at_equal (λ x. A.again x m n) (λ x. A.again x m' n') r (choose_longer (truth v) l q);
     }
 
     -- a program, to a depth and a larger one
-    program_lasts : (program : Statements) (n m : ℕ) → n ≤ m → (s : State) → Longer out_of_turns (more_turns_in k) (program_step (timed tables inputs) n program s) (program_step (timed tables inputs) m program (more_turns_in k s))
+    program_lasts : (program : Statements) (n m : ℕ) → n ≤ m → (e : Env (Unit {0})) (s : State) → Longer out_of_turns (more_turns_in k) (program_step (timed tables inputs) n program e s) (program_step (timed tables inputs) m program e (more_turns_in k s))
     unfolding lasting
-    program_lasts program n m le s =
-        (program_longer (timed tables inputs) (timed tables inputs) lasting (λ w. record { on = λ s. spend_on s.turns s }) (λ t w x. record { on = λ s. wants }) n m le program tt).on s
+    program_lasts program n m le e s =
+        (program_longer (timed tables inputs) (timed tables inputs) lasting (λ w. record { on = λ s. spend_on s.turns s }) (λ t w x. record { on = λ s. wants }) n m le program {w = tt} {e = e} {d = e} refl).on s
 
 -- what a run prints and how it ends
-run_lasts : (k : ℕ) (o p : Outcome Ending (Unit {0}) State) → Longer out_of_turns (more_turns_in k) o p → ((run_of o).ending ≡ out_of_turns → ⊥) → run_of p ≡ run_of o
+run_lasts : (k : ℕ) (o p : Outcome Halt Jump (Unit {0}) State) → Longer out_of_turns (more_turns_in k) o p → ((run_of o).ending ≡ halted out_of_turns → ⊥) → run_of p ≡ run_of o
 run_lasts k _ _ wants out = absurd (out refl)
 run_lasts k _ _ goes out = refl
+run_lasts k _ _ jumps out = refl
 run_lasts k _ _ ends out = refl
 
 -- with k more turns
-lasts : (tables : Tables) (inputs : Given) (program : Statements) (few k : ℕ) → ((plain_run tables inputs program few).ending ≡ out_of_turns → ⊥)
+lasts : (tables : Tables) (inputs : Given) (program : Statements) (few k : ℕ) → ((plain_run tables inputs program few).ending ≡ halted out_of_turns → ⊥)
     → plain_run tables inputs program (beyond k few) ≡ plain_run tables inputs program few
 unfolding plain_run
-lasts tables inputs program few k out = run_lasts k _ _ (program_lasts k tables inputs program few (beyond k few) (few_beyond k few) (start tables inputs program few)) out
+lasts tables inputs program few k out = run_lasts k _ _ (program_lasts k tables inputs program few (beyond k few) (few_beyond k few) (outermost_env tt) (start tables inputs program few)) out
 
 -- more turns change no run that ends otherwise
 pub more_turns : MoreTurns

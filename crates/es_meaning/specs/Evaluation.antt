@@ -1,7 +1,6 @@
 -- The evaluator, node by node (ECMA-262 11 and 12). What is done with the value of a part stands under a name of its own.
-use Rattle.std.specs.Prelude.{ℕ, zero, suc, List, [], ◌∷◌, ◌++◌, pos, Option, Some, None, codes, if◌then◌else◌}
+use Rattle.std.specs.Prelude.{ℕ, zero, suc, Bool, true, false, List, [], ◌∷◌, ◌++◌, pos, Option, Some, None, codes, if◌then◌else◌}
 use Rattle.origin_labels.specs.Names.{same_name}
-use Rattle.js_number.specs.declared.primitive.Primitive.{Primitive}
 use Rattle.js_number.specs.declared.primitive.Primitive.TheVariants.{Undefined, Null, Num, Str}
 use Rattle.js_number.specs.declared.primitive.Primitive.TheVariants as prims
 use Rattle.js_ast.specs.declared.operators.UnaryOperator.{UnaryOperator}
@@ -12,13 +11,14 @@ use Rattle.js_ast.specs.declared.operators.BinaryOperator.TheVariants as binary_
 use Rattle.js_ast.specs.declared.operators.AssignOperator.{AssignOperator}
 use Rattle.js_ast.specs.declared.operators.AssignOperator.TheVariants as assign_operator
 use Rattle.js_ast.specs.Trees.{Ident, Expr, name, number, string, null, boolean, paren, call, postfix, unary, binary, conditional, assign, comma, Exprs, no_exprs, more_exprs, MaybeExpr, absent, present, Declarations, one_declaration, more_declarations, First, first_expr, first_var, Block, block_of, Statement, block, var, empty, expression, if_then, if_else, do_while, while, for, debugger, Statements, no_statements, more_statements}
-use Rattle.es_meaning.specs.Operations.{Ty, One, Value, Res, Direct, read, print, lbl, Ops, Round, Rec}
+use Rattle.es_meaning.specs.Environments.{Env}
+use Rattle.es_meaning.specs.Operations.{Ty, One, Value, Res, Direct, read, print, lbl, Hint, no_hint, number_hint, Ops, Use, assigned, updated_by, prefixed, postfixed, asked, Round, Rec}
 
--- the name that is assigned to, also in parentheses
-unfoldable pub target_name : Expr → Option (List ℕ)
-target_name (name at text) = Some text
-target_name (paren at e) = target_name e
-target_name _ = None
+-- whether it is a name, also in parentheses
+unfoldable pub is_name : Expr → Bool
+is_name (name at text) = true
+is_name (paren at e) = is_name e
+is_name _ = false
 
 -- the function of the product that a name calls
 unfoldable pub direct_of : List ℕ → Option Direct
@@ -32,6 +32,73 @@ abbrev pub variable_list : Declarations → List (Ident × MaybeExpr)
 variable_list (one_declaration ident init) = (ident, init) ∷ []
 variable_list (more_declarations ident init ds) = (ident, init) ∷ variable_list ds
 
+-- what a loop without a name evaluates of a turn
+abbrev pub round_of : Statement → MaybeExpr → MaybeExpr → Round
+round_of s update test = record { labels = None ∷ []; body = s; update = update; test = test }
+
+-- how an operator between two values converts them: not at all, as `==` does, both to primitive values first, or the left one to a number
+-- before the right one to a primitive value (ECMA-262 11.5 to 11.10)
+pub data Conversion : Type 0 where
+  unconverted compared numbers : Conversion
+  primitives : Hint → Conversion
+
+abbrev pub conversion_of : BinaryOperator → Conversion
+conversion_of binary_operator.StrictEqual = unconverted
+conversion_of binary_operator.StrictNotEqual = unconverted
+conversion_of binary_operator.Equal = compared
+conversion_of binary_operator.NotEqual = compared
+conversion_of binary_operator.Add = primitives no_hint
+conversion_of binary_operator.Less = primitives number_hint
+conversion_of binary_operator.Greater = primitives number_hint
+conversion_of binary_operator.LessEqual = primitives number_hint
+conversion_of binary_operator.GreaterEqual = primitives number_hint
+conversion_of binary_operator.Multiply = numbers
+conversion_of binary_operator.Divide = numbers
+conversion_of binary_operator.Remainder = numbers
+conversion_of binary_operator.Subtract = numbers
+conversion_of binary_operator.ShiftLeft = numbers
+conversion_of binary_operator.ShiftRight = numbers
+conversion_of binary_operator.ShiftRightZero = numbers
+conversion_of binary_operator.BitAnd = numbers
+conversion_of binary_operator.BitXor = numbers
+conversion_of binary_operator.BitOr = numbers
+conversion_of binary_operator.And = unconverted
+conversion_of binary_operator.Or = unconverted
+conversion_of binary_operator.In = unconverted
+conversion_of binary_operator.Instanceof = unconverted
+
+-- whether an operator in front of a value takes it as a number (ECMA-262 11.4)
+abbrev pub takes_number : UnaryOperator → Bool
+takes_number unary_operator.Plus = true
+takes_number unary_operator.Minus = true
+takes_number unary_operator.BitNot = true
+takes_number unary_operator.Delete = false
+takes_number unary_operator.Void = false
+takes_number unary_operator.Typeof = false
+takes_number unary_operator.Increment = false
+takes_number unary_operator.Decrement = false
+takes_number unary_operator.Not = false
+
+-- the operator of a compound assignment
+abbrev pub operator_of : AssignOperator → Option BinaryOperator
+operator_of assign_operator.Assign = None
+operator_of assign_operator.Multiply = Some binary_operator.Multiply
+operator_of assign_operator.Divide = Some binary_operator.Divide
+operator_of assign_operator.Remainder = Some binary_operator.Remainder
+operator_of assign_operator.Add = Some binary_operator.Add
+operator_of assign_operator.Subtract = Some binary_operator.Subtract
+operator_of assign_operator.ShiftLeft = Some binary_operator.ShiftLeft
+operator_of assign_operator.ShiftRight = Some binary_operator.ShiftRight
+operator_of assign_operator.ShiftRightZero = Some binary_operator.ShiftRightZero
+operator_of assign_operator.BitAnd = Some binary_operator.BitAnd
+operator_of assign_operator.BitXor = Some binary_operator.BitXor
+operator_of assign_operator.BitOr = Some binary_operator.BitOr
+
+-- what an assignment does with its target
+abbrev pub assigned_by : Option BinaryOperator → Expr → Use
+assigned_by None e = assigned e
+assigned_by (Some o) e = updated_by o e
+
 module _ (O : Ops) where
   -- ---- values
 
@@ -41,7 +108,11 @@ module _ (O : Ops) where
   unfoldable pub give : O.V → Res O.V One → O.M Value
   give v u = O.ret Value v
 
-  -- ---- operators (ECMA-262 11.4 to 11.11)
+  -- how a getter or a setter is entered
+  unfoldable pub enters : O.V → O.M Value
+  enters f = O.unbuilt Value
+
+  -- ---- operators (ECMA-262 11.4 to 11.11): the operands are converted in their order, and then the operator is applied
 
   unfoldable pub unary_done : UnaryOperator → O.V → O.M Value
   unary_done o v = O.unary o v
@@ -49,244 +120,250 @@ module _ (O : Ops) where
   unfoldable pub binary_done : BinaryOperator → O.V → O.V → O.M Value
   binary_done o v u = O.binary o v u
 
-  unfoldable pub type_of_name : List ℕ → Res O.V One → O.M Value
-  type_of_name x u = O.bind Value Value (O.look_or_undefined x) (unary_done unary_operator.Typeof)
+  -- the right operand of which the left one is converted
+  unfoldable pub compared_left : BinaryOperator → O.V → O.V → O.M Value
+  compared_left o u v = O.bind Value Value (O.comparable u v) (binary_done o v)
+
+  unfoldable pub primitive_left : Hint → BinaryOperator → O.V → O.V → O.M Value
+  primitive_left hint o u v = O.bind Value Value (O.primitive hint u) (binary_done o v)
+
+  unfoldable pub number_left : BinaryOperator → O.V → O.V → O.M Value
+  number_left o u v = O.bind Value Value (O.unary unary_operator.Plus v) (primitive_left number_hint o u)
+
+  abbrev pub binary_by : Conversion → BinaryOperator → O.V → O.V → O.M Value
+  binary_by unconverted o v u = O.binary o v u
+  binary_by compared o v u = O.bind Value Value (O.comparable v u) (compared_left o u)
+  binary_by (primitives hint) o v u = O.bind Value Value (O.primitive hint v) (primitive_left hint o u)
+  binary_by numbers o v u = O.bind Value Value (O.primitive number_hint v) (number_left o u)
+
+  unfoldable pub binary_values : BinaryOperator → O.V → O.V → O.M Value
+  binary_values o v u = binary_by (conversion_of o) o v u
+
+  abbrev pub unary_by : Bool → UnaryOperator → O.V → O.M Value
+  unary_by true o v = O.bind Value Value (O.primitive number_hint v) (unary_done o)
+  unary_by false o v = O.unary o v
+
+  unfoldable pub unary_value : UnaryOperator → O.V → O.M Value
+  unary_value o v = unary_by (takes_number o) o v
 
   -- ---- assignment (ECMA-262 11.13, 8.7.2)
 
-  -- the value is given to the name, and is the result
-  unfoldable pub assign_to : List ℕ → O.V → O.M Value
-  assign_to x v = O.bind One Value (O.assign x v) (give v)
+  -- the value is given to the reference, and is the result
+  unfoldable pub assign_to : O.N → O.V → O.M Value
+  assign_to n v = O.bind One Value (O.put_name n v enters) (give v)
 
-  -- the value is given to the name, and the result is another
-  unfoldable pub assign_giving : List ℕ → O.V → O.V → O.M Value
-  assign_giving x result v = O.bind One Value (O.assign x v) (give result)
+  -- the value is given to the reference, and the result is another
+  unfoldable pub assign_giving : O.N → O.V → O.V → O.M Value
+  assign_giving n result v = O.bind One Value (O.put_name n v enters) (give result)
 
   -- `++` and `--` (ECMA-262 11.3, 11.4.4, 11.4.5): the old value as a number, and one more or less
-  unfoldable pub postfix_by : BinaryOperator → List ℕ → O.V → O.M Value
-  postfix_by o x old = O.bind Value Value (O.binary o old (O.literal (Num (pos 1)))) (assign_giving x old)
+  unfoldable pub postfix_by : BinaryOperator → O.N → O.V → O.M Value
+  postfix_by o n old = O.bind Value Value (O.binary o old (O.literal (Num (pos 1)))) (assign_giving n old)
 
-  unfoldable pub prefix_by : BinaryOperator → List ℕ → O.V → O.M Value
-  prefix_by o x old = O.bind Value Value (O.binary o old (O.literal (Num (pos 1)))) (assign_to x)
+  unfoldable pub prefix_by : BinaryOperator → O.N → O.V → O.M Value
+  prefix_by o n old = O.bind Value Value (O.binary o old (O.literal (Num (pos 1)))) (assign_to n)
 
-  unfoldable pub postfix_number : BinaryOperator → List ℕ → O.V → O.M Value
-  postfix_number o x v = O.bind Value Value (O.unary unary_operator.Plus v) (postfix_by o x)
+  unfoldable pub postfix_number : BinaryOperator → O.N → O.V → O.M Value
+  postfix_number o n v = O.bind Value Value (O.unary unary_operator.Plus v) (postfix_by o n)
 
-  unfoldable pub prefix_number : BinaryOperator → List ℕ → O.V → O.M Value
-  prefix_number o x v = O.bind Value Value (O.unary unary_operator.Plus v) (prefix_by o x)
+  unfoldable pub prefix_number : BinaryOperator → O.N → O.V → O.M Value
+  prefix_number o n v = O.bind Value Value (O.unary unary_operator.Plus v) (prefix_by o n)
 
-  unfoldable pub postfix_name : BinaryOperator → List ℕ → Res O.V One → O.M Value
-  postfix_name o x u = O.bind Value Value (O.look x) (postfix_number o x)
+  unfoldable pub postfix_value : BinaryOperator → O.N → O.V → O.M Value
+  postfix_value o n v = O.bind Value Value (O.primitive number_hint v) (postfix_number o n)
 
-  unfoldable pub prefix_name : BinaryOperator → List ℕ → Res O.V One → O.M Value
-  prefix_name o x u = O.bind Value Value (O.look x) (prefix_number o x)
-
-  -- the operator of a compound assignment
-  abbrev pub operator_of : AssignOperator → Option BinaryOperator
-  operator_of assign_operator.Assign = None
-  operator_of assign_operator.Multiply = Some binary_operator.Multiply
-  operator_of assign_operator.Divide = Some binary_operator.Divide
-  operator_of assign_operator.Remainder = Some binary_operator.Remainder
-  operator_of assign_operator.Add = Some binary_operator.Add
-  operator_of assign_operator.Subtract = Some binary_operator.Subtract
-  operator_of assign_operator.ShiftLeft = Some binary_operator.ShiftLeft
-  operator_of assign_operator.ShiftRight = Some binary_operator.ShiftRight
-  operator_of assign_operator.ShiftRightZero = Some binary_operator.ShiftRightZero
-  operator_of assign_operator.BitAnd = Some binary_operator.BitAnd
-  operator_of assign_operator.BitXor = Some binary_operator.BitXor
-  operator_of assign_operator.BitOr = Some binary_operator.BitOr
-
-  -- ---- declarations (ECMA-262 12.2)
+  unfoldable pub prefix_value : BinaryOperator → O.N → O.V → O.M Value
+  prefix_value o n v = O.bind Value Value (O.primitive number_hint v) (prefix_number o n)
 
   module _ (R : Rec O) where
-    unfoldable pub binary_right : BinaryOperator → Expr → O.V → O.M Value
-    binary_right o r v = O.bind Value Value (R.expr r) (binary_done o v)
+    -- ---- operators between expressions
+
+    unfoldable pub binary_right : BinaryOperator → Expr → ℕ → O.V → O.M Value
+    binary_right o r i v = O.bind Value Value (R.expr r i) (binary_values o v)
 
     -- `&&` and `||` (ECMA-262 11.11): the right side where the left one doesn't decide
-    unfoldable pub and_right : Expr → O.V → O.M Value
-    and_right r v = O.fork Value v (R.expr r) (O.ret Value v)
+    unfoldable pub and_right : Expr → ℕ → O.V → O.M Value
+    and_right r i v = O.fork Value v (R.expr r i) (O.ret Value v)
 
-    unfoldable pub or_right : Expr → O.V → O.M Value
-    or_right r v = O.fork Value v (O.ret Value v) (R.expr r)
+    unfoldable pub or_right : Expr → ℕ → O.V → O.M Value
+    or_right r i v = O.fork Value v (O.ret Value v) (R.expr r i)
 
     -- `?:` (ECMA-262 11.12)
-    unfoldable pub choose_expr : Expr → Expr → O.V → O.M Value
-    choose_expr a b v = O.fork Value v (R.expr a) (R.expr b)
+    unfoldable pub choose_expr : Expr → Expr → ℕ → O.V → O.M Value
+    choose_expr a b i v = O.fork Value v (R.expr a i) (R.expr b i)
 
     -- `,` (ECMA-262 11.14)
-    unfoldable pub comma_right : Expr → O.V → O.M Value
-    comma_right r v = R.expr r
+    unfoldable pub comma_right : Expr → ℕ → O.V → O.M Value
+    comma_right r i v = R.expr r i
 
-    -- `=`: the target, the value, and then the name has it
-    unfoldable pub assign_value : List ℕ → Expr → Res O.V One → O.M Value
-    assign_value x r u = O.bind Value Value (R.expr r) (assign_to x)
+    -- ---- references
 
-    -- a compound assignment: the old value, the operand, and then the name has what the operator gives
-    unfoldable pub compound_done : BinaryOperator → List ℕ → O.V → O.V → O.M Value
-    compound_done o x old v = O.bind Value Value (O.binary o old v) (assign_to x)
+    -- a compound assignment: the old value, the operand, and then the reference has what the operator gives
+    unfoldable pub compound_done : BinaryOperator → O.N → O.V → O.V → O.M Value
+    compound_done o n old v = O.bind Value Value (binary_values o old v) (assign_to n)
 
-    unfoldable pub compound_right : BinaryOperator → List ℕ → Expr → O.V → O.M Value
-    compound_right o x r old = O.bind Value Value (R.expr r) (compound_done o x old)
+    unfoldable pub compound_right : BinaryOperator → Expr → ℕ → O.N → O.V → O.M Value
+    compound_right o r i n old = O.bind Value Value (R.expr r i) (compound_done o n old)
 
-    unfoldable pub compound_name : BinaryOperator → List ℕ → Expr → Res O.V One → O.M Value
-    compound_name o x r u = O.bind Value Value (O.look x) (compound_right o x r)
+    -- what is done with a reference
+    unfoldable pub used : Use → ℕ → O.N → O.M Value
+    used (assigned r) i n = O.bind Value Value (R.expr r i) (assign_to n)
+    used (updated_by o r) i n = O.bind Value Value (O.get_name n enters) (compound_right o r i n)
+    used (prefixed o) i n = O.bind Value Value (O.get_name n enters) (prefix_value o n)
+    used (postfixed o) i n = O.bind Value Value (O.get_name n enters) (postfix_value o n)
+    used asked i n = O.bind Value Value (O.typeof_name n enters) (unary_done unary_operator.Typeof)
 
-    abbrev pub assign_by : Option BinaryOperator → List ℕ → Expr → Res O.V One → O.M Value
-    assign_by None x r = assign_value x r
-    assign_by (Some o) x r = compound_name o x r
+    unfoldable pub use_step : Use → Expr → ℕ → O.M Value
+    use_step use_as (name at text) i = O.resolve Value i text (used use_as i)
+    use_step use_as (paren at e) i = R.use_of use_as e i
+    use_step use_as _ i = O.unbuilt Value
 
-    abbrev pub assign_step : Option (List ℕ) → Expr → Option BinaryOperator → Expr → O.M Value
-    assign_step None l o r = O.unbuilt Value
-    assign_step (Some x) l o r = O.bind One Value (R.place l) (assign_by o x r)
+    -- a name as a value (ECMA-262 11.1.2)
+    unfoldable pub read_name : O.N → O.M Value
+    read_name n = O.get_name n enters
 
     -- ---- arguments (ECMA-262 11.2.4), from the left, and then the call
 
-    unfoldable pub arguments : Direct → List O.V → Exprs → O.M Value
-    arguments f vs no_exprs = O.direct f vs
-    arguments f vs (more_exprs e es) = O.bind Value Value (R.expr e) (λ v. arguments f (vs ++ v ∷ []) es)
+    unfoldable pub arguments : Direct → List O.V → Exprs → ℕ → O.M Value
+    arguments f vs no_exprs i = O.direct f vs
+    arguments f vs (more_exprs e es) i = O.bind Value Value (R.expr e i) (λ v. arguments f (vs ++ v ∷ []) es i)
 
-    unfoldable pub call_arguments : Direct → Exprs → Res O.V One → O.M Value
-    call_arguments f es u = arguments f [] es
+    unfoldable pub more_arguments : Direct → List O.V → Exprs → ℕ → O.V → O.M Value
+    more_arguments f vs es i v = arguments f (vs ++ v ∷ []) es i
 
-    abbrev pub call_step : Expr → Option Direct → Exprs → O.M Value
-    call_step f None es = O.unbuilt Value
-    call_step f (Some d) es = O.bind One Value (R.place f) (call_arguments d es)
-
-    -- ---- operators whose operand is a name
-
-    abbrev pub typeof_step : Option (List ℕ) → Expr → O.M Value
-    typeof_step None e = O.bind Value Value (R.expr e) (unary_done unary_operator.Typeof)
-    typeof_step (Some x) e = O.bind One Value (R.place e) (type_of_name x)
-
-    abbrev pub prefix_step : BinaryOperator → Option (List ℕ) → Expr → O.M Value
-    prefix_step o None e = O.unbuilt Value
-    prefix_step o (Some x) e = O.bind One Value (R.place e) (prefix_name o x)
-
-    abbrev pub postfix_step : BinaryOperator → Option (List ℕ) → Expr → O.M Value
-    postfix_step o None e = O.unbuilt Value
-    postfix_step o (Some x) e = O.bind One Value (R.place e) (postfix_name o x)
+    abbrev pub call_step : Option Direct → Exprs → ℕ → O.M Value
+    call_step None es i = O.unbuilt Value
+    call_step (Some f) es i = arguments f [] es i
 
     -- ---- expressions
 
-    unfoldable pub unary_step : UnaryOperator → Expr → O.M Value
-    unary_step unary_operator.Delete e = O.unbuilt Value
-    unary_step unary_operator.Typeof e = typeof_step (target_name e) e
-    unary_step unary_operator.Increment e = prefix_step binary_operator.Add (target_name e) e
-    unary_step unary_operator.Decrement e = prefix_step binary_operator.Subtract (target_name e) e
-    unary_step o e = O.bind Value Value (R.expr e) (unary_done o)
+    abbrev pub typeof_step : Bool → Expr → ℕ → O.M Value
+    typeof_step false e i = O.bind Value Value (R.expr e i) (unary_value unary_operator.Typeof)
+    typeof_step true e i = R.use_of asked e i
 
-    unfoldable pub binary_step : Expr → BinaryOperator → Expr → O.M Value
-    binary_step l binary_operator.And r = O.bind Value Value (R.expr l) (and_right r)
-    binary_step l binary_operator.Or r = O.bind Value Value (R.expr l) (or_right r)
-    binary_step l binary_operator.In r = O.unbuilt Value
-    binary_step l binary_operator.Instanceof r = O.unbuilt Value
-    binary_step l o r = O.bind Value Value (R.expr l) (binary_right o r)
+    unfoldable pub unary_step : UnaryOperator → Expr → ℕ → O.M Value
+    unary_step unary_operator.Delete e i = O.unbuilt Value
+    unary_step unary_operator.Typeof e i = typeof_step (is_name e) e i
+    unary_step unary_operator.Increment e i = R.use_of (prefixed binary_operator.Add) e i
+    unary_step unary_operator.Decrement e i = R.use_of (prefixed binary_operator.Subtract) e i
+    unary_step o e i = O.bind Value Value (R.expr e i) (unary_value o)
 
-    unfoldable pub expr_step : Expr → O.M Value
-    expr_step (name at text) = O.look text
-    expr_step (number at n) = O.ret Value (O.literal (Num n))
-    expr_step (string at text v) = O.ret Value (O.literal (Str v))
-    expr_step (null at) = O.ret Value (O.literal Null)
-    expr_step (boolean at b) = O.ret Value (O.literal (prims.Bool b))
-    expr_step (paren at e) = R.expr e
-    expr_step (call at (name there text) es) = call_step (name there text) (direct_of text) es
-    expr_step (postfix at e postfix_operator.Increment) = postfix_step binary_operator.Add (target_name e) e
-    expr_step (postfix at e postfix_operator.Decrement) = postfix_step binary_operator.Subtract (target_name e) e
-    expr_step (unary at o e) = unary_step o e
-    expr_step (binary at l o r) = binary_step l o r
-    expr_step (conditional at c a b) = O.bind Value Value (R.expr c) (choose_expr a b)
-    expr_step (assign at l o r) = assign_step (target_name l) l (operator_of o) r
-    expr_step (comma at l r) = O.bind Value Value (R.expr l) (comma_right r)
-    expr_step _ = O.unbuilt Value
+    unfoldable pub binary_step : Expr → BinaryOperator → Expr → ℕ → O.M Value
+    binary_step l binary_operator.And r i = O.bind Value Value (R.expr l i) (and_right r i)
+    binary_step l binary_operator.Or r i = O.bind Value Value (R.expr l i) (or_right r i)
+    binary_step l binary_operator.In r i = O.unbuilt Value
+    binary_step l binary_operator.Instanceof r i = O.unbuilt Value
+    binary_step l o r i = O.bind Value Value (R.expr l i) (binary_right o r i)
 
-    -- a name, or its parentheses
-    unfoldable pub place_step : Expr → O.M One
-    place_step (name at text) = O.ret One tt
-    place_step (paren at e) = R.place e
-    place_step _ = O.unbuilt One
+    unfoldable pub expr_step : Expr → ℕ → O.M Value
+    expr_step (name at text) i = O.resolve Value i text read_name
+    expr_step (number at n) i = O.ret Value (O.literal (Num n))
+    expr_step (string at text v) i = O.ret Value (O.literal (Str v))
+    expr_step (null at) i = O.ret Value (O.literal Null)
+    expr_step (boolean at b) i = O.ret Value (O.literal (prims.Bool b))
+    expr_step (paren at e) i = R.expr e i
+    expr_step (call at (name there text) es) i = call_step (direct_of text) es i
+    expr_step (postfix at e postfix_operator.Increment) i = R.use_of (postfixed binary_operator.Add) e i
+    expr_step (postfix at e postfix_operator.Decrement) i = R.use_of (postfixed binary_operator.Subtract) e i
+    expr_step (unary at o e) i = unary_step o e i
+    expr_step (binary at l o r) i = binary_step l o r i
+    expr_step (conditional at c a b) i = O.bind Value Value (R.expr c i) (choose_expr a b i)
+    expr_step (assign at l o r) i = R.use_of (assigned_by (operator_of o) r) l i
+    expr_step (comma at l r) i = O.bind Value Value (R.expr l i) (comma_right r i)
+    expr_step _ i = O.unbuilt Value
 
     -- ---- variables (ECMA-262 12.2): those with an initialiser are assigned, in their order
 
-    unfoldable pub variables : List (Ident × MaybeExpr) → O.M One
-    variables [] = O.ret One tt
-    variables ((ident, absent) ∷ ds) = variables ds
-    variables ((ident, present e) ∷ ds) = O.bind Value One (R.expr e) (λ v. O.bind One One (O.assign ident.text v) (λ u. variables ds))
+    unfoldable pub variables : List (Ident × MaybeExpr) → ℕ → O.M One
+    variables [] i = O.ret One tt
+    variables ((ident, absent) ∷ ds) i = variables ds i
+    variables ((ident, present e) ∷ ds) i = O.resolve One i ident.text (λ n. O.bind Value One (R.expr e i) (λ v. O.bind One One (O.put_name n v enters) (λ u. variables ds i)))
 
-    abbrev pub declarations : Declarations → O.M One
-    declarations ds = variables (variable_list ds)
+    -- the value of an initialiser, and the variables behind it
+    unfoldable pub more_variables : O.N → List (Ident × MaybeExpr) → ℕ → O.V → O.M One
+    more_variables n ds i v = O.bind One One (O.put_name n v enters) (λ u. variables ds i)
+
+    abbrev pub declarations : Declarations → ℕ → O.M One
+    declarations ds i = variables (variable_list ds) i
 
     -- ---- loops (ECMA-262 12.6)
 
     -- a further turn where the condition holds
-    unfoldable pub turn_test : Round → O.V → O.M One
-    turn_test round v = O.again v (R.turn round) (O.ret One tt)
+    unfoldable pub turn_test : Round → Env O.H → O.V → O.M One
+    turn_test round e v = O.again v (R.turn round e) (O.ret One tt)
 
-    abbrev pub tested_by : MaybeExpr → Round → O.M One
-    tested_by absent round = R.turn round
-    tested_by (present e) round = O.bind Value One (R.expr e) (turn_test round)
+    abbrev pub tested_by : MaybeExpr → Round → Env O.H → O.M One
+    tested_by absent round e = R.turn round e
+    tested_by (present c) round e = O.bind Value One (R.expr c e.place) (turn_test round e)
 
     -- the condition, and then a further turn or the end
-    unfoldable pub tested : Round → O.M One
-    tested round = tested_by round.test round
+    unfoldable pub tested : Round → Env O.H → O.M One
+    tested round e = tested_by round.test round e
 
-    unfoldable pub updated : Round → Res O.V Value → O.M One
-    updated round v = tested round
+    unfoldable pub updated : Round → Env O.H → Res O.V Value → O.M One
+    updated round e v = tested round e
 
-    abbrev pub turned_by : MaybeExpr → Round → O.M One
-    turned_by absent round = tested round
-    turned_by (present e) round = O.bind Value One (R.expr e) (updated round)
+    abbrev pub turned_by : MaybeExpr → Round → Env O.H → O.M One
+    turned_by absent round e = tested round e
+    turned_by (present c) round e = O.bind Value One (R.expr c e.place) (updated round e)
 
     -- behind the body of a turn
-    unfoldable pub turned_round : Round → Res O.V One → O.M One
-    turned_round round u = turned_by round.update round
+    unfoldable pub turned_round : Round → Env O.H → Res O.V One → O.M One
+    turned_round round e u = turned_by round.update round e
 
-    unfoldable pub turn_step : Round → O.M One
-    turn_step round = O.bind One One (O.turn (R.stmt round.body)) (turned_round round)
+    unfoldable pub turn_step : Round → Env O.H → O.M One
+    turn_step round e = O.bind One One (O.round true round.labels e (R.stmt round.body)) (turned_round round e)
 
-    unfoldable pub looped : Round → Res O.V One → O.M One
-    looped round u = O.loop (tested round)
+    unfoldable pub loop : Round → Env O.H → O.M One
+    loop round e = O.round false round.labels e (tested round)
 
-    unfoldable pub looped_value : Round → O.V → O.M One
-    looped_value round v = O.loop (tested round)
+    unfoldable pub looped : Round → Env O.H → Res O.V One → O.M One
+    looped round e u = loop round e
 
-    unfoldable pub first_step : First → Round → O.M One
-    first_step (first_expr absent) round = O.loop (tested round)
-    first_step (first_expr (present e)) round = O.bind Value One (R.expr e) (looped_value round)
-    first_step (first_var ds) round = O.bind One One (declarations ds) (looped round)
+    unfoldable pub looped_value : Round → Env O.H → O.V → O.M One
+    looped_value round e v = loop round e
+
+    unfoldable pub first_step : First → Round → Env O.H → O.M One
+    first_step (first_expr absent) round e = loop round e
+    first_step (first_expr (present c)) round e = O.bind Value One (R.expr c e.place) (looped_value round e)
+    first_step (first_var ds) round e = O.bind One One (declarations ds e.place) (looped round e)
 
     -- ---- statements
 
-    unfoldable pub choose_stmt : Statement → O.V → O.M One
-    choose_stmt s v = O.fork One v (R.stmt s) (O.ret One tt)
+    unfoldable pub choose_stmt : Statement → Env O.H → O.V → O.M One
+    choose_stmt s e v = O.fork One v (R.stmt s e) (O.ret One tt)
 
-    unfoldable pub choose_stmts : Statement → Statement → O.V → O.M One
-    choose_stmts s t v = O.fork One v (R.stmt s) (R.stmt t)
+    unfoldable pub choose_stmts : Statement → Statement → Env O.H → O.V → O.M One
+    choose_stmts s t e v = O.fork One v (R.stmt s e) (R.stmt t e)
 
     -- a list of statements, in their order (ECMA-262 12.1)
-    unfoldable pub statements : Statements → O.M One
-    statements no_statements = O.ret One tt
-    statements (more_statements s ss) = O.bind One One (R.stmt s) (λ u. statements ss)
+    unfoldable pub statements : Statements → Env O.H → O.M One
+    statements no_statements e = O.ret One tt
+    statements (more_statements s ss) e = O.bind One One (R.stmt s e) (λ u. statements ss e)
 
-    abbrev pub block_step : Block → O.M One
-    block_step (block_of at ss) = statements ss
+    unfoldable pub more_statements_behind : Statements → Env O.H → Res O.V One → O.M One
+    more_statements_behind ss e u = statements ss e
 
-    unfoldable pub stmt_step : Statement → O.M One
-    stmt_step (block b) = block_step b
-    stmt_step (var at ds semi) = declarations ds
-    stmt_step (empty at) = O.ret One tt
-    stmt_step (expression at e semi) = O.bind Value One (R.expr e) discard
-    stmt_step (if_then at e s) = O.bind Value One (R.expr e) (choose_stmt s)
-    stmt_step (if_else at e s t) = O.bind Value One (R.expr e) (choose_stmts s t)
-    stmt_step (do_while at s e semi) = O.loop (R.turn (record { body = s; update = absent; test = present e }))
-    stmt_step (while at e s) = O.loop (tested (record { body = s; update = absent; test = present e }))
-    stmt_step (for at first test update s) = first_step first (record { body = s; update = update; test = test })
-    stmt_step (debugger at semi) = O.ret One tt
-    stmt_step _ = O.unbuilt One
+    abbrev pub block_step : Block → Env O.H → O.M One
+    block_step (block_of at ss) e = statements ss e
+
+    unfoldable pub stmt_step : Statement → Env O.H → O.M One
+    stmt_step (block b) e = block_step b e
+    stmt_step (var at ds semi) e = declarations ds e.place
+    stmt_step (empty at) e = O.ret One tt
+    stmt_step (expression at c semi) e = O.bind Value One (R.expr c e.place) discard
+    stmt_step (if_then at c s) e = O.bind Value One (R.expr c e.place) (choose_stmt s e)
+    stmt_step (if_else at c s t) e = O.bind Value One (R.expr c e.place) (choose_stmts s t e)
+    stmt_step (do_while at s c semi) e = O.round false (None ∷ []) e (R.turn (round_of s absent (present c)))
+    stmt_step (while at c s) e = loop (round_of s absent (present c)) e
+    stmt_step (for at first test update s) e = first_step first (round_of s update test) e
+    stmt_step (debugger at semi) e = O.ret One tt
+    stmt_step _ e = O.unbuilt One
 
     -- ---- parts
 
     abbrev pub step : Rec O
-    step = record { expr = expr_step; place = place_step; stmt = stmt_step; turn = turn_step }
+    step = record { expr = expr_step; use_of = use_step; stmt = stmt_step; turn = turn_step }
 
 -- Operations with a count of turns: to enter a part costs one.
 pub record Timed : Type 1 where
@@ -299,17 +376,17 @@ behind O t first others = O.bind One t first (λ u. others)
 
 abbrev pub ticking : (T : Timed) → Rec T.ops → Rec T.ops
 ticking T R = record {
-  expr = λ e. behind T.ops Value T.tick (R.expr e);
-  place = λ e. behind T.ops One T.tick (R.place e);
-  stmt = λ s. behind T.ops One T.tick (R.stmt s);
-  turn = λ round. behind T.ops One T.tick (R.turn round);
+  expr = λ e i. behind T.ops Value T.tick (R.expr e i);
+  use_of = λ use_as e i. behind T.ops Value T.tick (R.use_of use_as e i);
+  stmt = λ s e. behind T.ops One T.tick (R.stmt s e);
+  turn = λ round e. behind T.ops One T.tick (R.turn round e);
 }
 
 -- n bounds how deep the parts go: nodes in nodes, and turns behind turns
 unfoldable pub eval : (T : Timed) → ℕ → Rec T.ops
-eval T zero = record { expr = λ e. T.ended Value; place = λ e. T.ended One; stmt = λ s. T.ended One; turn = λ round. T.ended One }
+eval T zero = record { expr = λ e i. T.ended Value; use_of = λ use_as e i. T.ended Value; stmt = λ s e. T.ended One; turn = λ round e. T.ended One }
 eval T (suc n) = ticking T (step T.ops (eval T n))
 
 -- the statements of a program
-unfoldable pub program_step : (T : Timed) → ℕ → Statements → T.ops.M One
-program_step T n ss = statements T.ops (eval T n) ss
+unfoldable pub program_step : (T : Timed) → ℕ → Statements → Env T.ops.H → T.ops.M One
+program_step T n ss e = statements T.ops (eval T n) ss e

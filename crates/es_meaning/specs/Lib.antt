@@ -1,5 +1,5 @@
-pub mod Bindings
 pub mod Declared
+pub mod Environments
 pub mod Evaluation
 pub mod Laws
 pub mod Operations
@@ -7,3 +7,4 @@ pub mod Operators
 pub mod Outcomes
 pub mod Plain
 pub mod Rows
+pub mod Start

@@ -1,5 +1,5 @@
--- Operators on primitive values (ECMA-262 11.4 to 11.11), where what they give is in the profile, and else the name by which the run leaves.
-use Rattle.std.specs.Prelude.{ℕ, List, Bool, not, ℤ, neg_ℤ, ◌-ℤ◌, ◌*ℤ◌, Result, Ok, Err, codes}
+-- Operators on values (ECMA-262 11.4 to 11.11), where what they give is in the profile, and else the name by which the run leaves.
+use Rattle.std.specs.Prelude.{ℕ, ◌==◌, List, Bool, true, false, not, ℤ, neg_ℤ, ◌-ℤ◌, ◌*ℤ◌, Result, Ok, Err, codes}
 use Rattle.js_ast.specs.declared.operators.UnaryOperator.{UnaryOperator}
 use Rattle.js_ast.specs.declared.operators.UnaryOperator.TheVariants as unary_operator
 use Rattle.js_ast.specs.declared.operators.BinaryOperator.{BinaryOperator}
@@ -16,6 +16,10 @@ use Rattle.js_number.specs.Arithmetic.{quotient, remainder}
 use Rattle.js_number.specs.Bits.{shifted_left, shifted_right, shifted_with_zeros, and_of, xor_of, or_of, not_of}
 use Rattle.js_number.specs.Compare.{strictly_equal, loosely_equal, is_less}
 use Rattle.js_number.specs.Sum.{sum_of}
+use Rattle.js_values.specs.declared.inner.Class.{Class}
+use Rattle.js_values.specs.declared.inner.Class.TheVariants as class
+use Rattle.js_values.specs.declared.value.Value.{Value}
+use Rattle.js_values.specs.declared.value.Value.TheVariants as value
 
 -- a value, or the name by which the run leaves
 abbrev pub Given : Type 0
@@ -76,40 +80,104 @@ type_of (prims.Bool b) = codes "boolean"
 type_of (Num n) = codes "number"
 type_of (Str text) = codes "string"
 
--- an operator in front of its operand; those that take a name, and not its value, can't stand here
-unfoldable pub unary_of : UnaryOperator → Primitive → Given
-unary_of unary_operator.Void v = Ok Undefined
-unary_of unary_operator.Typeof v = Ok (Str (type_of v))
-unary_of unary_operator.Plus v = as_number (to_number v)
-unary_of unary_operator.Minus v = of_number (λ n. number (neg_ℤ n)) (to_number v)
-unary_of unary_operator.BitNot v = of_number (λ n. Ok (not_of n)) (to_number v)
-unary_of unary_operator.Not v = Ok (prims.Bool (not (boolean_of v)))
-unary_of unary_operator.Delete v = Err not_built
-unary_of unary_operator.Increment v = Err not_built
-unary_of unary_operator.Decrement v = Err not_built
+-- ---- values
 
--- an operator between two operands; `&&` and `||` choose what is evaluated, and can't stand here
-unfoldable pub binary_of : BinaryOperator → Primitive → Primitive → Given
-binary_of binary_operator.Multiply v u = of_numbers (λ m n. number (m *ℤ n)) v u
-binary_of binary_operator.Divide v u = of_numbers (λ m n. some_number (quotient m n)) v u
-binary_of binary_operator.Remainder v u = of_numbers (λ m n. some_number (remainder m n)) v u
-binary_of binary_operator.Add v u = as_sum (sum_of v u)
-binary_of binary_operator.Subtract v u = of_numbers (λ m n. number (m -ℤ n)) v u
-binary_of binary_operator.ShiftLeft v u = of_numbers (λ m n. Ok (shifted_left m n)) v u
-binary_of binary_operator.ShiftRight v u = of_numbers (λ m n. Ok (shifted_right m n)) v u
-binary_of binary_operator.ShiftRightZero v u = of_numbers (λ m n. Ok (shifted_with_zeros m n)) v u
-binary_of binary_operator.Less v u = as_boolean (is_less v u)
-binary_of binary_operator.Greater v u = as_boolean (is_less u v)
-binary_of binary_operator.LessEqual v u = as_boolean (turned (is_less u v))
-binary_of binary_operator.GreaterEqual v u = as_boolean (turned (is_less v u))
-binary_of binary_operator.Equal v u = as_boolean (loosely_equal v u)
-binary_of binary_operator.NotEqual v u = as_boolean (turned (loosely_equal v u))
-binary_of binary_operator.StrictEqual v u = Ok (prims.Bool (strictly_equal v u))
-binary_of binary_operator.StrictNotEqual v u = Ok (prims.Bool (not (strictly_equal v u)))
-binary_of binary_operator.BitAnd v u = of_numbers (λ m n. Ok (and_of m n)) v u
-binary_of binary_operator.BitXor v u = of_numbers (λ m n. Ok (xor_of m n)) v u
-binary_of binary_operator.BitOr v u = of_numbers (λ m n. Ok (or_of m n)) v u
-binary_of binary_operator.And v u = Err not_built
-binary_of binary_operator.Or v u = Err not_built
-binary_of binary_operator.In v u = Err not_built
-binary_of binary_operator.Instanceof v u = Err not_built
+-- what can be asked of a value without its properties: which primitive value it is, or of which class of objects
+pub data Seen : Type 0 where
+  a_primitive : Primitive → Seen
+  an_object : Class → Seen
+
+abbrev pub is_object : Value → Bool
+is_object (value.Primitive p) = false
+is_object (value.Object o) = true
+
+-- ToBoolean (ECMA-262 9.2)
+abbrev pub truth : Value → Bool
+truth (value.Primitive p) = boolean_of p
+truth (value.Object o) = true
+
+-- whether `==` takes an object as a primitive value beside this one (ECMA-262 11.9.3, steps 6 to 9)
+abbrev pub is_compared : Primitive → Bool
+is_compared Undefined = false
+is_compared Null = false
+is_compared (prims.Bool b) = true
+is_compared (Num n) = true
+is_compared (Str text) = true
+
+abbrev pub converts_beside : Value → Value → Bool
+converts_beside (value.Object o) (value.Primitive p) = is_compared p
+converts_beside (value.Object o) (value.Object q) = false
+converts_beside (value.Primitive p) u = false
+
+-- what `typeof` says of an object (ECMA-262 11.4.3)
+abbrev pub type_of_class : Class → List ℕ
+type_of_class class.Function = codes "function"
+type_of_class _ = codes "object"
+
+-- ---- an operator in front of its operand; those that take a reference, and not its value, can't stand here
+
+abbrev pub unary_of_primitive : UnaryOperator → Primitive → Given
+unary_of_primitive unary_operator.Void v = Ok Undefined
+unary_of_primitive unary_operator.Typeof v = Ok (Str (type_of v))
+unary_of_primitive unary_operator.Plus v = as_number (to_number v)
+unary_of_primitive unary_operator.Minus v = of_number (λ n. number (neg_ℤ n)) (to_number v)
+unary_of_primitive unary_operator.BitNot v = of_number (λ n. Ok (not_of n)) (to_number v)
+unary_of_primitive unary_operator.Not v = Ok (prims.Bool (not (boolean_of v)))
+unary_of_primitive unary_operator.Delete v = Err not_built
+unary_of_primitive unary_operator.Increment v = Err not_built
+unary_of_primitive unary_operator.Decrement v = Err not_built
+
+-- an object is converted before an operator takes it as a number
+abbrev pub unary_of_object : UnaryOperator → Class → Given
+unary_of_object unary_operator.Void c = Ok Undefined
+unary_of_object unary_operator.Typeof c = Ok (Str (type_of_class c))
+unary_of_object unary_operator.Not c = Ok (prims.Bool false)
+unary_of_object _ c = Err not_built
+
+unfoldable pub unary_of : UnaryOperator → Seen → Given
+unary_of o (a_primitive v) = unary_of_primitive o v
+unary_of o (an_object c) = unary_of_object o c
+
+-- ---- an operator between two operands; `&&` and `||` choose what is evaluated, and can't stand here
+
+abbrev pub binary_of_primitives : BinaryOperator → Primitive → Primitive → Given
+binary_of_primitives binary_operator.Multiply v u = of_numbers (λ m n. number (m *ℤ n)) v u
+binary_of_primitives binary_operator.Divide v u = of_numbers (λ m n. some_number (quotient m n)) v u
+binary_of_primitives binary_operator.Remainder v u = of_numbers (λ m n. some_number (remainder m n)) v u
+binary_of_primitives binary_operator.Add v u = as_sum (sum_of v u)
+binary_of_primitives binary_operator.Subtract v u = of_numbers (λ m n. number (m -ℤ n)) v u
+binary_of_primitives binary_operator.ShiftLeft v u = of_numbers (λ m n. Ok (shifted_left m n)) v u
+binary_of_primitives binary_operator.ShiftRight v u = of_numbers (λ m n. Ok (shifted_right m n)) v u
+binary_of_primitives binary_operator.ShiftRightZero v u = of_numbers (λ m n. Ok (shifted_with_zeros m n)) v u
+binary_of_primitives binary_operator.Less v u = as_boolean (is_less v u)
+binary_of_primitives binary_operator.Greater v u = as_boolean (is_less u v)
+binary_of_primitives binary_operator.LessEqual v u = as_boolean (turned (is_less u v))
+binary_of_primitives binary_operator.GreaterEqual v u = as_boolean (turned (is_less v u))
+binary_of_primitives binary_operator.Equal v u = as_boolean (loosely_equal v u)
+binary_of_primitives binary_operator.NotEqual v u = as_boolean (turned (loosely_equal v u))
+binary_of_primitives binary_operator.StrictEqual v u = Ok (prims.Bool (strictly_equal v u))
+binary_of_primitives binary_operator.StrictNotEqual v u = Ok (prims.Bool (not (strictly_equal v u)))
+binary_of_primitives binary_operator.BitAnd v u = of_numbers (λ m n. Ok (and_of m n)) v u
+binary_of_primitives binary_operator.BitXor v u = of_numbers (λ m n. Ok (xor_of m n)) v u
+binary_of_primitives binary_operator.BitOr v u = of_numbers (λ m n. Ok (or_of m n)) v u
+binary_of_primitives binary_operator.And v u = Err not_built
+binary_of_primitives binary_operator.Or v u = Err not_built
+binary_of_primitives binary_operator.In v u = Err not_built
+binary_of_primitives binary_operator.Instanceof v u = Err not_built
+
+-- two values of which one or both are objects: an object is equal to itself alone
+abbrev pub binary_with_object : BinaryOperator → Bool → Given
+binary_with_object binary_operator.Equal same = Ok (prims.Bool same)
+binary_with_object binary_operator.NotEqual same = Ok (prims.Bool (not same))
+binary_with_object binary_operator.StrictEqual same = Ok (prims.Bool same)
+binary_with_object binary_operator.StrictNotEqual same = Ok (prims.Bool (not same))
+binary_with_object _ same = Err not_built
+
+abbrev pub binary_values_of : BinaryOperator → Value → Value → Given
+binary_values_of o (value.Primitive v) (value.Primitive u) = binary_of_primitives o v u
+binary_values_of o (value.Object v) (value.Object u) = binary_with_object o (v.0 == u.0)
+binary_values_of o (value.Primitive v) (value.Object u) = binary_with_object o false
+binary_values_of o (value.Object v) (value.Primitive u) = binary_with_object o false
+
+unfoldable pub binary_of : BinaryOperator → Value → Value → Given
+binary_of o v u = binary_values_of o v u

@@ -1,5 +1,5 @@
 -- Small scripts, and what they print, worked out by hand or asked of another engine. Their trees stand without places.
-use Rattle.std.specs.Prelude.{◌≡◌, ℕ, List, [], ◌∷◌, true, pos, codes}
+use Rattle.std.specs.Prelude.{◌≡◌, ℕ, List, [], ◌∷◌, ◌++◌, true, pos, codes}
 use Rattle.flow_policy.specs.Policies.{Tables}
 use Rattle.flow_policy.specs.Inputs.{Given}
 use Rattle.js_ast.specs.declared.operators.UnaryOperator.TheVariants as unary_operator
@@ -8,8 +8,11 @@ use Rattle.js_ast.specs.declared.operators.BinaryOperator.{BinaryOperator}
 use Rattle.js_ast.specs.declared.operators.BinaryOperator.TheVariants as binary_operator
 use Rattle.js_ast.specs.declared.operators.AssignOperator.TheVariants as assign_operator
 use Rattle.js_ast.specs.Trees.{Ident, Expr, name, number, string, boolean, paren, call, postfix, unary, binary, conditional, assign, comma, no_exprs, more_exprs, present, one_declaration, more_declarations, first_var, block_of, Statement, block, var, expression, do_while, while, for, written, Statements, no_statements, more_statements}
-use Rattle.es_meaning.specs.Outcomes.{Ending, done, threw, left, out_of_turns}
-use Rattle.es_meaning.specs.Plain.{Line, Run, plain_run}
+use Rattle.es_meaning.specs.Outcomes.{Halt, Ending, done, threw, halted, left, out_of_turns}
+use Rattle.js_number.specs.declared.primitive.Primitive.TheVariants.{Num, Str}
+use Rattle.js_values.specs.declared.value.Value.TheVariants as value
+use Rattle.es_meaning.specs.Start.{range_error, global_object, error_prototype, start_heap, shown}
+use Rattle.es_meaning.specs.Plain.{undefined, Line, Run, plain_run}
 
 -- ---- the policy: origin A, origin B, in pin A, in note -, out all A,B, out pub -; and the input of one line on pin
 
@@ -79,7 +82,7 @@ list (s ∷ ss) = more_statements s (list ss)
 abbrev pub line : List ℕ → List ℕ → Line
 line c t = record { channel = c; text = t }
 
-abbrev pub prints_and : List Line → Ending → Run
+abbrev pub prints_and : List Line → Ending Halt → Run
 prints_and lines ending = record { lines = lines; ending = ending }
 
 -- a script gives this, on the line 1, with so many turns
@@ -148,25 +151,41 @@ past_the_end = prints (codes "all") (reads (codes "pin")) ∷ prints (codes "all
 
 -- what they give
 pub record WorkedRows : Type 0 where
-  -- five parts are evaluated: the statement, the call, the name that is called, and two arguments
-  pub hello_in_five : Gives hello 5 (prints_and (line (codes "pub") (codes "hi") ∷ []) done)
-  pub hello_in_four : Gives hello 4 (prints_and [] out_of_turns)
+  -- four parts are evaluated: the statement, the call and two arguments
+  pub hello_in_four : Gives hello 4 (prints_and (line (codes "pub") (codes "hi") ∷ []) done)
+  pub hello_in_three : Gives hello 3 (prints_and [] (halted out_of_turns))
   pub steps_print : Prints steps (codes "1,3")
-  pub greatest_leaves : Gives greatest 200 (prints_and (line (codes "pub") (codes "9007199254740991") ∷ []) (left (codes "number")))
+  pub greatest_leaves : Gives greatest 200 (prints_and (line (codes "pub") (codes "9007199254740991") ∷ []) (halted (left (codes "number"))))
   pub operators_print : Prints operators (codes "-1,-2147483648,4294967295,20,54")
-  pub fraction_leaves : Gives fraction 200 (prints_and [] (left (codes "number")))
+  pub fraction_leaves : Gives fraction 200 (prints_and [] (halted (left (codes "number"))))
   -- the statement and its condition, and then the turn, the block and the condition, again and again
-  pub endless_ends : Gives endless 41 (prints_and [] out_of_turns)
+  pub endless_ends : Gives endless 41 (prints_and [] (halted out_of_turns))
   -- 2 parts of the variable, the loop, 3 of its condition, a turn, 4 of its body, and again 3 of the condition
   pub one_turn_in_fourteen : Gives one_turn 14 (prints_and [] done)
-  pub one_turn_in_thirteen : Gives one_turn 13 (prints_and [] out_of_turns)
+  pub one_turn_in_thirteen : Gives one_turn 13 (prints_and [] (halted out_of_turns))
   pub sum_prints : Prints sum (codes "6")
   pub tail_test_prints : Prints tail_test (codes "aaa")
   pub chosen_prints : Prints chosen (codes "undefined")
   pub old_and_new_prints : Prints old_and_new (codes "9")
   pub past_the_end_prints : Gives past_the_end 200 (prints_and (line (codes "all") (codes "1") ∷ line (codes "all") (codes "undefined") ∷ []) done)
-  pub no_channel : Gives (prints (codes "zzz") (num 1) ∷ []) 200 (prints_and [] (left (codes "channel")))
-  pub no_origin : Gives (does (labels (num 1) (codes "Z")) ∷ []) 200 (prints_and [] (left (codes "origin")))
+  pub no_channel : Gives (prints (codes "zzz") (num 1) ∷ []) 200 (prints_and [] (halted (left (codes "channel"))))
+  pub no_origin : Gives (does (labels (num 1) (codes "Z")) ∷ []) 200 (prints_and [] (halted (left (codes "origin"))))
   -- undefined = 1; and nothing = 1;
   pub immutable : Gives (does (sets (codes "undefined") (num 1)) ∷ []) 200 (prints_and [] (threw (codes "object Error TypeError")))
   pub unbound : Gives (does (sets (codes "nothing") (num 1)) ∷ []) 200 (prints_and [] (threw (codes "object Error ReferenceError")))
+  -- nothing = (print("pub", 1), 2); the name is resolved first, and the exception comes behind the right side
+  pub unbound_behind_its_value : Gives (does (sets (codes "nothing") (paren 0 (comma 0 (prints_on (codes "pub") (num 1)) (num 2)))) ∷ []) 200
+      (prints_and (line (codes "pub") (codes "1") ∷ []) (threw (codes "object Error ReferenceError")))
+  -- nothing += print("pub", 1); the value is asked before the right side
+  pub unbound_before_its_change : Gives (does (adds (codes "nothing") (prints_on (codes "pub") (num 1))) ∷ []) 200 (prints_and [] (threw (codes "object Error ReferenceError")))
+  -- undefined - print("pub", 1); the left operand is a number after the right one is evaluated
+  pub undefined_behind_its_operand : Gives (does (op (named (codes "undefined")) binary_operator.Subtract (prints_on (codes "pub") (num 1))) ∷ []) 200
+      (prints_and (line (codes "pub") (codes "1") ∷ []) (halted (left (codes "number"))))
+  -- what is shown of a value: its type, and a text with its escapes, also where it is empty
+  pub shown_text : shown start_heap (value.Primitive (Str (120 ∷ 92 ∷ []))) ≡ codes "string x" ++ (92 ∷ 92 ∷ [])
+  pub shown_empty : shown start_heap (value.Primitive (Str [])) ≡ codes "string "
+  pub shown_number : shown start_heap (value.Primitive (Num (pos 12))) ≡ codes "number 12"
+  pub shown_undefined : shown start_heap undefined ≡ codes "undefined"
+  -- of an object its class, and its name where that is a text
+  pub shown_global : shown start_heap (value.Object global_object) ≡ codes "object Object"
+  pub shown_prototype : shown start_heap (value.Object (error_prototype range_error)) ≡ codes "object Error RangeError"

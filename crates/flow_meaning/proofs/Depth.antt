@@ -3,19 +3,22 @@ use Rattle.std.proofs.Common.{◌≡◌, ℕ, zero, suc, ◌≤◌, refl, sym, a
 use Rattle.flow_policy.specs.Policies.{Tables}
 use Rattle.flow_policy.specs.Inputs.{Given}
 use Rattle.js_ast.specs.Trees.{Statements}
-use Rattle.es_meaning.specs.Outcomes.{out_of_turns, Outcome, Goes, Ends}
+use Rattle.es_meaning.specs.Outcomes.{out_of_turns, Outcome, Goes, Jumps, Ends}
 use Rattle.es_meaning.specs.Operations.{One, Res}
 use Rattle.es_meaning.specs.Evaluation.{statements, eval, program_step}
+use Rattle.es_meaning.specs.Plain.{outermost_env}
 use Rattle.flow_meaning.specs.Laws.{IsPerformed, performed_run}
-use Rattle.flow_meaning.specs.Tracked.{Labelled, Ending, as_plain, State, spend, labelled, timed, start, run_of, tracked_run}
-use Rattle.flow_meaning.specs.Planned.{Part, an_expr, a_place, a_stmt, a_turn, Plan, Give, Ask, End, plan, program_plan, Ran, Evaluator, untyped, of_rec, and_go, perform, meaning, program_meaning}
+use Rattle.flow_meaning.specs.Scopes.{Val, Halt, as_plain, State, Jump}
+use Rattle.flow_meaning.specs.Tracked.{spend, labelled, timed, start, run_of, tracked_run}
+use Rattle.flow_meaning.specs.Planned.{Part, an_expr, a_use, a_stmt, a_turn, Completion, gave, jumped, Plan, Give, Ask, End, plan, program_plan, Ran, Evaluator, untyped, of_rec, and_go, completed, perform, meaning, program_meaning}
 use Rattle.flow_meaning.proofs.Steady.{with_turns}
 use Rattle.flow_meaning.proofs.Performing.{Keeps, perform_step, plan_keeps, perform_program, program_keeps}
 
 -- no more than so many turns are left
 abbrev IsWithin : ℕ → Ran → Type 0
 IsWithin n (Goes v s) = s.turns ≤ n
-IsWithin n (Ends ending s) = Unit {0}
+IsWithin n (Jumps j s) = s.turns ≤ n
+IsWithin n (Ends halt s) = Unit {0}
 
 -- no part adds turns
 abbrev Spends : Evaluator → Type 0
@@ -24,41 +27,45 @@ Spends e = (part : Part) (s : State) → IsWithin s.turns (e part s)
 -- within more
 within_more : (n m : ℕ) (o : Ran) → n ≤ m → IsWithin n o → IsWithin m o
 within_more n m (Goes v s) le h = omega arith
-within_more n m (Ends ending s) le h = tt
+within_more n m (Jumps j s) le h = omega arith
+within_more n m (Ends halt s) le h = tt
 
 -- what follows
-go_within : (n : ℕ) (o : Ran) (next : Labelled → State → Ran) → IsWithin n o → ((v : Labelled) (s : State) → s.turns ≤ n → IsWithin n (next v s)) → IsWithin n (and_go o next)
+go_within : (n : ℕ) (o : Ran) (next : Completion → State → Ran) → IsWithin n o → ((c : Completion) (s : State) → s.turns ≤ n → IsWithin n (next c s)) → IsWithin n (and_go o next)
 unfolding and_go
-go_within n (Goes v s) next h f = f v s h
-go_within n (Ends ending s) next h f = tt
+go_within n (Goes v s) next h f = f (gave v) s h
+go_within n (Jumps j s) next h f = f (jumped j) s h
+go_within n (Ends halt s) next h f = tt
 
 -- a plan
 perform_within : (e : Evaluator) → Spends e → (n : ℕ) (p : Plan) → Keeps n p → IsWithin n (perform e p)
-unfolding perform
-perform_within e h n (Give v s) k = omega arith
+unfolding perform completed
+perform_within e h n (Give (gave v) s) k = omega arith
+perform_within e h n (Give (jumped j) s) k = omega arith
 perform_within e h n (Ask part s go_on) k =
-    go_within n (e part s) _ (subst (λ m. IsWithin m (e part s)) k.0 (h part s)) (λ v t le. within_more t.turns n _ le (perform_within e h t.turns (go_on v t) (k.1 v t)))
-perform_within e h n (End ending s) k = tt
+    go_within n (e part s) _ (subst (λ m. IsWithin m (e part s)) k.0 (h part s)) (λ c t le. within_more t.turns n _ le (perform_within e h t.turns (go_on c t) (k.1 c t)))
+perform_within e h n (End halt s) k = tt
 
 -- two evaluators that agree as long as no more than n turns are left
 abbrev Agree : ℕ → Evaluator → Evaluator → Type 0
 Agree n e f = (part : Part) (s : State) → s.turns ≤ n → e part s ≡ f part s
 
 -- what follows
-go_same : (n : ℕ) (o : Ran) (f g : Labelled → State → Ran) → IsWithin n o → ((v : Labelled) (s : State) → s.turns ≤ n → f v s ≡ g v s) → and_go o f ≡ and_go o g
+go_same : (n : ℕ) (o : Ran) (f g : Completion → State → Ran) → IsWithin n o → ((c : Completion) (s : State) → s.turns ≤ n → f c s ≡ g c s) → and_go o f ≡ and_go o g
 unfolding and_go
-go_same n (Goes v s) f g h same = same v s h
-go_same n (Ends ending s) f g h same = refl
+go_same n (Goes v s) f g h same = same (gave v) s h
+go_same n (Jumps j s) f g h same = same (jumped j) s h
+go_same n (Ends halt s) f g h same = refl
 
 -- a plan
 perform_same : (n : ℕ) (e f : Evaluator) → Spends e → Agree n e f → (m : ℕ) (p : Plan) → m ≤ n → Keeps m p → perform e p ≡ perform f p
 unfolding perform
-perform_same n e f h agree m (Give v s) le k = refl
+perform_same n e f h agree m (Give c s) le k = refl
 perform_same n e f h agree m (Ask part s go_on) le k =
     let at_most : s.turns ≤ n = let q = k.0 in omega arith in
-    go_same n (e part s) _ (λ v t. perform f (go_on v t)) (within_more s.turns n (e part s) at_most (h part s)) (λ v t less. perform_same n e f h agree t.turns (go_on v t) less (k.1 v t))
-    ∙ ap (λ o. and_go o (λ v t. perform f (go_on v t))) (agree part s at_most)
-perform_same n e f h agree m (End ending s) le k = refl
+    go_same n (e part s) _ (λ c t. perform f (go_on c t)) (within_more s.turns n (e part s) at_most (h part s)) (λ c t less. perform_same n e f h agree t.turns (go_on c t) less (k.1 c t))
+    ∙ ap (λ o. and_go o (λ c t. perform f (go_on c t))) (agree part s at_most)
+perform_same n e f h agree m (End halt s) le k = refl
 
 module _ (tables : Tables) (inputs : Given) where
   -- the meaning of a part, up to a depth
@@ -68,30 +75,30 @@ module _ (tables : Tables) (inputs : Given) where
   -- with no turn left the run ends, to any depth
   none_left : (n : ℕ) (part : Part) (s : State) → depth n part (with_turns 0 s) ≡ Ends (as_plain out_of_turns) (with_turns 0 s)
   unfolding eval spend
-  none_left zero (an_expr e) s = refl
-  none_left zero (a_place e) s = refl
-  none_left zero (a_stmt stmt) s = refl
-  none_left zero (a_turn round) s = refl
-  none_left (suc n) (an_expr e) s = refl
-  none_left (suc n) (a_place e) s = refl
-  none_left (suc n) (a_stmt stmt) s = refl
-  none_left (suc n) (a_turn round) s = refl
+  none_left zero (an_expr e i) s = refl
+  none_left zero (a_use use_as e i) s = refl
+  none_left zero (a_stmt stmt e) s = refl
+  none_left zero (a_turn round e) s = refl
+  none_left (suc n) (an_expr e i) s = refl
+  none_left (suc n) (a_use use_as e i) s = refl
+  none_left (suc n) (a_stmt stmt e) s = refl
+  none_left (suc n) (a_turn round e) s = refl
 
   -- and so it does out of depth
   no_depth : (part : Part) (s : State) → depth zero part s ≡ Ends (as_plain out_of_turns) s
   unfolding eval
-  no_depth (an_expr e) s = refl
-  no_depth (a_place e) s = refl
-  no_depth (a_stmt stmt) s = refl
-  no_depth (a_turn round) s = refl
+  no_depth (an_expr e i) s = refl
+  no_depth (a_use use_as e i) s = refl
+  no_depth (a_stmt stmt e) s = refl
+  no_depth (a_turn round e) s = refl
 
   -- with a turn left it is the plan, performed with one level less
   turn_left : (n : ℕ) (part : Part) (s : State) (t : ℕ) → depth (suc n) part (with_turns (suc t) s) ≡ perform (depth n) (plan tables inputs part (with_turns t s))
   unfolding eval spend
-  turn_left n (an_expr e) s t = sym (perform_step tables inputs (eval (timed tables inputs) n) (an_expr e) (with_turns t s))
-  turn_left n (a_place e) s t = sym (perform_step tables inputs (eval (timed tables inputs) n) (a_place e) (with_turns t s))
-  turn_left n (a_stmt stmt) s t = sym (perform_step tables inputs (eval (timed tables inputs) n) (a_stmt stmt) (with_turns t s))
-  turn_left n (a_turn round) s t = sym (perform_step tables inputs (eval (timed tables inputs) n) (a_turn round) (with_turns t s))
+  turn_left n (an_expr e i) s t = sym (perform_step tables inputs (eval (timed tables inputs) n) (an_expr e i) (with_turns t s))
+  turn_left n (a_use use_as e i) s t = sym (perform_step tables inputs (eval (timed tables inputs) n) (a_use use_as e i) (with_turns t s))
+  turn_left n (a_stmt stmt e) s t = sym (perform_step tables inputs (eval (timed tables inputs) n) (a_stmt stmt e) (with_turns t s))
+  turn_left n (a_turn round e) s t = sym (perform_step tables inputs (eval (timed tables inputs) n) (a_turn round e) (with_turns t s))
 
   -- the plan itself changes no turns, whatever its parts mean
   keeps : (part : Part) (s : State) → Keeps s.turns (plan tables inputs part s)
@@ -138,9 +145,10 @@ module _ (tables : Tables) (inputs : Given) where
   meaning_suc part s t = turn_left t part s t ∙ perform_deep t (plan tables inputs part (with_turns t s)) (keeps part (with_turns t s))
 
 -- the lines of a run and how it ends
-run_same : (o : Outcome Ending (Res Labelled One) State) → performed_run (untyped One o) ≡ run_of o
+run_same : (o : Outcome Halt Jump (Res Val One) State) → performed_run (untyped One o) ≡ run_of o
 run_same (Goes a s) = refl
-run_same (Ends ending s) = refl
+run_same (Jumps j s) = refl
+run_same (Ends halt s) = refl
 
 -- a program's plan, performed
 program_same : (tables : Tables) (inputs : Given) (program : Statements) (turns : ℕ) → performed_run (program_meaning tables inputs program turns) ≡ tracked_run tables inputs program turns
@@ -149,7 +157,7 @@ program_same tables inputs program turns =
     let s = start tables inputs program turns in
     let parts = eval (timed tables inputs) turns in
     let deep = perform_deep tables inputs turns (program_plan tables inputs program s) (program_keeps tables inputs parts program s) in
-    ap performed_run (sym deep ∙ perform_program tables inputs parts program s) ∙ run_same (statements (labelled tables inputs) parts program s)
+    ap performed_run (sym deep ∙ perform_program tables inputs parts program s) ∙ run_same (statements (labelled tables inputs) parts program (outermost_env 0) s)
 
 -- what a part does, and a program, is its plan, performed
 pub is_performed : IsPerformed

@@ -1,21 +1,23 @@
 -- With more turns a monitored run that is over is the same.
-use Rattle.std.proofs.Common.{◌≡◌, ℕ, zero, suc, ◌-◌, ◌≤◌, refl, sym, subst}
+use Rattle.std.proofs.Common.{◌≡◌, ℕ, zero, suc, ◌-◌, ◌≤◌, Bool, true, false, length, nat_lt, refl, sym, subst}
 use Rattle.origin_labels.specs.Label.{Label, bottom, union}
 use Rattle.flow_policy.specs.Policies.{Tables}
 use Rattle.flow_policy.specs.Inputs.{Given}
 use Rattle.flow_frames.specs.declared.kind.Kind.{Kind}
 use Rattle.flow_frames.specs.declared.kind.Kind.TheVariants as kind
-use Rattle.js_number.specs.Conversions.{boolean_of}
 use Rattle.js_ast.specs.Trees.{Statements}
-use Rattle.es_meaning.specs.Outcomes.{left, out_of_turns, Outcome, Goes, Ends, ret}
+use Rattle.es_meaning.specs.Outcomes.{left, out_of_turns, halted, Outcome, Goes, Jumps, Ends, ret}
+use Rattle.es_meaning.specs.Environments.{Env, with_around}
 use Rattle.es_meaning.specs.Operations.{Res, Ops}
-use Rattle.es_meaning.specs.Operators.{unary_of, binary_of, not_built}
+use Rattle.es_meaning.specs.Operators.{is_object, truth, converts_beside, binary_of, not_built}
 use Rattle.es_meaning.specs.Evaluation.{program_step}
+use Rattle.es_meaning.specs.Plain.{choose, resolved, outermost_env}
 use Rattle.es_meaning.proofs.Link.{Link, program_longer}
-use Rattle.es_meaning.proofs.Longer.{beyond, few_beyond, beyond_few, Longer, wants, goes, ends, Lift, bind_longer, choose_longer, at_equal, equal_results, rels_equal}
+use Rattle.es_meaning.proofs.Longer.{beyond, few_beyond, beyond_few, Longer, wants, goes, jumps, ends, Lift, bind_longer, choose_longer, at_equal, equal_results, rels_equal}
 use Rattle.flow_meaning.specs.Laws.{MoreTurns}
-use Rattle.flow_meaning.specs.Tracked.{Labelled, Ending, as_plain, State, L, popped, scope, settled, in_frame, spend, labelled, timed, start, run_of, tracked_run}
-use Rattle.flow_meaning.proofs.Steady.{with_turns, left_with, Steady, Holds, holds, ret_steady, ends_steady, given_steady, raise_steady, look_steady, look_or_undefined_steady, assign_steady, direct_steady}
+use Rattle.flow_meaning.specs.Scopes.{Val, Halt, as_plain, State, Jump, L, cut_to, pushed_on, Left, popped, scope, settled, round_kind}
+use Rattle.flow_meaning.specs.Tracked.{spend, labelled, timed, start, run_of, tracked_run}
+use Rattle.flow_meaning.proofs.Steady.{with_turns, left_with, Steady, Holds, holds, ret_steady, ends_steady, given_steady, unless_steady, raise_steady, unary_steady, get_name_steady, typeof_name_steady, put_steady, direct_steady}
 
 -- the state with k more turns
 abbrev more_turns_in : ℕ → State → State
@@ -23,7 +25,7 @@ more_turns_in k s = with_turns (beyond k s.turns) s
 
 module _ (k : ℕ) where
   -- outcomes of the labelled meaning
-  abbrev Lasts : (X : Type 0) → Outcome Ending X State → Outcome Ending X State → Type 0
+  abbrev Lasts : (X : Type 0) → Outcome Halt Jump X State → Outcome Halt Jump X State → Type 0
   Lasts X o p = Longer (as_plain out_of_turns) (more_turns_in k) o p
 
   -- and computations
@@ -37,9 +39,10 @@ module _ (k : ℕ) where
   spend_on (suc n) s = goes
 
   -- an outcome that has as many turns left
-  as_many : {X : Type 0} (n : ℕ) (o : Outcome Ending X State) → Holds n o → Lasts X o (left_with (beyond k n) o)
+  as_many : {X : Type 0} (n : ℕ) (o : Outcome Halt Jump X State) → Holds n o → Lasts X o (left_with (beyond k n) o)
   as_many {X} n (Goes a s) e = subst (λ m. Lasts X (Goes a s) (Goes a (with_turns (beyond k m) s))) e goes
-  as_many {X} n (Ends ending s) e = subst (λ m. Lasts X (Ends ending s) (Ends ending (with_turns (beyond k m) s))) e ends
+  as_many {X} n (Jumps j s) e = subst (λ m. Lasts X (Jumps j s) (Jumps j (with_turns (beyond k m) s))) e jumps
+  as_many {X} n (Ends halt s) e = subst (λ m. Lasts X (Ends halt s) (Ends halt (with_turns (beyond k m) s))) e ends
 
   -- an act
   act : {X : Type 0} (m : L X) → Steady m → On X m m
@@ -47,20 +50,22 @@ module _ (k : ℕ) where
 
   -- ---- scopes
 
-  -- the innermost frame is popped
-  popped_on : {X : Type 0} {o p : Outcome Ending X State} → Lasts X o p → Lasts (Label × X) (popped o) (popped p)
+  -- what a jump at the end of a frame does
+  caught_on : {Y : Type 0} (b : Bool) (a : Y) (j : Jump) (s : State) → Lasts Y (choose b (Goes a s) (Jumps j s)) (choose b (Goes a (more_turns_in k s)) (Jumps j (more_turns_in k s)))
+  caught_on true a j s = goes
+  caught_on false a j s = jumps
+
+  -- the frame at a depth is popped
+  popped_on : {X : Type 0} (depth : ℕ) {o p : Outcome Halt Jump X State} → Lasts X o p → Lasts (Left X) (popped depth o) (popped depth p)
   unfolding popped
-  popped_on wants = wants
-  popped_on goes = goes
-  popped_on ends = ends
+  popped_on depth wants = wants
+  popped_on depth goes = goes
+  popped_on depth (jumps {j = j} {s = s}) = caught_on (nat_lt depth (length s.frames)) _ j (cut_to depth s)
+  popped_on depth ends = ends
 
   -- what is done in a frame of its own
-  scope_on : {X : Type 0} (kind : Kind) (label : Label) {m n : L X} → On X m n → On (Label × X) (scope kind label m) (scope kind label n)
-  scope_on kind label l = record { on = λ s. popped_on (l.on _) }
-
-  -- and gives nothing
-  in_frame_on : (kind : Kind) {m n : L (Unit {0})} → On (Unit {0}) m n → On (Unit {0}) (in_frame kind m) (in_frame kind n)
-  in_frame_on kind l = bind_longer _ _ (scope_on kind bottom l) (λ c. act _ (ret_steady tt))
+  scope_on : {X : Type 0} (kind : Kind) (label : Label) {m n : ℕ → L X} → ((depth : ℕ) → On X (m depth) (n depth)) → On (Left X) (scope kind label m) (scope kind label n)
+  scope_on kind label l = record { on = λ s. popped_on (length s.frames) ((l (length s.frames)).on (pushed_on kind label s)) }
 
   module _ (tables : Tables) (inputs : Given) where
     -- the labelled meaning
@@ -73,47 +78,59 @@ module _ (k : ℕ) where
       W = Unit {0};
       Le = λ v w. Unit {0};
       RV = λ w v u. v ≡ u;
-      Lift = λ t w m n. On (Res Labelled t) m n;
+      RN = λ w n m. n ≡ m;
+      RP = λ w i j. i ≡ j;
+      RE = λ w e d. e ≡ d;
+      Lift = λ t w m n. On (Res Val t) m n;
       le_refl = λ w. tt;
       le_trans = λ p q. tt;
       more_v = λ p r. r;
+      more_n = λ p r. r;
+      more_p = λ p r. r;
+      more_e = λ p r. r;
+      place_of = λ {e = e} r. subst (λ (x : Env ℕ). e.place ≡ x.place) r refl;
       ret_one = λ w. act _ (ret_steady tt);
       ret_value = λ {a = a} r. at_equal ret ret r (act _ (ret_steady a));
-      bind = λ t u {w = w} f g l h. bind_longer f g l (λ a. h w tt a a (equal_results Labelled t w a));
+      bind = λ t u {w = w} f g l h. bind_longer f g l (λ a. h w tt a a (equal_results Val t w a));
       literal = λ w v. refl;
-      unary = λ o {v = v} r. at_equal (A.unary o) (A.unary o) r (act _ (given_steady v.label (unary_of o v.value)));
+      unary = λ o {v = v} r. at_equal (A.unary o) (A.unary o) r (act _ (unary_steady tables inputs o v));
       binary = λ o {v = v} {u = u} {u' = u'} r q. at_equal (λ x. A.binary o x u) (λ x. A.binary o x u') r
           (at_equal (A.binary o v) (A.binary o v) q (act _ (given_steady (union v.label u.label) (binary_of o v.value u.value))));
-      look = λ w x. act _ (look_steady tables inputs x);
-      look_or_undefined = λ w x. act _ (look_or_undefined_steady tables inputs x);
-      assign = λ x {v = v} r. at_equal (A.assign x) (A.assign x) r (act _ (assign_steady tables inputs x v));
+      primitive = λ hint {v = v} r. at_equal (A.primitive hint) (A.primitive hint) r (act _ (unless_steady (is_object v.value) v));
+      comparable = λ {v = v} {u = u} {u' = u'} r q. at_equal (λ x. A.comparable x u) (λ x. A.comparable x u') r
+          (at_equal (A.comparable v) (A.comparable v) q (act _ (unless_steady (converts_beside v.value u.value) v)));
       direct = λ f {vs = vs} r. at_equal (A.direct f) (A.direct f) (rels_equal r) (act _ (direct_steady tables inputs f vs));
-      unbuilt = λ t w. act _ (ends_steady (Res Labelled t) (left not_built));
-      fork = λ t {v = v} {m = m} {n = n} {m' = m'} {n' = n'} r l q. at_equal (λ x. A.fork t x m n) (λ x. A.fork t x m' n') r
-          (bind_longer _ _ (scope_on kind.Branch v.label (choose_longer (boolean_of v.value) l q)) (λ c. act _ (ret_steady (settled t c.0 c.1))));
-      loop = λ l. in_frame_on kind.Loop l;
+      unbuilt = λ t w. act _ (ends_steady (Res Val t) (left not_built));
+      resolve = λ t {w = w} {i = i} x f g p h. at_equal (λ j. A.resolve t j x f) (λ j. A.resolve t j x g) p (record { on = λ s. (h w tt (resolved s.records i x) (resolved s.records i x) refl).on s });
+      get_name = λ {n = n} f g r h. at_equal (λ m. A.get_name m f) (λ m. A.get_name m g) r (act _ (get_name_steady tables inputs n f));
+      typeof_name = λ {n = n} f g r h. at_equal (λ m. A.typeof_name m f) (λ m. A.typeof_name m g) r (act _ (typeof_name_steady tables inputs n f));
+      put_name = λ {n = n} {v = v} {v' = v'} f g r q h. at_equal (λ m. A.put_name m v f) (λ m. A.put_name m v' g) r (at_equal (λ x. A.put_name n x f) (λ x. A.put_name n x g) q (act _ (put_steady n.place n.name v)));
+      fork = λ t {w = w} {v = v} {m = m} {n = n} {m' = m'} {n' = n'} r l q. at_equal (λ x. A.fork t x m n) (λ x. A.fork t x m' n') r
+          (bind_longer _ _ (scope_on kind.Branch v.label (λ depth. choose_longer (truth v.value) (l w tt) (q w tt))) (λ c. act _ (ret_steady (settled t c))));
+      round = λ {w = w} turn labels {e = e} f g r h. at_equal (λ d. A.round turn labels d f) (λ d. A.round turn labels d g) r
+          (bind_longer _ _ (scope_on (round_kind turn) bottom (λ depth. h w (with_around turn labels depth e) (with_around turn labels depth e) refl)) (λ c. act _ (ret_steady tt)));
       again = λ {v = v} {m = m} {n = n} {m' = m'} {n' = n'} r l q. at_equal (λ x. A.again x m n) (λ x. A.again x m' n') r
-          (bind_longer _ _ (act _ (raise_steady v.label)) (λ u. choose_longer (boolean_of v.value) l q));
-      turn = λ l. in_frame_on kind.Turn l;
+          (bind_longer _ _ (act _ (raise_steady v.label)) (λ u. choose_longer (truth v.value) l q));
     }
 
     -- a program, to a depth and a larger one
-    program_lasts : (program : Statements) (n m : ℕ) → n ≤ m → (s : State) → Lasts (Unit {0}) (program_step (timed tables inputs) n program s) (program_step (timed tables inputs) m program (more_turns_in k s))
+    program_lasts : (program : Statements) (n m : ℕ) → n ≤ m → (e : Env ℕ) (s : State) → Lasts (Unit {0}) (program_step (timed tables inputs) n program e s) (program_step (timed tables inputs) m program e (more_turns_in k s))
     unfolding lasting
-    program_lasts program n m le s =
-        (program_longer (timed tables inputs) (timed tables inputs) lasting (λ w. record { on = λ s. spend_on s.turns s }) (λ t w x. record { on = λ s. wants }) n m le program tt).on s
+    program_lasts program n m le e s =
+        (program_longer (timed tables inputs) (timed tables inputs) lasting (λ w. record { on = λ s. spend_on s.turns s }) (λ t w x. record { on = λ s. wants }) n m le program {w = tt} {e = e} {d = e} refl).on s
 
   -- what a run prints and how it ends
-  run_lasts : (o p : Outcome Ending (Unit {0}) State) → Lasts (Unit {0}) o p → ((run_of o).ending ≡ as_plain out_of_turns → ⊥) → run_of p ≡ run_of o
+  run_lasts : (o p : Outcome Halt Jump (Unit {0}) State) → Lasts (Unit {0}) o p → ((run_of o).ending ≡ halted (as_plain out_of_turns) → ⊥) → run_of p ≡ run_of o
   run_lasts _ _ wants out = absurd (out refl)
   run_lasts _ _ goes out = refl
+  run_lasts _ _ jumps out = refl
   run_lasts _ _ ends out = refl
 
   -- with k more turns
-  lasts : (tables : Tables) (inputs : Given) (program : Statements) (few : ℕ) → ((tracked_run tables inputs program few).ending ≡ as_plain out_of_turns → ⊥)
+  lasts : (tables : Tables) (inputs : Given) (program : Statements) (few : ℕ) → ((tracked_run tables inputs program few).ending ≡ halted (as_plain out_of_turns) → ⊥)
       → tracked_run tables inputs program (beyond k few) ≡ tracked_run tables inputs program few
   unfolding tracked_run
-  lasts tables inputs program few out = run_lasts _ _ (program_lasts tables inputs program few (beyond k few) (few_beyond k few) (start tables inputs program few)) out
+  lasts tables inputs program few out = run_lasts _ _ (program_lasts tables inputs program few (beyond k few) (few_beyond k few) (outermost_env 0) (start tables inputs program few)) out
 
 -- more turns change no run that ends otherwise
 pub more_turns : MoreTurns

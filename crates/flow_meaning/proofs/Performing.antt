@@ -1,74 +1,101 @@
 -- Performing the plan of a part is the labelled step of the part.
-use Rattle.std.proofs.Common.{◌≡◌, ℕ, Bool, true, false, refl, ◌∙◌, ap, subst}
+use Rattle.std.proofs.Common.{◌≡◌, ℕ, List, Option, Bool, true, false, length, nat_lt, refl, ◌∙◌, ap, subst}
 use Rattle.origin_labels.specs.Label.{Label, bottom, union}
 use Rattle.flow_policy.specs.Policies.{Tables}
 use Rattle.flow_policy.specs.Inputs.{Given}
 use Rattle.flow_frames.specs.declared.kind.Kind.{Kind}
 use Rattle.flow_frames.specs.declared.kind.Kind.TheVariants as kind
-use Rattle.js_number.specs.Conversions.{boolean_of}
 use Rattle.js_ast.specs.Trees.{Statements}
-use Rattle.es_meaning.specs.Outcomes.{left, Outcome, Goes, Ends, ret, and_then, ◌>>=◌}
+use Rattle.es_meaning.specs.Outcomes.{left, Outcome, Goes, Jumps, Ends, ret, and_then, ◌>>=◌}
+use Rattle.es_meaning.specs.Environments.{Env, with_around}
 use Rattle.es_meaning.specs.Operations.{Ty, One, Value, Res, Ops, Rec}
-use Rattle.es_meaning.specs.Operators.{unary_of, binary_of, not_built}
+use Rattle.es_meaning.specs.Operators.{is_object, truth, converts_beside, binary_of, not_built}
 use Rattle.es_meaning.specs.Evaluation.{step, statements}
-use Rattle.es_meaning.specs.Plain.{choose}
+use Rattle.es_meaning.specs.Plain.{choose, resolved, outermost_env}
 use Rattle.es_meaning.proofs.Link.{Link, Linked, step_linked, statements_linked}
 use Rattle.es_meaning.proofs.Longer.{equal_results, rels_equal}
-use Rattle.flow_meaning.specs.Tracked.{Labelled, Ending, State, L, pushed_on, popped, scope, settled, raise, labelled}
-use Rattle.flow_meaning.specs.Planned.{Part, an_expr, a_place, a_stmt, a_turn, Plan, Give, Ask, End, Then, and_plan, with_result, as_plan, end_branch, end_frame, end_of_branch, planned, asking, plan, program_plan, Ran, Evaluator, untyped, and_go, perform, of_rec}
-use Rattle.flow_meaning.proofs.Steady.{Steady, Holds, holds, ret_steady, ends_steady, given_steady, raise_steady, look_steady, look_or_undefined_steady, assign_steady, direct_steady}
+use Rattle.flow_meaning.specs.Scopes.{Val, Halt, State, Jump, L, cut_to, pushed_on, Left, popped, scope, settled, round_kind, raise}
+use Rattle.flow_meaning.specs.Tracked.{labelled}
+use Rattle.flow_meaning.specs.Planned.{Part, an_expr, a_use, a_stmt, a_turn, Completion, gave, jumped, Plan, Give, Ask, End, Then, and_plan, with_result, as_plan, outcome_of, end_branch, end_round, planned, asking, plan, program_plan, Ran, Evaluator, untyped, and_go, completed, perform, of_rec}
+use Rattle.flow_meaning.proofs.Steady.{Steady, Holds, holds, ret_steady, ends_steady, given_steady, unless_steady, raise_steady, unary_steady, get_name_steady, typeof_name_steady, put_steady, direct_steady}
 
 -- ---- no part of a plan but what it asks for changes the turns
 
 -- from so many turns
 abbrev pub Keeps : ℕ → Plan → Type 0
-Keeps n (Give v s) = s.turns ≡ n
-Keeps n (Ask part s go_on) = (s.turns ≡ n) × ((v : Labelled) (t : State) → Keeps t.turns (go_on v t))
-Keeps n (End ending s) = Unit {0}
+Keeps n (Give c s) = s.turns ≡ n
+Keeps n (Ask part s go_on) = (s.turns ≡ n) × ((c : Completion) (t : State) → Keeps t.turns (go_on c t))
+Keeps n (End halt s) = Unit {0}
 
 -- what follows a plan
-keeps_and : (n : ℕ) (p : Plan) (next : Then) → Keeps n p → ((v : Labelled) (s : State) → Keeps s.turns (next v s)) → Keeps n (and_plan p next)
-keeps_and n (Give v s) next e h = subst (λ m. Keeps m (next v s)) e (h v s)
-keeps_and n (Ask part s go_on) next e h = (e.0, λ v t. keeps_and t.turns (go_on v t) next (e.1 v t) h)
-keeps_and n (End ending s) next e h = tt
+keeps_and : (n : ℕ) (p : Plan) (next : Then) → Keeps n p → ((c : Completion) (s : State) → Keeps s.turns (next c s)) → Keeps n (and_plan p next)
+keeps_and n (Give c s) next e h = subst (λ m. Keeps m (next c s)) e (h c s)
+keeps_and n (Ask part s go_on) next e h = (e.0, λ c t. keeps_and t.turns (go_on c t) next (e.1 c t) h)
+keeps_and n (End halt s) next e h = tt
 
 -- an outcome as a plan
-keeps_as : (t : Ty) (n : ℕ) (o : Outcome Ending (Res Labelled t) State) → Holds n o → Keeps n (as_plan t o)
+keeps_as : (t : Ty) (n : ℕ) (o : Outcome Halt Jump (Res Val t) State) → Holds n o → Keeps n (as_plan t o)
 keeps_as t n (Goes a s) h = h
-keeps_as t n (Ends ending s) h = tt
+keeps_as t n (Jumps j s) h = h
+keeps_as t n (Ends halt s) h = tt
 
--- the end of a frame
-keeps_end : (t : Ty) (v : Labelled) (s : State) → Keeps s.turns (end_of_branch t v s)
-unfolding end_branch end_frame
-keeps_end One v s = refl
-keeps_end Value v s = refl
+-- ---- the end of a frame changes no turns
+
+-- a jump at the end of a frame
+holds_caught : {X : Type 0} (b : Bool) (a : X) (j : Jump) (s : State) → Holds s.turns (choose b (Goes a s) (Jumps j s))
+holds_caught true a j s = refl
+holds_caught false a j s = refl
+
+-- the frame at a depth is popped behind a part
+popped_holds : (t : Ty) (depth : ℕ) (c : Completion) (s : State) → Holds s.turns (popped depth (outcome_of t c s))
+unfolding popped
+popped_holds t depth (gave v) s = refl
+popped_holds t depth (jumped j) s = holds_caught (nat_lt depth (length s.frames)) _ j (cut_to depth s)
+
+-- and a result is given
+given_holds : {X Y : Type 0} (n : ℕ) (o : Outcome Halt Jump X State) (f : X → Y) → Holds n o → Holds n (and_then o (λ a. ret (f a)))
+given_holds n (Goes a s) f h = h
+given_holds n (Jumps j s) f h = h
+given_holds n (Ends halt s) f h = h
+
+-- what is done at the end of a frame
+abbrev end_of : (t : Ty) (X : Type 0) → (Left (Res Val t) → X) → ℕ → Completion → State → Outcome Halt Jump X State
+end_of t X f depth c s = and_then (popped depth (outcome_of t c s)) (λ l. ret (f l))
+
+-- it keeps the turns
+keeps_end : (t u : Ty) (f : Left (Res Val t) → Res Val u) (depth : ℕ) (c : Completion) (s : State) → Keeps s.turns (as_plan u (end_of t (Res Val u) f depth c s))
+keeps_end t u f depth c s = keeps_as u s.turns (end_of t (Res Val u) f depth c s) (given_holds s.turns (popped depth (outcome_of t c s)) f (popped_holds t depth c s))
 
 -- ---- performing
 
 -- two computations behind another
-and_go_twice : (o : Ran) (f g h : Labelled → State → Ran) → ((v : Labelled) (s : State) → f v s ≡ and_go (g v s) h) → and_go o f ≡ and_go (and_go o g) h
+and_go_twice : (o : Ran) (f g h : Completion → State → Ran) → ((c : Completion) (s : State) → f c s ≡ and_go (g c s) h) → and_go o f ≡ and_go (and_go o g) h
 unfolding and_go
-and_go_twice (Goes v s) f g h e = e v s
-and_go_twice (Ends ending s) f g h e = refl
+and_go_twice (Goes v s) f g h e = e (gave v) s
+and_go_twice (Jumps j s) f g h e = e (jumped j) s
+and_go_twice (Ends halt s) f g h e = refl
 
 -- a plan, and what follows it
-perform_and : (e : Evaluator) (p : Plan) (next : Then) → perform e (and_plan p next) ≡ and_go (perform e p) (λ v s. perform e (next v s))
-unfolding perform and_go
-perform_and e (Give v s) next = refl
-perform_and e (Ask part s go_on) next = and_go_twice (e part s) _ (λ v t. perform e (go_on v t)) _ (λ v t. perform_and e (go_on v t) next)
-perform_and e (End ending s) next = refl
+perform_and : (e : Evaluator) (p : Plan) (next : Then) → perform e (and_plan p next) ≡ and_go (perform e p) (λ c s. perform e (next c s))
+unfolding perform and_go completed
+perform_and e (Give (gave v) s) next = refl
+perform_and e (Give (jumped j) s) next = refl
+perform_and e (Ask part s go_on) next = and_go_twice (e part s) _ (λ c t. perform e (go_on c t)) _ (λ c t. perform_and e (go_on c t) next)
+perform_and e (End halt s) next = refl
 
 -- an outcome as a plan
-perform_as : (e : Evaluator) (t : Ty) (o : Outcome Ending (Res Labelled t) State) → perform e (as_plan t o) ≡ untyped t o
-unfolding perform
+perform_as : (e : Evaluator) (t : Ty) (o : Outcome Halt Jump (Res Val t) State) → perform e (as_plan t o) ≡ untyped t o
+unfolding perform completed
 perform_as e t (Goes a s) = refl
-perform_as e t (Ends ending s) = refl
+perform_as e t (Jumps j s) = refl
+perform_as e t (Ends halt s) = refl
 
--- nothing is done with a value
-and_give : (e : Evaluator) (o : Ran) → and_go o (λ v s. perform e (Give v s)) ≡ o
-unfolding perform and_go
+-- nothing is done with a completion
+and_give : (e : Evaluator) (o : Ran) → and_go o (λ c s. perform e (Give c s)) ≡ o
+unfolding perform and_go completed
 and_give e (Goes v s) = refl
-and_give e (Ends ending s) = refl
+and_give e (Jumps j s) = refl
+and_give e (Ends halt s) = refl
 
 -- a part that is asked for
 perform_asked : (e : Evaluator) (part : Part) (s : State) → perform e (Ask part s Give) ≡ e part s
@@ -89,41 +116,43 @@ module _ (tables : Tables) (inputs : Given) (Q : Rec (labelled tables inputs)) w
   B = labelled tables inputs
 
   -- a plan that does what a computation does
-  pub record Lift (t : Ty) (m : State → Plan) (n : L (Res Labelled t)) : Type 0 where
+  pub record Lift (t : Ty) (m : State → Plan) (n : L (Res Val t)) : Type 0 where
     pub same : (s : State) → perform evaluator (m s) ≡ untyped t (n s)
     pub keeps : (s : State) → Keeps s.turns (m s)
 
   -- of equal values
-  at_equal : {t : Ty} {V : Type 0} {v u : V} (m : State → Plan) (g : V → L (Res Labelled t)) → v ≡ u → Lift t m (g v) → Lift t m (g u)
+  at_equal : {t : Ty} {V : Type 0} {v u : V} (m : State → Plan) (g : V → L (Res Val t)) → v ≡ u → Lift t m (g v) → Lift t m (g u)
   at_equal {t} m g e l = subst (λ x. Lift t m (g x)) e l
 
   -- an act
-  act : (t : Ty) (n : L (Res Labelled t)) → Steady n → Lift t (λ s. as_plan t (n s)) n
+  act : (t : Ty) (n : L (Res Val t)) → Steady n → Lift t (λ s. as_plan t (n s)) n
   act t n l = record { same = λ s. perform_as evaluator t (n s); keeps = λ s. keeps_as t s.turns (n s) (holds n l s) }
 
-  -- a plan, and what is done with its value
-  follow : (t : Ty) (m : State → Plan) (next : Then) (s : State) (o : Outcome Ending (Res Labelled t) State) (p : Ran)
-      → perform evaluator (m s) ≡ untyped t o → and_go (untyped t o) (λ v s. perform evaluator (next v s)) ≡ p → perform evaluator (and_plan (m s) next) ≡ p
-  follow t m next s o p e h = perform_and evaluator (m s) next ∙ ap (λ o. and_go o (λ v s. perform evaluator (next v s))) e ∙ h
+  -- a plan, and what is done with its completion
+  follow : (t : Ty) (m : State → Plan) (next : Then) (s : State) (o : Outcome Halt Jump (Res Val t) State) (p : Ran)
+      → perform evaluator (m s) ≡ untyped t o → and_go (untyped t o) (λ c s. perform evaluator (next c s)) ≡ p → perform evaluator (and_plan (m s) next) ≡ p
+  follow t m next s o p e h = perform_and evaluator (m s) next ∙ ap (λ o. and_go o (λ c s. perform evaluator (next c s))) e ∙ h
 
   -- ---- computations that follow each other
 
-  -- the value goes to what follows
-  after_bind : (t u : Ty) (f : Res Labelled t → State → Plan) (g : Res Labelled t → L (Res Labelled u)) → ((a : Res Labelled t) → Lift u (f a) (g a))
-      → (o : Outcome Ending (Res Labelled t) State) → and_go (untyped t o) (λ v s. perform evaluator (with_result t f v s)) ≡ untyped u (and_then o g)
-  unfolding and_go
+  -- the value goes to what follows, and a jump passes it
+  after_bind : (t u : Ty) (f : Res Val t → State → Plan) (g : Res Val t → L (Res Val u)) → ((a : Res Val t) → Lift u (f a) (g a))
+      → (o : Outcome Halt Jump (Res Val t) State) → and_go (untyped t o) (λ c s. perform evaluator (with_result t f c s)) ≡ untyped u (and_then o g)
+  unfolding and_go perform completed
   after_bind One u f g h (Goes a s) = (h a).same s
   after_bind Value u f g h (Goes a s) = (h a).same s
-  after_bind t u f g h (Ends ending s) = refl
+  after_bind t u f g h (Jumps j s) = refl
+  after_bind t u f g h (Ends halt s) = refl
 
   -- which keeps the turns
-  keeps_result : (t : Ty) (f : Res Labelled t → State → Plan) → ((a : Res Labelled t) (s : State) → Keeps s.turns (f a s)) → (v : Labelled) (s : State) → Keeps s.turns (with_result t f v s)
-  keeps_result One f h v s = h tt s
-  keeps_result Value f h v s = h v s
+  keeps_result : (t : Ty) (f : Res Val t → State → Plan) → ((a : Res Val t) (s : State) → Keeps s.turns (f a s)) → (c : Completion) (s : State) → Keeps s.turns (with_result t f c s)
+  keeps_result One f h (gave v) s = h tt s
+  keeps_result Value f h (gave v) s = h v s
+  keeps_result t f h (jumped j) s = refl
 
   -- one computation, and then the next
-  bind_performed : (t u : Ty) {m : State → Plan} {n : L (Res Labelled t)} (f : Res Labelled t → State → Plan) (g : Res Labelled t → L (Res Labelled u))
-      → Lift t m n → ((a : Res Labelled t) → Lift u (f a) (g a)) → Lift u (λ s. and_plan (m s) (with_result t f)) (n >>= g)
+  bind_performed : (t u : Ty) {m : State → Plan} {n : L (Res Val t)} (f : Res Val t → State → Plan) (g : Res Val t → L (Res Val u))
+      → Lift t m n → ((a : Res Val t) → Lift u (f a) (g a)) → Lift u (λ s. and_plan (m s) (with_result t f)) (n >>= g)
   bind_performed t u {m} {n} f g l h = record {
     same = λ s. follow t m (with_result t f) s (n s) _ (l.same s) (after_bind t u f g h (n s));
     keeps = λ s. keeps_and s.turns (m s) (with_result t f) (l.keeps s) (keeps_result t f (λ a s. (h a).keeps s));
@@ -132,25 +161,38 @@ module _ (tables : Tables) (inputs : Given) (Q : Rec (labelled tables inputs)) w
   -- ---- scopes
 
   -- one of two
-  choose_performed : {t : Ty} (b : Bool) {m n : State → Plan} {m' n' : L (Res Labelled t)} → Lift t m m' → Lift t n n' → Lift t (choose b m n) (choose b m' n')
+  choose_performed : {t : Ty} (b : Bool) {m n : State → Plan} {m' n' : L (Res Val t)} → Lift t m m' → Lift t n n' → Lift t (choose b m n) (choose b m' n')
   choose_performed true l k = l
   choose_performed false l k = k
 
   -- the end of a frame
-  after_scope : (t : Ty) (o : Outcome Ending (Res Labelled t) State)
-      → and_go (untyped t o) (λ v s. perform evaluator (end_of_branch t v s)) ≡ untyped t (and_then (popped o) (λ c. ret (settled t c.0 c.1)))
-  unfolding and_go perform popped end_branch end_frame
-  after_scope One (Goes a s) = refl
-  after_scope Value (Goes a s) = refl
-  after_scope t (Ends ending s) = refl
+  after_scope : (t u : Ty) (f : Left (Res Val t) → Res Val u) (depth : ℕ) (o : Outcome Halt Jump (Res Val t) State)
+      → and_go (untyped t o) (λ c s. perform evaluator (as_plan u (end_of t (Res Val u) f depth c s))) ≡ untyped u (and_then (popped depth o) (λ l. ret (f l)))
+  unfolding and_go popped
+  after_scope One u f depth (Goes a s) = perform_as evaluator u (and_then (popped depth (Goes a s)) (λ l. ret (f l)))
+  after_scope Value u f depth (Goes a s) = perform_as evaluator u (and_then (popped depth (Goes a s)) (λ l. ret (f l)))
+  after_scope t u f depth (Jumps j s) = perform_as evaluator u (and_then (popped depth (Jumps j s)) (λ l. ret (f l)))
+  after_scope t u f depth (Ends halt s) = refl
 
   -- what is done in a frame of its own
-  scope_performed : (t : Ty) (kind : Kind) (label : Label) {m : State → Plan} {n : L (Res Labelled t)} → Lift t m n
-      → Lift t (λ s. and_plan (m (pushed_on kind label s)) (end_of_branch t)) (scope kind label n >>= λ c. ret (settled t c.0 c.1))
-  scope_performed t kind label {m} {n} l = record {
-    same = λ s. follow t m (end_of_branch t) (pushed_on kind label s) (n (pushed_on kind label s)) _ (l.same (pushed_on kind label s)) (after_scope t (n (pushed_on kind label s)));
-    keeps = λ s. keeps_and s.turns (m (pushed_on kind label s)) (end_of_branch t) (l.keeps (pushed_on kind label s)) (keeps_end t);
+  scope_performed : (t u : Ty) (kind : Kind) (label : Label) (f : Left (Res Val t) → Res Val u) {m : ℕ → State → Plan} {n : ℕ → L (Res Val t)} → ((depth : ℕ) → Lift t (m depth) (n depth))
+      → Lift u (λ s. and_plan (m (length s.frames) (pushed_on kind label s)) (λ c s'. as_plan u (end_of t (Res Val u) f (length s.frames) c s'))) (scope kind label n >>= λ l. ret (f l))
+  scope_performed t u kind label f {m} {n} l = record {
+    same = λ s. let depth = length s.frames in
+        follow t (m depth) (λ c s'. as_plan u (end_of t (Res Val u) f depth c s')) (pushed_on kind label s) (n depth (pushed_on kind label s)) _ ((l depth).same (pushed_on kind label s)) (after_scope t u f depth (n depth (pushed_on kind label s)));
+    keeps = λ s. let depth = length s.frames in
+        keeps_and s.turns (m depth (pushed_on kind label s)) (λ c s'. as_plan u (end_of t (Res Val u) f depth c s')) ((l depth).keeps (pushed_on kind label s)) (keeps_end t u f depth);
   }
+
+  -- a branch
+  fork_performed : (t : Ty) (v : Val) {m n : State → Plan} {m' n' : L (Res Val t)} → Lift t m m' → Lift t n n' → Lift t (A.fork t v m n) (B.fork t v m' n')
+  unfolding end_branch
+  fork_performed t v {m} {n} {m'} {n'} l k = scope_performed t t kind.Branch v.label (settled t) {m = λ depth. choose (truth v.value) m n} {n = λ depth. choose (truth v.value) m' n'} (λ depth. choose_performed (truth v.value) l k)
+
+  -- a loop or a turn
+  round_performed : (turn : Bool) (labels : List (Option (List ℕ))) (e : Env ℕ) {m : Env ℕ → State → Plan} {n : Env ℕ → L (Unit {0})} → ((d : Env ℕ) → Lift One (m d) (n d)) → Lift One (A.round turn labels e m) (B.round turn labels e n)
+  unfolding end_round
+  round_performed turn labels e {m} {n} l = scope_performed One One (round_kind turn) bottom (λ c. tt) {m = λ depth. m (with_around turn labels depth e)} {n = λ depth. n (with_around turn labels depth e)} (λ depth. l (with_around turn labels depth e))
 
   -- the plans and the labelled meaning, linked
   pub performed : Link (planned tables inputs) (labelled tables inputs)
@@ -158,41 +200,53 @@ module _ (tables : Tables) (inputs : Given) (Q : Rec (labelled tables inputs)) w
     W = Unit {0};
     Le = λ v w. Unit {0};
     RV = λ w v u. v ≡ u;
+    RN = λ w n m. n ≡ m;
+    RP = λ w i j. i ≡ j;
+    RE = λ w e d. e ≡ d;
     Lift = λ t w m n. Lift t m n;
     le_refl = λ w. tt;
     le_trans = λ p q. tt;
     more_v = λ p r. r;
+    more_n = λ p r. r;
+    more_p = λ p r. r;
+    more_e = λ p r. r;
+    place_of = λ {e = e} r. subst (λ (x : Env ℕ). e.place ≡ x.place) r refl;
     ret_one = λ w. act One (ret tt) (ret_steady tt);
     ret_value = λ {a = a} r. at_equal (A.ret Value a) (B.ret Value) r (act Value (ret a) (ret_steady a));
-    bind = λ t u {w = w} f g l h. bind_performed t u f g l (λ a. h w tt a a (equal_results Labelled t w a));
+    bind = λ t u {w = w} f g l h. bind_performed t u f g l (λ a. h w tt a a (equal_results Val t w a));
     literal = λ w v. refl;
-    unary = λ o {v = v} r. at_equal (A.unary o v) (B.unary o) r (act Value (B.unary o v) (given_steady v.label (unary_of o v.value)));
+    unary = λ o {v = v} r. at_equal (A.unary o v) (B.unary o) r (act Value (B.unary o v) (unary_steady tables inputs o v));
     binary = λ o {v = v} {u = u} {u' = u'} r q. at_equal (A.binary o v u) (λ x. B.binary o x u') r
         (at_equal (A.binary o v u) (B.binary o v) q (act Value (B.binary o v u) (given_steady (union v.label u.label) (binary_of o v.value u.value))));
-    look = λ w x. act Value (B.look x) (look_steady tables inputs x);
-    look_or_undefined = λ w x. act Value (B.look_or_undefined x) (look_or_undefined_steady tables inputs x);
-    assign = λ x {v = v} r. at_equal (A.assign x v) (B.assign x) r (act One (B.assign x v) (assign_steady tables inputs x v));
+    primitive = λ hint {v = v} r. at_equal (A.primitive hint v) (B.primitive hint) r (act Value (B.primitive hint v) (unless_steady (is_object v.value) v));
+    comparable = λ {v = v} {u = u} {u' = u'} r q. at_equal (A.comparable v u) (λ x. B.comparable x u') r
+        (at_equal (A.comparable v u) (B.comparable v) q (act Value (B.comparable v u) (unless_steady (converts_beside v.value u.value) v)));
     direct = λ f {vs = vs} r. at_equal (A.direct f vs) (B.direct f) (rels_equal r) (act Value (B.direct f vs) (direct_steady tables inputs f vs));
-    unbuilt = λ t w. act t (B.unbuilt t) (ends_steady (Res Labelled t) (left not_built));
-    fork = λ t {v = v} {m = m} {n = n} {m' = m'} {n' = n'} r l k. at_equal (A.fork t v m n) (λ x. B.fork t x m' n') r (scope_performed t kind.Branch v.label (choose_performed (boolean_of v.value) l k));
-    loop = λ l. scope_performed One kind.Loop bottom l;
+    unbuilt = λ t w. act t (B.unbuilt t) (ends_steady (Res Val t) (left not_built));
+    resolve = λ t {w = w} {i = i} x f g p h. at_equal (A.resolve t i x f) (λ j. B.resolve t j x g) p
+        (record { same = λ s. (h w tt (resolved s.records i x) (resolved s.records i x) refl).same s; keeps = λ s. (h w tt (resolved s.records i x) (resolved s.records i x) refl).keeps s });
+    get_name = λ {n = n} f g r h. at_equal (A.get_name n f) (λ m. B.get_name m g) r (act Value (B.get_name n (B.ret Value)) (get_name_steady tables inputs n (B.ret Value)));
+    typeof_name = λ {n = n} f g r h. at_equal (A.typeof_name n f) (λ m. B.typeof_name m g) r (act Value (B.typeof_name n (B.ret Value)) (typeof_name_steady tables inputs n (B.ret Value)));
+    put_name = λ {n = n} {v = v} {v' = v'} f g r q h. at_equal (A.put_name n v f) (λ m. B.put_name m v' g) r
+        (at_equal (A.put_name n v f) (λ x. B.put_name n x g) q (act One (B.put_name n v (B.ret Value)) (put_steady n.place n.name v)));
+    fork = λ t {w = w} {v = v} {m = m} {n = n} {m' = m'} {n' = n'} r l k. at_equal (A.fork t v m n) (λ x. B.fork t x m' n') r (fork_performed t v (l w tt) (k w tt));
+    round = λ {w = w} turn labels {e = e} f g r h. at_equal (A.round turn labels e f) (λ d. B.round turn labels d g) r (round_performed turn labels e (λ d. h w d d refl));
     again = λ {v = v} {m = m} {n = n} {m' = m'} {n' = n'} r l k. at_equal (A.again v m n) (λ x. B.again x m' n') r
-        (bind_performed One One _ _ (act One (raise v.label) (raise_steady v.label)) (λ u. choose_performed (boolean_of v.value) l k));
-    turn = λ l. scope_performed One kind.Turn bottom l;
+        (bind_performed One One _ _ (act One (raise v.label) (raise_steady v.label)) (λ u. choose_performed (truth v.value) l k));
   }
 
   -- a part that is asked for
-  asked : (t : Ty) (part : Part) (n : L (Res Labelled t)) → ((s : State) → evaluator part s ≡ untyped t (n s)) → Lift t (λ s. Ask part s Give) n
-  asked t part n h = record { same = λ s. perform_asked evaluator part s ∙ h s; keeps = λ s. (refl, λ v t. refl) }
+  asked : (t : Ty) (part : Part) (n : L (Res Val t)) → ((s : State) → evaluator part s ≡ untyped t (n s)) → Lift t (λ s. Ask part s Give) n
+  asked t part n h = record { same = λ s. perform_asked evaluator part s ∙ h s; keeps = λ s. (refl, λ c t. refl) }
 
   -- asking for the parts, and their meaning
   asking_linked : Linked (planned tables inputs) (labelled tables inputs) performed (asking tables inputs) Q
   unfolding performed
   asking_linked = record {
-    expr = λ e w. asked Value (an_expr e) (Q.expr e) (λ s. refl);
-    place = λ e w. asked One (a_place e) (Q.place e) (λ s. refl);
-    stmt = λ stmt w. asked One (a_stmt stmt) (Q.stmt stmt) (λ s. refl);
-    turn = λ round w. asked One (a_turn round) (Q.turn round) (λ s. refl);
+    expr = λ e w i j p. at_equal (λ s. Ask (an_expr e i) s Give) (Q.expr e) p (asked Value (an_expr e i) (Q.expr e i) (λ s. refl));
+    use_of = λ use_as e w i j p. at_equal (λ s. Ask (a_use use_as e i) s Give) (Q.use_of use_as e) p (asked Value (a_use use_as e i) (Q.use_of use_as e i) (λ s. refl));
+    stmt = λ stmt w e d r. at_equal (λ s. Ask (a_stmt stmt e) s Give) (Q.stmt stmt) r (asked One (a_stmt stmt e) (Q.stmt stmt e) (λ s. refl));
+    turn = λ round w e d r. at_equal (λ s. Ask (a_turn round e) s Give) (Q.turn round) r (asked One (a_turn round e) (Q.turn round e) (λ s. refl));
   }
 
   -- the steps of all parts
@@ -202,26 +256,26 @@ module _ (tables : Tables) (inputs : Given) (Q : Rec (labelled tables inputs)) w
   -- the plan of a part, performed with the meaning of its parts, is the step of the part
   pub perform_step : (part : Part) (s : State) → perform (of_rec tables inputs Q) (plan tables inputs part s) ≡ of_rec tables inputs (step (labelled tables inputs) Q) part s
   unfolding performed plan
-  perform_step (an_expr e) s = (steps_linked.expr e tt).same s
-  perform_step (a_place e) s = (steps_linked.place e tt).same s
-  perform_step (a_stmt stmt) s = (steps_linked.stmt stmt tt).same s
-  perform_step (a_turn round) s = (steps_linked.turn round tt).same s
+  perform_step (an_expr e i) s = (steps_linked.expr e tt i i refl).same s
+  perform_step (a_use use_as e i) s = (steps_linked.use_of use_as e tt i i refl).same s
+  perform_step (a_stmt stmt e) s = (steps_linked.stmt stmt tt e e refl).same s
+  perform_step (a_turn round e) s = (steps_linked.turn round tt e e refl).same s
 
   -- and changes no turns
   pub plan_keeps : (part : Part) (s : State) → Keeps s.turns (plan tables inputs part s)
   unfolding performed plan
-  plan_keeps (an_expr e) s = (steps_linked.expr e tt).keeps s
-  plan_keeps (a_place e) s = (steps_linked.place e tt).keeps s
-  plan_keeps (a_stmt stmt) s = (steps_linked.stmt stmt tt).keeps s
-  plan_keeps (a_turn round) s = (steps_linked.turn round tt).keeps s
+  plan_keeps (an_expr e i) s = (steps_linked.expr e tt i i refl).keeps s
+  plan_keeps (a_use use_as e i) s = (steps_linked.use_of use_as e tt i i refl).keeps s
+  plan_keeps (a_stmt stmt e) s = (steps_linked.stmt stmt tt e e refl).keeps s
+  plan_keeps (a_turn round e) s = (steps_linked.turn round tt e e refl).keeps s
 
   -- that of a program
-  program_performed : (program : Statements) → Lift One (program_plan tables inputs program) (statements (labelled tables inputs) Q program)
+  program_performed : (program : Statements) → Lift One (program_plan tables inputs program) (statements (labelled tables inputs) Q program (outermost_env 0))
   unfolding performed program_plan
-  program_performed program = statements_linked (planned tables inputs) (labelled tables inputs) performed (asking tables inputs) Q asking_linked program tt
+  program_performed program = statements_linked (planned tables inputs) (labelled tables inputs) performed (asking tables inputs) Q asking_linked program refl
 
   -- performed with the meaning of the parts it is the program's step
-  pub perform_program : (program : Statements) (s : State) → perform (of_rec tables inputs Q) (program_plan tables inputs program s) ≡ untyped One (statements (labelled tables inputs) Q program s)
+  pub perform_program : (program : Statements) (s : State) → perform (of_rec tables inputs Q) (program_plan tables inputs program s) ≡ untyped One (statements (labelled tables inputs) Q program (outermost_env 0) s)
   perform_program program s = (program_performed program).same s
 
   -- and changes no turns

@@ -1,4 +1,7 @@
+pub mod Erased
 pub mod Laws
 pub mod Planned
 pub mod Rows
+pub mod Scopes
 pub mod Tracked
+pub mod Written

@@ -1,135 +1,155 @@
--- The planned reading: what a node does up to the next part that is evaluated, and then, as a function of that part's value. A machine whose
--- pending work is such functions does what the labelled meaning says.
-use Rattle.std.specs.Prelude.{ℕ}
+-- The planned reading: what a node does up to the next part that is evaluated, and then, as a function of how that part completes. A machine
+-- whose pending work is such functions does what the labelled meaning says.
+use Rattle.std.specs.Prelude.{ℕ, length}
 use Rattle.flow_policy.specs.Policies.{Tables}
 use Rattle.flow_policy.specs.Inputs.{Given}
 use Rattle.flow_frames.specs.declared.kind.Kind.TheVariants as kind
 use Rattle.origin_labels.specs.Label.{bottom}
-use Rattle.js_number.specs.declared.primitive.Primitive.TheVariants.{Undefined}
-use Rattle.js_number.specs.Conversions.{boolean_of}
 use Rattle.js_ast.specs.Trees.{Expr, Statement, Statements}
-use Rattle.es_meaning.specs.Outcomes.{Outcome, Goes, Ends}
-use Rattle.es_meaning.specs.Operations.{Ty, One, Value, Res, Ops, Round, Rec}
+use Rattle.es_meaning.specs.Outcomes.{Outcome, Goes, Jumps, Ends, ret, and_then}
+use Rattle.es_meaning.specs.Environments.{Env, with_around}
+use Rattle.es_meaning.specs.Operations.{Ty, One, Value, Res, Ops, Use, Round, Rec}
+use Rattle.es_meaning.specs.Operators.{truth}
 use Rattle.es_meaning.specs.Evaluation.{step, statements, eval}
-use Rattle.es_meaning.specs.Plain.{choose}
-use Rattle.flow_meaning.specs.Tracked.{Labelled, unlabelled, joined, Ending, State, pushed_on, popped_off, innermost_label, raise, labelled, timed, start}
+use Rattle.es_meaning.specs.Plain.{undefined, choose, resolved, outermost_env}
+use Rattle.flow_meaning.specs.Erased.{unlabelled}
+use Rattle.flow_meaning.specs.Scopes.{Val, Halt, State, Jump, pushed_on, popped, settled, round_kind, raise}
+use Rattle.flow_meaning.specs.Tracked.{labelled, timed, start}
 
 -- what costs a turn to enter
 pub data Part : Type 0 where
-  an_expr : Expr → Part
-  a_place : Expr → Part
-  a_stmt : Statement → Part
-  a_turn : Round → Part
+  an_expr : Expr → ℕ → Part
+  a_use : Use → Expr → ℕ → Part
+  a_stmt : Statement → Env ℕ → Part
+  a_turn : Round → Env ℕ → Part
 
--- it gives a value, asks for a part and goes on with its value, or ends the run
+-- how a part completes
+pub data Completion : Type 0 where
+  gave : Val → Completion
+  jumped : Jump → Completion
+
+-- it completes, asks for a part and goes on behind it, or ends the run
 pub data Plan : Type 0 where
-  Give : Labelled → State → Plan
-  Ask : Part → State → (Labelled → State → Plan) → Plan
-  End : Ending → State → Plan
+  Give : Completion → State → Plan
+  Ask : Part → State → (Completion → State → Plan) → Plan
+  End : Halt → State → Plan
 
 abbrev pub Then : Type 0
-Then = Labelled → State → Plan
+Then = Completion → State → Plan
 
 abbrev pub and_plan : Plan → Then → Plan
-and_plan (Give v s) next = next v s
-and_plan (Ask part s go_on) next = Ask part s (λ v t. and_plan (go_on v t) next)
-and_plan (End ending s) next = End ending s
+and_plan (Give c s) next = next c s
+and_plan (Ask part s go_on) next = Ask part s (λ c t. and_plan (go_on c t) next)
+and_plan (End halt s) next = End halt s
 
 -- what gives nothing is taken to give undefined
-abbrev pub value_of : (t : Ty) → Res Labelled t → Labelled
-value_of One a = unlabelled Undefined
+abbrev pub value_of : (t : Ty) → Res Val t → Val
+value_of One a = unlabelled undefined
 value_of Value v = v
 
-abbrev pub result_of : (t : Ty) → Labelled → Res Labelled t
+abbrev pub result_of : (t : Ty) → Val → Res Val t
 result_of One v = tt
 result_of Value v = v
 
-abbrev pub with_result : (t : Ty) → (Res Labelled t → State → Plan) → Then
-with_result t go_on v s = go_on (result_of t v) s
+-- a jump passes what would go on
+abbrev pub with_result : (t : Ty) → (Res Val t → State → Plan) → Then
+with_result t go_on (gave v) s = go_on (result_of t v) s
+with_result t go_on (jumped j) s = Give (jumped j) s
 
-abbrev pub as_plan : (t : Ty) → Outcome Ending (Res Labelled t) State → Plan
-as_plan t (Goes a s) = Give (value_of t a) s
-as_plan t (Ends ending s) = End ending s
+abbrev pub as_plan : (t : Ty) → Outcome Halt Jump (Res Val t) State → Plan
+as_plan t (Goes a s) = Give (gave (value_of t a)) s
+as_plan t (Jumps j s) = Give (jumped j) s
+as_plan t (Ends halt s) = End halt s
 
--- the end of a frame: its label goes with the value of a branch
-unfoldable pub end_branch : Then
-end_branch v s = Give (joined (innermost_label s.frames) v) (popped_off s)
+abbrev pub outcome_of : (t : Ty) → Completion → State → Outcome Halt Jump (Res Val t) State
+outcome_of t (gave v) s = Goes (result_of t v) s
+outcome_of t (jumped j) s = Jumps j s
 
-unfoldable pub end_frame : Then
-end_frame v s = Give (unlabelled Undefined) (popped_off s)
+-- the end of a branch and of a loop or a turn, in the frame at a depth
+unfoldable pub end_branch : (t : Ty) → ℕ → Then
+end_branch t depth c s = as_plan t (and_then (popped depth (outcome_of t c s)) (λ l. ret (settled t l)))
 
-abbrev pub end_of_branch : Ty → Then
-end_of_branch One = end_frame
-end_of_branch Value = end_branch
+unfoldable pub end_round : ℕ → Then
+end_round depth c s = as_plan One (and_then (popped depth (outcome_of One c s)) (λ l. ret tt))
 
 module _ (tables : Tables) (inputs : Given) where
   abbrev pub planned : Ops
   planned = record {
-    V = Labelled;
+    V = Val;
+    N = (labelled tables inputs).N;
+    H = ℕ;
     M = λ t. State → Plan;
-    ret = λ t a s. Give (value_of t a) s;
+    ret = λ t a s. Give (gave (value_of t a)) s;
     bind = λ t u m f s. and_plan (m s) (with_result t f);
-    literal = unlabelled;
+    literal = (labelled tables inputs).literal;
     unary = λ o v s. as_plan Value ((labelled tables inputs).unary o v s);
     binary = λ o v u s. as_plan Value ((labelled tables inputs).binary o v u s);
-    look = λ x s. as_plan Value ((labelled tables inputs).look x s);
-    look_or_undefined = λ x s. as_plan Value ((labelled tables inputs).look_or_undefined x s);
-    assign = λ x v s. as_plan One ((labelled tables inputs).assign x v s);
+    primitive = λ hint v s. as_plan Value ((labelled tables inputs).primitive hint v s);
+    comparable = λ v u s. as_plan Value ((labelled tables inputs).comparable v u s);
     direct = λ f vs s. as_plan Value ((labelled tables inputs).direct f vs s);
     unbuilt = λ t s. as_plan t ((labelled tables inputs).unbuilt t s);
-    fork = λ t v m n s. and_plan (choose (boolean_of v.value) m n (pushed_on kind.Branch v.label s)) (end_of_branch t);
-    loop = λ m s. and_plan (m (pushed_on kind.Loop bottom s)) end_frame;
-    again = λ v m n s. and_plan (as_plan One (raise v.label s)) (with_result One (λ u. choose (boolean_of v.value) m n));
-    turn = λ m s. and_plan (m (pushed_on kind.Turn bottom s)) end_frame;
+    resolve = λ t i x k s. k (resolved s.records i x) s;
+    get_name = λ n k s. as_plan Value ((labelled tables inputs).get_name n ((labelled tables inputs).ret Value) s);
+    typeof_name = λ n k s. as_plan Value ((labelled tables inputs).typeof_name n ((labelled tables inputs).ret Value) s);
+    put_name = λ n v k s. as_plan One ((labelled tables inputs).put_name n v ((labelled tables inputs).ret Value) s);
+    fork = λ t v m n s. and_plan (choose (truth v.value) m n (pushed_on kind.Branch v.label s)) (end_branch t (length s.frames));
+    round = λ turn labels e k s. and_plan (k (with_around turn labels (length s.frames) e) (pushed_on (round_kind turn) bottom s)) (end_round (length s.frames));
+    again = λ v m n s. and_plan (as_plan One (raise v.label s)) (with_result One (λ u. choose (truth v.value) m n));
   }
 
-  -- a part is asked for, and its value is given
+  -- a part is asked for, and its completion is given
   abbrev pub asking : Rec planned
   asking = record {
-    expr = λ e s. Ask (an_expr e) s Give;
-    place = λ e s. Ask (a_place e) s Give;
-    stmt = λ stmt s. Ask (a_stmt stmt) s Give;
-    turn = λ round s. Ask (a_turn round) s Give;
+    expr = λ e i s. Ask (an_expr e i) s Give;
+    use_of = λ use_as e i s. Ask (a_use use_as e i) s Give;
+    stmt = λ stmt e s. Ask (a_stmt stmt e) s Give;
+    turn = λ round e s. Ask (a_turn round e) s Give;
   }
 
   -- the plan of a part: the evaluator's step
   unfoldable pub plan : Part → State → Plan
-  plan (an_expr e) = (step planned asking).expr e
-  plan (a_place e) = (step planned asking).place e
-  plan (a_stmt stmt) = (step planned asking).stmt stmt
-  plan (a_turn round) = (step planned asking).turn round
+  plan (an_expr e i) = (step planned asking).expr e i
+  plan (a_use use_as e i) = (step planned asking).use_of use_as e i
+  plan (a_stmt stmt e) = (step planned asking).stmt stmt e
+  plan (a_turn round e) = (step planned asking).turn round e
 
   -- that of a program's statements
   unfoldable pub program_plan : Statements → State → Plan
-  program_plan ss = statements planned asking ss
+  program_plan ss = statements planned asking ss (outermost_env 0)
 
 -- ---- performing
 
 abbrev pub Ran : Type 0
-Ran = Outcome Ending Labelled State
+Ran = Outcome Halt Jump Val State
 
 abbrev pub Evaluator : Type 0
 Evaluator = Part → State → Ran
 
-abbrev pub untyped : (t : Ty) → Outcome Ending (Res Labelled t) State → Ran
+abbrev pub untyped : (t : Ty) → Outcome Halt Jump (Res Val t) State → Ran
 untyped t (Goes a s) = Goes (value_of t a) s
-untyped t (Ends ending s) = Ends ending s
+untyped t (Jumps j s) = Jumps j s
+untyped t (Ends halt s) = Ends halt s
 
-unfoldable pub and_go : Ran → (Labelled → State → Ran) → Ran
-and_go (Goes v s) next = next v s
-and_go (Ends ending s) next = Ends ending s
+unfoldable pub and_go : Ran → (Completion → State → Ran) → Ran
+and_go (Goes v s) next = next (gave v) s
+and_go (Jumps j s) next = next (jumped j) s
+and_go (Ends halt s) next = Ends halt s
+
+unfoldable pub completed : Completion → State → Ran
+completed (gave v) s = Goes v s
+completed (jumped j) s = Jumps j s
 
 unfoldable pub perform : Evaluator → Plan → Ran
-perform evaluator (Give v s) = Goes v s
-perform evaluator (Ask part s go_on) = and_go (evaluator part s) (λ v t. perform evaluator (go_on v t))
-perform evaluator (End ending s) = Ends ending s
+perform evaluator (Give c s) = completed c s
+perform evaluator (Ask part s go_on) = and_go (evaluator part s) (λ c t. perform evaluator (go_on c t))
+perform evaluator (End halt s) = Ends halt s
 
 module _ (tables : Tables) (inputs : Given) where
   abbrev pub of_rec : Rec (labelled tables inputs) → Evaluator
-  of_rec R (an_expr e) s = untyped Value (R.expr e s)
-  of_rec R (a_place e) s = untyped One (R.place e s)
-  of_rec R (a_stmt stmt) s = untyped One (R.stmt stmt s)
-  of_rec R (a_turn round) s = untyped One (R.turn round s)
+  of_rec R (an_expr e i) s = untyped Value (R.expr e i s)
+  of_rec R (a_use use_as e i) s = untyped Value (R.use_of use_as e i s)
+  of_rec R (a_stmt stmt e) s = untyped One (R.stmt stmt e s)
+  of_rec R (a_turn round e) s = untyped One (R.turn round e s)
 
   -- the meaning of a part: each level costs a turn, so the turns bound the depth
   unfoldable pub meaning : Evaluator

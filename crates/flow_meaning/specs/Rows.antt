@@ -5,9 +5,11 @@ use Rattle.flow_frames.specs.declared.faults.Rule.{Rule}
 use Rattle.flow_frames.specs.declared.faults.Rule.TheVariants.{W1, W9, W11, W12}
 use Rattle.js_ast.specs.declared.operators.BinaryOperator.TheVariants as binary_operator
 use Rattle.js_ast.specs.Trees.{Expr, conditional, Statement, if_then, while}
-use Rattle.es_meaning.specs.Outcomes.{done}
+use Rattle.es_meaning.specs.Outcomes.{done, threw, halted, left, out_of_turns}
 use Rattle.es_meaning.specs.Rows.{tables, pin, named, text, num, op, sets, reads, labels, does, prints, var_is, list, line}
-use Rattle.flow_meaning.specs.Tracked.{as_plain, stopped, Run, tracked_run}
+use Rattle.flow_meaning.specs.Scopes.{as_plain, stopped}
+use Rattle.flow_meaning.specs.Written.{written}
+use Rattle.flow_meaning.specs.Tracked.{Run, tracked_run}
 
 -- the label of the channel pin
 abbrev pub origin_a : Label
@@ -22,11 +24,11 @@ Gives pin_line script run = tracked_run tables (pin pin_line) (list script) 200 
 
 -- it prints one line with this label
 abbrev pub Prints : List ℕ → List Statement → List ℕ → List ℕ → Label → Type 0
-Prints pin_line script c t label = Gives pin_line script (record { lines = record { line = line c t; label = label } ∷ []; ending = as_plain done })
+Prints pin_line script c t label = Gives pin_line script (record { lines = record { line = line c t; label = label } ∷ []; ending = done })
 
 -- the rule needs A, and the empty label isn't that
 abbrev pub Stops : List Statement → Rule → Type 0
-Stops script rule = Gives (codes "1") script (record { lines = []; ending = stopped rule origin_a [] })
+Stops script rule = Gives (codes "1") script (record { lines = []; ending = halted (stopped rule origin_a []) })
 
 -- print("pub", read("pin"));
 abbrev pub told : List Statement
@@ -51,6 +53,8 @@ pub record WorkedRows : Type 0 where
   pub read_stops : Stops (if_then 0 is_one (does (reads (codes "note"))) ∷ []) W11
   pub print_stops : Stops (if_then 0 is_one (prints (codes "pub") (num 1)) ∷ []) W12
   pub throw_stops : Stops (if_then 0 is_one (does (named (codes "nothing"))) ∷ []) W9
+  -- print("pub", 1); nothing; in a seen context an error leaves the script
+  pub throw_leaves : Gives (codes "1") (prints (codes "pub") (num 1) ∷ does (named (codes "nothing")) ∷ []) (record { lines = record { line = line (codes "pub") (codes "1"); label = [] } ∷ []; ending = threw (codes "object Error ReferenceError") })
   -- var x = 0; while (read("pin") == "1") x = 1;
   pub loop_stops : Stops (var_is (codes "x") (num 0) ∷ while 0 is_one (does (sets (codes "x") (num 1))) ∷ []) W1
   -- print("pub", read("pin") == "1" ? 1 : 2); and var x = 0; read("pin") == "1" && (x = 1);
@@ -58,3 +62,9 @@ pub record WorkedRows : Type 0 where
   pub and_stops : Stops (var_is (codes "x") (num 0) ∷ does (op is_one binary_operator.And (sets (codes "x") (num 1))) ∷ []) W1
   -- if (read("pin") == "1") {}; print("pub", 1); behind a branch its label is gone
   pub behind_branch_prints : Prints (codes "1") (if_then 0 is_one (does (num 1)) ∷ prints (codes "pub") (num 1) ∷ []) (codes "pub") (codes "1") []
+  -- what a run writes: its lines, and behind them its report
+  pub written_done : written tables (record { lines = record { line = line (codes "pub") (codes "hi"); label = [] } ∷ []; ending = done }) ≡ codes "pub hi\n! done\n"
+  pub written_stop : written tables (record { lines = []; ending = halted (stopped W12 (0 ∷ 1 ∷ []) []) }) ≡ codes "! stopped W12 need A,B have -\n"
+  pub written_throw : written tables (record { lines = []; ending = threw (codes "object Error TypeError") }) ≡ codes "! threw object Error TypeError\n"
+  pub written_left : written tables (record { lines = []; ending = halted (as_plain (left (codes "channel"))) }) ≡ codes "! left channel\n"
+  pub written_turns : written tables (record { lines = []; ending = halted (as_plain out_of_turns) }) ≡ codes "! out of turns\n"

@@ -1,268 +1,451 @@
 -- Each act on values, names and frames: where it isn't seen, and in two runs.
-use Rattle.std.proofs.Common.{◌≡◌, ℕ, zero, suc, List, [], ◌∷◌, length, Bool, true, false, Option, Some, None, Result, Ok, Err, ⊎_elim, refl, sym, ◌∙◌, ap, subst, true≢false}
+use Rattle.std.proofs.Common.{◌≡◌, ℕ, zero, suc, ◌<◌, ◌≤◌, List, [], ◌∷◌, ◌++◌, length, Bool, true, false, Option, Some, None, Result, Ok, Err, nat_eq, ⊎_elim, refl, sym, ◌∙◌, ap, ap₂, subst, true≢false, arith}
+use Rattle.std.proofs.lemmas.Bool.{eqb-true, eq-eqb}
+use Rattle.std.proofs.lemmas.Option.{same_Some}
 use Rattle.origin_labels.specs.Label.{Label, bottom, union, within}
 use Rattle.flow_policy.specs.Policies.{Tables}
 use Rattle.flow_frames.specs.declared.faults.Rule.{Rule}
 use Rattle.flow_frames.specs.declared.faults.Rule.TheVariants.{W1, W9}
-use Rattle.flow_frames.specs.Frames.{Frame, context}
+use Rattle.flow_frames.specs.Frames.{Frame, context, inside}
 use Rattle.flow_frames.specs.Held.{meant_at}
-use Rattle.flow_frames.specs.Changes.{raised}
 use Rattle.flow_frames.specs.Rules.{jump_need}
 use Rattle.js_number.specs.declared.primitive.Primitive.{Primitive}
-use Rattle.js_number.specs.declared.primitive.Primitive.TheVariants.{Undefined}
+use Rattle.js_values.specs.declared.ids.ObjId.{ObjId}
+use Rattle.js_values.specs.declared.value.Value.{Value}
+use Rattle.js_values.specs.Objects.{Object}
+use Rattle.js_values.specs.Records.{Binding}
 use Rattle.js_ast.specs.declared.operators.UnaryOperator.{UnaryOperator}
 use Rattle.js_ast.specs.declared.operators.BinaryOperator.{BinaryOperator}
-use Rattle.es_meaning.specs.Outcomes.{Ends}
-use Rattle.es_meaning.specs.Operators.{unary_of, binary_of}
-use Rattle.es_meaning.specs.Bindings.{Binding, found}
-use Rattle.es_meaning.specs.Plain.{reference_error, type_error}
-use Rattle.flow_meaning.specs.Tracked.{Labelled, unlabelled, joined, Ending, State, L, guard, innermost, raise, throws, given, bound, bound_or_undefined, assigned, assigned_to, spend}
-use Rattle.low_equal.specs.LowEqual.{Agree, FramesAgree}
-use Rattle.low_equal.proofs.Labels.{Sees, Hides, not_both, sees_or_hides, hides_first, hides_second, hides_within, agree_refl, agree_joined, Both, equal, apart, both}
-use Rattle.low_equal.proofs.FrameLaws.{last_raised, raised_last, length-raised, RootHidden, root_hidden, some_frames, hidden_tail, frames_refl, frames_equal, frames_raised, frames_raised_hidden, hides_raised, sees_raised}
-use Rattle.low_equal.proofs.States.{FoundAgree, neither, each, found_agree, rebound_both, rebound_hidden, Level, level_refl, level_frames, level_variables, level_turns}
-use Rattle.low_equal.proofs.Lock.{IsVisible, IsInvisible, shows, Still, goes, cut, thrown, Conf, After, level, apart as apart_runs, first_cut, second_cut, both_thrown, Lock}
+use Rattle.es_meaning.specs.Outcomes.{out_of_turns, Goes, Jumps}
+use Rattle.es_meaning.specs.Operators.{an_object, unary_of, binary_of, binary_with_object}
+use Rattle.es_meaning.specs.Start.{ErrorKind, error, eval_error, range_error, reference_error, syntax_error, type_error, uri_error, error_prototype, start_heap}
+use Rattle.es_meaning.specs.Plain.{undefined, seen_of, Reference, binding_at, assigned_in}
+use Rattle.flow_meaning.specs.Erased.{unlabelled}
+use Rattle.flow_meaning.specs.Scopes.{Val, joined, as_plain, State, Jump, L, guard, cut_to, raised_in, raise, reached, jump_to, jump}
+use Rattle.flow_meaning.specs.Tracked.{engine_error, with_error, error_jump, throw_error, given, unless_object, seen as seen_in, bound, bound_or_undefined, rebinds, assigned, assigned_to, put_at, spend}
+use Rattle.low_equal.specs.Observed.{Sees, Hides, view, IsSeen, IsHidden, Front}
+use Rattle.low_equal.specs.LowEqual as low
+use Rattle.low_equal.specs.LowEqual.{Pairing, Extends, Alike, seen, hidden, SameValue, primitives, objects, SameObject, both, Agree, plains, no_rows, seen_shape, ObjectsAgree, Both, IsFormed, no_keys, HeapsAgree, ScopesAgree, LowEqual}
+use Rattle.low_equal.specs.Runs.{state_of, Same, Still, Fits, Confined, JumpsAgree, InStep, go, apart, Lockstep}
+use Rattle.low_equal.specs.Runs as runs
+use Rattle.low_equal.specs.Laws.{Nothing}
+use Rattle.low_equal.proofs.Labels.{not_both, sees_or_hides, sees_second, hides_second, sees_bottom, hides_within, sees_within}
+use Rattle.low_equal.proofs.Views.{take_some, take_shorter, seen_take, seen_meant, take_stays, last_raised, raised_last, length_raised, top_stays, tops_hidden, seen_top}
+use Rattle.low_equal.proofs.Agreement.{extends_refl, alike_map, alike_join, value_more, agree_more, records_more, agree_joined, both_map}
+use Rattle.low_equal.proofs.Heaps.{pair_new, with_objects, extends_objects, start_stands, new_left, new_both}
+use Rattle.low_equal.proofs.Scopes.{PlacesAgree, nowhere, somewhere, ReferencesAgree, FoundAgree, missing, there, binding_agree, assigned_left, assigned_both}
+use Rattle.low_equal.proofs.Lines.{front_refl, lines_refl, positions_refl}
+use Rattle.low_equal.proofs.States.{low_sym, low_frames, low_heap, low_records, low_turns, low_seen, same_frames, same_context, low_cut, same_with, same_turns}
+use Rattle.low_equal.proofs.Steps.{still_goes, still_jumps, still_ends, still_after, conf_ret, conf_ends, step_more, ends_first, ends_second}
 
 module _ (observer : Label) (tables : Tables) where
   -- ---- rules
 
-  -- behind a rule
-  pub still_guard : {X : Type 0} (b : Bool) (rule : Rule) (need have : Label) (m : L X) {d : ℕ} (s : State) → (b ≡ true → Still observer tables d s (m s)) → Still observer tables d s (guard b rule need have m s)
+  pub still_guard : {X : Type 0} (b : Bool) (rule : Rule) (need have : Label) (m : L X) (s : State) → (b ≡ true → Still observer tables s (m s)) → Still observer tables s (guard b rule need have m s)
   unfolding guard
   still_guard true rule need have m s h = h refl
-  still_guard false rule need have m s h = cut (λ x. x)
+  still_guard false rule need have m s h = still_ends observer tables
 
-  -- behind rules in two runs
-  pub after_guard : {X : Type 0} (P : X → X → Type 0) (b c : Bool) (rule : Rule) (need have other allowed : Label) (m n : L X) {d : ℕ} (s t : State)
-      → (b ≡ true → c ≡ true → After observer tables P d (m s) (n t)) → After observer tables P d (guard b rule need have m s) (guard c rule other allowed n t)
+  pub fits_guard : {X : Type 0} (b : Bool) (rule : Rule) (need have : Label) (m : L X) (n : ℕ) (s : State) → Fits n (m s) → Fits n (guard b rule need have m s)
   unfolding guard
-  after_guard P true true rule need have other allowed m n s t h = h refl refl
-  after_guard P true false rule need have other allowed m n s t h = second_cut (λ x. x)
-  after_guard P false c rule need have other allowed m n s t h = first_cut (λ x. x)
+  fits_guard true rule need have m n s h = h
+  fits_guard false rule need have m n s h = tt
 
-  -- ---- a run that ends unfinished
+  pub adds_guard : {X : Type 0} (b : Bool) (rule : Rule) (need have : Label) (m : L X) (s : State) → Front s.lines (state_of (m s)).lines → Front s.lines (state_of (guard b rule need have m s)).lines
+  unfolding guard
+  adds_guard true rule need have m s h = h
+  adds_guard false rule need have m s h = front_refl s.lines
 
-  -- alone
-  pub conf_ends : {X : Type 0} (ending : Ending) → (Rattle.low_equal.specs.Isolation.IsFinishedBy ending → ⊥) → Conf observer tables {X = X} (λ s. Ends ending s)
-  conf_ends ending c = record { still = λ d s e h. cut c }
-
-  -- beside any other
-  pub lock_ends : {X : Type 0} (P : X → X → Type 0) (ending : Ending) (n : L X) → (Rattle.low_equal.specs.Isolation.IsFinishedBy ending → ⊥) → Lock observer tables P (λ s. Ends ending s) n
-  lock_ends P ending n c = record { after = λ d s t r v. first_cut c }
-
-  -- ---- operators
-
-  -- an operator's value
-  pub conf_given : (label : Label) (r : Result Primitive (List ℕ)) → Conf observer tables (given label r)
-  unfolding given
-  conf_given label (Ok v) = record { still = λ d s e h. goes (level_refl observer tables d s e) }
-  conf_given label (Err name) = record { still = λ d s e h. cut (λ x. x) }
-
-  -- one result in both
-  lock_given_same : (label : Label) (r : Result Primitive (List ℕ)) → Lock observer tables (Agree observer) (given label r) (given label r)
-  unfolding given
-  lock_given_same label (Ok v) = record { after = λ d s t r w. level r w (agree_refl observer (record { value = v; label = label })) }
-  lock_given_same label (Err name) = record { after = λ d s t r w. first_cut (λ x. x) }
-
-  -- results with hidden labels
-  lock_given_hidden : (l k : Label) (q r : Result Primitive (List ℕ)) → Hides observer l → Hides observer k → Lock observer tables (Agree observer) (given l q) (given k r)
-  unfolding given
-  lock_given_hidden l k (Ok a) (Ok b) h j = record { after = λ d s t r w. level r w (Agree.hidden h j) }
-  lock_given_hidden l k (Ok a) (Err name) h j = record { after = λ d s t r w. second_cut (λ x. x) }
-  lock_given_hidden l k (Err name) r h j = record { after = λ d s t q w. first_cut (λ x. x) }
-
-  -- of values that agree
-  pub lock_unary : (o : UnaryOperator) {v u : Labelled} → Agree observer v u → Lock observer tables (Agree observer) (given v.label (unary_of o v.value)) (given u.label (unary_of o u.value))
-  lock_unary o {v} {u} (Agree.one p e) = subst (λ (x : Labelled). Lock observer tables (Agree observer) (given v.label (unary_of o v.value)) (given x.label (unary_of o x.value))) e (lock_given_same v.label (unary_of o v.value))
-  lock_unary o {v} {u} (Agree.hidden h j) = lock_given_hidden v.label u.label (unary_of o v.value) (unary_of o u.value) h j
-
-  -- of two values
-  lock_binary_by : (o : BinaryOperator) {v u x y : Labelled} → Both observer v u x y
-      → Lock observer tables (Agree observer) (given (union v.label x.label) (binary_of o v.value x.value)) (given (union u.label y.label) (binary_of o u.value y.value))
-  lock_binary_by o {v} {u} {x} {y} (equal e f) =
-      subst (λ (a : Labelled). Lock observer tables (Agree observer) (given (union v.label x.label) (binary_of o v.value x.value)) (given (union a.label y.label) (binary_of o a.value y.value))) e
-      (subst (λ (b : Labelled). Lock observer tables (Agree observer) (given (union v.label x.label) (binary_of o v.value x.value)) (given (union v.label b.label) (binary_of o v.value b.value))) f
-      (lock_given_same (union v.label x.label) (binary_of o v.value x.value)))
-  lock_binary_by o {v} {u} {x} {y} (apart h j) = lock_given_hidden _ _ (binary_of o v.value x.value) (binary_of o u.value y.value) h j
-
-  -- of values that agree
-  pub lock_binary : (o : BinaryOperator) {v u x y : Labelled} → Agree observer v u → Agree observer x y
-      → Lock observer tables (Agree observer) (given (union v.label x.label) (binary_of o v.value x.value)) (given (union u.label y.label) (binary_of o u.value y.value))
-  lock_binary o r q = lock_binary_by o (both observer r q)
-
-  -- ---- exceptions
-
-  -- an exception leaves an invisible context only where the outermost frame is hidden
-  throws_root : (fs : List Frame) (cause : Label) → Hides observer (context fs) → within (jump_need fs 0 cause) (meant_at fs 0) ≡ true → RootHidden observer fs
-  throws_root [] cause h w = absurd (some_frames observer h)
-  throws_root (f ∷ fs) cause h w = ⊎_elim
-      (λ s. absurd (not_both observer f.label s (hides_within observer (jump_need (f ∷ fs) 0 cause) f.label w (hides_first observer (context fs) cause (hidden_tail observer f fs h s)))))
-      (λ j. root_hidden j) (sees_or_hides observer f.label)
-
-  -- the engine throws
-  pub conf_throws : {X : Type 0} (error : List ℕ) (cause : Label) → Conf observer tables (throws {X = X} error cause)
-  unfolding throws
-  conf_throws error cause = record {
-    still = λ d s e h.
-        still_guard (within (jump_need s.frames 0 cause) (meant_at s.frames 0)) W9 _ _ _ s (λ w. thrown (shows observer tables (level_refl observer tables d s e)) (throws_root s.frames cause h w));
+  -- a rule that is asked of the state
+  pub conf_under : {X : Type 0} (rule : Rule) (need have : State → Label) (m : State → L X) → ((s : State) → within (need s) (have s) ≡ true → IsHidden observer s → Still observer tables s (m s s))
+      → ((s : State) → Fits (length s.frames) (m s s)) → ((s : State) → Front s.lines (state_of (m s s)).lines) → Confined observer tables (λ s. guard (within (need s) (have s)) rule (need s) (have s) (m s) s)
+  conf_under rule need have m h k f = record {
+    still = λ s p. still_guard (within (need s) (have s)) rule (need s) (have s) (m s) s (λ w. h s w p);
+    fits = λ s. fits_guard (within (need s) (have s)) rule (need s) (have s) (m s) (length s.frames) s (k s);
+    adds = λ s. adds_guard (within (need s) (have s)) rule (need s) (have s) (m s) s (f s);
   }
 
-  -- and in two runs
-  pub lock_throws : {X : Type 0} (P : X → X → Type 0) (error : List ℕ) (cause : Label) → Lock observer tables P (throws error cause) (throws error cause)
-  unfolding throws
-  lock_throws P error cause = record {
-    after = λ d s t r v.
-        after_guard P (within (jump_need s.frames 0 cause) (meant_at s.frames 0)) (within (jump_need t.frames 0 cause) (meant_at t.frames 0)) W9 _ _ _ _ _ _ s t (λ w x. both_thrown (shows observer tables r));
+  -- rules in two runs: where one stops, it has shown what the other shows first
+  pub after_guard : {X : Type 0} (P : Pairing → X → X → Type 0) {β γ : Pairing} (b c : Bool) (rule : Rule) (need have other allowed : Label) (m n : L X) (s t : State) → LowEqual observer tables γ s t
+      → Front s.lines (state_of (m s)).lines → Front t.lines (state_of (n t)).lines → (b ≡ true → c ≡ true → InStep observer tables P β (m s) (n t)) → InStep observer tables P β (guard b rule need have m s) (guard c rule other allowed n t)
+  unfolding guard
+  after_guard P true true rule need have other allowed m n s t r f g h = h refl refl
+  after_guard P true false rule need have other allowed m n s t r f g h = ends_second observer tables P r f
+  after_guard P false true rule need have other allowed m n s t r f g h = ends_first observer tables P r g
+  after_guard P false false rule need have other allowed m n s t r f g h = ends_first observer tables P r (front_refl t.lines)
+
+  -- where both stop
+  both_stop : {X : Type 0} (P : Pairing → X → X → Type 0) {β γ : Pairing} (b c : Bool) (rule : Rule) (need have other allowed : Label) (m n : L X) (s t : State) → LowEqual observer tables γ s t
+      → b ≡ false → c ≡ false → InStep observer tables P β (guard b rule need have m s) (guard c rule other allowed n t)
+  unfolding guard
+  both_stop P true c rule need have other allowed m n s t r e f = absurd (true≢false e)
+  both_stop P false true rule need have other allowed m n s t r e f = absurd (true≢false f)
+  both_stop P false false rule need have other allowed m n s t r e f = ends_first observer tables P r (front_refl t.lines)
+
+  -- by whether the context is seen
+  pub goes_by : {X : Type 0} (P : Pairing → X → X → Type 0) {β γ : Pairing} {a b : X} {s t : State} → Extends β γ → LowEqual observer tables γ s t → (IsSeen observer s → P γ a b) → InStep observer tables P β (Goes a s) (Goes b t)
+  goes_by P {γ = γ} {s = s} e r p = ⊎_elim (λ q. go γ e r q (p q)) (λ q. apart γ e r q tt tt) (sees_or_hides observer (context s.frames))
+
+  -- ---- jumps
+
+  conf_jump_to : {X : Type 0} (depth : ℕ) (cause : Label) (j : Jump) → Confined observer tables {X = X} (jump_to depth cause j)
+  unfolding jump_to
+  conf_jump_to depth cause j = conf_under W9 (λ s. jump_need s.frames depth cause) (λ s. meant_at s.frames depth) (λ s t. Jumps j (cut_to (suc depth) t))
+      (λ s w p. still_jumps observer tables (cut_to (suc depth) s) (same_with observer tables (λ n. take_some (suc depth) s.frames (omega arith) n) (take_stays observer depth s.frames cause p w)) refl refl)
+      (λ s. take_shorter (suc depth) s.frames) (λ s. front_refl s.lines)
+
+  pub conf_jump : {X : Type 0} (cause : Label) (j : Jump) → Confined observer tables {X = X} (jump cause j)
+  unfolding jump
+  conf_jump cause j = record {
+    still = λ s. (conf_jump_to (reached j.to s.frames) cause j).still s;
+    fits = λ s. (conf_jump_to (reached j.to s.frames) cause j).fits s;
+    adds = λ s. (conf_jump_to (reached j.to s.frames) cause j).adds s;
   }
 
-  -- ---- names
+  -- in a seen context a hidden cause always stops: no label there includes it
+  hidden_cause : (depth : ℕ) (cause : Label) (s : State) → Hides observer cause → IsSeen observer s → within (jump_need s.frames depth cause) (meant_at s.frames depth) ≡ false
+  hidden_cause depth cause s h v = go (within (jump_need s.frames depth cause) (meant_at s.frames depth)) refl
+    where
+      go : (b : Bool) → within (jump_need s.frames depth cause) (meant_at s.frames depth) ≡ b → b ≡ false
+      go true w = absurd (not_both observer cause (sees_second observer (inside s.frames depth) cause (sees_within observer (jump_need s.frames depth cause) (meant_at s.frames depth) w (seen_meant observer depth s.frames v))) h)
+      go false w = refl
 
-  -- the value of a binding
-  conf_bound : (o : Option (Binding Labelled)) → Conf observer tables (bound o)
-  unfolding bound
-  conf_bound (Some b) = record { still = λ d s e h. goes (level_refl observer tables d s e) }
-  conf_bound None = record { still = (conf_throws reference_error bottom).still }
+  -- one jump in both
+  jump_seen : {X : Type 0} (P : Pairing → X → X → Type 0) {γ : Pairing} (cause : Label) {j k : Jump} (s t : State) → JumpsAgree observer tables γ j k → LowEqual observer tables γ s t → IsSeen observer s → InStep observer tables P γ (jump cause j s) (jump cause k t)
+  unfolding jump jump_to
+  jump_seen P {γ} cause {j} {k} s t q r v = subst (λ d. InStep observer tables P γ (jump_to (reached j.to s.frames) cause j s) (jump_to d cause k t)) (ap₂ reached q.to (same_frames observer tables r v))
+      (let d = reached j.to s.frames in
+      after_guard P (within (jump_need s.frames d cause) (meant_at s.frames d)) (within (jump_need t.frames d cause) (meant_at t.frames d)) W9 _ _ _ _ (λ u. Jumps j (cut_to (suc d) u)) (λ u. Jumps k (cut_to (suc d) u)) s t r (front_refl s.lines) (front_refl t.lines)
+      (λ w x. runs.jump γ (extends_refl γ) (low_cut observer tables (suc d) (omega arith) r) (seen_take observer (suc d) s.frames v) q))
 
-  -- of a name
-  pub conf_look : (x : List ℕ) → Conf observer tables (λ s. bound (found x s.variables) s)
-  conf_look x = record { still = λ d s e h. (conf_bound (found x s.variables)).still d s e h }
+  -- jumps with hidden causes
+  jump_hidden : {X : Type 0} (P : Pairing → X → X → Type 0) {β γ : Pairing} (l m : Label) (j k : Jump) (s t : State) → Hides observer l → Hides observer m → LowEqual observer tables γ s t → IsSeen observer s → InStep observer tables P β (jump l j s) (jump m k t)
+  unfolding jump jump_to
+  jump_hidden P l m j k s t h i r v =
+      both_stop P (within (jump_need s.frames (reached j.to s.frames) l) (meant_at s.frames (reached j.to s.frames))) (within (jump_need t.frames (reached k.to t.frames) m) (meant_at t.frames (reached k.to t.frames))) W9 _ _ _ _ _ _ s t r
+      (hidden_cause (reached j.to s.frames) l s h v) (hidden_cause (reached k.to t.frames) m t i (low_seen observer tables r v))
 
-  -- of bindings that agree
-  lock_bound : {o p : Option (Binding Labelled)} → FoundAgree observer o p → Lock observer tables (Agree observer) (bound o) (bound p)
-  unfolding bound
-  lock_bound neither = record { after = (lock_throws (Agree observer) reference_error bottom).after }
-  lock_bound (each m a) = record { after = λ d s t r v. level r v a }
+  -- ---- errors of the engine
 
-  -- of a name in two runs
-  pub lock_look : (x : List ℕ) → Lock observer tables (Agree observer) (λ s. bound (found x s.variables) s) (λ s. bound (found x s.variables) s)
-  lock_look x = record { after = λ d s t r v. (lock_bound (found_agree observer x r.variables)).after d s t r v }
+  prototype_below : (kind : ErrorKind) → (error_prototype kind).0 < length start_heap
+  prototype_below error = omega arith
+  prototype_below eval_error = omega arith
+  prototype_below range_error = omega arith
+  prototype_below reference_error = omega arith
+  prototype_below syntax_error = omega arith
+  prototype_below type_error = omega arith
+  prototype_below uri_error = omega arith
 
-  -- the value of a binding, or undefined
-  conf_maybe : (o : Option (Binding Labelled)) → Conf observer tables (bound_or_undefined o)
-  unfolding bound_or_undefined
-  conf_maybe (Some b) = record { still = λ d s e h. goes (level_refl observer tables d s e) }
-  conf_maybe None = record { still = λ d s e h. goes (level_refl observer tables d s e) }
+  error_formed : (kind : ErrorKind) (l : Label) (n : ℕ) → length start_heap ≤ n → IsFormed n (engine_error kind l)
+  error_formed kind l n h = record {
+    below = λ q e. let is : (error_prototype kind) ≡ q = same_Some _ q e in let b = prototype_below kind in subst (λ (o : ObjId). o.0 < n) is (omega arith);
+    distinct = no_keys;
+  }
 
-  -- of a name
-  pub conf_look_or_undefined : (x : List ℕ) → Conf observer tables (λ s. bound_or_undefined (found x s.variables) s)
-  conf_look_or_undefined x = record { still = λ d s e h. (conf_maybe (found x s.variables)).still d s e h }
+  -- the start objects stand
+  has_start : {β : Pairing} {h g : List (Object Label)} → HeapsAgree observer β h g → length start_heap ≤ length h
+  has_start r = let b = start_stands observer r 8 (omega arith) in omega arith
 
-  -- of bindings that agree
-  lock_maybe : {o p : Option (Binding Labelled)} → FoundAgree observer o p → Lock observer tables (Agree observer) (bound_or_undefined o) (bound_or_undefined p)
-  unfolding bound_or_undefined
-  lock_maybe neither = record { after = λ d s t r v. level r v (agree_refl observer (unlabelled Undefined)) }
-  lock_maybe (each m a) = record { after = λ d s t r v. level r v a }
+  -- an error made where the context is hidden can't be told
+  same_error : (kind : ErrorKind) (s : State) → Same observer tables s (with_error kind s)
+  same_error kind s = record {
+    looks = λ β u r. low_heap observer tables r (new_left observer (engine_error kind (context s.frames)) (error_formed kind (context s.frames) (length s.heap) (has_start r.heap)) r.heap) r.records;
+    frames = refl;
+  }
 
-  -- of a name in two runs
-  pub lock_look_or_undefined : (x : List ℕ) → Lock observer tables (Agree observer) (λ s. bound_or_undefined (found x s.variables) s) (λ s. bound_or_undefined (found x s.variables) s)
-  lock_look_or_undefined x = record { after = λ d s t r v. (lock_maybe (found_agree observer x r.variables)).after d s t r v }
+  pub conf_throw : {X : Type 0} (kind : ErrorKind) (cause : Label) → Confined observer tables {X = X} (throw_error kind cause)
+  unfolding throw_error
+  conf_throw {X} kind cause = record {
+    still = λ s p. let j = error_jump cause (length s.heap) in
+        still_after observer tables (jump {X = X} cause j (with_error kind s)) (same_error kind s) (lines_refl observer tables s.lines) (positions_refl observer tables s.positions) ((conf_jump cause j).still (with_error kind s) p);
+    fits = λ s. (conf_jump cause (error_jump cause (length s.heap))).fits (with_error kind s);
+    adds = λ s. (conf_jump cause (error_jump cause (length s.heap))).adds (with_error kind s);
+  }
 
-  -- ---- assignment
+  -- two errors made in one context agree
+  errors_agree : {γ : Pairing} {h g : List (Object Label)} (kind : ErrorKind) (l : Label) → HeapsAgree observer γ h g → Sees observer l → ObjectsAgree observer γ (engine_error kind l) (engine_error kind l)
+  errors_agree kind l r p = record {
+    class = refl;
+    inner = plains;
+    links = seen p refl (both (r.starts (error_prototype kind).0 (prototype_below kind)));
+    shapes = seen_shape p refl refl no_rows;
+  }
 
-  -- no results are related
-  abbrev Nothing : Unit {0} → Unit {0} → Type 0
-  Nothing a b = Unit {0}
+  -- and are paired
+  with_errors : {γ : Pairing} (kind : ErrorKind) (s t : State) → LowEqual observer tables γ s t → IsSeen observer s → LowEqual observer tables (with_objects γ (length s.heap) (length t.heap)) (with_error kind s) (with_error kind t)
+  with_errors {γ} kind s t r v =
+      subst (λ l. LowEqual observer tables δ (with_error kind s) (record t { heap = t.heap ++ engine_error kind l ∷ [] })) (same_context observer tables r v)
+      (low_heap observer tables r
+      (new_both observer (engine_error kind (context s.frames)) (engine_error kind (context s.frames)) (error_formed kind _ _ (has_start r.heap)) (error_formed kind _ _ (has_start (low_sym observer tables r).heap))
+      (errors_agree kind (context s.frames) r.heap v) r.heap)
+      (record { paired = λ i j p. both_map (λ a b x. records_more observer (extends_objects γ (length s.heap) (length t.heap)) x) (r.records.paired i j p); one_to_one = r.records.one_to_one; left = r.records.left; right = r.records.right }))
+    where
+      δ : Pairing
+      δ = with_objects γ (length s.heap) (length t.heap)
 
-  -- a binding is given a value
-  still_assigned : (mutable : Bool) (b : Binding Labelled) (name : List ℕ) (v : Labelled) {d : ℕ} (s : State) → length s.frames ≡ d → IsInvisible observer tables s → found name s.variables ≡ Some b
-      → Still observer tables d s (assigned mutable b.value.label name v s)
-  unfolding assigned
-  still_assigned true b name v {d} s e h f = still_guard (within (context s.frames) b.value.label) W1 _ _ _ s
-      (λ w. goes (level_variables observer tables s.variables _ (level_refl observer tables d s e)
-      (rebound_hidden observer name (joined (context s.frames) v) b s.variables (hides_second observer v.label (context s.frames) h) f (hides_within observer (context s.frames) b.value.label w h))))
-  still_assigned false b name v {d} s e h f = (conf_throws type_error bottom).still d s e h
+  thrown_both : {X : Type 0} (P : Pairing → X → X → Type 0) {γ : Pairing} (kind : ErrorKind) {l m : Label} (s t : State) → Alike observer l m (Unit {0}) → LowEqual observer tables γ s t → IsSeen observer s → InStep observer tables P γ (throw_error kind l s) (throw_error kind m t)
+  unfolding throw_error
+  thrown_both P {γ} kind {l} s t (seen p e u) r v = subst (λ x. InStep observer tables P γ (throw_error kind l s) (throw_error kind x t)) e
+      (step_more observer tables P (extends_objects γ (length s.heap) (length t.heap))
+      (jump_seen P l (with_error kind s) (with_error kind t) (record { exit = refl; to = refl; value = seen p refl (objects (pair_new γ.objects (length s.heap) (length t.heap))) }) (with_errors kind s t r v) v))
+  thrown_both P kind {l} {m} s t (hidden h i) r v = jump_hidden P l m (error_jump l (length s.heap)) (error_jump m (length t.heap)) (with_error kind s) (with_error kind t) h i (with_errors kind s t r v) v
 
-  -- if there is one
-  still_assigned_to : (o : Option (Binding Labelled)) (name : List ℕ) (v : Labelled) {d : ℕ} (s : State) → length s.frames ≡ d → IsInvisible observer tables s → found name s.variables ≡ o
-      → Still observer tables d s (assigned_to o name v s)
-  unfolding assigned_to
-  still_assigned_to (Some b) name v s e h f = still_assigned b.mutable b name v s e h f
-  still_assigned_to None name v {d} s e h f = (conf_throws reference_error bottom).still d s e h
+  pub lock_throw : {X : Type 0} (P : Pairing → X → X → Type 0) {β : Pairing} (kind : ErrorKind) {l m : Label} → Alike observer l m (Unit {0}) → Lockstep observer tables P β (throw_error kind l) (throw_error kind m)
+  lock_throw P kind a = record { steps = λ γ e s t r v. thrown_both P kind s t a r v }
 
-  -- a name is given a value
-  pub conf_assign : (x : List ℕ) (v : Labelled) → Conf observer tables (λ s. assigned_to (found x s.variables) x v s)
-  conf_assign x v = record { still = λ d s e h. still_assigned_to (found x s.variables) x v s e h refl }
+  -- ---- the innermost frame is raised
 
-  -- bindings that agree are given values that do
-  after_assigned : (m n : Bool) (b c : Labelled) (name : List ℕ) {v u : Labelled} (d : ℕ) (s t : State) → m ≡ n → Agree observer v u → Level observer tables (suc d) s t → IsVisible observer tables s
-      → After observer tables Nothing (suc d) (assigned m b.label name v s) (assigned n c.label name u t)
-  unfolding assigned
-  after_assigned true true b c name {v} {u} d s t e a r w =
-      let values : Agree observer (joined (context s.frames) v) (joined (context t.frames) u) =
-      subst (λ (fs : List Frame). Agree observer (joined (context s.frames) v) (joined (context fs) u)) (frames_equal observer r.frames w) (agree_joined observer (context s.frames) a) in
-      after_guard Nothing (within (context s.frames) b.label) (within (context t.frames) c.label) W1 _ _ _ _ _ _ s t
-      (λ x y. level (level_variables observer tables _ _ r (rebound_both observer name values r.variables)) w tt)
-  after_assigned false false b c name d s t e a r w = (lock_throws Nothing type_error bottom).after d s t r w
-  after_assigned true false b c name d s t e a r w = absurd (true≢false e)
-  after_assigned false true b c name d s t e a r w = absurd (true≢false (sym e))
+  same_raised : (l : Label) (s : State) → IsHidden observer s → Same observer tables s (raised_in l s)
+  same_raised l s p =
+      let e = raised_last s.frames l in
+      same_with observer tables (λ n. subst (λ (fs : List Frame). 0 < length fs) (sym e) (let q = length_raised l s.frames in omega arith)) (ap (view observer) e ∙ top_stays observer l s.frames p)
 
-  -- if there are any
-  lock_assigned_to : {o p : Option (Binding Labelled)} (name : List ℕ) {v u : Labelled} (d : ℕ) (s t : State) → FoundAgree observer o p → Agree observer v u → Level observer tables (suc d) s t → IsVisible observer tables s
-      → After observer tables Nothing (suc d) (assigned_to o name v s) (assigned_to p name u t)
-  unfolding assigned_to
-  lock_assigned_to name d s t neither a r w = (lock_throws Nothing reference_error bottom).after d s t r w
-  lock_assigned_to name d s t (each {b = b} {c = c} m q) a r w = after_assigned b.mutable c.mutable b.value c.value name d s t m a r w
-
-  -- a name is given values that agree
-  pub lock_assign : (x : List ℕ) {v u : Labelled} → Agree observer v u → Lock observer tables Nothing (λ s. assigned_to (found x s.variables) x v s) (λ s. assigned_to (found x s.variables) x u s)
-  lock_assign x a = record { after = λ d s t r w. lock_assigned_to x d s t (found_agree observer x r.variables) a r w }
-
-  -- ---- raises
-
-  -- a hidden frame is raised
-  pub conf_raise : (label : Label) → Conf observer tables (raise label)
+  pub conf_raise : (l : Label) → Confined observer tables (raise l)
   unfolding raise
-  conf_raise label = record {
-    still = λ d s e h.
-        goes (level_frames observer tables s.frames _ (level_refl observer tables d s e)
-        (subst (λ (fs : List Frame). FramesAgree observer s.frames fs) (sym (raised_last s.frames label)) (frames_raised observer label s.frames h)) e
-        (ap length (raised_last s.frames label) ∙ length-raised label s.frames ∙ e));
+  conf_raise l = record {
+    still = λ s p. still_goes observer tables (raised_in l s) (same_raised l s p) refl refl;
+    fits = λ s. subst (λ (fs : List Frame). length fs ≤ length s.frames) (sym (raised_last s.frames l)) (let q = length_raised l s.frames in omega arith);
+    adds = λ s. front_refl s.lines;
   }
 
-  -- frames that were raised
-  level_raised : (l k : Label) (d : ℕ) (s t : State) → Level observer tables d s t → FramesAgree observer (last_raised l s.frames) (last_raised k t.frames)
-      → Level observer tables d (record s { frames = raised s.frames (innermost s.frames) l }) (record t { frames = raised t.frames (innermost t.frames) k })
-  level_raised l k d s t r a = level_frames observer tables _ _ r
-      (subst (λ (fs : List Frame). FramesAgree observer fs (raised t.frames (innermost t.frames) k)) (sym (raised_last s.frames l)) (subst (λ (fs : List Frame). FramesAgree observer (last_raised l s.frames) fs) (sym (raised_last t.frames k)) a))
-      (ap length (raised_last s.frames l) ∙ length-raised l s.frames ∙ r.first)
-      (ap length (raised_last t.frames k) ∙ length-raised k t.frames ∙ r.second)
+  tops_alike : {l m : Label} (fs : List Frame) → Alike observer l m (Unit {0}) → view observer (last_raised l fs) ≡ view observer (last_raised m fs)
+  tops_alike fs (seen p e u) = ap (λ x. view observer (last_raised x fs)) e
+  tops_alike {l} {m} fs (hidden h k) = tops_hidden observer l m fs h k
 
-  -- where the frame is still seen behind the raise, the values are one
-  pub lock_raise : {v u : Labelled} → Agree observer v u → Lock observer tables (λ a b. v ≡ u) (raise v.label) (raise u.label)
+  raised_both : {γ : Pairing} {l m : Label} (s t : State) → Alike observer l m (Unit {0}) → LowEqual observer tables γ s t → IsSeen observer s → LowEqual observer tables γ (raised_in l s) (raised_in m t)
+  raised_both {l = l} {m = m} s t a r v = low_frames observer tables r
+      (subst (λ (fs : List Frame). 0 < length fs) (sym (raised_last s.frames l)) (let q = length_raised l s.frames in let n = r.some in omega arith))
+      (ap (view observer) (raised_last s.frames l) ∙ tops_alike s.frames a ∙ ap (λ (fs : List Frame). view observer (last_raised m fs)) (same_frames observer tables r v) ∙ sym (ap (view observer) (raised_last t.frames m)))
+
+  -- where the frame is still seen, so is what raised it
+  pub lock_raise : (Q : Type 0) {β : Pairing} {l m : Label} → Alike observer l m (Unit {0}) → (Sees observer l → Q) → Lockstep observer tables (λ γ a b. Q) β (raise l) (raise m)
   unfolding raise
-  lock_raise {v} {u} (Agree.one p e) = record {
-    after = λ d s t r w.
-        level (level_raised v.label u.label (suc d) s t r
-        (subst (λ (fs : List Frame). FramesAgree observer (last_raised v.label s.frames) (last_raised u.label fs)) (frames_equal observer r.frames w)
-        (subst (λ (x : Labelled). FramesAgree observer (last_raised v.label s.frames) (last_raised x.label s.frames)) e (frames_refl observer (last_raised v.label s.frames)))))
-        (subst (λ (fs : List Frame). Sees observer (context fs)) (sym (raised_last s.frames v.label)) (sees_raised observer v.label s.frames p w)) e;
-  }
-  lock_raise {v} {u} (Agree.hidden h j) = record {
-    after = λ d s t r w.
-        apart_runs (level_raised v.label u.label (suc d) s t r
-        (subst (λ (fs : List Frame). FramesAgree observer (last_raised v.label s.frames) (last_raised u.label fs)) (frames_equal observer r.frames w) (frames_raised_hidden observer v.label u.label s.frames h j)))
-        (subst (λ (fs : List Frame). Hides observer (context fs)) (sym (raised_last s.frames v.label)) (hides_raised observer d v.label s.frames r.first h));
+  lock_raise Q {l = l} a h = record {
+    steps = λ γ e s t r v. goes_by (λ γ a b. Q) (extends_refl γ) (raised_both s t a r v)
+        (λ q. h (seen_top observer l s.frames r.some (subst (λ (fs : List Frame). Sees observer (context fs)) (raised_last s.frames l) q)));
   }
 
   -- ---- turns
 
-  -- a turn is spent
-  still_spend : (n : ℕ) {d : ℕ} (s : State) → length s.frames ≡ d → Still observer tables d s (spend n s)
+  conf_spend : (n : ℕ) → Confined observer tables (spend n)
   unfolding spend
-  still_spend zero s e = cut (λ x. x)
-  still_spend (suc n) {d} s e = goes (level_turns observer tables s.turns n (level_refl observer tables d s e))
+  conf_spend zero = conf_ends observer tables (as_plain out_of_turns)
+  conf_spend (suc n) = record { still = λ s p. still_goes observer tables (record s { turns = n }) (same_turns observer tables n) refl refl; fits = λ s. omega arith; adds = λ s. front_refl s.lines }
 
-  -- of what is left
-  pub conf_tick : Conf observer tables (λ s. spend s.turns s)
-  conf_tick = record { still = λ d s e h. still_spend s.turns s e }
+  pub conf_tick : Confined observer tables (λ s. spend s.turns s)
+  conf_tick = record { still = λ s. (conf_spend s.turns).still s; fits = λ s. (conf_spend s.turns).fits s; adds = λ s. (conf_spend s.turns).adds s }
 
-  -- turns are spent in both
-  after_spend : (n m : ℕ) {d : ℕ} (s t : State) → Level observer tables d s t → IsVisible observer tables s → After observer tables Nothing d (spend n s) (spend m t)
+  after_spend : {γ : Pairing} (n m : ℕ) (s t : State) → LowEqual observer tables γ s t → IsSeen observer s → InStep observer tables Nothing γ (spend n s) (spend m t)
   unfolding spend
-  after_spend zero m s t r w = first_cut (λ x. x)
-  after_spend (suc n) zero s t r w = second_cut (λ x. x)
-  after_spend (suc n) (suc m) s t r w = level (level_turns observer tables n m r) w tt
+  after_spend zero m s t r v = ends_first observer tables Nothing r ((conf_spend m).adds t)
+  after_spend (suc n) zero s t r v = ends_second observer tables Nothing r (front_refl s.lines)
+  after_spend (suc n) (suc m) s t r v = go _ (extends_refl _) (low_turns observer tables n m r) v tt
 
-  -- of what is left in each
-  pub lock_tick : Lock observer tables Nothing (λ s. spend s.turns s) (λ s. spend s.turns s)
-  lock_tick = record { after = λ d s t r w. after_spend s.turns t.turns s t r w }
+  pub lock_tick : (β : Pairing) → Lockstep observer tables Nothing β (λ s. spend s.turns s) (λ s. spend s.turns s)
+  lock_tick β = record { steps = λ γ e s t r v. after_spend s.turns t.turns s t r v }
+
+  -- ---- operators
+
+  pub conf_given : (l : Label) (r : Result Primitive (List ℕ)) → Confined observer tables (given l r)
+  unfolding given
+  conf_given l (Ok v) = conf_ret observer tables _
+  conf_given l (Err name) = conf_ends observer tables _
+
+  adds_given : (l : Label) (r : Result Primitive (List ℕ)) (s : State) → Front s.lines (state_of (given l r s)).lines
+  adds_given l r s = (conf_given l r).adds s
+
+  given_hidden : {γ : Pairing} (l m : Label) (x y : Result Primitive (List ℕ)) (s t : State) → Hides observer l → Hides observer m → LowEqual observer tables γ s t → IsSeen observer s → InStep observer tables (Agree observer) γ (given l x s) (given m y t)
+  unfolding given
+  given_hidden l m (Ok v) (Ok u) s t h k r w = go _ (extends_refl _) r w (hidden h k)
+  given_hidden l m (Err name) y s t h k r w = ends_first observer tables (Agree observer) r (adds_given m y t)
+  given_hidden l m (Ok v) (Err name) s t h k r w = ends_second observer tables (Agree observer) r (front_refl s.lines)
+
+  given_seen : {γ : Pairing} (l : Label) (x : Result Primitive (List ℕ)) (s t : State) → Sees observer l → LowEqual observer tables γ s t → IsSeen observer s → InStep observer tables (Agree observer) γ (given l x s) (given l x t)
+  unfolding given
+  given_seen l (Ok v) s t p r w = go _ (extends_refl _) r w (seen p refl primitives)
+  given_seen l (Err name) s t p r w = ends_first observer tables (Agree observer) r (front_refl t.lines)
+
+  after_given : {γ : Pairing} {l m : Label} {x y : Result Primitive (List ℕ)} (s t : State) → Alike observer l m (x ≡ y) → LowEqual observer tables γ s t → IsSeen observer s → InStep observer tables (Agree observer) γ (given l x s) (given m y t)
+  after_given {γ} {l} {m} {x} {y} s t (seen p e q) r w =
+      subst (λ n. InStep observer tables (Agree observer) γ (given l x s) (given n y t)) e (subst (λ z. InStep observer tables (Agree observer) γ (given l x s) (given l z t)) q (given_seen l x s t p r w))
+  after_given {l = l} {m = m} {x = x} {y = y} s t (hidden h k) r w = given_hidden l m x y s t h k r w
+
+  -- what can be asked of values that are the same
+  class_same : {γ : Pairing} {p q : Option (Object Label)} → Both (ObjectsAgree observer γ) p q → seen_of (λ (x : Object Label). an_object x.class) p ≡ seen_of (λ (x : Object Label). an_object x.class) q
+  class_same (low.both_stand r) = ap an_object r.class
+
+  seen_same : {γ : Pairing} {h g : List (Object Label)} {v u : Value} → HeapsAgree observer γ h g → SameValue γ v u → seen_in h v ≡ seen_in g u
+  unfolding seen_in
+  seen_same r primitives = refl
+  seen_same r (objects p) = class_same (r.paired _ _ p)
+
+  pub conf_unary : (o : UnaryOperator) (v : Val) → Confined observer tables (λ s. given v.label (unary_of o (seen_in s.heap v.value)) s)
+  conf_unary o v = record {
+    still = λ s. (conf_given v.label (unary_of o (seen_in s.heap v.value))).still s;
+    fits = λ s. (conf_given v.label (unary_of o (seen_in s.heap v.value))).fits s;
+    adds = λ s. (conf_given v.label (unary_of o (seen_in s.heap v.value))).adds s;
+  }
+
+  pub lock_unary : {β : Pairing} (o : UnaryOperator) {v u : Val} → Agree observer β v u
+      → Lockstep observer tables (Agree observer) β (λ s. given v.label (unary_of o (seen_in s.heap v.value)) s) (λ s. given u.label (unary_of o (seen_in s.heap u.value)) s)
+  lock_unary o a = record { steps = λ γ e s t r w. after_given s t (alike_map observer (λ x. ap (unary_of o) (seen_same r.heap (value_more observer e x))) a) r w }
+
+  -- numbers of paired objects are equal in both or in neither
+  equal_tests : (a b c d : ℕ) → (a ≡ c → b ≡ d) × (b ≡ d → a ≡ c) → nat_eq a c ≡ nat_eq b d
+  equal_tests a b c d h = go (nat_eq a c) (nat_eq b d) refl refl
+    where
+      go : (x y : Bool) → nat_eq a c ≡ x → nat_eq b d ≡ y → x ≡ y
+      go true true p q = refl
+      go false false p q = refl
+      go true false p q = absurd (true≢false (sym (eq-eqb b d (h.0 (eqb-true a c p))) ∙ q))
+      go false true p q = absurd (true≢false (sym (eq-eqb a c (h.1 (eqb-true b d q))) ∙ p))
+
+  binary_same : {γ : Pairing} {h g : List (Object Label)} (o : BinaryOperator) {v v' u u' : Value} → HeapsAgree observer γ h g → SameValue γ v v' → SameValue γ u u' → binary_of o v u ≡ binary_of o v' u'
+  unfolding binary_of
+  binary_same o r primitives primitives = refl
+  binary_same o r primitives (objects q) = refl
+  binary_same o r (objects p) primitives = refl
+  binary_same o r (objects {o = a} {q = b} p) (objects {o = c} {q = d} q) = ap (binary_with_object o) (equal_tests a.0 b.0 c.0 d.0 (r.one_to_one a.0 b.0 c.0 d.0 p q))
+
+  pub lock_binary : {β : Pairing} (o : BinaryOperator) {v v' u u' : Val} → Agree observer β v v' → Agree observer β u u'
+      → Lockstep observer tables (Agree observer) β (given (union v.label u.label) (binary_of o v.value u.value)) (given (union v'.label u'.label) (binary_of o v'.value u'.value))
+  lock_binary o a b = record { steps = λ γ e s t r w. after_given s t (alike_join observer (λ x y. binary_same o r.heap x y) (agree_more observer e a) (agree_more observer e b)) r w }
+
+  -- conversions, of which those of objects can't be run yet
+  pub conf_unless : (b : Bool) (v : Val) → Confined observer tables (unless_object b v)
+  unfolding unless_object
+  conf_unless true v = conf_ends observer tables _
+  conf_unless false v = conf_ret observer tables v
+
+  unless_after : {γ : Pairing} (b c : Bool) {v u : Val} (s t : State) → Agree observer γ v u → LowEqual observer tables γ s t → IsSeen observer s → InStep observer tables (Agree observer) γ (unless_object b v s) (unless_object c u t)
+  unfolding unless_object
+  unless_after true true s t a r w = ends_first observer tables (Agree observer) r (front_refl t.lines)
+  unless_after true false s t a r w = ends_first observer tables (Agree observer) r (front_refl t.lines)
+  unless_after false true s t a r w = ends_second observer tables (Agree observer) r (front_refl s.lines)
+  unless_after false false s t a r w = go _ (extends_refl _) r w a
+
+  pub lock_unless : {β : Pairing} (b c : Bool) {v u : Val} → Agree observer β v u → Lockstep observer tables (Agree observer) β (unless_object b v) (unless_object c u)
+  lock_unless b c a = record { steps = λ γ e s t r w. unless_after b c s t (agree_more observer e a) r w }
+
+  -- ---- names
+
+  no_cause : Alike observer bottom bottom (Unit {0})
+  no_cause = seen (sees_bottom observer) refl tt
+
+  pub undefined_agree : {γ : Pairing} → Agree observer γ (unlabelled undefined) (unlabelled undefined)
+  undefined_agree = seen (sees_bottom observer) refl primitives
+
+  conf_bound : (b : Option (Binding Val)) → Confined observer tables (bound b)
+  unfolding bound
+  conf_bound (Some b) = conf_ret observer tables b.value
+  conf_bound None = record { still = λ s. (conf_throw {X = Val} reference_error bottom).still s; fits = λ s. (conf_throw {X = Val} reference_error bottom).fits s; adds = λ s. (conf_throw {X = Val} reference_error bottom).adds s }
+
+  pub conf_get : (n : Reference) → Confined observer tables (λ s. bound (binding_at s.records n.place n.name) s)
+  conf_get n = record { still = λ s. (conf_bound (binding_at s.records n.place n.name)).still s; fits = λ s. (conf_bound (binding_at s.records n.place n.name)).fits s; adds = λ s. (conf_bound (binding_at s.records n.place n.name)).adds s }
+
+  bound_after : {γ : Pairing} {b c : Option (Binding Val)} (s t : State) → FoundAgree observer γ b c → LowEqual observer tables γ s t → IsSeen observer s → InStep observer tables (Agree observer) γ (bound b s) (bound c t)
+  unfolding bound
+  bound_after s t missing r w = thrown_both (Agree observer) reference_error s t no_cause r w
+  bound_after s t (there a) r w = go _ (extends_refl _) r w a
+
+  -- a name's places, with more pairs
+  places_more : {β γ : Pairing} {i j : Option ℕ} → Extends β γ → PlacesAgree β i j → PlacesAgree γ i j
+  places_more h nowhere = nowhere
+  places_more h (somewhere p) = somewhere (h.records _ _ p)
+
+  pub references_more : {β γ : Pairing} {n m : Reference} → Extends β γ → ReferencesAgree β n m → ReferencesAgree γ n m
+  references_more h r = record { name = r.name; place = places_more h r.place }
+
+  found_both : {γ : Pairing} {n m : Reference} (s t : State) → ReferencesAgree γ n m → LowEqual observer tables γ s t → FoundAgree observer γ (binding_at s.records n.place n.name) (binding_at t.records m.place m.name)
+  found_both {γ} {n} {m} s t q r = subst (λ x. FoundAgree observer γ (binding_at s.records n.place n.name) (binding_at t.records m.place x)) q.name (binding_agree observer γ n.name r.records q.place)
+
+  pub lock_get : {β : Pairing} {n m : Reference} → ReferencesAgree β n m → Lockstep observer tables (Agree observer) β (λ s. bound (binding_at s.records n.place n.name) s) (λ s. bound (binding_at s.records m.place m.name) s)
+  lock_get q = record { steps = λ γ e s t r w. bound_after s t (found_both s t (references_more e q) r) r w }
+
+  conf_or_undefined : (b : Option (Binding Val)) → Confined observer tables (bound_or_undefined b)
+  unfolding bound_or_undefined
+  conf_or_undefined (Some b) = conf_ret observer tables b.value
+  conf_or_undefined None = conf_ret observer tables (unlabelled undefined)
+
+  pub conf_typeof : (n : Reference) → Confined observer tables (λ s. bound_or_undefined (binding_at s.records n.place n.name) s)
+  conf_typeof n = record { still = λ s. (conf_or_undefined (binding_at s.records n.place n.name)).still s; fits = λ s. (conf_or_undefined (binding_at s.records n.place n.name)).fits s; adds = λ s. (conf_or_undefined (binding_at s.records n.place n.name)).adds s }
+
+  or_undefined_after : {γ : Pairing} {b c : Option (Binding Val)} (s t : State) → FoundAgree observer γ b c → LowEqual observer tables γ s t → IsSeen observer s → InStep observer tables (Agree observer) γ (bound_or_undefined b s) (bound_or_undefined c t)
+  unfolding bound_or_undefined
+  or_undefined_after s t missing r w = go _ (extends_refl _) r w undefined_agree
+  or_undefined_after s t (there a) r w = go _ (extends_refl _) r w a
+
+  pub lock_typeof : {β : Pairing} {n m : Reference} → ReferencesAgree β n m → Lockstep observer tables (Agree observer) β (λ s. bound_or_undefined (binding_at s.records n.place n.name) s) (λ s. bound_or_undefined (binding_at s.records m.place m.name) s)
+  lock_typeof q = record { steps = λ γ e s t r w. or_undefined_after s t (found_both s t (references_more e q) r) r w }
+
+  -- ---- assignments
+
+  conf_thrown : (kind : ErrorKind) → Confined observer tables {X = Unit {0}} (throw_error kind bottom)
+  conf_thrown kind = conf_throw kind bottom
+
+  -- of a binding that stands in the state
+  still_assigned : (mutable : Bool) (b : Binding Val) (name : List ℕ) (i : ℕ) (v : Val) (s : State) → IsHidden observer s → binding_at s.records (Some i) name ≡ Some b → Still observer tables s (assigned mutable b.value.label name i v s)
+  unfolding assigned
+  still_assigned true b name i v s p e = still_guard (within (context s.frames) b.value.label) W1 _ _ (rebinds name i (joined (context s.frames) v)) s
+      (λ w. still_goes observer tables (record s { records = assigned_in name (joined (context s.frames) v) s.records i })
+      (record { looks = λ β u r. low_records observer tables r (assigned_left observer β name (joined (context s.frames) v) i b (hides_second observer v.label (context s.frames) p) e (hides_within observer (context s.frames) b.value.label w p) r.records); frames = refl }) refl refl)
+  still_assigned false b name i v s p e = (conf_thrown type_error).still s p
+
+  still_put : (o : Option (Binding Val)) (name : List ℕ) (i : ℕ) (v : Val) (s : State) → IsHidden observer s → binding_at s.records (Some i) name ≡ o → Still observer tables s (assigned_to o name i v s)
+  unfolding assigned_to
+  still_put (Some b) name i v s p e = still_assigned b.mutable b name i v s p e
+  still_put None name i v s p e = (conf_thrown reference_error).still s p
+
+  fits_assigned : (mutable : Bool) (l : Label) (name : List ℕ) (i : ℕ) (v : Val) (s : State) → Fits (length s.frames) (assigned mutable l name i v s)
+  unfolding assigned
+  fits_assigned true l name i v s = fits_guard (within (context s.frames) l) W1 _ _ (rebinds name i (joined (context s.frames) v)) (length s.frames) s (omega arith)
+  fits_assigned false l name i v s = (conf_thrown type_error).fits s
+
+  adds_assigned : (mutable : Bool) (l : Label) (name : List ℕ) (i : ℕ) (v : Val) (s : State) → Front s.lines (state_of (assigned mutable l name i v s)).lines
+  unfolding assigned
+  adds_assigned true l name i v s = adds_guard (within (context s.frames) l) W1 _ _ (rebinds name i (joined (context s.frames) v)) s (front_refl s.lines)
+  adds_assigned false l name i v s = (conf_thrown type_error).adds s
+
+  fits_put : (o : Option (Binding Val)) (name : List ℕ) (i : ℕ) (v : Val) (s : State) → Fits (length s.frames) (assigned_to o name i v s)
+  unfolding assigned_to
+  fits_put (Some b) name i v s = fits_assigned b.mutable b.value.label name i v s
+  fits_put None name i v s = (conf_thrown reference_error).fits s
+
+  adds_put : (o : Option (Binding Val)) (name : List ℕ) (i : ℕ) (v : Val) (s : State) → Front s.lines (state_of (assigned_to o name i v s)).lines
+  unfolding assigned_to
+  adds_put (Some b) name i v s = adds_assigned b.mutable b.value.label name i v s
+  adds_put None name i v s = (conf_thrown reference_error).adds s
+
+  pub conf_put : (place : Option ℕ) (name : List ℕ) (v : Val) → Confined observer tables (put_at place name v)
+  unfolding put_at
+  conf_put None name v = record { still = λ s. (conf_thrown reference_error).still s; fits = λ s. (conf_thrown reference_error).fits s; adds = λ s. (conf_thrown reference_error).adds s }
+  conf_put (Some i) name v = record {
+    still = λ s p. still_put (binding_at s.records (Some i) name) name i v s p refl;
+    fits = λ s. fits_put (binding_at s.records (Some i) name) name i v s;
+    adds = λ s. adds_put (binding_at s.records (Some i) name) name i v s;
+  }
+
+  assigned_after : {γ : Pairing} (mutable : Bool) (l m : Label) (name : List ℕ) (i j : ℕ) {v u : Val} (s t : State) → γ.records i j ≡ true → Agree observer γ v u → LowEqual observer tables γ s t → IsSeen observer s
+      → InStep observer tables Nothing γ (assigned mutable l name i v s) (assigned mutable m name j u t)
+  unfolding assigned
+  assigned_after {γ} true l m name i j {v} {u} s t p a r w =
+      after_guard Nothing (within (context s.frames) l) (within (context t.frames) m) W1 _ _ _ _ (rebinds name i (joined (context s.frames) v)) (rebinds name j (joined (context t.frames) u)) s t r (front_refl s.lines) (front_refl t.lines)
+      (λ x y. go γ (extends_refl γ) (low_records observer tables r (assigned_both observer γ name i j (agree_joined observer (seen w (same_context observer tables r w) tt) a) p r.records)) w tt)
+  assigned_after false l m name i j s t p a r w = thrown_both Nothing type_error s t no_cause r w
+
+  put_after : {γ : Pairing} {b c : Option (Binding Val)} (name : List ℕ) {i j : ℕ} {v u : Val} (s t : State) → FoundAgree observer γ b c → γ.records i j ≡ true → Agree observer γ v u → LowEqual observer tables γ s t → IsSeen observer s
+      → InStep observer tables Nothing γ (assigned_to b name i v s) (assigned_to c name j u t)
+  unfolding assigned_to
+  put_after name s t missing p a r w = thrown_both Nothing reference_error s t no_cause r w
+  put_after name {i} {j} s t (there {mutable = x} {v = v} {u = u} q) p a r w = assigned_after x v.label u.label name i j s t p a r w
+
+  place_after : {γ : Pairing} (name : List ℕ) {i j : Option ℕ} {v u : Val} (s t : State) → PlacesAgree γ i j → Agree observer γ v u → LowEqual observer tables γ s t → IsSeen observer s → InStep observer tables Nothing γ (put_at i name v s) (put_at j name u t)
+  unfolding put_at
+  place_after name s t nowhere a r w = thrown_both Nothing reference_error s t no_cause r w
+  place_after {γ} name s t (somewhere p) a r w = put_after name s t (binding_agree observer γ name r.records (somewhere p)) p a r w
+
+  pub lock_put : {β : Pairing} {n m : Reference} {v u : Val} → ReferencesAgree β n m → Agree observer β v u → Lockstep observer tables Nothing β (put_at n.place n.name v) (put_at m.place m.name u)
+  lock_put {n = n} {m = m} {v = v} {u = u} q a = record {
+    steps = λ γ e s t r w. subst (λ x. InStep observer tables Nothing γ (put_at n.place n.name v s) (put_at m.place x u t)) q.name
+        (place_after n.name s t (places_more e q.place) (agree_more observer e a) r w);
+  }

@@ -8,9 +8,10 @@ use Rattle.std.proofs.lemmas.Slice.Eq.{bytes_eq-Decides}
 use Rattle.origin_labels.specs.Names.{same_name}
 use Rattle.flow_policy.specs.declared.policy.Channel.{Channel}
 use Rattle.flow_policy.specs.Policies.{channel_named}
-use Rattle.js_number.specs.declared.primitive.Primitive.{Primitive}
 use Rattle.js_number.specs.declared.primitive.Primitive.TheVariants.{Undefined, Null, Num, Str}
 use Rattle.js_number.specs.declared.primitive.Primitive.TheVariants as prims
+use Rattle.js_values.specs.declared.value.Value.{Value}
+use Rattle.js_values.specs.declared.value.Value.TheVariants as value
 use Rattle.es_meaning.specs.Plain.{channel_of, number_of_channel}
 
 -- the channel with this number stands in the table, and is the first of its name
@@ -49,9 +50,10 @@ numbered name channels i e = go (slice_get_cases channels i).1
     go (inr past) = let inside : i < length channels = (position-Some test channels i (record { name = []; label = [] }) e).0 in absurd (omega arith)
 
 -- a number that is found for a value
-pub stands : (channels : List Channel) (v : Primitive) (i : ℕ) → channel_of channels v ≡ Some i → Stands channels i
-stands channels (Str name) i e = numbered name channels i e
-stands channels Undefined i e = absurd (none-some i e)
-stands channels Null i e = absurd (none-some i e)
-stands channels (prims.Bool b) i e = absurd (none-some i e)
-stands channels (Num n) i e = absurd (none-some i e)
+pub stands : (channels : List Channel) (v : Value) (i : ℕ) → channel_of channels v ≡ Some i → Stands channels i
+stands channels (value.Primitive (Str name)) i e = numbered name channels i e
+stands channels (value.Primitive Undefined) i e = absurd (none-some i e)
+stands channels (value.Primitive Null) i e = absurd (none-some i e)
+stands channels (value.Primitive (prims.Bool b)) i e = absurd (none-some i e)
+stands channels (value.Primitive (Num n)) i e = absurd (none-some i e)
+stands channels (value.Object o) i e = absurd (none-some i e)

@@ -1,112 +1,215 @@
 -- Erasure: the operations with labels and those without are linked, and so are the runs of a script.
-use Rattle.std.proofs.Common.{◌≡◌, ℕ, List, [], ◌∷◌, length, replicate, Option, Some, None, refl, sym, ◌∙◌, ap, subst}
+use Rattle.std.proofs.Common.{◌≡◌, ℕ, suc, ◌≤◌, Bool, true, false, nat_eq, List, [], ◌∷◌, length, replicate, Option, Some, None, refl, sym, ◌∙◌, ap, subst, eqb-true, eq-eqb, arith}
 use Rattle.std.specs.Option.{option_map}
-use Rattle.std.proofs.lemmas.List.{map-append}
 use Rattle.flow_policy.specs.Policies.{Tables}
 use Rattle.flow_policy.specs.Inputs.{Given}
-use Rattle.js_number.specs.declared.primitive.Primitive.{Primitive}
-use Rattle.js_number.specs.declared.primitive.Primitive.TheVariants.{Undefined}
+use Rattle.flow_frames.specs.Kinds.{is_try}
+use Rattle.js_values.specs.declared.value.Value.{Value}
+use Rattle.js_values.specs.Records.{Binding, Bindings, found}
 use Rattle.js_ast.specs.Trees.{Statements}
-use Rattle.es_meaning.specs.Outcomes.{Ending, done, left, out_of_turns, Outcome, Goes, Ends}
-use Rattle.es_meaning.specs.Operations.{Ty, One, Value, Res}
-use Rattle.es_meaning.specs.Operators.{unary_of, binary_of, not_built}
+use Rattle.es_meaning.specs.Outcomes as es
+use Rattle.es_meaning.specs.Outcomes.{Exit, returns, leaves, left, out_of_turns, Outcome, Goes, Jumps, Ends, ret, ◌>>=◌}
+use Rattle.es_meaning.specs.Environments.{Around, Env, with_around}
+use Rattle.es_meaning.specs.Operations.{Ty, One, Res, Ops}
+use Rattle.es_meaning.specs.Operations.{Value as a_value}
+use Rattle.es_meaning.specs.Operators.{is_object, truth, converts_beside, binary_of, not_built}
 use Rattle.es_meaning.specs.Evaluation.{program_step}
-use Rattle.es_meaning.specs.Bindings.{Binding, Bindings, found}
 use Rattle.es_meaning.specs.Declared.{declared_statements}
+use Rattle.es_meaning.specs.Start.{start_heap}
 use Rattle.es_meaning.specs.Plain as plain
-use Rattle.es_meaning.specs.Plain.{State, P, plain_run, unless_found, with_name, with_names, variables_of}
+use Rattle.es_meaning.specs.Plain.{State, P, undefined, choose, resolved, ended_round, unless_found, with_name, with_names, outermost_env, plain_run}
 use Rattle.es_meaning.proofs.Link.{Rel, Link, program_linked}
+use Rattle.flow_meaning.specs.Erased.{erased_bindings, unlabelled}
+use Rattle.flow_meaning.specs.Scopes as scopes
+use Rattle.flow_meaning.specs.Scopes.{Val, Halt, L, round_kind}
 use Rattle.flow_meaning.specs.Tracked as tracked
-use Rattle.flow_meaning.specs.Tracked.{Labelled, L, unlabelled, tracked_run}
+use Rattle.flow_meaning.specs.Tracked.{tracked_run}
 use Rattle.low_equal.specs.Erasure.{Erases, goes_on, IsErasing}
 use Rattle.low_equal.specs.Erasure as erasure
-use Rattle.low_equal.proofs.Erased.{erased_result, erased_binding, erased_bindings, erased, lines_behind, Yields, goes, ends, stops, Lift, ret_lifts, bind_lifts, fork_lifts, in_frame_lifts, again_lifts}
-use Rattle.low_equal.proofs.ErasedActs.{found_erased, given_lifts, look_lifts, look_or_undefined_lifts, assign_lifts, spend_lifts, ends_lifts, values_are, direct_lifts}
+use Rattle.low_equal.proofs.Erased.{erased_result, erased, lines_behind, Mark, passes, rounds, aim, Shaped, cond_true, cond_false, by_test, Yields, goes, jumps, ends, stops, Lift, ret_lifts, bind_lifts, fork_lifts, round_lifts, again_lifts}
+use Rattle.low_equal.proofs.ErasedActs.{erased_binding, found_erased, resolved_erased, given_lifts, unary_lifts, unless_lifts, get_name_lifts, typeof_name_lifts, put_lifts, spend_lifts, ends_lifts, values_are, direct_lifts}
 
 -- a value, and what is left of it without its label
-abbrev Same : Unit {0} → Labelled → Primitive → Type 0
+abbrev Same : List Mark → Val → Value → Type 0
 Same w v r = v.value ≡ r
 
 -- each result is related to what is left of it
-same_result : (t : Ty) (w : Unit {0}) (a : Res Labelled t) → Rel Same t w a (erased_result t a)
+same_result : (t : Ty) (w : List Mark) (a : Res Val t) → Rel Same t w a (erased_result t a)
 same_result One w a = tt
-same_result Value w a = refl
+same_result a_value w a = refl
 
 -- the unlabelled computation of equal values
-at_equal : {A : Type 0} {t : Ty} {w : Unit {0}} {m : L (Res Labelled t)} {a b : A} (n : A → P (Res Primitive t)) → a ≡ b → Lift t w m (n a) → Lift t w m (n b)
+at_equal : {A : Type 0} {t : Ty} {w : List Mark} {m : L (Res Val t)} {a b : A} (n : A → P (Res Value t)) → a ≡ b → Lift t w m (n a) → Lift t w m (n b)
 at_equal {t = t} {w = w} {m = m} n e l = subst (λ x. Lift t w m (n x)) e l
 
+-- ---- environments: each handle is the depth of the frame at which its jumps stop
+
+-- what is round a statement, where the last of it has the number 0
+data Handles (w : List Mark) : List (Around ℕ) → List (Around (Unit {0})) → Type 0 where
+  no_handles : Handles w [] []
+  a_handle : {labels : List (Option (List ℕ))} {turn : Bool} {to : ℕ} {os : List (Around ℕ)} {us : List (Around (Unit {0}))} → to ≡ aim (leaves (length os)) w → Handles w os us
+      → Handles w (record { labels = labels; turn = turn; to = to } ∷ os) (record { labels = labels; turn = turn; to = tt } ∷ us)
+
+record Reaches (w : List Mark) (e : Env ℕ) (d : Env (Unit {0})) : Type 0 where
+  place : e.place ≡ d.place
+  call : e.call ≡ aim returns w
+  around : Handles w e.around d.around
+
+-- jumps aim where they did
+abbrev SameAims : List Mark → List Mark → Type 0
+SameAims w w' = (j : Exit) → aim j w' ≡ aim j w
+
+-- handles stay right
+handles_more : {w w' : List Mark} {os : List (Around ℕ)} {us : List (Around (Unit {0}))} → SameAims w w' → Handles w os us → Handles w' os us
+handles_more p no_handles = no_handles
+handles_more p (a_handle {os = os} e r) = a_handle (e ∙ sym (p (leaves (length os)))) (handles_more p r)
+
+-- and environments
+reaches_more : {w w' : List Mark} {e : Env ℕ} {d : Env (Unit {0})} → SameAims w w' → Reaches w e d → Reaches w' e d
+reaches_more p r = record { place = r.place; call = r.call ∙ sym (p returns); around = handles_more p r.around }
+
+-- as many are round both
+length_handles : {w : List Mark} {os : List (Around ℕ)} {us : List (Around (Unit {0}))} → Handles w os us → length os ≡ length us
+length_handles no_handles = refl
+length_handles (a_handle e r) = ap suc (length_handles r)
+
+-- numbers that differ
+not_equal : (m n : ℕ) → (m ≡ n → ⊥) → nat_eq m n ≡ false
+not_equal m n h = by_test (nat_eq m n) (λ e. absurd (h (eqb-true m n e))) (λ e. e)
+
+-- one more mark, whose number none has
+handles_inside : {w : List Mark} {os : List (Around ℕ)} {us : List (Around (Unit {0}))} (n : ℕ) → length os ≤ n → Handles w os us → Handles (rounds n ∷ w) os us
+handles_inside n le no_handles = no_handles
+handles_inside {w} n le (a_handle {os = os} e r) =
+    a_handle (e ∙ sym (cond_false (nat_eq (length os) n) (suc (length w)) (aim (leaves (length os)) w) (not_equal (length os) n (λ q. absurd (omega arith))))) (handles_inside n (omega arith) r)
+
+-- a loop or a turn, whose frame is the innermost
+reaches_inside : {w : List Mark} (turn : Bool) (labels : List (Option (List ℕ))) {e : Env ℕ} {d : Env (Unit {0})} → Reaches w e d
+    → Reaches (rounds (length e.around) ∷ w) (with_around turn labels (suc (length w)) e) (with_around turn labels tt d)
+reaches_inside {w} turn labels {e} {d} r = let n = length e.around in record {
+  place = r.place;
+  call = r.call;
+  around = a_handle (sym (cond_true (nat_eq n n) (suc (length w)) (aim (leaves n) w) (eq-eqb n n refl))) (handles_inside n (omega arith) r.around);
+}
+
+-- ---- the link
+
+-- frames of loops and turns catch nothing
+no_try : (turn : Bool) → is_try (round_kind turn) ≡ false
+no_try true = refl
+no_try false = refl
+
 module _ (tables : Tables) (inputs : Given) where
-  -- the operations with labels and those without are linked
+  -- both meanings
+  abbrev A : Ops
+  A = tracked.labelled tables inputs
+
+  abbrev B : Ops
+  B = plain.plain tables inputs
+
+  -- a name is resolved
+  resolve_lifts : (t : Ty) {w : List Mark} (i : ℕ) (x : List ℕ) (f : plain.Reference → L (Res Val t)) (g : plain.Reference → P (Res Value t)) → ((n : plain.Reference) → Lift t w (f n) (g n)) → Lift t w (A.resolve t i x f) (B.resolve t i x g)
+  resolve_lifts t {w} i x f g h = record {
+    yields = λ s r. subst (λ n. Yields t w (f (resolved s.records i x) s) (g n (erased s))) (sym (resolved_erased s.records i x)) ((h (resolved s.records i x)).yields s r);
+    extends = λ s. (h (resolved s.records i x)).extends s;
+  }
+
+  -- a loop or a turn
+  round_link : {w : List Mark} (turn : Bool) (labels : List (Option (List ℕ))) {e : Env ℕ} {d : Env (Unit {0})} (f : Env ℕ → L (Unit {0})) (g : Env (Unit {0}) → P (Unit {0})) → Reaches w e d
+      → ((w' : List Mark) (e' : Env ℕ) (d' : Env (Unit {0})) → Reaches w' e' d' → Lift One w' (f e') (g d')) → Lift One w (A.round turn labels e f) (B.round turn labels d g)
+  round_link {w} turn labels {e} {d} f g r h =
+      at_equal (λ n s. ended_round n (g (with_around turn labels tt d) s)) (length_handles r.around)
+      (round_lifts (length e.around) (round_kind turn) (no_try turn) (λ depth. f (with_around turn labels depth e)) (g (with_around turn labels tt d)) (h _ _ _ (reaches_inside turn labels r)))
+
+  -- the operations with labels and those without
   pub erasing : Link (tracked.labelled tables inputs) (plain.plain tables inputs)
   erasing = record {
-    W = Unit {0};
-    Le = λ v w. Unit {0};
+    W = List Mark;
+    Le = SameAims;
     RV = Same;
+    RN = λ w n m. n ≡ m;
+    RP = λ w i j. i ≡ j;
+    RE = Reaches;
     Lift = Lift;
-    le_refl = λ w. tt;
-    le_trans = λ p q. tt;
+    le_refl = λ w j. refl;
+    le_trans = λ p q j. q j ∙ p j;
     more_v = λ l r. r;
+    more_n = λ l r. r;
+    more_p = λ l r. r;
+    more_e = reaches_more;
+    place_of = λ r. r.place;
     ret_one = λ w. ret_lifts One w tt tt refl;
-    ret_value = λ {w} {a} {b} r. ret_lifts Value w a b r;
-    bind = λ t u {w} f g l h. bind_lifts t u w f g l (λ a. h w tt a (erased_result t a) (same_result t w a));
+    ret_value = λ {w} {a} {b} r. ret_lifts a_value w a b r;
+    bind = λ t u {w} f g l h. bind_lifts t u w f g l (λ a. h w (λ j. refl) a (erased_result t a) (same_result t w a));
     literal = λ w v. refl;
-    unary = λ o {v} r. at_equal (λ x. plain.given (unary_of o x)) r (given_lifts v.label (unary_of o v.value));
-    binary = λ o {v} {u} {v'} {u'} r q. at_equal (λ x. plain.given (binary_of o x u')) r (at_equal (λ x. plain.given (binary_of o v.value x)) q (given_lifts _ (binary_of o v.value u.value)));
-    look = λ w x. look_lifts x;
-    look_or_undefined = λ w x. look_or_undefined_lifts x;
-    assign = λ x {v} r. at_equal (λ y s. plain.assigned_to (found x s.variables) x y s) r (assign_lifts x v);
-    direct = λ f {vs} rs. at_equal (plain.direct tables inputs f) (values_are rs) (direct_lifts tables inputs f vs);
+    unary = λ o {v} r. at_equal (B.unary o) r (unary_lifts o v);
+    binary = λ o {v} {u} {v'} {u'} r q. at_equal (λ x. B.binary o x u') r (at_equal (λ x. B.binary o v.value x) q (given_lifts _ (binary_of o v.value u.value)));
+    primitive = λ hint {v} r. at_equal (B.primitive hint) r (unless_lifts (is_object v.value) v);
+    comparable = λ {v} {u} {v'} {u'} r q. at_equal (λ x. B.comparable x u') r (at_equal (λ x. B.comparable v.value x) q (unless_lifts (converts_beside v.value u.value) v));
+    direct = λ f {vs} rs. at_equal (B.direct f) (values_are rs) (direct_lifts tables inputs f vs);
     unbuilt = λ t w. ends_lifts (left not_built);
-    fork = λ t {v = v} {m' = m'} {n' = n'} r h k. at_equal (λ x. (plain.plain tables inputs).fork t x m' n') r (fork_lifts t v h k);
-    loop = λ h. in_frame_lifts _ h;
-    again = λ {v = v} {m' = m'} {n' = n'} r h k. at_equal (λ x. (plain.plain tables inputs).again x m' n') r (again_lifts v h k);
-    turn = λ h. in_frame_lifts _ h;
+    resolve = λ t {w} {i} x f g p h. at_equal (λ j. B.resolve t j x g) p (resolve_lifts t i x f g (λ n. h w (λ j. refl) n n refl));
+    get_name = λ {n = n} f g r h. at_equal (λ m. B.get_name m g) r (get_name_lifts n);
+    typeof_name = λ {n = n} f g r h. at_equal (λ m. B.typeof_name m g) r (typeof_name_lifts n);
+    put_name = λ {n = n} {v = v} {v' = v'} f g r q h. at_equal (λ m. B.put_name m v' g) r (at_equal (λ x. B.put_name n x g) q (put_lifts n.place n.name v));
+    fork = λ t {w = w} {v = v} {m' = m'} {n' = n'} r h k. at_equal (λ x. B.fork t x m' n') r (fork_lifts t v (truth v.value) (h (passes ∷ w) (λ j. refl)) (k (passes ∷ w) (λ j. refl)));
+    round = round_link;
+    again = λ {v = v} {m' = m'} {n' = n'} r h k. at_equal (λ x. B.again x m' n') r (again_lifts v (truth v.value) h k);
   }
 
   -- a script's runs
-  program_lifts : (n : ℕ) (program : Statements) → Lift One tt (program_step (tracked.timed tables inputs) n program) (program_step (plain.timed tables inputs) n program)
+  program_lifts : (n : ℕ) (program : Statements) → Lift One [] (program_step (tracked.timed tables inputs) n program (outermost_env 0)) (program_step (plain.timed tables inputs) n program (outermost_env tt))
   unfolding erasing
-  program_lifts n program = program_linked (tracked.timed tables inputs) (plain.timed tables inputs) erasing spend_lifts (λ t w. ends_lifts out_of_turns) n program tt
+  program_lifts n program = program_linked (tracked.timed tables inputs) (plain.timed tables inputs) erasing spend_lifts (λ t w. ends_lifts out_of_turns) n program (record { place = refl; call = refl; around = no_handles })
 
 -- ---- the start
 
 -- bindings, with one more where none was found, without labels
-unless_found_erased : (o : Option (Binding Labelled)) (name : List ℕ) (bindings : Bindings Labelled)
-    → erased_bindings (unless_found o (unlabelled Undefined) name bindings) ≡ unless_found (option_map erased_binding o) Undefined name (erased_bindings bindings)
+unless_found_erased : (o : Option (Binding Val)) (name : List ℕ) (bindings : Bindings Val)
+    → erased_bindings (unless_found o (unlabelled undefined) name bindings) ≡ unless_found (option_map erased_binding o) undefined name (erased_bindings bindings)
 unless_found_erased (Some b) name bindings = refl
-unless_found_erased None name bindings = map-append erased_binding bindings _
+unless_found_erased None name bindings = pushed bindings
+  where
+    pushed : (bindings : Bindings Val) → erased_bindings (unless_found None (unlabelled undefined) name bindings) ≡ unless_found None undefined name (erased_bindings bindings)
+    pushed [] = refl
+    pushed (b ∷ bindings) = ap (λ bs. erased_binding b ∷ bs) (pushed bindings)
 
 -- a further variable where there is none of the name yet, without labels
-with_name_erased : (name : List ℕ) (bindings : Bindings Labelled) → erased_bindings (with_name (unlabelled Undefined) name bindings) ≡ with_name Undefined name (erased_bindings bindings)
-with_name_erased name bindings = unless_found_erased (found name bindings) name bindings ∙ ap (λ o. unless_found o Undefined name (erased_bindings bindings)) (sym (found_erased name bindings))
+with_name_erased : (name : List ℕ) (bindings : Bindings Val) → erased_bindings (with_name (unlabelled undefined) name bindings) ≡ with_name undefined name (erased_bindings bindings)
+with_name_erased name bindings = unless_found_erased (found name bindings) name bindings ∙ ap (λ o. unless_found o undefined name (erased_bindings bindings)) (sym (found_erased name bindings))
 
 -- further variables, without labels
-with_names_erased : (names : List (List ℕ)) (bindings : Bindings Labelled) → erased_bindings (with_names (unlabelled Undefined) names bindings) ≡ with_names Undefined names (erased_bindings bindings)
+with_names_erased : (names : List (List ℕ)) (bindings : Bindings Val) → erased_bindings (with_names (unlabelled undefined) names bindings) ≡ with_names undefined names (erased_bindings bindings)
 with_names_erased [] bindings = refl
-with_names_erased (name ∷ names) bindings = with_names_erased names (with_name (unlabelled Undefined) name bindings) ∙ ap (with_names Undefined names) (with_name_erased name bindings)
+with_names_erased (name ∷ names) bindings = with_names_erased names (with_name (unlabelled undefined) name bindings) ∙ ap (with_names undefined names) (with_name_erased name bindings)
 
 -- a run with labels starts as one without
 start_erased : (tables : Tables) (inputs : Given) (program : Statements) (turns : ℕ) → erased (tracked.start tables inputs program turns) ≡ plain.start tables inputs program turns
 start_erased tables inputs program turns =
-    ap (λ (bs : Bindings Primitive). record { variables = bs; positions = replicate (length tables.inputs) 0; lines = []; turns = turns }) (with_names_erased (declared_statements program) _)
+    ap (λ (bs : Bindings Value). record { heap = start_heap; records = record { outer = None; bindings = bs } ∷ []; positions = replicate (length tables.inputs) 0; lines = []; turns = turns }) (with_names_erased (declared_statements program) _)
+
+-- in the Root
+start_shaped : (tables : Tables) (inputs : Given) (program : Statements) (turns : ℕ) → Shaped [] (tracked.start tables inputs program turns).frames
+start_shaped tables inputs program turns = record { shape = refl }
 
 -- ---- runs
 
 -- the lines of a run are those behind its outcome
-run_lines : (o : Outcome Ending (Unit {0}) State) → (plain.run_of o).lines ≡ lines_behind o
+run_lines : (o : Outcome es.Halt plain.Jump (Unit {0}) State) → (plain.run_of o).lines ≡ lines_behind o
 run_lines (Goes a s) = refl
-run_lines (Ends ending s) = refl
+run_lines (Jumps j s) = refl
+run_lines (Ends halt s) = refl
 
 -- outcomes, as runs
-run_erased : {o : Outcome tracked.Ending (Unit {0}) tracked.State} {p : Outcome Ending (Unit {0}) State} → Yields One o p → Erases (tracked.run_of o) (plain.run_of p)
-run_erased goes = goes_on done refl refl refl
-run_erased (ends {ending = ending}) = goes_on ending refl refl refl
+run_erased : {o : Outcome Halt scopes.Jump (Unit {0}) scopes.State} {p : Outcome es.Halt plain.Jump (Unit {0}) State} → Yields One [] o p → Erases (tracked.run_of o) (plain.run_of p)
+run_erased (goes r) = goes_on refl refl
+run_erased (jumps r e) = goes_on refl refl
+run_erased ends = goes_on refl refl
 run_erased (stops {rule = rule} {need = need} {have = have} {p = p} broken x) = erasure.stops rule need have x.rest refl broken (run_lines p ∙ x.lines_are)
 
 -- erasure
 pub is_erasing : IsErasing
 unfolding tracked_run plain_run
 is_erasing tables inputs program turns =
-    run_erased (subst (λ u. Yields One (program_step (tracked.timed tables inputs) turns program (tracked.start tables inputs program turns)) (program_step (plain.timed tables inputs) turns program u))
-    (start_erased tables inputs program turns) ((program_lifts tables inputs turns program).yields (tracked.start tables inputs program turns)))
+    run_erased (subst (λ u. Yields One [] (program_step (tracked.timed tables inputs) turns program (outermost_env 0) (tracked.start tables inputs program turns)) (program_step (plain.timed tables inputs) turns program (outermost_env tt) u))
+    (start_erased tables inputs program turns) ((program_lifts tables inputs turns program).yields (tracked.start tables inputs program turns) (start_shaped tables inputs program turns)))

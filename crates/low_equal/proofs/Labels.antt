@@ -1,18 +1,23 @@
--- What an observer sees of labels, and values that it can't tell apart.
-use Rattle.std.proofs.Common.{◌≡◌, true, false, ◌⊎◌, ⊎_elim, refl, sym, ◌∙◌, ap, subst, true≢false}
+-- What an observer sees of labels.
+use Rattle.std.proofs.Common.{◌≡◌, Bool, true, false, cond, ◌⊎◌, ⊎_elim, refl, sym, ◌∙◌, true≢false}
 use Rattle.std.proofs.lemmas.Bool.{cases_Bool, and_parts, and_from, and_cases, and_left, and_right}
 use Rattle.origin_labels.specs.Label.{Label, bottom, union, within, sees}
 use Rattle.origin_labels.proofs.LabelLaws.{within-union, within-trans, within-bottom}
-use Rattle.js_number.specs.declared.primitive.Primitive.{Primitive}
-use Rattle.flow_meaning.specs.Tracked.{Labelled, joined}
-use Rattle.low_equal.specs.LowEqual.{Agree}
+use Rattle.low_equal.specs.Observed.{Sees, Hides}
 
--- the observer sees the label, or the label is hidden from it
-abbrev pub Sees : Label → Label → Type 0
-Sees observer label = sees observer label ≡ true
+-- a choice of which the test is known
+pub cond_true : {A : Type 0} (b : Bool) (x y : A) → b ≡ true → cond b x y ≡ x
+cond_true true x y e = refl
+cond_true false x y e = absurd (true≢false (sym e))
 
-abbrev pub Hides : Label → Label → Type 0
-Hides observer label = sees observer label ≡ false
+pub cond_false : {A : Type 0} (b : Bool) (x y : A) → b ≡ false → cond b x y ≡ y
+cond_false true x y e = absurd (true≢false e)
+cond_false false x y e = refl
+
+-- by a test and what it says
+pub by_test : {P : Type 0} (b : Bool) → (b ≡ true → P) → (b ≡ false → P) → P
+by_test true h k = h refl
+by_test false h k = k refl
 
 module _ (observer : Label) where
   -- no label is seen and hidden
@@ -51,6 +56,10 @@ module _ (observer : Label) where
   pub hidden_second : (a b : Label) → Hides observer (union a b) → Sees observer a → Hides observer b
   hidden_second a b p q = ⊎_elim (λ h. absurd (not_both a q h)) (λ h. h) (hidden_part a b p)
 
+  -- and whose second label is seen, the first
+  pub hidden_first : (a b : Label) → Hides observer (union a b) → Sees observer b → Hides observer a
+  hidden_first a b p q = ⊎_elim (λ h. h) (λ h. absurd (not_both b q h)) (hidden_part a b p)
+
   -- the empty set is seen
   pub sees_bottom : Sees observer bottom
   sees_bottom = within-bottom observer
@@ -59,53 +68,6 @@ module _ (observer : Label) where
   pub hides_within : (need have : Label) → within need have ≡ true → Hides observer need → Hides observer have
   hides_within need have p h = ⊎_elim (λ s. absurd (not_both need (within-trans need have observer p s) h)) (λ x. x) (sees_or_hides have)
 
-  -- ---- values
-
-  -- a value agrees with itself
-  pub agree_refl : (v : Labelled) → Agree observer v v
-  agree_refl v = ⊎_elim (λ s. Agree.one s refl) (λ h. Agree.hidden h h) (sees_or_hides v.label)
-
-  -- agreement goes both ways
-  pub agree_sym : {v u : Labelled} → Agree observer v u → Agree observer u v
-  agree_sym (Agree.one s e) = Agree.one (subst (λ (x : Labelled). Sees observer x.label) e s) (sym e)
-  agree_sym (Agree.hidden h k) = Agree.hidden k h
-
-  -- agreement goes on
-  pub agree_trans : {v u w : Labelled} → Agree observer v u → Agree observer u w → Agree observer v w
-  agree_trans {w = w} (Agree.one s e) r = subst (λ (x : Labelled). Agree observer x w) (sym e) r
-  agree_trans (Agree.hidden h k) (Agree.one s e) = Agree.hidden h (subst (λ (x : Labelled). Hides observer x.label) e k)
-  agree_trans (Agree.hidden h k) (Agree.hidden i j) = Agree.hidden h j
-
-  -- of values that agree, one that is seen is the other
-  pub agree_seen : {v u : Labelled} → Agree observer v u → Sees observer v.label → v ≡ u
-  agree_seen (Agree.one s e) p = e
-  agree_seen {v = v} (Agree.hidden h k) p = absurd (not_both v.label p h)
-
-  -- if one is hidden, so is the other
-  pub agree_hidden : {v u : Labelled} → Agree observer v u → Hides observer v.label → Hides observer u.label
-  agree_hidden {v = v} (Agree.one s e) p = absurd (not_both v.label s p)
-  agree_hidden (Agree.hidden h k) p = k
-
-  -- values that are equal agree
-  pub agree_equal : {v u : Labelled} → v ≡ u → Agree observer v u
-  agree_equal {v = v} e = subst (λ (x : Labelled). Agree observer v x) e (agree_refl v)
-
-  -- with hidden labels joined, all values agree
-  pub agree_joined_hidden : (l k : Label) (v u : Labelled) → Hides observer l → Hides observer k → Agree observer (joined l v) (joined k u)
-  agree_joined_hidden l k v u h j = Agree.hidden (hides_second v.label l h) (hides_second u.label k j)
-
-  -- values that agree still do with one label joined to both
-  pub agree_joined : (l : Label) {v u : Labelled} → Agree observer v u → Agree observer (joined l v) (joined l u)
-  agree_joined l (Agree.one s e) = agree_equal (ap (joined l) e)
-  agree_joined l {v = v} {u = u} (Agree.hidden h k) = Agree.hidden (hides_first v.label l h) (hides_first u.label l k)
-
-  -- two pairs of values that agree: each pair is one value, or both unions of their labels are hidden
-  pub data Both (v u x y : Labelled) : Type 0 where
-    equal : v ≡ u → x ≡ y → Both v u x y
-    apart : Hides observer (union v.label x.label) → Hides observer (union u.label y.label) → Both v u x y
-
-  -- values that agree, in two pairs
-  pub both : {v u x y : Labelled} → Agree observer v u → Agree observer x y → Both v u x y
-  both (Agree.one s e) (Agree.one t f) = equal e f
-  both {v} {u} {x} {y} (Agree.hidden h k) r = apart (hides_first v.label x.label h) (hides_first u.label y.label k)
-  both {v} {u} {x} {y} r (Agree.hidden h k) = apart (hides_second v.label x.label h) (hides_second u.label y.label k)
+  -- what a seen label includes is seen
+  pub sees_within : (need have : Label) → within need have ≡ true → Sees observer have → Sees observer need
+  sees_within need have p s = within-trans need have observer p s

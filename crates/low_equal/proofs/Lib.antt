@@ -1,12 +1,18 @@
-pub mod Acts
-pub mod Channels
-pub mod Directs
-pub mod Erased
-pub mod ErasedActs
-pub mod ErasedRuns
-pub mod FrameLaws
-pub mod Labels
-pub mod Lock
-pub mod Observed
-pub mod Runs
-pub mod States
+mod Acts
+mod Agreement
+mod Channels
+mod DeclaredRuns
+mod Directs
+mod Erased
+mod ErasedActs
+mod ErasedRuns
+mod Heaps
+mod Labels
+mod Lines
+mod Observing
+mod Runs
+mod Scopes
+mod Starts
+mod States
+mod Steps
+mod Views

@@ -1,198 +1,90 @@
--- States that an observer can't tell apart: their variables, positions and lines.
-use Rattle.std.proofs.Common.{◌≡◌, ℕ, zero, suc, ◌+◌, List, [], ◌∷◌, ◌++◌, length, Bool, true, false, cond, Option, Some, None, slice_get, slice_index, slice_set, ⊎_elim, refl, sym, ◌∙◌, ap, subst, true≢false, arith, append-nil, length-set, get_or-set_other}
-use Rattle.std.specs.List.{filter}
-use Rattle.std.proofs.lemmas.Bool.{cases_eq}
-use Rattle.std.proofs.lemmas.Option.{same_Some}
-use Rattle.std.proofs.lemmas.List.Elements.{filter-append}
+-- States that an observer can't tell apart, and states that look the same.
+use Rattle.std.proofs.Common.{◌≡◌, ℕ, ◌<◌, List, length, take, refl, sym, ◌∙◌, ap}
 use Rattle.origin_labels.specs.Label.{Label}
-use Rattle.origin_labels.specs.Names.{same_name}
-use Rattle.flow_policy.specs.declared.policy.Channel.{Channel}
 use Rattle.flow_policy.specs.Policies.{Tables}
-use Rattle.flow_frames.specs.Frames.{Frame}
-use Rattle.es_meaning.specs.Bindings.{Binding, Bindings, found, rebound}
-use Rattle.es_meaning.specs.Plain.{positions_behind}
-use Rattle.flow_meaning.specs.Tracked.{Labelled, LabelledLine, State}
-use Rattle.low_equal.specs.LowEqual.{Agree, BindingsAgree, no_bindings, bindings, FramesAgree, seen_lines, labelled_lines, PositionsAgree}
-use Rattle.low_equal.proofs.Labels.{Sees, Hides, not_both, agree_refl, agree_sym, agree_trans}
-use Rattle.low_equal.proofs.FrameLaws.{frames_refl, frames_sym, frames_trans}
+use Rattle.flow_frames.specs.Frames.{Frame, context}
+use Rattle.js_values.specs.Objects.{Object}
+use Rattle.js_values.specs.Records.{Record}
+use Rattle.flow_meaning.specs.Scopes.{Val, LabelledLine, State, cut_to}
+use Rattle.low_equal.specs.Observed.{IsSeen, IsHidden, SameLines}
+use Rattle.low_equal.specs.LowEqual.{Pairing, HeapsAgree, ScopesAgree, PositionsAgree, LowEqual}
+use Rattle.low_equal.specs.Runs.{Same}
+use Rattle.low_equal.proofs.Agreement.{flipped}
+use Rattle.low_equal.proofs.Heaps.{heap_sym}
+use Rattle.low_equal.proofs.Scopes.{scopes_sym}
+use Rattle.low_equal.proofs.Lines.{lines_sym, positions_sym}
+use Rattle.low_equal.proofs.Views.{view, views_seen, views_hidden, views_equal, some_other, view_take, take_some}
 
--- ---- lists
+module _ (observer : Label) (tables : Tables) where
+  pub low_sym : {β : Pairing} {s t : State} → LowEqual observer tables β s t → LowEqual observer tables (flipped β) t s
+  low_sym {s = s} {t = t} r = record {
+    some = some_other observer s.frames t.frames r.frames r.some;
+    counts = sym r.counts;
+    frames = sym r.frames;
+    heap = heap_sym observer r.heap;
+    records = scopes_sym observer r.records;
+    positions = positions_sym observer tables s.positions t.positions r.positions;
+    lines = lines_sym observer tables r.lines;
+  }
 
--- a further element that fails the test changes nothing
-pub filter_hidden : {X : Type 0} (p : X → Bool) (xs : List X) (x : X) → p x ≡ false → filter p xs ≡ filter p (xs ++ x ∷ [])
-filter_hidden p xs x e = sym (filter-append p xs (x ∷ []) ∙ ap (λ (b : Bool). filter p xs ++ cond b (x ∷ []) []) e ∙ append-nil (filter p xs))
+  -- ---- with other parts that agree
 
--- the same further element keeps lists of passing ones equal
-pub filter_both : {X : Type 0} (p : X → Bool) (xs ys : List X) (x : X) → filter p xs ≡ filter p ys → filter p (xs ++ x ∷ []) ≡ filter p (ys ++ x ∷ [])
-filter_both {X} p xs ys x e = filter-append p xs (x ∷ []) ∙ ap (λ (zs : List X). zs ++ filter p (x ∷ [])) e ∙ sym (filter-append p ys (x ∷ []))
+  pub low_frames : {β : Pairing} {s t : State} {fs gs : List Frame} → LowEqual observer tables β s t → 0 < length fs → view observer fs ≡ view observer gs
+      → LowEqual observer tables β (record s { frames = fs }) (record t { frames = gs })
+  low_frames r n e = record { some = n; counts = r.counts; frames = e; heap = r.heap; records = r.records; positions = r.positions; lines = r.lines }
 
--- a number is written at one place of two lists of one length
-set_both : (ps qs : List ℕ) (i n m : ℕ) → length ps ≡ length qs → n ≡ m → slice_index (slice_set ps i n) i ≡ slice_index (slice_set qs i m) i
-set_both [] [] i n m e h = refl
-set_both [] (q ∷ qs) i n m e h = absurd (omega arith)
-set_both (p ∷ ps) [] i n m e h = absurd (omega arith)
-set_both (p ∷ ps) (q ∷ qs) zero n m e h = h
-set_both (p ∷ ps) (q ∷ qs) (suc i) n m e h = set_both ps qs i n m (omega arith) h
+  pub low_heap : {β γ : Pairing} {s t : State} {h g : List (Object Label)} → LowEqual observer tables β s t → HeapsAgree observer γ h g → ScopesAgree observer γ s.records t.records
+      → LowEqual observer tables γ (record s { heap = h }) (record t { heap = g })
+  low_heap r a b = record { some = r.some; counts = r.counts; frames = r.frames; heap = a; records = b; positions = r.positions; lines = r.lines }
 
--- as many positions stand behind a read
-pub length-behind : (i : ℕ) (line : Option (List ℕ)) (ps : List ℕ) → length (positions_behind i line ps) ≡ length ps
-length-behind i (Some text) ps = length-set ps i _
-length-behind i None ps = refl
+  pub low_records : {β : Pairing} {s t : State} {rs qs : List (Record Val)} → LowEqual observer tables β s t → ScopesAgree observer β rs qs
+      → LowEqual observer tables β (record s { records = rs }) (record t { records = qs })
+  low_records r a = record { some = r.some; counts = r.counts; frames = r.frames; heap = r.heap; records = a; positions = r.positions; lines = r.lines }
 
--- a read moves no other position
-behind_other : (i : ℕ) (line : Option (List ℕ)) (ps : List ℕ) (j : ℕ) → (j ≡ i → ⊥) → slice_index (positions_behind i line ps) j ≡ slice_index ps j
-behind_other i (Some text) ps j ne = get_or-set_other ps i j _ 0 ne
-behind_other i None ps j ne = refl
+  pub low_positions : {β : Pairing} {s t : State} {ps qs : List ℕ} → LowEqual observer tables β s t → length ps ≡ length qs → PositionsAgree observer tables ps qs
+      → LowEqual observer tables β (record s { positions = ps }) (record t { positions = qs })
+  low_positions r n a = record { some = r.some; counts = n; frames = r.frames; heap = r.heap; records = r.records; positions = a; lines = r.lines }
 
--- where the same line is read, the positions behind agree
-behind_same : (i : ℕ) (line : Option (List ℕ)) (ps qs : List ℕ) → length ps ≡ length qs → slice_index ps i ≡ slice_index qs i → slice_index (positions_behind i line ps) i ≡ slice_index (positions_behind i line qs) i
-behind_same i (Some text) ps qs l e = set_both ps qs i _ _ l (ap (λ n. n + 1) e)
-behind_same i None ps qs l e = e
+  pub low_lines : {β : Pairing} {s t : State} {ls ms : List LabelledLine} → LowEqual observer tables β s t → SameLines observer tables ls ms
+      → LowEqual observer tables β (record s { lines = ls }) (record t { lines = ms })
+  low_lines r a = record { some = r.some; counts = r.counts; frames = r.frames; heap = r.heap; records = r.records; positions = r.positions; lines = a }
 
-module _ (observer : Label) where
-  -- ---- variables
+  pub low_turns : {β : Pairing} {s t : State} (n m : ℕ) → LowEqual observer tables β s t → LowEqual observer tables β (record s { turns = n }) (record t { turns = m })
+  low_turns n m r = record { some = r.some; counts = r.counts; frames = r.frames; heap = r.heap; records = r.records; positions = r.positions; lines = r.lines }
 
-  -- bindings agree with themselves
-  pub bindings_refl : (bs : Bindings Labelled) → BindingsAgree observer bs bs
-  bindings_refl [] = no_bindings
-  bindings_refl (b ∷ bs) = bindings refl refl (agree_refl observer b.value) (bindings_refl bs)
+  -- ---- frames of states that look alike
 
-  -- agreement goes both ways
-  pub bindings_sym : {bs cs : Bindings Labelled} → BindingsAgree observer bs cs → BindingsAgree observer cs bs
-  bindings_sym no_bindings = no_bindings
-  bindings_sym (bindings n m a r) = bindings (sym n) (sym m) (agree_sym observer a) (bindings_sym r)
+  pub low_hidden : {β : Pairing} {s t : State} → LowEqual observer tables β s t → IsHidden observer s → IsHidden observer t
+  low_hidden {s = s} {t = t} r h = views_hidden observer s.frames t.frames r.frames h
 
-  -- agreement goes on
-  pub bindings_trans : {bs cs ds : Bindings Labelled} → BindingsAgree observer bs cs → BindingsAgree observer cs ds → BindingsAgree observer bs ds
-  bindings_trans no_bindings q = q
-  bindings_trans (bindings n m a r) (bindings k l b q) = bindings (n ∙ k) (m ∙ l) (agree_trans observer a b) (bindings_trans r q)
+  pub low_seen : {β : Pairing} {s t : State} → LowEqual observer tables β s t → IsSeen observer s → IsSeen observer t
+  low_seen {s = s} {t = t} r v = views_seen observer s.frames t.frames r.frames v
 
-  -- what is found for a name in bindings that agree
-  pub data FoundAgree : Option (Binding Labelled) → Option (Binding Labelled) → Type 0 where
-    neither : FoundAgree None None
-    each : {b c : Binding Labelled} → b.mutable ≡ c.mutable → Agree observer b.value c.value → FoundAgree (Some b) (Some c)
+  pub same_frames : {β : Pairing} {s t : State} → LowEqual observer tables β s t → IsSeen observer s → s.frames ≡ t.frames
+  same_frames {s = s} {t = t} r v = views_equal observer s.frames t.frames r.frames v
 
-  -- a test of both
-  found_by : (x y : Bool) {b c o p : Option (Binding Labelled)} → x ≡ y → FoundAgree b c → FoundAgree o p → FoundAgree (cond x b o) (cond y c p)
-  found_by true true e r q = r
-  found_by false false e r q = q
-  found_by true false e r q = absurd (true≢false e)
-  found_by false true e r q = absurd (true≢false (sym e))
+  pub same_context : {β : Pairing} {s t : State} → LowEqual observer tables β s t → IsSeen observer s → context s.frames ≡ context t.frames
+  same_context r v = ap context (same_frames r v)
 
-  -- bindings that agree give a name what agrees
-  pub found_agree : (name : List ℕ) {bs cs : Bindings Labelled} → BindingsAgree observer bs cs → FoundAgree (found name bs) (found name cs)
-  found_agree name no_bindings = neither
-  found_agree name (bindings n m a r) = found_by _ _ (ap (λ (x : List ℕ). same_name x name) n) (each m a) (found_agree name r)
+  pub low_cut : {β : Pairing} {s t : State} (d : ℕ) → 0 < d → LowEqual observer tables β s t → LowEqual observer tables β (cut_to d s) (cut_to d t)
+  low_cut {s = s} {t = t} d n r = low_frames r (take_some d s.frames n r.some) (view_take observer d s.frames ∙ ap (take d) r.frames ∙ sym (view_take observer d t.frames))
 
-  -- a test of both
-  rebound_by : (x y : Bool) {bs cs ds es : Bindings Labelled} → x ≡ y → BindingsAgree observer bs cs → BindingsAgree observer ds es → BindingsAgree observer (cond x bs ds) (cond y cs es)
-  rebound_by true true e r q = r
-  rebound_by false false e r q = q
-  rebound_by true false e r q = absurd (true≢false e)
-  rebound_by false true e r q = absurd (true≢false (sym e))
+  -- ---- states that look the same
 
-  -- a name is given values that agree
-  pub rebound_both : (name : List ℕ) {v u : Labelled} {bs cs : Bindings Labelled} → Agree observer v u → BindingsAgree observer bs cs → BindingsAgree observer (rebound name v bs) (rebound name u cs)
-  rebound_both name h no_bindings = no_bindings
-  rebound_both name h (bindings n m a r) = rebound_by _ _ (ap (λ (x : List ℕ). same_name x name) n) (bindings n m h r) (bindings n m a (rebound_both name h r))
+  pub same_refl : (s : State) → Same observer tables s s
+  same_refl s = record { looks = λ β u r. r; frames = refl }
 
-  -- a name whose value is hidden is given a hidden one
-  pub rebound_hidden : (name : List ℕ) (v : Labelled) (b : Binding Labelled) (bs : Bindings Labelled) → Hides observer v.label → found name bs ≡ Some b → Hides observer b.value.label → BindingsAgree observer bs (rebound name v bs)
-  rebound_hidden name v b [] h e k = no_bindings
-  rebound_hidden name v b (x ∷ bs) h e k = go (same_name x.name name) e (rebound_hidden name v b bs h)
-    where
-      go : (test : Bool) → cond test (Some x) (found name bs) ≡ Some b → (found name bs ≡ Some b → Hides observer b.value.label → BindingsAgree observer bs (rebound name v bs))
-          → BindingsAgree observer (x ∷ bs) (cond test (record x { value = v } ∷ bs) (x ∷ rebound name v bs))
-      go true f r = bindings refl refl (Agree.hidden (subst (λ (y : Binding Labelled). Hides observer y.value.label) (sym (same_Some x b f)) k) h) (bindings_refl bs)
-      go false f r = bindings refl refl (agree_refl observer x.value) (r f k)
+  pub same_trans : {s t u : State} → Same observer tables s t → Same observer tables t u → Same observer tables s u
+  same_trans h k = record { looks = λ β v r. k.looks β v (h.looks β v r); frames = h.frames ∙ k.frames }
 
-  module _ (tables : Tables) where
-    -- ---- positions
+  pub same_right : {s t : State} → Same observer tables s t → (β : Pairing) (u : State) → LowEqual observer tables β u s → LowEqual observer tables β u t
+  same_right h β u r = low_sym (h.looks (flipped β) u (low_sym r))
 
-    -- a read of a hidden channel can't be told
-    pub positions_hidden : (i : ℕ) (c : Channel) (line : Option (List ℕ)) (ps : List ℕ) → slice_get tables.inputs i ≡ Some c → Hides observer c.label → PositionsAgree observer tables ps (positions_behind i line ps)
-    positions_hidden i c line ps at h j d at_j s = ⊎_elim (λ e. absurd (same e)) (λ ne. sym (behind_other i line ps j ne)) (cases_eq j i)
-      where
-        same : j ≡ i → ⊥
-        same e = not_both observer c.label (subst (λ (x : Channel). Sees observer x.label) (same_Some d c (sym at_j ∙ ap (slice_get tables.inputs) e ∙ at)) s) h
+  pub same_hidden : {s t : State} → Same observer tables s t → IsHidden observer s → IsHidden observer t
+  same_hidden {s} {t} h p = views_hidden observer s.frames t.frames h.frames p
 
-    -- a read of one line on both sides
-    pub positions_both : (i : ℕ) (c : Channel) (line : Option (List ℕ)) (ps qs : List ℕ) → slice_get tables.inputs i ≡ Some c → Sees observer c.label → length ps ≡ length qs → PositionsAgree observer tables ps qs
-        → PositionsAgree observer tables (positions_behind i line ps) (positions_behind i line qs)
-    positions_both i c line ps qs at s l r j d at_j t = ⊎_elim (λ e. same e) (λ ne. behind_other i line ps j ne ∙ r j d at_j t ∙ sym (behind_other i line qs j ne)) (cases_eq j i)
-      where
-        same : j ≡ i → slice_index (positions_behind i line ps) j ≡ slice_index (positions_behind i line qs) j
-        same e = subst (λ k. slice_index (positions_behind i line ps) k ≡ slice_index (positions_behind i line qs) k) (sym e) (behind_same i line ps qs l (r i c at s))
+  pub same_with : {s : State} {fs : List Frame} → (0 < length s.frames → 0 < length fs) → view observer fs ≡ view observer s.frames → Same observer tables s (record s { frames = fs })
+  same_with n e = record { looks = λ β u r. low_frames r (n r.some) (e ∙ r.frames); frames = sym e }
 
-    -- ---- states
-
-    -- the observer can't tell the states, which have so many frames and as many positions
-    pub record Level (d : ℕ) (s t : State) : Type 0 where
-      pub first : length s.frames ≡ d
-      pub second : length t.frames ≡ d
-      pub frames : FramesAgree observer s.frames t.frames
-      pub variables : BindingsAgree observer s.variables t.variables
-      pub counts : length s.positions ≡ length t.positions
-      pub positions : PositionsAgree observer tables s.positions t.positions
-      pub on_channels : seen_lines observer tables s.lines ≡ seen_lines observer tables t.lines
-      pub by_labels : labelled_lines observer s.lines ≡ labelled_lines observer t.lines
-
-    -- a state is level with itself
-    pub level_refl : (d : ℕ) (s : State) → length s.frames ≡ d → Level d s s
-    level_refl d s e = record {
-      first = e;
-      second = e;
-      frames = frames_refl observer s.frames;
-      variables = bindings_refl s.variables;
-      counts = refl;
-      positions = λ i c at p. refl;
-      on_channels = refl;
-      by_labels = refl;
-    }
-
-    -- it goes both ways
-    pub level_sym : {d : ℕ} {s t : State} → Level d s t → Level d t s
-    level_sym r = record {
-      first = r.second;
-      second = r.first;
-      frames = frames_sym observer r.frames;
-      variables = bindings_sym r.variables;
-      counts = sym r.counts;
-      positions = λ i c at p. sym (r.positions i c at p);
-      on_channels = sym r.on_channels;
-      by_labels = sym r.by_labels;
-    }
-
-    -- and goes on
-    pub level_trans : {d : ℕ} {s t u : State} → Level d s t → Level d t u → Level d s u
-    level_trans r q = record {
-      first = r.first;
-      second = q.second;
-      frames = frames_trans observer r.frames q.frames;
-      variables = bindings_trans r.variables q.variables;
-      counts = r.counts ∙ q.counts;
-      positions = λ i c at p. r.positions i c at p ∙ q.positions i c at p;
-      on_channels = r.on_channels ∙ q.on_channels;
-      by_labels = r.by_labels ∙ q.by_labels;
-    }
-
-    -- with other frames that agree
-    pub level_frames : {d e : ℕ} {s t : State} (fs gs : List Frame) → Level d s t → FramesAgree observer fs gs → length fs ≡ e → length gs ≡ e → Level e (record s { frames = fs }) (record t { frames = gs })
-    level_frames fs gs r a x y = record { first = x; second = y; frames = a; variables = r.variables; counts = r.counts; positions = r.positions; on_channels = r.on_channels; by_labels = r.by_labels }
-
-    -- with other variables that agree
-    pub level_variables : {d : ℕ} {s t : State} (bs cs : Bindings Labelled) → Level d s t → BindingsAgree observer bs cs → Level d (record s { variables = bs }) (record t { variables = cs })
-    level_variables bs cs r a = record { first = r.first; second = r.second; frames = r.frames; variables = a; counts = r.counts; positions = r.positions; on_channels = r.on_channels; by_labels = r.by_labels }
-
-    -- with other positions that agree
-    pub level_positions : {d : ℕ} {s t : State} (ps qs : List ℕ) → Level d s t → PositionsAgree observer tables ps qs → length ps ≡ length qs → Level d (record s { positions = ps }) (record t { positions = qs })
-    level_positions ps qs r a l = record { first = r.first; second = r.second; frames = r.frames; variables = r.variables; counts = l; positions = a; on_channels = r.on_channels; by_labels = r.by_labels }
-
-    -- with other lines of which the observer sees the same
-    pub level_lines : {d : ℕ} {s t : State} (ls ms : List LabelledLine) → Level d s t → seen_lines observer tables ls ≡ seen_lines observer tables ms
-        → labelled_lines observer ls ≡ labelled_lines observer ms → Level d (record s { lines = ls }) (record t { lines = ms })
-    level_lines ls ms r a b = record { first = r.first; second = r.second; frames = r.frames; variables = r.variables; counts = r.counts; positions = r.positions; on_channels = a; by_labels = b }
-
-    -- with other turns
-    pub level_turns : {d : ℕ} {s t : State} (n m : ℕ) → Level d s t → Level d (record s { turns = n }) (record t { turns = m })
-    level_turns n m r = record { first = r.first; second = r.second; frames = r.frames; variables = r.variables; counts = r.counts; positions = r.positions; on_channels = r.on_channels; by_labels = r.by_labels }
+  pub same_turns : {s : State} (n : ℕ) → Same observer tables s (record s { turns = n })
+  same_turns n = record { looks = λ β u r. record { some = r.some; counts = r.counts; frames = r.frames; heap = r.heap; records = r.records; positions = r.positions; lines = r.lines }; frames = refl }

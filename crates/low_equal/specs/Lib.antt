@@ -1,3 +1,6 @@
+pub mod Declared
 pub mod Erasure
-pub mod Isolation
+pub mod Laws
 pub mod LowEqual
+pub mod Observed
+pub mod Runs

@@ -3,4 +3,4 @@
 
 mod laws;
 
-pub use laws::{confinement, erasure, isolation, lockstep};
+pub use laws::{confinement, declared, erasure, lockstep, two_runs};

@@ -1,4 +1,4 @@
-use Rattle.low_equal.proofs.Runs.{confinement}
+use Rattle.low_equal.proofs.Observing.{confinement}
 use Rattle.low_equal.proofs.laws.confinement.Goals as goal
 
 pub returns : goal.returns

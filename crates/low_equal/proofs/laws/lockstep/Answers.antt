@@ -1,4 +1,4 @@
-use Rattle.low_equal.proofs.Runs.{lockstep}
+use Rattle.low_equal.proofs.Observing.{lockstep}
 use Rattle.low_equal.proofs.laws.lockstep.Goals as goal
 
 pub returns : goal.returns

@@ -1,0 +1,3 @@
+pub mod ChainLaws
+mod IndexLaws
+pub mod ReadingLaws

@@ -1,0 +1,391 @@
+-- Two labelled readings are linked by what an observer can tell: in worlds in which the runs are in step, and in that in which each goes by itself.
+use Rattle.std.proofs.Common.{◌≡◌, ℕ, zero, suc, List, [], ◌∷◌, Bool, true, false, Option, refl, ap, subst}
+use Rattle.origin_labels.specs.Label.{Label, bottom}
+use Rattle.flow_policy.specs.Policies.{Tables}
+use Rattle.flow_policy.specs.Inputs.{Given}
+use Rattle.flow_policy.specs.Observed as policy
+use Rattle.flow_frames.specs.declared.kind.Kind.TheVariants as kind
+use Rattle.js_values.specs.declared.value.Value.{Value}
+use Rattle.js_values.specs.declared.value.Value.TheVariants as value
+use Rattle.es_meaning.specs.Outcomes.{ret, ◌>>=◌}
+use Rattle.es_meaning.specs.Environments.{Env, with_around}
+use Rattle.es_meaning.specs.Operations.{Ty, One, Res}
+use Rattle.es_meaning.specs.Operations.{Value as a_value}
+use Rattle.es_meaning.specs.Operators.{is_object, truth, converts_beside}
+use Rattle.js_ast.specs.Trees.{Statements}
+use Rattle.es_meaning.specs.Evaluation.{eval, program_step}
+use Rattle.es_meaning.specs.Plain.{choose, Reference, resolved}
+use Rattle.es_meaning.proofs.Link as link
+use Rattle.es_meaning.proofs.Link.{Rel, Rels, nils, conses, Link, Linked, linked, ticking_linked, statements_linked}
+use Rattle.flow_meaning.specs.Erased.{unlabelled}
+use Rattle.flow_meaning.specs.Scopes.{Val, L, Came, Left, given_by, settled, fork, round_kind, round, again}
+use Rattle.flow_meaning.specs.Tracked.{labelled, timed}
+use Rattle.low_equal.specs.Observed.{Sees}
+use Rattle.low_equal.specs.LowEqual.{Pairing, Extends, seen, hidden, SameValue, primitives, objects, Agree}
+use Rattle.low_equal.specs.Runs.{Confined, Lockstep}
+use Rattle.low_equal.specs.Laws.{EnvsAgree, Nothing, IsConfining, IsLockstep}
+use Rattle.low_equal.proofs.Labels.{hides_second, sees_bottom}
+use Rattle.low_equal.proofs.Agreement.{extends_refl, extends_trans, agree_more, agree_joined, agree_seen, label_alike}
+use Rattle.low_equal.proofs.Scopes.{ReferencesAgree, resolved_agree}
+use Rattle.low_equal.proofs.Lines.{front_refl}
+use Rattle.low_equal.proofs.Steps.{CameAgree, both_ended, both_caught, LeftAgree, conf_ret, conf_ends, conf_bind, conf_scope, lock_ret, lock_bind, lock_scope, ends_first, ends_second}
+use Rattle.low_equal.proofs.Acts.{conf_jump, conf_raise, lock_raise, conf_tick, lock_tick, conf_given, conf_unary, lock_unary, lock_binary, conf_unless, lock_unless, conf_get, lock_get, conf_typeof, lock_typeof, conf_put, lock_put, references_more, undefined_agree}
+use Rattle.low_equal.proofs.Directs.{conf_direct, lock_direct}
+
+-- the runs are in step, with these pairs; or each goes by itself
+pub data World : Type 0 where
+  Together : Pairing → World
+  Apart : World
+
+pub data Le : World → World → Type 0 where
+  grows : {β γ : Pairing} → Extends β γ → Le (Together β) (Together γ)
+  parts : {w : World} → Le w Apart
+
+le_itself : (w : World) → Le w w
+le_itself (Together β) = grows (extends_refl β)
+le_itself Apart = parts
+
+le_along : {u v w : World} → Le u v → Le v w → Le u w
+le_along (grows p) (grows q) = grows (extends_trans p q)
+le_along (grows p) parts = parts
+le_along parts parts = parts
+
+le_extends : {β γ : Pairing} → Le (Together β) (Together γ) → Extends β γ
+le_extends (grows p) = p
+
+-- what is related in a world
+pub data Related {V : Type 0} (R : Pairing → V → V → Type 0) : World → V → V → Type 0 where
+  related : {β : Pairing} {v u : V} → R β v u → Related R (Together β) v u
+  any : {v u : V} → Related R Apart v u
+
+related_in : {V : Type 0} {R : Pairing → V → V → Type 0} {β : Pairing} {v u : V} → Related R (Together β) v u → R β v u
+related_in (related r) = r
+
+more_related : {V : Type 0} {R : Pairing → V → V → Type 0} {w w' : World} {v u : V} → ((β γ : Pairing) → Extends β γ → R β v u → R γ v u) → Le w w' → Related R w v u → Related R w' v u
+more_related h (grows p) (related r) = related (h _ _ p r)
+more_related h parts r = any
+
+abbrev PairedRecords : Pairing → ℕ → ℕ → Type 0
+PairedRecords β i j = β.records i j ≡ true
+
+envs_more : {β γ : Pairing} {e d : Env ℕ} → Extends β γ → EnvsAgree β e d → EnvsAgree γ e d
+envs_more h r = record { place = h.records _ _ r.place; call = r.call; around = r.around }
+
+-- one truth of values that are the same
+truth_same : {β : Pairing} {v u : Value} → SameValue β v u → truth v ≡ truth u
+truth_same primitives = refl
+truth_same (objects p) = refl
+
+module _ (observer : Label) (tables : Tables) where
+  -- results that agree
+  abbrev Results : (t : Ty) → Pairing → Res Val t → Res Val t → Type 0
+  Results One β a b = Unit {0}
+  Results a_value β a b = Agree observer β a b
+
+  abbrev Step : (t : Ty) → World → L (Res Val t) → L (Res Val t) → Type 0
+  Step t (Together β) m n = Lockstep observer tables (Results t) β m n
+  Step t Apart m n = Unit {0}
+
+  -- both are confined, and go in step where they are together
+  pub record Lift (t : Ty) (w : World) (m n : L (Res Val t)) : Type 0 where
+    pub left : Confined observer tables m
+    pub right : Confined observer tables n
+    pub step : Step t w m n
+
+  any_result : (t : Ty) (a b : Res Val t) → Rel (Related (Agree observer)) t Apart a b
+  any_result One a b = tt
+  any_result a_value a b = any
+
+  result : (t : Ty) (β : Pairing) (a b : Res Val t) → Results t β a b → Rel (Related (Agree observer)) t (Together β) a b
+  result One β a b p = tt
+  result a_value β a b p = related p
+
+  -- a step of two runs is only asked where they are together
+  lift : {t : Ty} {m n : L (Res Val t)} (w : World) → Confined observer tables m → Confined observer tables n → ((β : Pairing) → Le w (Together β) → Lockstep observer tables (Results t) β m n) → Lift t w m n
+  lift (Together β) c d h = record { left = c; right = d; step = h β (grows (extends_refl β)) }
+  lift Apart c d h = record { left = c; right = d; step = tt }
+
+  lock_of : {t : Ty} {m n : L (Res Val t)} {w : World} {β : Pairing} → Le w (Together β) → Lift t w m n → Lockstep observer tables (Results t) β m n
+  lock_of {w = Together γ} e l = record { steps = λ δ d s t r v. l.step.steps δ (extends_trans (le_extends e) d) s t r v }
+  lock_of {w = Apart} e l = elim e [ ]
+
+  bind_link : (t u : Ty) {w : World} {m n : L (Res Val t)} (f g : Res Val t → L (Res Val u)) → Lift t w m n
+      → ((w' : World) → Le w w' → (a b : Res Val t) → Rel (Related (Agree observer)) t w' a b → Lift u w' (f a) (g b)) → Lift u w (m >>= f) (n >>= g)
+  bind_link t u {w = w} f g l h =
+      let cf : (a : Res Val t) → Confined observer tables (f a) = λ a. (h Apart parts a a (any_result t a a)).left in
+      let cg : (a : Res Val t) → Confined observer tables (g a) = λ a. (h Apart parts a a (any_result t a a)).right in
+      lift w (conf_bind observer tables f l.left cf) (conf_bind observer tables g l.right cg)
+      (λ β e. lock_bind observer tables (Results t) (Results u) f g (lock_of e l) cf cg (λ γ d a b p. (h (Together γ) (le_along e (grows d)) a b (result t γ a b p)).step))
+
+  -- an act of which both laws are known
+  act : {t : Ty} (w : World) {m n : L (Res Val t)} → Confined observer tables m → Confined observer tables n → ((β : Pairing) → Le w (Together β) → Lockstep observer tables (Results t) β m n) → Lift t w m n
+  act w c d h = lift w c d h
+
+  value_in : {w : World} {v u : Val} {β : Pairing} → Le w (Together β) → Related (Agree observer) w v u → Agree observer β v u
+  value_in e r = related_in (more_related (λ β γ h q. agree_more observer h q) e r)
+
+  reference_in : {w : World} {n m : Reference} {β : Pairing} → Le w (Together β) → Related ReferencesAgree w n m → ReferencesAgree β n m
+  reference_in e r = related_in (more_related (λ β γ h q. references_more observer tables h q) e r)
+
+  place_in : {w : World} {i j : ℕ} {β : Pairing} → Le w (Together β) → Related PairedRecords w i j → β.records i j ≡ true
+  place_in e r = related_in (more_related (λ β γ h p. h.records _ _ p) e r)
+
+  env_in : {w : World} {e d : Env ℕ} {β : Pairing} → Le w (Together β) → Related EnvsAgree w e d → EnvsAgree β e d
+  env_in l r = related_in (more_related (λ β γ h q. envs_more h q) l r)
+
+  rels_in : {w : World} {vs us : List Val} {β : Pairing} → Le w (Together β) → Rels (Related (Agree observer) w) vs us → Rels (Agree observer β) vs us
+  rels_in e nils = nils
+  rels_in e (conses r q) = conses (value_in e r) (rels_in e q)
+
+  -- ---- scopes
+
+  conf_choose : {X : Type 0} {m n : L X} (b : Bool) → Confined observer tables m → Confined observer tables n → Confined observer tables (choose b m n)
+  conf_choose true c d = c
+  conf_choose false c d = d
+
+  -- where a value is seen, the same is chosen
+  pick : (t : Ty) (b c : Bool) {m n m' n' : L (Res Val t)} (β : Pairing) → Lockstep observer tables (Results t) β m m' → Lockstep observer tables (Results t) β n n' → b ≡ c → Lockstep observer tables (Results t) β (choose b m n) (choose c m' n')
+  pick t b c {m} {n} {m'} {n'} β l k p = subst (λ x. Lockstep observer tables (Results t) β (choose b m n) (choose x m' n')) p (go b)
+    where
+      go : (x : Bool) → Lockstep observer tables (Results t) β (choose x m n) (choose x m' n')
+      go true = l
+      go false = k
+
+  truth_seen : {β : Pairing} {v u : Val} → Agree observer β v u → Sees observer v.label → truth v.value ≡ truth u.value
+  truth_seen r p = truth_same (agree_seen observer r p)
+
+  -- what a branch gives
+  settled_both : (t : Ty) {γ : Pairing} (c d : Left (Res Val t)) → LeftAgree observer tables (Results t) γ c d → Results t γ (settled t c) (settled t d)
+  settled_both One c d r = tt
+  settled_both a_value c d (hidden h k) = hidden (hides_second observer (given_by a_value c.how).label c.label h) (hides_second observer (given_by a_value d.how).label d.label k)
+  settled_both a_value c d (seen p e r) = agree_joined observer (seen p e tt) (given_both r)
+    where
+      given_both : {γ : Pairing} {x y : Came Val} → CameAgree observer tables (Agree observer) γ x y → Agree observer γ (given_by a_value x) (given_by a_value y)
+      given_both (both_ended q) = q
+      given_both (both_caught q) = undefined_agree observer tables
+
+  fork_link : (t : Ty) {w : World} {v u : Val} {m n m' n' : L (Res Val t)} → Related (Agree observer) w v u → ((w' : World) → Le w w' → Lift t w' m m') → ((w' : World) → Le w w' → Lift t w' n n') → Lift t w (fork t v m n) (fork t u m' n')
+  fork_link t {w} {v} {u} {m} {n} {m'} {n'} r l k =
+      let a = l w (le_itself w) in
+      let b = k w (le_itself w) in
+      let c : (d : ℕ) → Confined observer tables (choose (truth v.value) m n) = λ d. conf_choose (truth v.value) a.left b.left in
+      let c' : (d : ℕ) → Confined observer tables (choose (truth u.value) m' n') = λ d. conf_choose (truth u.value) a.right b.right in
+      let f : Left (Res Val t) → L (Res Val t) = λ x. ret (settled t x) in
+      lift w (conf_bind observer tables f (conf_scope observer tables kind.Branch v.label c) (λ x. conf_ret observer tables (settled t x)))
+      (conf_bind observer tables f (conf_scope observer tables kind.Branch u.label c') (λ x. conf_ret observer tables (settled t x)))
+      (λ β e. let q = value_in e r in
+      lock_bind observer tables (LeftAgree observer tables (Results t)) (Results t) f f
+      (lock_scope observer tables (Results t) kind.Branch (label_alike observer q) c c' (λ p d. pick t (truth v.value) (truth u.value) β (lock_of e a) (lock_of e b) (truth_seen q p)))
+      (λ x. conf_ret observer tables (settled t x)) (λ x. conf_ret observer tables (settled t x))
+      (λ γ d x y z. lock_ret observer tables (Results t) γ (λ δ g. more_left t (settled t x) (settled t y) g (settled_both t x y z))))
+    where
+      more_left : (t : Ty) {γ δ : Pairing} (a b : Res Val t) → Extends γ δ → Results t γ a b → Results t δ a b
+      more_left One a b g z = tt
+      more_left a_value a b g z = agree_more observer g z
+
+  round_link : {w : World} (turn : Bool) (labels : List (Option (List ℕ))) {e d : Env ℕ} (k k' : Env ℕ → L (Unit {0})) → Related EnvsAgree w e d
+      → ((w' : World) (e' d' : Env ℕ) → Related EnvsAgree w' e' d' → Lift One w' (k e') (k' d')) → Lift One w (round turn labels e k) (round turn labels d k')
+  round_link {w} turn labels {e} {d} k k' r h =
+      let c : (n : ℕ) → Confined observer tables (k (with_around turn labels n e)) = λ n. (h Apart (with_around turn labels n e) (with_around turn labels n e) any).left in
+      let c' : (n : ℕ) → Confined observer tables (k' (with_around turn labels n d)) = λ n. (h Apart (with_around turn labels n d) (with_around turn labels n d) any).right in
+      let f : Left (Unit {0}) → L (Unit {0}) = λ x. ret tt in
+      lift w (conf_bind observer tables f (conf_scope observer tables (round_kind turn) bottom c) (λ x. conf_ret observer tables tt)) (conf_bind observer tables f (conf_scope observer tables (round_kind turn) bottom c') (λ x. conf_ret observer tables tt))
+      (λ β l. let q = env_in l r in
+      lock_bind observer tables (LeftAgree observer tables Nothing) Nothing f f
+      (lock_scope observer tables Nothing (round_kind turn) (seen (sees_bottom observer) refl tt) c c'
+      (λ p n. (h (Together β) (with_around turn labels n e) (with_around turn labels n d) (related (record { place = q.place; call = q.call; around = ap (λ x. record { labels = labels; turn = turn; to = n } ∷ x) q.around }))).step))
+      (λ x. conf_ret observer tables tt) (λ x. conf_ret observer tables tt) (λ γ x a b z. lock_ret observer tables Nothing γ (λ δ g. tt)))
+
+  again_link : {w : World} {v u : Val} {m n m' n' : L (Unit {0})} → Related (Agree observer) w v u → Lift One w m m' → Lift One w n n' → Lift One w (again v m n) (again u m' n')
+  again_link {w} {v} {u} {m} {n} {m'} {n'} r l k =
+      let c = conf_choose (truth v.value) l.left k.left in
+      let d = conf_choose (truth u.value) l.right k.right in
+      lift w (conf_bind observer tables _ (conf_raise observer tables v.label) (λ a. c)) (conf_bind observer tables _ (conf_raise observer tables u.label) (λ a. d))
+      (λ β e. let q = value_in e r in
+      lock_bind observer tables (λ γ a b. truth v.value ≡ truth u.value) Nothing _ _ (lock_raise observer tables (truth v.value ≡ truth u.value) (label_alike observer q) (truth_seen q)) (λ a. c) (λ a. d)
+      (λ γ x a b p. pick One (truth v.value) (truth u.value) γ (lock_of (le_along e (grows x)) l) (lock_of (le_along e (grows x)) k) p))
+
+  -- ---- names
+
+  resolve_link : (t : Ty) {w : World} {i j : ℕ} (x : List ℕ) (k k' : Reference → L (Res Val t)) → Related PairedRecords w i j
+      → ((w' : World) → Le w w' → (n n' : Reference) → Related ReferencesAgree w' n n' → Lift t w' (k n) (k' n')) → Lift t w (λ s. k (resolved s.records i x) s) (λ s. k' (resolved s.records j x) s)
+  resolve_link t {w} {i} {j} x k k' r h =
+      let c : (n : Reference) → Confined observer tables (k n) = λ n. (h Apart parts n n any).left in
+      let d : (n : Reference) → Confined observer tables (k' n) = λ n. (h Apart parts n n any).right in
+      lift w
+      (record { still = λ s p. (c (resolved s.records i x)).still s p; fits = λ s. (c (resolved s.records i x)).fits s; adds = λ s. (c (resolved s.records i x)).adds s })
+      (record { still = λ s p. (d (resolved s.records j x)).still s p; fits = λ s. (d (resolved s.records j x)).fits s; adds = λ s. (d (resolved s.records j x)).adds s })
+      (λ β e. record {
+        steps = λ γ g s u l v.
+            let a = resolved_agree observer γ x {i = i} {j = j} l.records (g.records i j (place_in e r)) in
+            (h (Together γ) (le_along e (grows g)) (resolved s.records i x) (resolved u.records j x) (related a)).step.steps γ (extends_refl γ) s u l v;
+      })
+
+  module _ (first second : Given) (agree : policy.Agree observer tables first second) where
+    -- the labelled meanings on two inputs
+    pub observed : Link (labelled tables first) (labelled tables second)
+    observed = record {
+      W = World;
+      Le = Le;
+      RV = Related (Agree observer);
+      RN = Related ReferencesAgree;
+      RP = Related PairedRecords;
+      RE = Related EnvsAgree;
+      Lift = Lift;
+      le_refl = le_itself;
+      le_trans = le_along;
+      more_v = λ l r. more_related (λ β γ h q. agree_more observer h q) l r;
+      more_n = λ l r. more_related (λ β γ h q. references_more observer tables h q) l r;
+      more_p = λ l r. more_related (λ β γ h p. h.records _ _ p) l r;
+      more_e = λ l r. more_related (λ β γ h q. envs_more h q) l r;
+      place_of = place_of_env;
+      ret_one = λ w. lift w (conf_ret observer tables tt) (conf_ret observer tables tt) (λ β e. lock_ret observer tables (Results One) β (λ γ d. tt));
+      ret_value = λ {w = w} {a = a} {b = b} r. lift w (conf_ret observer tables a) (conf_ret observer tables b) (λ β e. lock_ret observer tables (Results a_value) β (λ γ d. agree_more observer d (value_in e r)));
+      bind = bind_link;
+      literal = literal_in;
+      unary = λ {w = w} o {v = v} {v' = u} r. lift w (conf_unary observer tables o v) (conf_unary observer tables o u) (λ β e. lock_unary observer tables o (value_in e r));
+      binary = λ {w = w} o r q. lift w (conf_given observer tables _ _) (conf_given observer tables _ _) (λ β e. lock_binary observer tables o (value_in e r) (value_in e q));
+      primitive = λ {w = w} hint {v = v} {v' = u} r. lift w (conf_unless observer tables (is_object v.value) v) (conf_unless observer tables (is_object u.value) u) (λ β e. lock_unless observer tables (is_object v.value) (is_object u.value) (value_in e r));
+      comparable = λ {w = w} {v = v} {u = u} {v' = v'} {u' = u'} r q. lift w (conf_unless observer tables (converts_beside v.value u.value) v) (conf_unless observer tables (converts_beside v'.value u'.value) v')
+          (λ β e. lock_unless observer tables (converts_beside v.value u.value) (converts_beside v'.value u'.value) (value_in e r));
+      direct = λ {w = w} f r. lift w (conf_direct observer tables first f _) (conf_direct observer tables second f _) (λ β e. lock_direct observer tables first second agree f (rels_in e r));
+      unbuilt = λ t w. lift w (conf_ends observer tables _) (conf_ends observer tables _) (λ β e. record { steps = λ γ d s u r v. ends_first observer tables (Results t) r (front_refl u.lines) });
+      resolve = resolve_link;
+      get_name = λ {w = w} {n = n} {n' = m} k k' r h. lift w (conf_get observer tables n) (conf_get observer tables m) (λ β e. lock_get observer tables (reference_in e r));
+      typeof_name = λ {w = w} {n = n} {n' = m} k k' r h. lift w (conf_typeof observer tables n) (conf_typeof observer tables m) (λ β e. lock_typeof observer tables (reference_in e r));
+      put_name = λ {w = w} {n = n} {n' = m} {v = v} {v' = u} k k' r q h. lift w (conf_put observer tables n.place n.name v) (conf_put observer tables m.place m.name u) (λ β e. lock_put observer tables (reference_in e r) (value_in e q));
+      fork = fork_link;
+      round = round_link;
+      again = again_link;
+    }
+      where
+        place_of_env : {w : World} {e d : Env ℕ} → Related EnvsAgree w e d → Related PairedRecords w e.place d.place
+        place_of_env (related r) = related r.place
+        place_of_env any = any
+
+        literal_in : (w : World) (v : Rattle.js_number.specs.declared.primitive.Primitive.Primitive) → Related (Agree observer) w (unlabelled (value.Primitive v)) (unlabelled (value.Primitive v))
+        literal_in (Together β) v = related (seen (sees_bottom observer) refl primitives)
+        literal_in Apart v = any
+
+    ticks : (w : World) → Lift One w (timed tables first).tick (timed tables second).tick
+    ticks w = lift w (conf_tick observer tables) (conf_tick observer tables) (λ β e. lock_tick observer tables β)
+
+    out_of : (t : Ty) (w : World) → Lift t w ((timed tables first).ended t) ((timed tables second).ended t)
+    out_of t w = lift w (conf_ends observer tables _) (conf_ends observer tables _) (λ β e. record { steps = λ γ d s u r v. ends_first observer tables (Results t) r (front_refl u.lines) })
+
+    -- where the depth of one is at its end
+    first_ended : {t : Ty} (w : World) {n : L (Res Val t)} → Confined observer tables n → Lift t w ((timed tables first).ended t) n
+    first_ended {t} w {n} c = lift w (conf_ends observer tables _) c (λ β e. record { steps = λ γ d s u r v. ends_first observer tables (Results t) r (c.adds u) })
+
+    second_ended : {t : Ty} (w : World) {m : L (Res Val t)} → Confined observer tables m → Lift t w m ((timed tables second).ended t)
+    second_ended {t} w {m} c = lift w c (conf_ends observer tables _) (λ β e. record { steps = λ γ d s u r v. ends_second observer tables (Results t) r (c.adds s) })
+
+    -- the parts of a script, to one depth
+    pub evals : (n : ℕ) → Linked (labelled tables first) (labelled tables second) observed (eval (timed tables first) n) (eval (timed tables second) n)
+    unfolding observed
+    evals n = linked (timed tables first) (timed tables second) observed ticks out_of n
+
+-- the same input on both sides
+same_input : (observer : Label) (tables : Tables) (inputs : Given) → policy.Agree observer tables inputs inputs
+same_input observer tables inputs i c at p = refl
+
+module _ (observer : Label) (tables : Tables) (first second : Given) (agree : policy.Agree observer tables first second) where
+  -- what a run does alone
+  abbrev alone : (inputs : Given) (n : ℕ) → Linked (labelled tables inputs) (labelled tables inputs) (observed observer tables inputs inputs (same_input observer tables inputs)) (eval (timed tables inputs) n) (eval (timed tables inputs) n)
+  alone inputs n = evals observer tables inputs inputs (same_input observer tables inputs) n
+
+  -- the parts of a script, to two depths
+  linked_at : (n m : ℕ) → Linked (labelled tables first) (labelled tables second) (observed observer tables first second agree) (eval (timed tables first) n) (eval (timed tables second) m)
+  unfolding eval observed
+  linked_at zero m =
+      let h = alone second m in
+      record {
+        expr = λ e w i j p. first_ended observer tables first second agree w (h.expr e Apart j j any).right;
+        use_of = λ use_as e w i j p. first_ended observer tables first second agree w (h.use_of use_as e Apart j j any).right;
+        stmt = λ s w e d r. first_ended observer tables first second agree w (h.stmt s Apart d d any).right;
+        turn = λ round w e d r. first_ended observer tables first second agree w (h.turn round Apart d d any).right;
+      }
+  linked_at (suc n) zero =
+      let h = alone first (suc n) in
+      record {
+        expr = λ e w i j p. second_ended observer tables first second agree w (h.expr e Apart i i any).left;
+        use_of = λ use_as e w i j p. second_ended observer tables first second agree w (h.use_of use_as e Apart i i any).left;
+        stmt = λ s w e d r. second_ended observer tables first second agree w (h.stmt s Apart e e any).left;
+        turn = λ round w e d r. second_ended observer tables first second agree w (h.turn round Apart e e any).left;
+      }
+  linked_at (suc n) (suc m) = ticking_linked (timed tables first) (timed tables second) (observed observer tables first second agree) (ticks observer tables first second agree) (eval (timed tables first) n) (eval (timed tables second) m) (linked_at n m)
+
+  -- two runs of a program
+  pub program_observed : (n m : ℕ) (ss : Statements) (β : Pairing) (e d : Env ℕ) → EnvsAgree β e d → Lockstep observer tables Nothing β (program_step (timed tables first) n ss e) (program_step (timed tables second) m ss d)
+  unfolding observed program_step
+  program_observed n m ss β e d r = (statements_linked (labelled tables first) (labelled tables second) (observed observer tables first second agree) (eval (timed tables first) n) (eval (timed tables second) m) (linked_at n m) ss {w = Together β} {e = e} {d = d} (related r)).step
+
+-- ---- confinement, of parts and of what is pending
+
+pub confinement : IsConfining
+unfolding observed
+confinement observer tables inputs n =
+    let h = alone observer tables inputs inputs (same_input observer tables inputs) inputs n in
+    let R = eval (timed tables inputs) n in
+    let K = observed observer tables inputs inputs (same_input observer tables inputs) in
+    let A = labelled tables inputs in
+    record {
+      expr = λ e i. (h.expr e Apart i i any).left;
+      use_of = λ use_as e i. (h.use_of use_as e Apart i i any).left;
+      stmt = λ s e. (h.stmt s Apart e e any).left;
+      turn = λ round e. (h.turn round Apart e e any).left;
+      jump = λ cause j. conf_jump observer tables cause j;
+      discard = λ v. (link.discard_linked A A K {w = Apart} {v = v} {v' = v} any).left;
+      give = λ v. (link.give_linked A A K {w = Apart} {v = v} {v' = v} any).left;
+      unary_done = λ o v. (link.unary_done_linked A A K o {w = Apart} {v = v} {v' = v} any).left;
+      unary_value = λ o v. (link.unary_value_linked A A K o {w = Apart} {v = v} {v' = v} any).left;
+      binary_done = λ o v u. (link.binary_done_linked A A K o {w = Apart} {v = v} {u = u} {v' = v} {u' = u} any any).left;
+      compared_left = λ o u v. (link.compared_left_linked A A K o {w = Apart} {u = u} {v = v} {u' = u} {v' = v} any any).left;
+      primitive_left = λ hint o u v. (link.primitive_left_linked A A K hint o {w = Apart} {u = u} {v = v} {u' = u} {v' = v} any any).left;
+      number_left = λ o u v. (link.number_left_linked A A K o {w = Apart} {u = u} {v = v} {u' = u} {v' = v} any any).left;
+      binary_values = λ o v u. (link.binary_values_linked A A K o {w = Apart} {v = v} {u = u} {v' = v} {u' = u} any any).left;
+      assign_to = λ r v. (link.assign_to_linked A A K {w = Apart} {n = r} {n' = r} {v = v} {v' = v} any any).left;
+      assign_giving = λ r a v. (link.assign_giving_linked A A K {w = Apart} {n = r} {n' = r} {a = a} {v = v} {a' = a} {v' = v} any any any).left;
+      postfix_by = λ o r v. (link.postfix_by_linked A A K o {w = Apart} {n = r} {n' = r} {v = v} {v' = v} any any).left;
+      postfix_number = λ o r v. (link.postfix_number_linked A A K o {w = Apart} {n = r} {n' = r} {v = v} {v' = v} any any).left;
+      postfix_value = λ o r v. (link.postfix_value_linked A A K o {w = Apart} {n = r} {n' = r} {v = v} {v' = v} any any).left;
+      prefix_by = λ o r v. (link.prefix_by_linked A A K o {w = Apart} {n = r} {n' = r} {v = v} {v' = v} any any).left;
+      prefix_number = λ o r v. (link.prefix_number_linked A A K o {w = Apart} {n = r} {n' = r} {v = v} {v' = v} any any).left;
+      prefix_value = λ o r v. (link.prefix_value_linked A A K o {w = Apart} {n = r} {n' = r} {v = v} {v' = v} any any).left;
+      binary_right = λ o r i v. (link.binary_right_linked A A K R R h o r {w = Apart} {i = i} {j = i} {v = v} {v' = v} any any).left;
+      and_right = λ r i v. (link.and_right_linked A A K R R h r {w = Apart} {i = i} {j = i} {v = v} {v' = v} any any).left;
+      or_right = λ r i v. (link.or_right_linked A A K R R h r {w = Apart} {i = i} {j = i} {v = v} {v' = v} any any).left;
+      choose_expr = λ a b i v. (link.choose_expr_linked A A K R R h a b {w = Apart} {i = i} {j = i} {v = v} {v' = v} any any).left;
+      comma_right = λ r i v. (link.comma_right_linked A A K R R h r {w = Apart} {i = i} {j = i} {v = v} {v' = v} any any).left;
+      compound_done = λ o r a v. (link.compound_done_linked A A K R R h o {w = Apart} {n = r} {n' = r} {a = a} {v = v} {a' = a} {v' = v} any any any).left;
+      compound_right = λ o e i r a. (link.compound_right_linked A A K R R h o e {w = Apart} {i = i} {j = i} {n = r} {n' = r} {a = a} {a' = a} any any any).left;
+      used = λ use_as i r. (link.used_linked A A K R R h use_as {w = Apart} {i = i} {j = i} {n = r} {n' = r} any any).left;
+      read_name = λ r. (link.read_name_linked A A K R R h {w = Apart} {n = r} {n' = r} any).left;
+      more_arguments = λ f vs es i v. (link.more_arguments_linked A A K R R h f es {w = Apart} {i = i} {j = i} {vs = vs} {us = vs} {v = v} {v' = v} any (any_list vs) any).left;
+      more_variables = λ r ds i v. (link.more_variables_linked A A K R R h ds {w = Apart} {i = i} {j = i} {n = r} {n' = r} {v = v} {v' = v} any any any).left;
+      turn_test = λ round e v. (link.turn_test_linked A A K R R h round {w = Apart} {e = e} {d = e} {v = v} {v' = v} any any).left;
+      updated = λ round e v. (link.updated_linked A A K R R h round {w = Apart} {e = e} {d = e} v v any).left;
+      turned_round = λ round e. (link.turned_round_linked A A K R R h round {w = Apart} {e = e} {d = e} any).left;
+      looped = λ round e. (link.looped_linked A A K R R h round {w = Apart} {e = e} {d = e} any).left;
+      looped_value = λ round e v. (link.looped_value_linked A A K R R h round {w = Apart} {e = e} {d = e} v v any).left;
+      choose_stmt = λ s e v. (link.choose_stmt_linked A A K R R h s {w = Apart} {e = e} {d = e} {v = v} {v' = v} any any).left;
+      choose_stmts = λ s t e v. (link.choose_stmts_linked A A K R R h s t {w = Apart} {e = e} {d = e} {v = v} {v' = v} any any).left;
+      statements = λ ss e. (link.statements_linked A A K R R h ss {w = Apart} {e = e} {d = e} any).left;
+    }
+  where
+    any_list : (vs : List Val) → Rels (Related (Agree observer) Apart) vs vs
+    any_list [] = nils
+    any_list (v ∷ vs) = conses any (any_list vs)
+
+-- ---- lockstep, of parts
+
+pub lockstep : IsLockstep
+unfolding observed
+lockstep observer tables first second n agree =
+    let h = linked_at observer tables first second agree n n in
+    record {
+      expr = λ e β i j p. (h.expr e (Together β) i j (related p)).step;
+      use_of = λ use_as e β i j p. (h.use_of use_as e (Together β) i j (related p)).step;
+      stmt = λ s β e d r. (h.stmt s (Together β) e d (related r)).step;
+      turn = λ round β e d r. (h.turn round (Together β) e d (related r)).step;
+    }

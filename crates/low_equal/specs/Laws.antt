@@ -1,0 +1,123 @@
+-- What an observer can tell of runs.
+use Rattle.std.specs.Prelude.{◌≡◌, ℕ, true, List, ◌⊎◌}
+use Rattle.origin_labels.specs.Label.{Label}
+use Rattle.flow_policy.specs.Policies.{Tables}
+use Rattle.flow_policy.specs.Inputs.{Given}
+use Rattle.flow_policy.specs.Observed as policy
+use Rattle.js_ast.specs.declared.operators.UnaryOperator.{UnaryOperator}
+use Rattle.js_ast.specs.declared.operators.BinaryOperator.{BinaryOperator}
+use Rattle.js_ast.specs.Trees.{Ident, Expr, Exprs, MaybeExpr, Statement, Statements}
+use Rattle.es_meaning.specs.Outcomes.{Ending, done, threw, halted}
+use Rattle.es_meaning.specs.Environments.{Env}
+use Rattle.es_meaning.specs.Operations.{Direct, Hint, Use, Round}
+use Rattle.es_meaning.specs.Evaluation as part
+use Rattle.es_meaning.specs.Evaluation.{eval}
+use Rattle.es_meaning.specs.Plain.{Reference}
+use Rattle.flow_meaning.specs.Scopes.{Val, LabelledLine, Halt, Jump, jump}
+use Rattle.flow_meaning.specs.Tracked.{labelled, timed, tracked_run}
+use Rattle.low_equal.specs.Observed.{seen_lines, labelled_lines, Front}
+use Rattle.low_equal.specs.LowEqual.{Pairing, Agree}
+use Rattle.low_equal.specs.Runs.{Confined, Lockstep}
+
+-- ---- confinement: of each part of a script, up to each depth of evaluation, and of each thing that is done with the value of a part
+
+pub record IsConfined (observer : Label) (tables : Tables) (inputs : Given) (n : ℕ) : Type 0 where
+  pub expr : (e : Expr) (i : ℕ) → Confined observer tables ((eval (timed tables inputs) n).expr e i)
+  pub use_of : (use_as : Use) (e : Expr) (i : ℕ) → Confined observer tables ((eval (timed tables inputs) n).use_of use_as e i)
+  pub stmt : (s : Statement) (e : Env ℕ) → Confined observer tables ((eval (timed tables inputs) n).stmt s e)
+  pub turn : (round : Round) (e : Env ℕ) → Confined observer tables ((eval (timed tables inputs) n).turn round e)
+  -- a jump
+  pub jump : (cause : Label) (j : Jump) → Confined observer tables {X = Unit {0}} (jump cause j)
+  -- what is done with values
+  pub discard : (v : Val) → Confined observer tables (part.discard (labelled tables inputs) v)
+  pub give : (v : Val) → Confined observer tables (part.give (labelled tables inputs) v tt)
+  pub unary_done : (o : UnaryOperator) (v : Val) → Confined observer tables (part.unary_done (labelled tables inputs) o v)
+  pub unary_value : (o : UnaryOperator) (v : Val) → Confined observer tables (part.unary_value (labelled tables inputs) o v)
+  pub binary_done : (o : BinaryOperator) (v u : Val) → Confined observer tables (part.binary_done (labelled tables inputs) o v u)
+  pub compared_left : (o : BinaryOperator) (u v : Val) → Confined observer tables (part.compared_left (labelled tables inputs) o u v)
+  pub primitive_left : (hint : Hint) (o : BinaryOperator) (u v : Val) → Confined observer tables (part.primitive_left (labelled tables inputs) hint o u v)
+  pub number_left : (o : BinaryOperator) (u v : Val) → Confined observer tables (part.number_left (labelled tables inputs) o u v)
+  pub binary_values : (o : BinaryOperator) (v u : Val) → Confined observer tables (part.binary_values (labelled tables inputs) o v u)
+  pub assign_to : (r : Reference) (v : Val) → Confined observer tables (part.assign_to (labelled tables inputs) r v)
+  pub assign_giving : (r : Reference) (a v : Val) → Confined observer tables (part.assign_giving (labelled tables inputs) r a v)
+  pub postfix_by : (o : BinaryOperator) (r : Reference) (v : Val) → Confined observer tables (part.postfix_by (labelled tables inputs) o r v)
+  pub postfix_number : (o : BinaryOperator) (r : Reference) (v : Val) → Confined observer tables (part.postfix_number (labelled tables inputs) o r v)
+  pub postfix_value : (o : BinaryOperator) (r : Reference) (v : Val) → Confined observer tables (part.postfix_value (labelled tables inputs) o r v)
+  pub prefix_by : (o : BinaryOperator) (r : Reference) (v : Val) → Confined observer tables (part.prefix_by (labelled tables inputs) o r v)
+  pub prefix_number : (o : BinaryOperator) (r : Reference) (v : Val) → Confined observer tables (part.prefix_number (labelled tables inputs) o r v)
+  pub prefix_value : (o : BinaryOperator) (r : Reference) (v : Val) → Confined observer tables (part.prefix_value (labelled tables inputs) o r v)
+  -- what is done in the middle of expressions
+  pub binary_right : (o : BinaryOperator) (r : Expr) (i : ℕ) (v : Val) → Confined observer tables (part.binary_right (labelled tables inputs) (eval (timed tables inputs) n) o r i v)
+  pub and_right : (r : Expr) (i : ℕ) (v : Val) → Confined observer tables (part.and_right (labelled tables inputs) (eval (timed tables inputs) n) r i v)
+  pub or_right : (r : Expr) (i : ℕ) (v : Val) → Confined observer tables (part.or_right (labelled tables inputs) (eval (timed tables inputs) n) r i v)
+  pub choose_expr : (a b : Expr) (i : ℕ) (v : Val) → Confined observer tables (part.choose_expr (labelled tables inputs) (eval (timed tables inputs) n) a b i v)
+  pub comma_right : (r : Expr) (i : ℕ) (v : Val) → Confined observer tables (part.comma_right (labelled tables inputs) (eval (timed tables inputs) n) r i v)
+  pub compound_done : (o : BinaryOperator) (r : Reference) (a v : Val) → Confined observer tables (part.compound_done (labelled tables inputs) (eval (timed tables inputs) n) o r a v)
+  pub compound_right : (o : BinaryOperator) (e : Expr) (i : ℕ) (r : Reference) (a : Val) → Confined observer tables (part.compound_right (labelled tables inputs) (eval (timed tables inputs) n) o e i r a)
+  pub used : (use_as : Use) (i : ℕ) (r : Reference) → Confined observer tables (part.used (labelled tables inputs) (eval (timed tables inputs) n) use_as i r)
+  pub read_name : (r : Reference) → Confined observer tables (part.read_name (labelled tables inputs) (eval (timed tables inputs) n) r)
+  pub more_arguments : (f : Direct) (vs : List Val) (es : Exprs) (i : ℕ) (v : Val) → Confined observer tables (part.more_arguments (labelled tables inputs) (eval (timed tables inputs) n) f vs es i v)
+  -- and of statements
+  pub more_variables : (r : Reference) (ds : List (Ident × MaybeExpr)) (i : ℕ) (v : Val) → Confined observer tables (part.more_variables (labelled tables inputs) (eval (timed tables inputs) n) r ds i v)
+  pub turn_test : (round : Round) (e : Env ℕ) (v : Val) → Confined observer tables (part.turn_test (labelled tables inputs) (eval (timed tables inputs) n) round e v)
+  pub updated : (round : Round) (e : Env ℕ) (v : Val) → Confined observer tables (part.updated (labelled tables inputs) (eval (timed tables inputs) n) round e v)
+  pub turned_round : (round : Round) (e : Env ℕ) → Confined observer tables (part.turned_round (labelled tables inputs) (eval (timed tables inputs) n) round e tt)
+  pub looped : (round : Round) (e : Env ℕ) → Confined observer tables (part.looped (labelled tables inputs) (eval (timed tables inputs) n) round e tt)
+  pub looped_value : (round : Round) (e : Env ℕ) (v : Val) → Confined observer tables (part.looped_value (labelled tables inputs) (eval (timed tables inputs) n) round e v)
+  pub choose_stmt : (s : Statement) (e : Env ℕ) (v : Val) → Confined observer tables (part.choose_stmt (labelled tables inputs) (eval (timed tables inputs) n) s e v)
+  pub choose_stmts : (s t : Statement) (e : Env ℕ) (v : Val) → Confined observer tables (part.choose_stmts (labelled tables inputs) (eval (timed tables inputs) n) s t e v)
+  pub statements : (ss : Statements) (e : Env ℕ) → Confined observer tables (part.statements (labelled tables inputs) (eval (timed tables inputs) n) ss e)
+
+abbrev pub IsConfining : Type 0
+IsConfining = (observer : Label) (tables : Tables) (inputs : Given) (n : ℕ) → IsConfined observer tables inputs n
+
+-- ---- lockstep: of each part, in records that are paired, with the same depths and labels round it
+
+pub record EnvsAgree (β : Pairing) (e d : Env ℕ) : Type 0 where
+  pub place : β.records e.place d.place ≡ true
+  pub call : e.call ≡ d.call
+  pub around : e.around ≡ d.around
+
+abbrev pub Nothing : Pairing → Unit {0} → Unit {0} → Type 0
+Nothing β a b = Unit {0}
+
+pub record InLockstep (observer : Label) (tables : Tables) (first second : Given) (n : ℕ) : Type 0 where
+  pub expr : (e : Expr) (β : Pairing) (i j : ℕ) → β.records i j ≡ true
+      → Lockstep observer tables (Agree observer) β ((eval (timed tables first) n).expr e i) ((eval (timed tables second) n).expr e j)
+  pub use_of : (use_as : Use) (e : Expr) (β : Pairing) (i j : ℕ) → β.records i j ≡ true
+      → Lockstep observer tables (Agree observer) β ((eval (timed tables first) n).use_of use_as e i) ((eval (timed tables second) n).use_of use_as e j)
+  pub stmt : (s : Statement) (β : Pairing) (e d : Env ℕ) → EnvsAgree β e d
+      → Lockstep observer tables Nothing β ((eval (timed tables first) n).stmt s e) ((eval (timed tables second) n).stmt s d)
+  pub turn : (round : Round) (β : Pairing) (e d : Env ℕ) → EnvsAgree β e d
+      → Lockstep observer tables Nothing β ((eval (timed tables first) n).turn round e) ((eval (timed tables second) n).turn round d)
+
+abbrev pub IsLockstep : Type 0
+IsLockstep = (observer : Label) (tables : Tables) (first second : Given) (n : ℕ) → policy.Agree observer tables first second
+    → InLockstep observer tables first second n
+
+-- ---- whole runs
+
+-- a run is finished: it reached its end, or an exception left it
+abbrev pub IsFinishedBy : Ending Halt → Type 0
+IsFinishedBy done = Unit {0}
+IsFinishedBy (threw shown) = Unit {0}
+IsFinishedBy (halted halt) = ⊥
+
+abbrev pub OneIsFront : {A : Type 0} → List A → List A → Type 0
+OneIsFront xs ys = Front xs ys ⊎ Front ys xs
+
+-- two runs of one script on inputs that agree for an observer. Their turns may differ
+pub record IsIsolated (observer : Label) (tables : Tables) (first second : Given) (program : Statements) (turns others : ℕ) : Type 0 where
+  -- isolation: where both are finished they write the same lines on the channels that it sees
+  pub on_channels : IsFinishedBy (tracked_run tables first program turns).ending → IsFinishedBy (tracked_run tables second program others).ending
+      → seen_lines observer tables (tracked_run tables first program turns).lines ≡ seen_lines observer tables (tracked_run tables second program others).lines
+  -- and the same lines with recorded labels that it sees, whatever the labels of their channels are
+  pub by_labels : IsFinishedBy (tracked_run tables first program turns).ending → IsFinishedBy (tracked_run tables second program others).ending
+      → labelled_lines observer (tracked_run tables first program turns).lines ≡ labelled_lines observer (tracked_run tables second program others).lines
+  -- however they end, and wherever they are cut off, what it sees of one is how what it sees of the other begins
+  pub fronts : (ls ms : List LabelledLine) → Front ls (tracked_run tables first program turns).lines → Front ms (tracked_run tables second program others).lines
+      → OneIsFront (seen_lines observer tables ls) (seen_lines observer tables ms)
+
+abbrev pub IsIsolating : Type 0
+IsIsolating = (observer : Label) (tables : Tables) (first second : Given) (program : Statements) (turns others : ℕ)
+    → policy.Agree observer tables first second → IsIsolated observer tables first second program turns others
