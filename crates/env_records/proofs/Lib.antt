@@ -1,0 +1,4 @@
+mod AssignLaws
+mod LookupLaws
+mod PlaceLaws
+mod RecordLaws
