@@ -221,7 +221,7 @@ module _ (A B : Ops) (K : Link A B) where
     use_linked use_as (boolean there b) w i j p = K.unbuilt Value w
     use_linked use_as (array there is final) w i j p = K.unbuilt Value w
     use_linked use_as (object there ps final) w i j p = K.unbuilt Value w
-    use_linked use_as (function there n ps ss) w i j p = K.unbuilt Value w
+    use_linked use_as (function there f) w i j p = K.unbuilt Value w
     use_linked use_as (member there e text) w i j p = K.unbuilt Value w
     use_linked use_as (index there e n) w i j p = K.unbuilt Value w
     use_linked use_as (new_with there e fs) w i j p = K.unbuilt Value w
@@ -263,7 +263,7 @@ module _ (A B : Ops) (K : Link A B) where
     callee_linked (paren there e) at es w i j p = K.unbuilt Value w
     callee_linked (array there is final) at es w i j p = K.unbuilt Value w
     callee_linked (object there ps final) at es w i j p = K.unbuilt Value w
-    callee_linked (function there n ps ss) at es w i j p = K.unbuilt Value w
+    callee_linked (function there f) at es w i j p = K.unbuilt Value w
     callee_linked (member there e text) at es w i j p = K.unbuilt Value w
     callee_linked (index there e n) at es w i j p = K.unbuilt Value w
     callee_linked (new_with there e fs) at es w i j p = K.unbuilt Value w
@@ -335,7 +335,7 @@ module _ (A B : Ops) (K : Link A B) where
     expr_linked (paren at e) w i j p = h.expr e w i j p
     expr_linked (array at is final) w i j p = K.unbuilt Value w
     expr_linked (object at ps final) w i j p = K.unbuilt Value w
-    expr_linked (function at n ps ss) w i j p = K.unbuilt Value w
+    expr_linked (function at f) w i j p = K.unbuilt Value w
     expr_linked (member at e text) w i j p = K.unbuilt Value w
     expr_linked (index at e n) w i j p = K.unbuilt Value w
     expr_linked (new_with at e es) w i j p = K.unbuilt Value w
@@ -453,7 +453,7 @@ module _ (A B : Ops) (K : Link A B) where
     stmt_linked (try_finally at b final) w e d r = K.unbuilt One w
     stmt_linked (try_both at b ident handler final) w e d r = K.unbuilt One w
     stmt_linked (debugger at semi) w e d r = K.ret_one w
-    stmt_linked (function_declaration at ident params body) w e d r = K.unbuilt One w
+    stmt_linked (function_declaration at f) w e d r = K.unbuilt One w
 
     pub step_linked : Linked (step A R) (step B Q)
     step_linked = record { expr = expr_linked; use_of = use_linked; stmt = stmt_linked; turn = turn_linked }

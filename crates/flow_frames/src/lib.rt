@@ -11,6 +11,3 @@ pub use faults::{FlowFault, FlowStop, Rule};
 pub use frames::Frames;
 pub use kind::Kind;
 pub use laws::belonging_lasts;
-
-#[cfg(test)]
-mod tests;

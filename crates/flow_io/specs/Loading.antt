@@ -1,5 +1,7 @@
 -- Loading a file piece by piece.
-use Rattle.std.specs.Prelude.{◌≡◌, ℕ, ◌≤◌, List, length, take, Option, IfSome, IsSomeAnd, ◌↔◌}
+use Rattle.std.specs.Prelude.{◌≡◌, ℕ, ◌≤◌, List, length, take, Option, Result, Err, IfSome, IsSomeAnd, ◌↔◌}
+use Rattle.flow_io.specs.declared.loading.LoadFault.{LoadFault}
+use Rattle.flow_io.specs.declared.loading.LoadFault.TheVariants as faults
 use Rattle.flow_io.specs.Files.{Files, file_at}
 
 -- the bytes are the front of the file
@@ -14,3 +16,8 @@ pub record IsReadOn (whole old new : List ℕ) (n : ℕ) : Type 0 where
 -- where the files are told, a piece of the path's file came behind the bytes
 abbrev pub TakesPiece : Option Files → List ℕ → List ℕ → List ℕ → ℕ → Type 0
 TakesPiece contents path old new n = IfSome contents (λ files. IsSomeAnd (file_at files path) (λ whole. IsReadOn whole old new n))
+
+-- unless the answer is a read fault, the count of faults stays: no fault was passed over
+abbrev pub CountsNone : {A : Type 0} → Result A LoadFault → ℕ → ℕ → Type 0
+CountsNone (Err faults.ReadFault) old new = Unit {0}
+CountsNone answer old new = new ≡ old

@@ -2,7 +2,7 @@
 
 ghost use Rattle.std.specs.Prelude.{◌≡◌, ◌+◌, ◌-◌, ◌^◌, ◌<◌, ◌≤◌, true, length, vec_len, IfOk, IfSome, IfNone, IsSomeAnd, IsErrOf, Some, MatchOption, ◌⊎◌};
 ghost use Rattle.flow_io.specs.Files.{file_at, Rose, last_count, given_after, IsStoreKept};
-ghost use Rattle.flow_io.specs.Loading.{TakesPiece};
+ghost use Rattle.flow_io.specs.Loading.{TakesPiece, CountsNone};
 ghost use Rattle.flow_io.specs.declared.loading.LoadFault.TheVariants as faults;
 
 use crate::store::{Failed, Store};
@@ -49,6 +49,7 @@ pub fn load<F: Store>(
     ensures whole { IfOk result (λ bytes. IfSome (F.contents store.old) (λ files. file_at files path.now ≡ Some bytes.items)) }
     ensures within { IfOk result (λ bytes. vec_len bytes ≤ most) }
     ensures read_fault { IsErrOf result LoadFault.ReadFault → Rose (F.faults store.old) (F.faults store.new) }
+    ensures no_fault { CountsNone result (F.faults store.old) (F.faults store.new) }
     ensures too_long { (limit : _) → IsErrOf result (LoadFault.TooLong limit) → (limit ≡ most) × MatchOption (F.contents store.old)
         ((F.given store.old + most < F.given store.new) ⊎ (F.given store.new ≡ last_count))
         (λ files. IsSomeAnd (file_at files path.now) (λ bytes. most < length bytes)) }
@@ -89,6 +90,7 @@ fn take_piece<F: Store>(
     ensures bounded { F.given store.new ≤ F.given store.old + (most + 1 - vec_len bytes.old) }
     ensures absent { IfSome (F.contents store.old) (λ files. IfNone (file_at files path.now) (IsErrOf result LoadFault.ReadFault)) }
     ensures read_fault { IsErrOf result LoadFault.ReadFault → Rose (F.faults store.old) (F.faults store.new) }
+    ensures no_fault { CountsNone result (F.faults store.old) (F.faults store.new) }
     ensures in_length { (limit : _) → ¬ IsErrOf result (LoadFault.TooLong limit) }
 {
     let at = bytes.len();

@@ -108,6 +108,7 @@ impl Store for MemoryStore {
         ensures told { IfOk result (λ n. IsSomeAnd (file_at self.old.files path.now) (λ bytes. IsPieceOf bytes at n piece.new)) }
         ensures given { MatchResult result (λ n. self.new.given ≡ given_after self.old.given n) (λ _. self.new.given ≡ self.old.given) }
         ensures failed { OnErr result (Rose self.old.faults self.new.faults) }
+        ensures no_fault { OnOk result (self.new.faults ≡ self.old.faults) }
         ensures fails { is_err result ≡ read_fails self.old path.now }
         ensures count { IfOk result (λ n. IsSomeAnd (file_at self.old.files path.now) (λ bytes. n ≡ read_length self.old.most (length piece.old) at bytes)) }
         ensures rest { MatchResult result (λ n. drop n piece.new ≡ drop n piece.old) (λ _. piece.new ≡ piece.old) }

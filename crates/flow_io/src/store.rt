@@ -1,6 +1,6 @@
 //! Where bytes come from.
 
-ghost use Rattle.std.specs.Prelude.{◌≡◌, ◌<◌, ◌≤◌, ℕ, Bool, true, List, Option, length, MatchResult, IfOk, OnErr, IfSome, IsSomeAnd};
+ghost use Rattle.std.specs.Prelude.{◌≡◌, ◌<◌, ◌≤◌, ℕ, Bool, true, List, Option, length, MatchResult, IfOk, OnOk, OnErr, IfSome, IsSomeAnd};
 ghost use Rattle.flow_io.specs.Files.{Files, file_at, Rose, given_after, IsPieceOf, IsStoreKept};
 
 /// The outside failed, and the fault was counted.
@@ -29,5 +29,6 @@ pub trait Store {
         ensures within { IfOk result (λ n. n ≤ length piece.old) }
         ensures told { IfOk result (λ n. IfSome (contents self.old) (λ files. IsSomeAnd (file_at files path.now) (λ bytes. IsPieceOf bytes at n piece.new))) }
         ensures given { MatchResult result (λ n. given self.new ≡ given_after (given self.old) n) (λ _. given self.new ≡ given self.old) }
-        ensures failed { OnErr result (Rose (faults self.old) (faults self.new)) };
+        ensures failed { OnErr result (Rose (faults self.old) (faults self.new)) }
+        ensures no_fault { OnOk result (faults self.new ≡ faults self.old) };
 }

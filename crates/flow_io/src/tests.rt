@@ -108,6 +108,10 @@ fn takes_in_memory(rt: HostRuntime) -> Result<(), Fail> {
     sink.fail_at(1, 0)?;
     assert!(rt; !sunk(&mut sink, b"pub a\n"));
     assert_eq!(rt; sink.taken(), b"".as_slice());
+    let mut sink = MemorySink::new(rt.alloc());
+    sink.fail_at(1, 9)?;
+    assert!(rt; !sunk(&mut sink, b"pub a\n"));
+    assert_eq!(rt; sink.taken(), b"pub a\n".as_slice());
     Ok(())
 }
 

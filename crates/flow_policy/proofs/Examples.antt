@@ -12,8 +12,10 @@ use Rattle.flow_policy.specs.declared.fault.PolicyKind.TheVariants.{Keyword, Wor
 use Rattle.flow_policy.specs.declared.fault.InputKind.{InputKind}
 use Rattle.flow_policy.specs.declared.fault.InputKind.TheVariants as kinds
 use Rattle.flow_policy.specs.Lines.{without_cr, lines_of_parts, lines_of, all_but_last, whole_lines}
-use Rattle.flow_policy.specs.Names.{words_of, is_name}
-use Rattle.flow_policy.specs.Lists.{names_in, label_in}
+use Rattle.flow_lists.specs.Names.{is_name}
+use Rattle.flow_policy.specs.Words.{words_of}
+use Rattle.flow_lists.specs.Lists.{names_in}
+use Rattle.flow_policy.specs.Lists.{label_in}
 use Rattle.flow_policy.specs.Policies.{Tables, BadLine, with_new_origin, with_new_channel, after_origin, after_in, after_out, after_words, after_lines, policy_of, channel_named}
 use Rattle.flow_policy.specs.Inputs.{Given, channel_in, text_in, fault_of_line, first_bad, texts_on, inputs_of}
 use Rattle.flow_policy.specs.Observed.{sees_channel, sees_line, view_of}

@@ -17,7 +17,7 @@ use Rattle.flow_policy.specs.declared.fault.InputKind.TheVariants as kinds
 use Rattle.flow_policy.specs.declared.fault.InputFault.{InputFault}
 use Rattle.flow_policy.specs.declared.fault.InputFault.TheVariants as input
 use Rattle.flow_policy.specs.Lines.{lines_of}
-use Rattle.flow_policy.specs.Names.{is_space}
+use Rattle.flow_policy.specs.Words.{is_space}
 use Rattle.flow_policy.specs.Policies.{has_channel, BadLine}
 use Rattle.flow_policy.specs.Inputs.{Given, channel_in, text_in, fault_of_line, bad_or, first_bad, texts_on, unless_bad, inputs_of, given_on}
 use Rattle.flow_policy.specs.Answers.{GivesInputs, ReadsLine}

@@ -10,9 +10,11 @@ use Rattle.origin_labels.specs.Names.{same_name, has_name, place_of}
 use Rattle.origin_labels.proofs.LabelLaws.{has-label_of, IsLabel-label_of, same_label}
 use Rattle.flow_policy.specs.declared.fault.ListFault.{ListFault}
 use Rattle.flow_policy.specs.declared.fault.ListFault.TheVariants.{Form, Unknown, OutOfMemory}
-use Rattle.flow_policy.specs.Lists.{is_comma, names_in, are_names, numbers_of, label_in}
+use Rattle.flow_lists.specs.Lists.{is_comma, names_in, are_names}
+use Rattle.flow_policy.specs.Lists.{numbers_of, label_in}
 use Rattle.flow_policy.specs.Listed.{unknown_in, unless_unknown, list_of, GivesList, FindsNumber, FailsNumbers}
-use Rattle.flow_policy.proofs.Marks.{names_in-none, names_in-some, place_of-has, place_of-hasnt}
+use Rattle.flow_lists.proofs.ListLaws.{names_in-none, names_in-some}
+use Rattle.flow_policy.proofs.Marks.{place_of-has, place_of-hasnt}
 
 -- no origin has the name
 abbrev pub is_unknown : List (List ℕ) → List ℕ → Bool

@@ -2,7 +2,7 @@
 use Rattle.std.proofs.Common.{arith, refl, sym, ap, ◌∙◌, subst, eq-eqb, ne_eqb, inl, inr, ◌≡◌, ◌<◌, ◌≤◌, ◌+◌, ℕ, suc, zero, Bool, true, false, cond, nat_lt, ◌==◌, ◌&&◌, ◌||◌, List, [], ◌∷◌, ◌++◌, length, get_or, set, replicate, All, Option, Some, None, Err, ltb-false}
 use Rattle.std.specs.List.{slice_split, position_or_len, list_all, list_any}
 use Rattle.std.specs.Option.{unwrap_or}
-use Rattle.std.proofs.lemmas.Bool.{cond-true, cond-false, cases_lt, cases_eq}
+use Rattle.std.proofs.lemmas.Bool.{cases_lt, cases_eq}
 use Rattle.std.proofs.lemmas.List.{length-set, get_or-set_same, get_or-set_other, get_or_push, get_or_append_left, length_push}
 use Rattle.std.proofs.lemmas.List.Elements.{All-push, All-weaker}
 use Rattle.std.proofs.lemmas.List.Folds.{list_any-append, list_any_none, list_any_at}
@@ -14,24 +14,9 @@ use Rattle.origin_labels.proofs.LabelLaws.{has-label_of, IsLabel-label_of, same_
 use Rattle.flow_policy.specs.declared.fault.LineFault.{LineFault}
 use Rattle.flow_policy.specs.declared.fault.LineFault.TheVariants as line
 use Rattle.flow_policy.specs.Answers.{FindsOrigin, MarksOrigins}
-use Rattle.flow_policy.specs.Names.{is_name}
-use Rattle.flow_policy.specs.Lists.{names_in, are_names, are_declared, numbers_of, label_in, is_comma}
-
--- ---- the names of a list
-
-pub names_in-none : (list : List ℕ) → same_name list (45 ∷ []) ≡ true → names_in list ≡ []
-unfolding names_in
-names_in-none list e = cond-true (same_name list (45 ∷ [])) [] (slice_split is_comma list) e
-
-pub names_in-some : (list : List ℕ) → same_name list (45 ∷ []) ≡ false → names_in list ≡ slice_split is_comma list
-unfolding names_in
-names_in-some list e = cond-false (same_name list (45 ∷ [])) [] (slice_split is_comma list) e
-
-pub are_names-none : (list : List ℕ) → same_name list (45 ∷ []) ≡ true → are_names list ≡ true
-are_names-none list e = ap (list_all is_name) (names_in-none list e)
-
-pub are_names-some : (list : List ℕ) (r : Bool) → same_name list (45 ∷ []) ≡ false → r ≡ list_all is_name (slice_split is_comma list) → r ≡ are_names list
-are_names-some list r e h = h ∙ ap (list_all is_name) (sym (names_in-some list e))
+use Rattle.flow_lists.proofs.ListLaws.{names_in-none, names_in-some}
+use Rattle.flow_lists.specs.Lists.{names_in, is_comma}
+use Rattle.flow_policy.specs.Lists.{are_declared, numbers_of, label_in}
 
 -- ---- a name that has a place
 

@@ -20,8 +20,10 @@ use Rattle.flow_policy.specs.declared.fault.LineFault.{LineFault}
 use Rattle.flow_policy.specs.declared.fault.LineFault.TheVariants as line
 use Rattle.flow_policy.specs.Faults.{fault_at}
 use Rattle.flow_policy.specs.Lines.{lines_of}
-use Rattle.flow_policy.specs.Names.{is_name, words_of}
-use Rattle.flow_policy.specs.Lists.{names_in, are_names, are_declared, label_in, numbers_of}
+use Rattle.flow_lists.specs.Names.{is_name}
+use Rattle.flow_policy.specs.Words.{words_of}
+use Rattle.flow_lists.specs.Lists.{names_in, are_names}
+use Rattle.flow_policy.specs.Lists.{are_declared, label_in, numbers_of}
 use Rattle.flow_policy.specs.Words.{only_word, only_two}
 use Rattle.flow_policy.specs.Policies.{Tables, no_tables, has_channel, with_new_origin, with_new_channel, ok_map, after_origin, after_in, after_out, is_comment, after_words, next_line, after_lines, policy_of, IsChannel, AreChannels, IsPolicy}
 use Rattle.flow_policy.specs.Answers.{GivesPolicy, FailsLine}

@@ -13,7 +13,8 @@ use Rattle.origin_labels.specs.Label.{Label}
 use Rattle.origin_labels.specs.Names.{same_name, AreDistinct}
 use Rattle.flow_policy.specs.declared.policy.Channel.{Channel}
 use Rattle.flow_policy.specs.Lines.{is_line_end, all_but_last, whole_lines}
-use Rattle.flow_policy.specs.Names.{is_space, first_word, is_name, is_name_byte}
+use Rattle.flow_lists.specs.Names.{is_name, is_name_unit}
+use Rattle.flow_policy.specs.Words.{is_space, first_word}
 use Rattle.flow_policy.specs.Policies.{Tables, channel_named, has_channel, IsPolicy}
 use Rattle.flow_policy.specs.Observed.{sees_line, view_of}
 
@@ -87,7 +88,7 @@ range : (low high b : ℕ) → is_in_range low high b ≡ true → 48 ≤ low �
 range low high b e from to = let parts = and_parts (nat_le low b) (nat_le b high) e in let above = leb-true low b parts.0 in let below = leb-true b high parts.1 in (omega arith, omega arith)
 
 -- what a byte of a name is between
-name_byte_is : (b : ℕ) → is_name_byte b ≡ true → (48 ≤ b) × (b ≤ 122)
+name_byte_is : (b : ℕ) → is_name_unit b ≡ true → (48 ≤ b) × (b ≤ 122)
 name_byte_is b e =
     elim (or_cases (is_in_range 65 90 b || is_in_range 97 122 b || is_in_range 48 57 b) (b == 95) e) as (λ _. (48 ≤ b) × (b ≤ 122)) [
       | inl f ↦ elim (or_cases (is_in_range 65 90 b || is_in_range 97 122 b) (is_in_range 48 57 b) f) as (λ _. (48 ≤ b) × (b ≤ 122)) [
@@ -108,19 +109,19 @@ pub record IsPlain (name : List ℕ) : Type 0 where
   pub ascii : list_all (λ b. nat_lt b 128) name ≡ true
   pub some : 0 < length name
 
-not_byte : (byte b : ℕ) → byte < 48 → is_name_byte b ≡ true → not (b == byte) ≡ true
+not_byte : (byte b : ℕ) → byte < 48 → is_name_unit b ≡ true → not (b == byte) ≡ true
 not_byte byte b lt e = let is = name_byte_is b e in ap not (ne_eqb b byte (λ same. omega arith))
 
 pub name_parts : (name : List ℕ) → is_name name ≡ true → IsPlain name
 unfolding is_name
 name_parts name e =
-    let outer = and_parts (nat_le 1 (length name) && nat_le (length name) 32) (list_all is_name_byte name) e in
+    let outer = and_parts (nat_le 1 (length name) && nat_le (length name) 32) (list_all is_name_unit name) e in
     let inner = and_parts (nat_le 1 (length name)) (nat_le (length name) 32) outer.0 in
     record {
-      no_line_end = list_all-weaker is_name_byte (λ b. not (b == 10)) (λ b h. not_byte 10 b (omega arith) h) name outer.1;
-      no_space = list_all-weaker is_name_byte (λ b. not (b == 32)) (λ b h. not_byte 32 b (omega arith) h) name outer.1;
-      no_mark = list_all-weaker is_name_byte (λ b. not (b == 33)) (λ b h. not_byte 33 b (omega arith) h) name outer.1;
-      ascii = list_all-weaker is_name_byte (λ b. nat_lt b 128) (λ b h. let is = name_byte_is b h in lt-ltb b 128 (omega arith)) name outer.1;
+      no_line_end = list_all-weaker is_name_unit (λ b. not (b == 10)) (λ b h. not_byte 10 b (omega arith) h) name outer.1;
+      no_space = list_all-weaker is_name_unit (λ b. not (b == 32)) (λ b h. not_byte 32 b (omega arith) h) name outer.1;
+      no_mark = list_all-weaker is_name_unit (λ b. not (b == 33)) (λ b h. not_byte 33 b (omega arith) h) name outer.1;
+      ascii = list_all-weaker is_name_unit (λ b. nat_lt b 128) (λ b h. let is = name_byte_is b h in lt-ltb b 128 (omega arith)) name outer.1;
       some = leb-true 1 (length name) inner.0;
     }
 

@@ -8,7 +8,7 @@ use Rattle.flow_policy.specs.declared.policy.Channel.{Channel}
 use Rattle.flow_policy.specs.declared.fault.InputKind.{InputKind}
 use Rattle.flow_policy.specs.declared.fault.InputKind.TheVariants as kinds
 use Rattle.flow_policy.specs.Lines.{lines_of}
-use Rattle.flow_policy.specs.Names.{is_space}
+use Rattle.flow_policy.specs.Words.{is_space}
 use Rattle.flow_policy.specs.Policies.{has_channel, BadLine, Tables}
 
 -- the channel's name and the text of a line: what stands before and behind its first space; with no space the text is empty

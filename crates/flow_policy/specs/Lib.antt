@@ -3,7 +3,6 @@ pub mod Inputs
 pub mod Lines
 pub mod Listed
 pub mod Lists
-pub mod Names
 pub mod Observed
 pub mod Policies
 pub mod Words

@@ -5,7 +5,8 @@ use Rattle.origin_labels.specs.Label.{Label}
 use Rattle.origin_labels.specs.Names.{has_name, place_of}
 use Rattle.flow_policy.specs.declared.fault.ListFault.{ListFault}
 use Rattle.flow_policy.specs.declared.fault.ListFault.TheVariants.{Form, Unknown, OutOfMemory}
-use Rattle.flow_policy.specs.Lists.{names_in, are_names, label_in}
+use Rattle.flow_lists.specs.Lists.{names_in, are_names}
+use Rattle.flow_policy.specs.Lists.{label_in}
 
 -- the number of the first name that is no declared origin
 abbrev pub unknown_in : List (List ℕ) → List ℕ → Option ℕ

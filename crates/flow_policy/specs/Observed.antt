@@ -6,7 +6,7 @@ use Rattle.origin_labels.specs.Label.{Label, sees}
 use Rattle.origin_labels.specs.Names.{same_name}
 use Rattle.flow_policy.specs.declared.policy.Channel.{Channel}
 use Rattle.flow_policy.specs.Lines.{whole_lines}
-use Rattle.flow_policy.specs.Names.{first_word}
+use Rattle.flow_policy.specs.Words.{first_word}
 use Rattle.flow_policy.specs.Inputs.{Given, given_on}
 use Rattle.flow_policy.specs.Policies.{Tables, channel_named}
 

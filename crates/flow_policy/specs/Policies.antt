@@ -7,8 +7,10 @@ use Rattle.flow_policy.specs.declared.policy.Channel.{Channel}
 use Rattle.flow_policy.specs.declared.fault.PolicyKind.{PolicyKind}
 use Rattle.flow_policy.specs.declared.fault.PolicyKind.TheVariants.{Keyword, Words, Name, Unknown, Repeat, Many}
 use Rattle.flow_policy.specs.Lines.{lines_of}
-use Rattle.flow_policy.specs.Names.{words_of, is_name}
-use Rattle.flow_policy.specs.Lists.{are_names, are_declared, label_in}
+use Rattle.flow_lists.specs.Names.{is_name}
+use Rattle.flow_policy.specs.Words.{words_of}
+use Rattle.flow_lists.specs.Lists.{are_names}
+use Rattle.flow_policy.specs.Lists.{are_declared, label_in}
 
 -- origins, input channels and output channels, each in the order of their lines
 pub record Tables : Type 0 where

@@ -4,7 +4,7 @@ ghost use Rattle.std.specs.Prelude.{◌≡◌, ◌<◌, [], ◌∷◌, ◌++◌,
 ghost use Rattle.std.specs.List.{position, position_or_len, before_first, after_first};
 ghost use Rattle.std.specs.Option.{option_copied};
 ghost use Rattle.origin_labels.specs.Names.{same_name};
-ghost use Rattle.flow_policy.specs.Names.{is_space};
+ghost use Rattle.flow_policy.specs.Words.{is_space};
 ghost use Rattle.flow_policy.specs.Inputs.{Given, inputs_of, given_on, IsGivenTo};
 ghost use Rattle.flow_policy.specs.Answers.{GivesInputs, ReadsLine};
 

@@ -3,14 +3,14 @@
 ghost use Rattle.std.specs.Prelude.{◌≡◌, ◌<◌, None, length, IfOk, MatchResult};
 ghost use Rattle.std.specs.List.{All};
 ghost use Rattle.origin_labels.specs.Label.{label_of};
-ghost use Rattle.flow_policy.specs.Lists.{names_in, numbers_of};
+ghost use Rattle.flow_lists.specs.Lists.{names_in};
+ghost use Rattle.flow_policy.specs.Lists.{numbers_of};
 ghost use Rattle.flow_policy.specs.Listed.{list_of, unknown_in, GivesList, FindsNumber, FailsNumbers};
 
 use crate::fault::ListFault;
-use crate::lines::cut;
-use crate::lists::{are_names, is_bare};
 use crate::names::text_of;
-use flow_text::OutOfMemory;
+use flow_lists::{are_names, first_name, is_bare};
+use flow_text::{OutOfMemory, Text};
 use origin_labels::{OriginList, Origins};
 use std::alloc::Global;
 
@@ -18,7 +18,13 @@ use std::alloc::Global;
 pub fn read_list(alloc: Global, origins: &Origins, list: &str) -> Result<OriginList, ListFault>
     ensures list { GivesList result (list_of origins.now list.now) }
 {
-    let list = list.as_bytes();
+    let text = text_of(alloc, list.as_bytes())?;
+    list_in(alloc, origins, text.units())
+}
+
+fn list_in(alloc: Global, origins: &Origins, list: &[u16]) -> Result<OriginList, ListFault>
+    ensures list { GivesList result (list_of origins.now list.now) }
+{
     if !are_names(list) {
         return Err(ListFault::Form);
     }
@@ -27,7 +33,7 @@ pub fn read_list(alloc: Global, origins: &Origins, list: &str) -> Result<OriginL
 }
 
 // The number of each name of the list.
-fn numbers_in(alloc: Global, origins: &Origins, list: &[u8]) -> Result<Vec<u32>, ListFault>
+fn numbers_in(alloc: Global, origins: &Origins, list: &[u16]) -> Result<Vec<u32>, ListFault>
     ensures numbers { MatchResult result (λ v. (unknown_in origins.now list.now ≡ None) × (v.items ≡ numbers_of origins.now (names_in list.now))) (λ e. FailsNumbers e (unknown_in origins.now list.now)) }
     ensures below { IfOk result (λ v. All (λ number. number < length origins.now) v.items) }
 {
@@ -36,7 +42,7 @@ fn numbers_in(alloc: Global, origins: &Origins, list: &[u8]) -> Result<Vec<u32>,
         return Ok(numbers);
     }
     let mut rest = list;
-    while let Some((name, others)) = cut(rest, b',') {
+    while let Some((name, others)) = first_name(rest) {
         let number = number_of(alloc, origins, name, numbers.len())?;
         numbers.push(number)?;
         rest = others;
@@ -46,11 +52,12 @@ fn numbers_in(alloc: Global, origins: &Origins, list: &[u8]) -> Result<Vec<u32>,
     Ok(numbers)
 }
 
-fn number_of(alloc: Global, origins: &Origins, name: &[u8], which: usize) -> Result<u32, ListFault>
+fn number_of(alloc: Global, origins: &Origins, name: &[u16], which: usize) -> Result<u32, ListFault>
     ensures { FindsNumber result which origins.now name.now }
 {
-    let name = text_of(alloc, name)?;
-    origins.index_of(&name).ok_or(ListFault::Unknown { which })
+    let mut text = Text::new(alloc);
+    text.push_units(name)?;
+    origins.index_of(&text).ok_or(ListFault::Unknown { which })
 }
 
 // The set of numbers that are below a bound.

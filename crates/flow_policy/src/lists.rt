@@ -1,41 +1,25 @@
 //! Lists of origins.
 
-ghost use Rattle.std.specs.Prelude.{◌≡◌, ◌≤◌, ℕ, false, [], ◌∷◌, length, slice_index_or, IfOk};
+ghost use Rattle.std.specs.Prelude.{◌≡◌, ◌≤◌, ℕ, false, length, slice_index_or, IfOk};
 ghost use Rattle.origin_labels.specs.Label.{IsLabel, has};
-ghost use Rattle.origin_labels.specs.Names.{same_name};
-ghost use Rattle.flow_policy.specs.Lists.{are_names, label_in};
+ghost use Rattle.flow_policy.specs.Lists.{label_in};
 ghost use Rattle.flow_policy.specs.Policies.{table_room};
 ghost use Rattle.flow_policy.specs.Answers.{FindsOrigin, MarksOrigins, GivesLabel};
 
 use crate::fault::{LineFault, PolicyKind};
-use crate::lines::cut;
-use crate::names::{is_name, text_of};
-use flow_text::OutOfMemory;
+use flow_lists::{first_name, is_bare};
+use flow_text::{OutOfMemory, Text};
 use origin_labels::{OriginList, Origins};
 use std::alloc::Global;
 
 /// Each table has room for this many.
 pub(crate) const TABLE_ROOM: usize = 64;
 
-/// Whether it is the list of no names.
-pub(crate) fn is_bare(list: &[u8]) -> bool
-    ensures { result ≡ same_name list.now (45 ∷ []) }
-{
-    list == b"-".as_slice()
-}
-
-/// Whether each name of the list keeps the rule for names.
-pub(crate) fn are_names(list: &[u8]) -> bool
-    ensures { result ≡ are_names list.now }
-{
-    is_bare(list) || list.split(|byte| *byte == b',').all(is_name)
-}
-
 /// The set of the list's origins.
 pub(crate) fn label_in(
     alloc: Global,
     origins: &Origins,
-    list: &[u8],
+    list: &[u16],
 ) -> Result<OriginList, LineFault>
     requires { length origins.now ≤ table_room }
     ensures { GivesLabel result origins.now list.now }
@@ -45,7 +29,7 @@ pub(crate) fn label_in(
 }
 
 // A mark for each origin of the list.
-fn marks_in(alloc: Global, origins: &Origins, list: &[u8]) -> Result<[bool; TABLE_ROOM], LineFault>
+fn marks_in(alloc: Global, origins: &Origins, list: &[u16]) -> Result<[bool; TABLE_ROOM], LineFault>
     requires { length origins.now ≤ table_room }
     ensures { MarksOrigins result origins.now list.now }
 {
@@ -54,7 +38,7 @@ fn marks_in(alloc: Global, origins: &Origins, list: &[u8]) -> Result<[bool; TABL
         return Ok(marks);
     }
     let mut rest = list;
-    while let Some((name, others)) = cut(rest, b',') {
+    while let Some((name, others)) = first_name(rest) {
         let origin = origin_of(alloc, origins, name)?;
         marks[origin] = true;
         rest = others;
@@ -64,11 +48,12 @@ fn marks_in(alloc: Global, origins: &Origins, list: &[u8]) -> Result<[bool; TABL
     Ok(marks)
 }
 
-fn origin_of(alloc: Global, origins: &Origins, name: &[u8]) -> Result<usize, LineFault>
+fn origin_of(alloc: Global, origins: &Origins, name: &[u16]) -> Result<usize, LineFault>
     ensures { FindsOrigin result origins.now name.now }
 {
-    let name = text_of(alloc, name)?;
-    match origins.index_of(&name) {
+    let mut text = Text::new(alloc);
+    text.push_units(name)?;
+    match origins.index_of(&text) {
         Some(origin) => Ok(origin as usize),
         None => Err(LineFault::Bad(PolicyKind::Unknown)),
     }

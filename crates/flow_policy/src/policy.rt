@@ -1,15 +1,16 @@
 //! Policies.
 
 ghost use Rattle.std.specs.Prelude.{◌≡◌, ◌≤◌, length};
-ghost use Rattle.flow_policy.specs.Names.{words_of};
+ghost use Rattle.flow_policy.specs.Words.{words_of};
 ghost use Rattle.flow_policy.specs.Policies.{policy_of, IsPolicy, no_tables, table_room, after_words, after_origin, after_in, after_out, with_new_origin, with_new_channel, has_channel};
 ghost use Rattle.flow_policy.specs.Answers.{GivesPolicy, LeavesTables, GivesOrigin, GivesChannel};
 
 use crate::fault::{LineFault, PolicyFault, PolicyKind};
 use crate::lines::next_line;
-use crate::lists::{TABLE_ROOM, are_names, label_in};
-use crate::names::{is_name, text_of};
+use crate::lists::{TABLE_ROOM, label_in};
+use crate::names::text_of;
 use crate::words::{next_word, only_two, only_word};
+use flow_lists::{are_names, is_name};
 use flow_text::Text;
 use origin_labels::{OriginList, Origins};
 use std::alloc::Global;
@@ -136,10 +137,10 @@ impl Policy {
 fn new_origin(alloc: Global, origins: &Origins, name: &[u8]) -> Result<Text, LineFault>
     ensures { GivesOrigin result origins.now (with_new_origin origins.now name.now) }
 {
-    if !is_name(name) {
+    let name = text_of(alloc, name)?;
+    if !is_name(name.units()) {
         return Err(LineFault::Bad(PolicyKind::Name));
     }
-    let name = text_of(alloc, name)?;
     if origins.index_of(&name).is_some() {
         return Err(LineFault::Bad(PolicyKind::Repeat));
     }
@@ -161,11 +162,11 @@ fn new_channel(
     requires { length origins.now ≤ table_room }
     ensures { GivesChannel result channels.now (with_new_channel origins.now channels.now name.now list.now) }
 {
-    if !is_name(name) || !are_names(list) {
+    let (name, list) = (text_of(alloc, name)?, text_of(alloc, list)?);
+    if !is_name(name.units()) || !are_names(list.units()) {
         return Err(LineFault::Bad(PolicyKind::Name));
     }
-    let label = label_in(alloc, origins, list)?;
-    let name = text_of(alloc, name)?;
+    let label = label_in(alloc, origins, list.units())?;
     if has_channel(&name, channels) {
         return Err(LineFault::Bad(PolicyKind::Repeat));
     }

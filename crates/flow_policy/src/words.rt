@@ -2,7 +2,7 @@
 
 ghost use Rattle.std.specs.Prelude.{◌≡◌, ◌<◌, [], ◌∷◌, length, MatchOption, IfSome};
 ghost use Rattle.std.specs.Option.{option_map, option_copied};
-ghost use Rattle.flow_policy.specs.Names.{words_of};
+ghost use Rattle.flow_policy.specs.Words.{words_of};
 ghost use Rattle.flow_policy.specs.Words.{only_word, only_two};
 
 use crate::lines::cut;

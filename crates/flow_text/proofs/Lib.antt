@@ -1,4 +1,5 @@
 pub mod Laws
 mod Lines
+pub mod Paired
 mod Reading
 pub mod RoundTrip

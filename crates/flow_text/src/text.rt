@@ -11,7 +11,7 @@ use std::marker::Model;
 /// A list of UTF-16 units, as a string value has them (ECMA-262 8.4).
 #[derive(Debug, Drop)]
 pub struct Text {
-    units: Vec<u16>,
+    pub(crate) units: Vec<u16>,
 }
 
 impl Model for Text {

@@ -1,10 +1,10 @@
 //! Texts from UTF-8, and back.
 
-ghost use Rattle.std.specs.Prelude.{◌≡◌, ◌++◌, OnOk, OnErr, IfOk, IfErr};
+ghost use Rattle.std.specs.Prelude.{◌≡◌, ◌++◌, true, Ok, OnOk, OnErr, IfOk, IfErr};
 ghost use Rattle.std.specs.Char.Escape.{encode_utf16};
 ghost use Rattle.std.specs.Str.{IsUtf8};
 ghost use Rattle.flow_text.specs.Memory.{GivesText, IsFaultOf};
-ghost use Rattle.flow_text.specs.Utf8.{text_of_utf8, units_of, utf8_of};
+ghost use Rattle.flow_text.specs.Utf8.{are_paired, text_of_utf8, units_of, utf8_of};
 
 use crate::memory::OutOfMemory;
 use crate::text::{Text, TextFault};
@@ -52,9 +52,10 @@ impl Text {
     /// The bytes that spell it, with U+FFFD for each surrogate without its partner.
     #[tactic(auto, unfolding(crate::specs::Utf8::utf8_of))]
     pub fn to_utf8(&self, alloc: Global) -> Result<Vec<u8>, OutOfMemory>
-        ensures { IfOk result (λ v. v.items ≡ utf8_of self.now) }
+        ensures spelling { IfOk result (λ v. v.items ≡ utf8_of self.now) }
+        ensures again { are_paired self.now ≡ true → IfOk result (λ v. text_of_utf8 v.items ≡ Ok self.now) }
     {
-        let spelling = String::from_utf16_lossy(alloc, self.units())?;
+        let spelling = String::from_utf16_lossy(alloc, &self.units)?;
         Ok(spelling.into_bytes())
     }
 }

@@ -7,7 +7,7 @@ use Rattle.js_ast.specs.declared.trees.Expr.{Expr}
 use Rattle.js_ast.specs.declared.trees.Item.{Item}
 use Rattle.js_ast.specs.declared.trees.Item as an_item
 use Rattle.js_ast.specs.declared.trees.Property.{Property}
-use Rattle.js_ast.specs.declared.trees.FunctionBody.{roll-FunctionBody, rolls-FunctionBody'}
+use Rattle.js_ast.specs.declared.trees.Function.{Function, out-Function, roll-Function, roll-out-Function, rolls-Function'}
 use Rattle.js_ast.specs.declared.trees.Stmt.{Stmt}
 use Rattle.js_ast.specs.declared.trees.Declaration.{Declaration, roll-Declaration, rolls-Declaration'}
 use Rattle.js_ast.specs.declared.trees.Declarations.{Declarations, out-Declarations, roll-Declarations, roll-out-Declarations, rolls-Declarations'}
@@ -16,10 +16,9 @@ use Rattle.js_ast.specs.declared.trees.Clause.{Clause, Clause', roll-Clause, rol
 use Rattle.js_ast.specs.declared.trees.ExprKind.TheBlock.{back-ForFirst-Expr-0, Row_of-Item, end_of-Item, more_of-Item, items-the_row-Item, hidden-the_row-Item-0, items_hidden-the_row-Item-0, Row_of-Property, end_of-Property, more_of-Property, items-the_row-Property, hidden-the_row-Property-1, items_hidden-the_row-Property-1, Row_of-Expr, end_of-Expr, more_of-Expr, items-the_row-Expr, hidden-the_row-Expr-2, items_hidden-the_row-Expr-2, Row_of-Stmt, end_of-Stmt, more_of-Stmt, items-the_row-Stmt, hidden-the_row-Stmt-3, items_hidden-the_row-Stmt-3, Row_of-Clause, end_of-Clause, more_of-Clause, items-the_row-Clause, hidden-the_row-Clause-4, items_hidden-the_row-Clause-4, Row_of-Declaration, end_of-Declaration, more_of-Declaration, items-the_row-Declaration, hidden-the_row-Declaration-5, items_hidden-the_row-Declaration-5}
 use Rattle.js_ast.specs.Nodes.{nodes_of}
 use Rattle.js_ast.specs.Trees as trees
-use Rattle.js_ast.specs.Trees.{more_exprs, more_properties, more_declarations, block_of, case, default, more_statements}
-use Rattle.js_ast.specs.ExpressionParsing.{joined_exprs, joined_items, joined_properties}
-use Rattle.js_ast.specs.StatementParsing.{declarations_joined, clauses_joined, statements_joined}
-use Rattle.js_ast.specs.Views.{view_ident, view_idents, declarations_from, clause_by, view_expr_kind, view_expr_row, view_held_expr, view_item, view_item_row, view_property_kind, view_property_row, view_function_body, view_declarations, view_block, view_stmt_kind, view_declaration, view_declaration_row, view_clause, view_clause_row, view_stmt_row, view_expr, view_property, view_stmt, view_maybe_expr, view_exprs, view_items, view_properties, view_other_declarations, view_clauses, view_stmts}
+use Rattle.js_ast.specs.Trees.{more_exprs, more_properties, function_of, more_declarations, block_of, case, default, more_statements}
+use Rattle.js_ast.specs.Joined.{joined_exprs, joined_items, joined_properties, joined_declarations, joined_clauses, joined_statements}
+use Rattle.js_ast.specs.Views.{view_ident, view_idents, declarations_from, clause_by, view_expr_kind, view_expr_row, view_held_expr, view_item, view_item_row, view_property_kind, view_property_row, view_function, view_name, view_declarations, view_block, view_stmt_kind, view_declaration, view_declaration_row, view_clause, view_clause_row, view_stmt_row, view_expr, view_property, view_stmt, view_maybe_expr, view_exprs, view_items, view_properties, view_other_declarations, view_clauses, view_stmts}
 
 -- ---- nodes behind others
 
@@ -49,32 +48,32 @@ properties_append (p ∷ ps) qs = ap (more_properties (view_property p)) (proper
 
 -- variables behind others, seen
 declarations_from_append : (d : trees.Ident × trees.MaybeExpr) (ds : List (trees.Ident × trees.MaybeExpr)) (e : trees.Ident × trees.MaybeExpr) (es : List (trees.Ident × trees.MaybeExpr))
-    → declarations_from d (ds ++ e ∷ es) ≡ declarations_joined (declarations_from d ds) (declarations_from e es)
+    → declarations_from d (ds ++ e ∷ es) ≡ joined_declarations (declarations_from d ds) (declarations_from e es)
 declarations_from_append d [] e es = refl
 declarations_from_append d (c ∷ ds) e es = ap (more_declarations d.0 d.1) (declarations_from_append c ds e es)
 
 -- a variable behind a first and others
 pub declarations_append : (d : Declaration) (ds : List Declaration) (e : Declaration) (es : List Declaration)
     → declarations_from (view_declaration d) (view_other_declarations (ds ++ e ∷ es))
-    ≡ declarations_joined (declarations_from (view_declaration d) (view_other_declarations ds)) (declarations_from (view_declaration e) (view_other_declarations es))
+    ≡ joined_declarations (declarations_from (view_declaration d) (view_other_declarations ds)) (declarations_from (view_declaration e) (view_other_declarations es))
 declarations_append d ds e es = ap (declarations_from (view_declaration d)) (map-append view_declaration ds (e ∷ es)) ∙ declarations_from_append (view_declaration d) (view_other_declarations ds) (view_declaration e) (view_other_declarations es)
 
 -- a clause in front of joined ones, by its test
-clause_by_joined : (e : trees.MaybeExpr) (body : trees.Statements) (cs ds : trees.Clauses) → clause_by e body (clauses_joined cs ds) ≡ clauses_joined (clause_by e body cs) ds
+clause_by_joined : (e : trees.MaybeExpr) (body : trees.Statements) (cs ds : trees.Clauses) → clause_by e body (joined_clauses cs ds) ≡ joined_clauses (clause_by e body cs) ds
 clause_by_joined trees.absent body cs ds = refl
 clause_by_joined (trees.present e) body cs ds = refl
 
 -- a clause in front of joined ones
-clause_joined : (c : Clause) (cs ds : trees.Clauses) → view_clause c (clauses_joined cs ds) ≡ clauses_joined (view_clause c cs) ds
+clause_joined : (c : Clause) (cs ds : trees.Clauses) → view_clause c (joined_clauses cs ds) ≡ joined_clauses (view_clause c cs) ds
 clause_joined (Clause' e shape ss) cs ds = clause_by_joined (view_held_expr e) (view_stmt_row ss) cs ds
 
 -- clauses behind others
-pub clauses_append : (cs ds : List Clause) → view_clauses (cs ++ ds) ≡ clauses_joined (view_clauses cs) (view_clauses ds)
+pub clauses_append : (cs ds : List Clause) → view_clauses (cs ++ ds) ≡ joined_clauses (view_clauses cs) (view_clauses ds)
 clauses_append [] ds = refl
 clauses_append (c ∷ cs) ds = ap (view_clause c) (clauses_append cs ds) ∙ clause_joined c (view_clauses cs) (view_clauses ds)
 
 -- statements behind others
-pub stmts_append : (ss us : List Stmt) → view_stmts (ss ++ us) ≡ statements_joined (view_stmts ss) (view_stmts us)
+pub stmts_append : (ss us : List Stmt) → view_stmts (ss ++ us) ≡ joined_statements (view_stmts ss) (view_stmts us)
 stmts_append [] us = refl
 stmts_append (s ∷ ss) us = ap (more_statements (view_stmt s)) (stmts_append ss us)
 
@@ -141,9 +140,14 @@ held_expr (Some e) = refl
 
 -- ---- structs by their parts
 
--- the statements of a function
-pub seen_function_body : (n : ℕ) (strict : Bool) (statements : NodeList Stmt) → view_function_body (roll-FunctionBody (record { number = n; strict = strict; statements = statements })) ≡ view_stmts (nodes_of statements)
-seen_function_body n strict statements = rw rolls-FunctionBody' (held_stmts statements)
+-- a function
+pub seen_function : (at n : ℕ) (strict : Bool) (name : Option Ident) (params : NodeList Ident) (body : NodeList Stmt)
+    → view_function (roll-Function (record { at = at; number = n; strict = strict; name = name; params = params; body = body })) ≡ function_of at (view_name name) (view_idents (nodes_of params)) (view_stmts (nodes_of body))
+seen_function at n strict name params body = rw rolls-Function' (ap (function_of at (view_name name) (view_idents (nodes_of params))) (held_stmts body))
+
+-- a function that is held
+pub parts_function : (f : Function) → view_function f ≡ function_of (out-Function f).at (view_name (out-Function f).name) (view_idents (nodes_of (out-Function f).params)) (view_stmts (nodes_of (out-Function f).body))
+parts_function f = ap view_function (sym (roll-out-Function f)) ∙ seen_function (out-Function f).at (out-Function f).number (out-Function f).strict (out-Function f).name (out-Function f).params (out-Function f).body
 
 -- statements between braces
 pub seen_block_of : (at : ℕ) (body : NodeList Stmt) → view_block (roll-Block (record { at = at; body = body })) ≡ block_of at (view_stmts (nodes_of body))
@@ -174,7 +178,7 @@ pub seen_default : (body : NodeList Stmt) (cs : trees.Clauses) → view_clause (
 seen_default body cs = seen_clause None body cs
 
 -- the lists and the missing parts that a node holds
-pub ruleset held = (held_exprs, held_items, held_properties, held_declarations, held_clauses, held_stmts, held_expr, seen_function_body, seen_block_of, seen_declaration, seen_declarations, parts_declarations, seen_case, seen_default)
+pub ruleset held = (held_exprs, held_items, held_properties, held_declarations, held_clauses, held_stmts, held_expr, seen_function, seen_block_of, seen_declaration, seen_declarations, parts_declarations, seen_case, seen_default)
 
 -- nodes behind others
 pub ruleset appended = (idents_append, exprs_append, items_append, properties_append, declarations_append, clauses_append, stmts_append)

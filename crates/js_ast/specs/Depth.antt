@@ -1,6 +1,6 @@
 -- How deep a tree is.
 use Rattle.std.specs.Prelude.{ℕ, suc, max}
-use Rattle.js_ast.specs.Trees.{Expr, name, number, string, this, null, boolean, paren, array, object, function, member, index, new_with, new_bare, call, postfix, unary, binary, conditional, assign, comma, Exprs, no_exprs, more_exprs, MaybeExpr, absent, present, Items, no_items, hole, item, Property, value, getter, setter, Properties, no_properties, more_properties, Declarations, one_declaration, more_declarations, First, first_expr, first_var, Target, target_expr, target_var, Clauses, no_clauses, case, default, Block, block_of, Statement, block, var, empty, expression, if_then, if_else, do_while, while, for, for_in, continue, break, return, throw, switch, labelled, try_catch, try_finally, try_both, debugger, function_declaration, Statements, no_statements, more_statements}
+use Rattle.js_ast.specs.Trees.{Expr, name, number, string, this, null, boolean, paren, array, object, function, member, index, new_with, new_bare, call, postfix, unary, binary, conditional, assign, comma, Exprs, no_exprs, more_exprs, MaybeExpr, absent, present, Items, no_items, hole, item, Property, value, getter, setter, Properties, no_properties, more_properties, Declarations, one_declaration, more_declarations, First, first_expr, first_var, Target, target_expr, target_var, Clauses, no_clauses, case, default, Block, block_of, Statement, block, var, empty, expression, if_then, if_else, do_while, while, for, for_in, continue, break, return, throw, switch, labelled, try_catch, try_finally, try_both, debugger, function_declaration, Statements, no_statements, more_statements, Function, function_of}
 
 -- a name and a literal have 0, each other expression 1 more than the deepest of its parts; an expression statement has the depth of its
 -- expression, each other statement 1 more than the deepest of its parts; parts that are no nodes of their own add nothing
@@ -15,7 +15,7 @@ abbrev mutual
   depth (paren at e) = suc (depth e)
   depth (array at items final) = suc (depth_items items)
   depth (object at properties final) = suc (depth_properties properties)
-  depth (function at ident params body) = suc (depth_statements body)
+  depth (function at f) = suc (depth_function f)
   depth (member at e text) = suc (depth e)
   depth (index at e i) = suc (max (depth e) (depth i))
   depth (new_with at e args) = suc (max (depth e) (depth_exprs args))
@@ -43,12 +43,15 @@ abbrev mutual
 
   pub depth_property : Property → ℕ
   depth_property (value at k e) = depth e
-  depth_property (getter at k body) = depth_statements body
-  depth_property (setter at k param body) = depth_statements body
+  depth_property (getter at k f) = depth_function f
+  depth_property (setter at k f) = depth_function f
 
   pub depth_properties : Properties → ℕ
   depth_properties no_properties = 0
   depth_properties (more_properties p ps) = max (depth_property p) (depth_properties ps)
+
+  pub depth_function : Function → ℕ
+  depth_function (function_of at ident params body) = depth_statements body
 
   pub depth_declarations : Declarations → ℕ
   depth_declarations (one_declaration ident init) = depth_maybe init
@@ -91,7 +94,7 @@ abbrev mutual
   depth_statement (try_finally at b final) = suc (max (depth_block b) (depth_block final))
   depth_statement (try_both at b ident handler final) = suc (max (depth_block b) (max (depth_block handler) (depth_block final)))
   depth_statement (debugger at semi) = 1
-  depth_statement (function_declaration at ident params body) = suc (depth_statements body)
+  depth_statement (function_declaration at f) = suc (depth_function f)
 
   pub depth_statements : Statements → ℕ
   depth_statements no_statements = 0

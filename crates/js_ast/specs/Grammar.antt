@@ -6,7 +6,7 @@ use Rattle.js_ast.specs.declared.words.Keyword.TheVariants as key
 use Rattle.js_ast.specs.declared.words.Sign.{Sign}
 use Rattle.js_ast.specs.declared.words.Sign.TheVariants as sign
 use Rattle.js_ast.specs.Words.{Word, a_name, a_number, a_string, a_key, a_sign, word_of, identifier_name}
-use Rattle.js_ast.specs.Trees.{Ident, Key, name_key, string_key, number_key, Semi, written, elided, Expr, name, number, string, this, null, boolean, paren, array, object, function, member, index, new_with, new_bare, call, postfix, unary, binary, conditional, assign, comma, Exprs, no_exprs, more_exprs, MaybeExpr, absent, present, Items, no_items, hole, item, Property, value, getter, setter, Properties, no_properties, more_properties, Declarations, one_declaration, more_declarations, First, first_expr, first_var, Target, target_expr, target_var, Clauses, no_clauses, case, default, Block, block_of, Statement, block, var, empty, expression, if_then, if_else, do_while, while, for, for_in, continue, break, return, throw, switch, labelled, try_catch, try_finally, try_both, debugger, function_declaration, Statements, no_statements, more_statements}
+use Rattle.js_ast.specs.Trees.{Ident, Key, name_key, string_key, number_key, Semi, written, elided, Expr, name, number, string, this, null, boolean, paren, array, object, function, member, index, new_with, new_bare, call, postfix, unary, binary, conditional, assign, comma, Exprs, no_exprs, more_exprs, MaybeExpr, absent, present, Items, no_items, hole, item, Property, value, getter, setter, Properties, no_properties, more_properties, Declarations, one_declaration, more_declarations, First, first_expr, first_var, Target, target_expr, target_var, Clauses, no_clauses, case, default, Block, block_of, Statement, block, var, empty, expression, if_then, if_else, do_while, while, for, for_in, continue, break, return, throw, switch, labelled, try_catch, try_finally, try_both, debugger, function_declaration, Statements, no_statements, more_statements, Function, function_of}
 use Rattle.js_ast.specs.Levels.{unary_word, postfix_word, binary_word, assign_word, ends_postfix}
 
 abbrev pub Part : Type 1
@@ -160,7 +160,7 @@ abbrev mutual
   Reads (paren at e) = At at (parens (Reads e))
   Reads (array at items final) = At at (brackets (ReadsItems items final))
   Reads (object at properties final) = At at (braces (ReadsProperties properties final))
-  Reads (function at ident params body) = At at (key_part key.Function ⨾ (MaybeIdent ident ⨾ (parens (ReadsIdents params) ⨾ braces (ReadsStatements body))))
+  Reads (function at f) = At at (key_part key.Function ⨾ ReadsFunction f)
   Reads (member at e text) = At at (Reads e ⨾ (sign_part sign.Dot ⨾ TakesName text))
   Reads (index at e i) = At at (Reads e ⨾ brackets (Reads i))
   Reads (new_with at e args) = At at (key_part key.New ⨾ (Reads e ⨾ parens (ReadsExprs args)))
@@ -193,8 +193,12 @@ abbrev mutual
 
   pub ReadsProperty : Property → Part
   ReadsProperty (value at k e) = At at (ReadsKey k ⨾ (sign_part sign.Colon ⨾ Reads e))
-  ReadsProperty (getter at k body) = At at (Takes (a_name (codes "get")) ⨾ (ReadsKey k ⨾ (parens nothing ⨾ braces (ReadsStatements body))))
-  ReadsProperty (setter at k param body) = At at (Takes (a_name (codes "set")) ⨾ (ReadsKey k ⨾ (parens (ReadsIdent param) ⨾ braces (ReadsStatements body))))
+  ReadsProperty (getter at k f) = At at (Takes (a_name (codes "get")) ⨾ (ReadsKey k ⨾ ReadsFunction f))
+  ReadsProperty (setter at k f) = At at (Takes (a_name (codes "set")) ⨾ (ReadsKey k ⨾ ReadsFunction f))
+
+  -- a function behind its first words: its name or none, its parameters and its body
+  pub ReadsFunction : Function → Part
+  ReadsFunction (function_of at ident params body) = MaybeIdent ident ⨾ (parens (ReadsIdents params) ⨾ braces (ReadsStatements body))
 
   -- properties of an object, with commas between
   pub ReadsProperties : Properties → Bool → Part
@@ -249,7 +253,7 @@ abbrev mutual
   ReadsStatement (try_finally at b final) = At at (key_part key.Try ⨾ (ReadsBlock b ⨾ (key_part key.Finally ⨾ ReadsBlock final)))
   ReadsStatement (try_both at b ident handler final) = At at (key_part key.Try ⨾ (ReadsBlock b ⨾ ((key_part key.Catch ⨾ (parens (ReadsIdent ident) ⨾ ReadsBlock handler)) ⨾ (key_part key.Finally ⨾ ReadsBlock final))))
   ReadsStatement (debugger at semi) = At at (key_part key.Debugger ⨾ Ends None semi)
-  ReadsStatement (function_declaration at ident params body) = At at (key_part key.Function ⨾ (ReadsIdent ident ⨾ (parens (ReadsIdents params) ⨾ braces (ReadsStatements body))))
+  ReadsStatement (function_declaration at f) = At at (key_part key.Function ⨾ ReadsFunction f)
 
   pub ReadsStatements : Statements → Part
   ReadsStatements no_statements = nothing

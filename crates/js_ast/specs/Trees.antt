@@ -35,8 +35,7 @@ mutual
     -- the items, and whether a comma stands behind a last expression
     array : ℕ → Items → Bool → Expr
     object : ℕ → Properties → Bool → Expr
-    -- a name or none, the parameters and the body
-    function : ℕ → Option Ident → List Ident → Statements → Expr
+    function : ℕ → Function → Expr
     member : ℕ → Expr → List ℕ → Expr
     index : ℕ → Expr → Expr → Expr
     new_with : ℕ → Expr → Exprs → Expr
@@ -68,12 +67,16 @@ mutual
   -- a property of an object, with the place of its first token
   pub data Property : Type 0 where
     value : ℕ → Key → Expr → Property
-    getter : ℕ → Key → Statements → Property
-    setter : ℕ → Key → Ident → Statements → Property
+    getter : ℕ → Key → Function → Property
+    setter : ℕ → Key → Function → Property
 
   pub data Properties : Type 0 where
     no_properties : Properties
     more_properties : Property → Properties → Properties
+
+  -- a function, wherever it stands: a name or none, the parameters and the body (ECMA-262 13)
+  pub data Function : Type 0 where
+    function_of : ℕ → Option Ident → List Ident → Statements → Function
 
   -- variables, each with its initialiser or none
   pub data Declarations : Type 0 where
@@ -122,8 +125,44 @@ mutual
     try_finally : ℕ → Block → Block → Statement
     try_both : ℕ → Block → Ident → Block → Block → Statement
     debugger : ℕ → Semi → Statement
-    function_declaration : ℕ → Ident → List Ident → Statements → Statement
+    function_declaration : ℕ → Function → Statement
 
   pub data Statements : Type 0 where
     no_statements : Statements
     more_statements : Statement → Statements → Statements
+
+-- the place of an expression
+abbrev pub at_of : Expr → ℕ
+at_of (name at text) = at
+at_of (number at n) = at
+at_of (string at text v) = at
+at_of (this at) = at
+at_of (null at) = at
+at_of (boolean at b) = at
+at_of (paren at e) = at
+at_of (array at items final) = at
+at_of (object at props final) = at
+at_of (function at f) = at
+at_of (member at e text) = at
+at_of (index at e i) = at
+at_of (new_with at e args) = at
+at_of (new_bare at e) = at
+at_of (call at e args) = at
+at_of (postfix at e o) = at
+at_of (unary at o e) = at
+at_of (binary at l o r) = at
+at_of (conditional at c a b) = at
+at_of (assign at l o r) = at
+at_of (comma at l r) = at
+
+-- the name of a function
+abbrev pub name_of : Function → Option Ident
+name_of (function_of at ident params body) = ident
+
+-- its parameters
+abbrev pub params_of : Function → List Ident
+params_of (function_of at ident params body) = params
+
+-- its body
+abbrev pub body_of : Function → Statements
+body_of (function_of at ident params body) = body

@@ -1,7 +1,7 @@
--- Which trees are valid: the levels of their parts, no `in` in the first part of a `for` header, the dangling `else`, final commas, and where
--- function declarations stand.
-use Rattle.std.specs.Prelude.{◌≡◌, ℕ, suc, ◌+◌, ◌≤◌, ◌⊎◌, Bool, true, false, not, ◌&&◌}
-use Rattle.js_ast.specs.Trees.{Expr, name, number, string, this, null, boolean, paren, array, object, function, member, index, new_with, new_bare, call, postfix, unary, binary, conditional, assign, comma, Exprs, no_exprs, more_exprs, MaybeExpr, absent, present, Items, no_items, hole, item, Property, value, getter, setter, Properties, no_properties, more_properties, Declarations, one_declaration, more_declarations, First, first_expr, first_var, Target, target_expr, target_var, Clauses, no_clauses, case, default, Block, block_of, Statement, block, var, empty, expression, if_then, if_else, do_while, while, for, for_in, continue, break, return, throw, switch, labelled, try_catch, try_finally, try_both, debugger, function_declaration, Statements, no_statements, more_statements}
+-- Which trees are valid: the levels of their parts, no `in` in the first part of a `for` header, the dangling `else`, final commas, where
+-- function declarations stand, and which functions have a name and how many parameters.
+use Rattle.std.specs.Prelude.{◌≡◌, ℕ, suc, ◌+◌, ◌≤◌, ◌⊎◌, Bool, true, false, not, ◌&&◌, [], length, None, is_some}
+use Rattle.js_ast.specs.Trees.{Expr, name, number, string, this, null, boolean, paren, array, object, function, member, index, new_with, new_bare, call, postfix, unary, binary, conditional, assign, comma, Exprs, no_exprs, more_exprs, MaybeExpr, absent, present, Items, no_items, hole, item, Property, value, getter, setter, Properties, no_properties, more_properties, Declarations, one_declaration, more_declarations, First, first_expr, first_var, Target, target_expr, target_var, Clauses, no_clauses, case, default, Block, block_of, Statement, block, var, empty, expression, if_then, if_else, do_while, while, for, for_in, continue, break, return, throw, switch, labelled, try_catch, try_finally, try_both, debugger, function_declaration, Statements, no_statements, more_statements, Function, function_of, name_of, params_of}
 use Rattle.js_ast.specs.Levels.{binding, is_in, is_step, level, is_bare_new, is_target}
 
 -- no operator `in` stands outside brackets, parentheses, braces and the middle part of a conditional
@@ -67,6 +67,18 @@ IsBase e = (15 ≤ level e) × (is_bare_new e ≡ false)
 abbrev pub IsTarget : Expr → Type 0
 IsTarget e = is_target e ≡ true
 
+-- a getter has no name and no parameter
+abbrev pub IsGetter : Function → Type 0
+IsGetter f = (name_of f ≡ None) × (params_of f ≡ [])
+
+-- a setter has no name and one parameter
+abbrev pub IsSetter : Function → Type 0
+IsSetter f = (name_of f ≡ None) × (length (params_of f) ≡ 1)
+
+-- a declaration has a name
+abbrev pub IsNamed : Function → Type 0
+IsNamed f = is_some (name_of f) ≡ true
+
 abbrev mutual
   pub Valid : Expr → Type 0
   Valid (name at text) = Unit {0}
@@ -78,7 +90,7 @@ abbrev mutual
   Valid (paren at e) = Valid e
   Valid (array at items final) = ValidItems items × (final ≡ true → ends_with_item items ≡ true)
   Valid (object at properties final) = ValidProperties properties × (final ≡ true → has_properties properties ≡ true)
-  Valid (function at ident params body) = ValidStatements true body
+  Valid (function at f) = ValidFunction at f
   Valid (member at e text) = Valid e × IsBase e
   Valid (index at e i) = Valid e × IsBase e × Valid i
   Valid (new_with at e args) = Valid e × (16 ≤ level e) × ValidExprs args
@@ -106,12 +118,16 @@ abbrev mutual
 
   pub ValidProperty : Property → Type 0
   ValidProperty (value at k e) = Valid e × (1 ≤ level e)
-  ValidProperty (getter at k body) = ValidStatements true body
-  ValidProperty (setter at k param body) = ValidStatements true body
+  ValidProperty (getter at k f) = ValidFunction at f × IsGetter f
+  ValidProperty (setter at k f) = ValidFunction at f × IsSetter f
 
   pub ValidProperties : Properties → Type 0
   ValidProperties no_properties = Unit {0}
   ValidProperties (more_properties p ps) = ValidProperty p × ValidProperties ps
+
+  -- a function begins where the node does that holds it
+  pub ValidFunction : ℕ → Function → Type 0
+  ValidFunction at (function_of place ident params body) = (place ≡ at) × ValidStatements true body
 
   pub ValidInitialiser : MaybeExpr → Type 0
   ValidInitialiser absent = Unit {0}
@@ -158,7 +174,7 @@ abbrev mutual
   ValidStatement outer (try_finally at b final) = ValidBlock b × ValidBlock final
   ValidStatement outer (try_both at b ident handler final) = ValidBlock b × ValidBlock handler × ValidBlock final
   ValidStatement outer (debugger at semi) = Unit {0}
-  ValidStatement outer (function_declaration at ident params body) = (outer ≡ true) × ValidStatements true body
+  ValidStatement outer (function_declaration at f) = (outer ≡ true) × ValidFunction at f × IsNamed f
 
   -- the statements of a program or a body, where function declarations stand, or of any other list
   pub ValidStatements : Bool → Statements → Type 0

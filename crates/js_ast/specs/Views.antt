@@ -13,7 +13,7 @@ use Rattle.js_ast.specs.declared.trees.Item as an_item
 use Rattle.js_ast.specs.declared.trees.Property.{Property}
 use Rattle.js_ast.specs.declared.trees.PropertyKind.{PropertyKind}
 use Rattle.js_ast.specs.declared.trees.PropertyKind as property
-use Rattle.js_ast.specs.declared.trees.FunctionBody.{FunctionBody, FunctionBody'}
+use Rattle.js_ast.specs.declared.trees.Function.{Function, Function'}
 use Rattle.js_ast.specs.declared.trees.Stmt.{Stmt}
 use Rattle.js_ast.specs.declared.trees.StmtKind.{StmtKind}
 use Rattle.js_ast.specs.declared.trees.StmtKind as stmt
@@ -29,7 +29,7 @@ use Rattle.js_ast.specs.declared.trees.Program.{Program}
 use Rattle.js_ast.specs.declared.trees.ExprKind.TheBlock.{ExprKind-New-1-None', ExprKind-New-1-Some', Held-ForFirst-Expr-0, ForFirst-Expr-0-None', ForFirst-Expr-0-Some', StmtKind-If-2-None', StmtKind-If-2-Some', Row_of-Item, end_of-Item, more_of-Item, Row_of-Property, end_of-Property, more_of-Property, Row_of-Expr, end_of-Expr, more_of-Expr, Row_of-Stmt, end_of-Stmt, more_of-Stmt, Row_of-Clause, end_of-Clause, more_of-Clause, Row_of-Declaration, end_of-Declaration, more_of-Declaration}
 use Rattle.js_ast.specs.Nodes.{nodes_of}
 use Rattle.js_ast.specs.Trees as trees
-use Rattle.js_ast.specs.Trees.{name_key, string_key, number_key, written, elided, name, number, string, this, null, boolean, paren, array, object, function, member, index, new_with, new_bare, call, postfix, unary, binary, conditional, assign, comma, no_exprs, more_exprs, absent, present, no_items, hole, item, value, getter, setter, no_properties, more_properties, one_declaration, more_declarations, first_expr, first_var, target_expr, target_var, no_clauses, case, default, block_of, block, var, empty, expression, if_then, if_else, do_while, while, for, for_in, continue, break, return, throw, switch, labelled, try_catch, try_finally, try_both, debugger, function_declaration, no_statements, more_statements}
+use Rattle.js_ast.specs.Trees.{name_key, string_key, number_key, written, elided, name, number, string, this, null, boolean, paren, array, object, function, member, index, new_with, new_bare, call, postfix, unary, binary, conditional, assign, comma, no_exprs, more_exprs, absent, present, no_items, hole, item, value, getter, setter, no_properties, more_properties, one_declaration, more_declarations, first_expr, first_var, target_expr, target_var, no_clauses, case, default, block_of, block, var, empty, expression, if_then, if_else, do_while, while, for, for_in, continue, break, return, throw, switch, labelled, try_catch, try_finally, try_both, debugger, function_declaration, no_statements, more_statements, function_of}
 
 -- ---- names, keys and ends
 
@@ -82,7 +82,7 @@ abbrev mutual
   view_expr_kind at (expr.Paren' a p e) = paren at (view_expr_kind a e)
   view_expr_kind at (expr.Array' shape is final) = array at (view_item_row is) final
   view_expr_kind at (expr.Object' shape ps final) = object at (view_property_row ps) final
-  view_expr_kind at (expr.Function ident params body) = function at (view_name ident) (view_idents (nodes_of params)) (view_function_body body)
+  view_expr_kind at (expr.Function f) = function at (view_function f)
   view_expr_kind at (expr.Member' a p e text) = member at (view_expr_kind a e) text
   view_expr_kind at (expr.Index' a p e b q i) = index at (view_expr_kind a e) (view_expr_kind b i)
   view_expr_kind at (expr.New' a p e ExprKind-New-1-None') = new_bare at (view_expr_kind a e)
@@ -116,16 +116,16 @@ abbrev mutual
   -- a property, by its place, its key and what it is
   pub view_property_kind : ℕ → Key → PropertyKind → trees.Property
   view_property_kind at k (property.Value' a p e) = value at (view_key k) (view_expr_kind a e)
-  view_property_kind at k (property.Getter body) = getter at (view_key k) (view_function_body body)
-  view_property_kind at k (property.Setter param body) = setter at (view_key k) (view_ident param) (view_function_body body)
+  view_property_kind at k (property.Getter f) = getter at (view_key k) (view_function f)
+  view_property_kind at k (property.Setter f) = setter at (view_key k) (view_function f)
 
   pub view_property_row : {m : _} → Row_of-Property m → trees.Properties
   view_property_row end_of-Property = no_properties
   view_property_row (more_of-Property at k p ps) = more_properties (view_property_kind at k p) (view_property_row ps)
 
-  -- the statements of a function
-  pub view_function_body : FunctionBody → trees.Statements
-  view_function_body (FunctionBody' n strict shape ss) = view_stmt_row ss
+  -- a function
+  pub view_function : Function → trees.Function
+  view_function (Function' at n strict ident params shape ss) = function_of at (view_name ident) (view_idents (nodes_of params)) (view_stmt_row ss)
 
   -- a variable
   pub view_declaration : Declaration → trees.Ident × trees.MaybeExpr
@@ -183,7 +183,7 @@ abbrev mutual
   view_stmt_kind at (stmt.TryFinally b f) = try_finally at (view_block b) (view_block f)
   view_stmt_kind at (stmt.TryBoth b i h f) = try_both at (view_block b) (view_ident i) (view_block h) (view_block f)
   view_stmt_kind at (stmt.Debugger s) = debugger at (view_semi s)
-  view_stmt_kind at (stmt.Function ident params body) = function_declaration at (view_ident ident) (view_idents (nodes_of params)) (view_function_body body)
+  view_stmt_kind at (stmt.Function f) = function_declaration at (view_function f)
 
   pub view_stmt_row : {m : _} → Row_of-Stmt m → trees.Statements
   view_stmt_row end_of-Stmt = no_statements

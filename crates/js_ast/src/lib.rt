@@ -1,20 +1,20 @@
 //! What a script is made of: its tokens and its trees.
 #![tactic(auto)]
 
-mod exactness;
+mod lending;
 mod node_list;
 mod operators;
+mod program;
 mod token;
 mod trees;
 mod words;
 
-pub use exactness::one_tree;
 pub use node_list::NodeList;
 pub use operators::{AssignOperator, BinaryOperator, PostfixOperator, UnaryOperator};
 pub use token::{Token, TokenKind};
 pub use trees::{
     Block, Clause, ClauseList, Declaration, DeclarationList, Declarations, Expr, ExprKind,
-    ExprList, ForFirst, ForTarget, FunctionBody, Ident, IdentList, Item, ItemList, Key, Program,
+    ExprList, ForFirst, ForTarget, Function, Ident, IdentList, Item, ItemList, Key, Program,
     Property, PropertyKind, PropertyList, Semi, Stmt, StmtKind, StmtList,
 };
 pub use words::{Keyword, Sign};

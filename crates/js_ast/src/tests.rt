@@ -76,6 +76,7 @@ fn call_program(alloc: Global) -> Result<Program, OutOfMemory> {
     Ok(Program {
         body,
         strict: false,
+        function_count: 0,
     })
 }
 

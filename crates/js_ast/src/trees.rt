@@ -77,11 +77,7 @@ pub enum ExprKind {
         properties: PropertyList,
         comma: bool,
     },
-    Function {
-        name: Option<Ident>,
-        params: IdentList,
-        body: FunctionBody,
-    },
+    Function(Function),
     Member {
         base: Expr,
         name: Text,
@@ -151,19 +147,24 @@ pub struct Property {
 #[cycle(tree)]
 pub enum PropertyKind {
     Value(Expr),
-    Getter(FunctionBody),
-    Setter { param: Ident, body: FunctionBody },
+    Getter(Function),
+    Setter(Function),
 }
 
-/// The body of a function, of a getter, or of a setter.
+/// A function: an expression, a declaration, a getter or a setter (ECMA-262 11.1.5, 13).
 #[derive(Drop)]
 #[cycle(tree)]
-pub struct FunctionBody {
+pub struct Function {
+    /// The place of its first token, which is that of the node that holds it.
+    pub at: usize,
     /// Functions are numbered from 0, in the order of their first tokens.
     pub number: u32,
     /// Its code is strict by a directive, its own or one around it.
     pub strict: bool,
-    pub statements: StmtList,
+    /// A declaration has a name, an expression may have one, a getter and a setter have none.
+    pub name: Option<Ident>,
+    pub params: IdentList,
+    pub body: StmtList,
 }
 
 /// A statement (ECMA-262 12, 13).
@@ -254,11 +255,7 @@ pub enum StmtKind {
         finalizer: Block,
     },
     Debugger(Semi),
-    Function {
-        name: Ident,
-        params: IdentList,
-        body: FunctionBody,
-    },
+    Function(Function),
 }
 
 /// A variable, with its initialiser or none.
@@ -317,4 +314,6 @@ pub struct Program {
     pub body: StmtList,
     /// Its code is strict by a directive.
     pub strict: bool,
+    /// The number of its functions.
+    pub function_count: u32,
 }

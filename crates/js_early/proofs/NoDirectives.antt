@@ -3,14 +3,14 @@ use Rattle.std.proofs.Common.{refl, sym, ap, ◌∙◌, ◌≡◌, ℕ, Bool, tr
 use Rattle.std.specs.List.{list_all, list_any}
 use Rattle.js_ast.specs.declared.operators.UnaryOperator.{UnaryOperator}
 use Rattle.js_ast.specs.declared.operators.UnaryOperator.TheVariants as unary_operator
-use Rattle.js_ast.specs.Trees.{Ident, Expr, name, number, string, this, null, boolean, paren, array, object, function, member, index, new_with, new_bare, call, postfix, unary, binary, conditional, assign, comma, Exprs, no_exprs, more_exprs, MaybeExpr, absent, present, Items, no_items, hole, item, Property, value, getter, setter, Properties, no_properties, more_properties, Declarations, one_declaration, more_declarations, First, first_expr, first_var, Target, target_expr, target_var, Clauses, no_clauses, case, default, Block, block_of, Statement, block, var, empty, expression, if_then, if_else, do_while, while, for, for_in, continue, break, return, throw, switch, labelled, try_catch, try_finally, try_both, debugger, function_declaration, Statements, no_statements, more_statements}
+use Rattle.js_ast.specs.Trees.{Ident, Expr, name, number, string, this, null, boolean, paren, array, object, function, member, index, new_with, new_bare, call, postfix, unary, binary, conditional, assign, comma, Exprs, no_exprs, more_exprs, MaybeExpr, absent, present, Items, no_items, hole, item, Property, value, getter, setter, Properties, no_properties, more_properties, Declarations, one_declaration, more_declarations, First, first_expr, first_var, Target, target_expr, target_var, Clauses, no_clauses, case, default, Block, block_of, Statement, block, var, empty, expression, if_then, if_else, do_while, while, for, for_in, continue, break, return, throw, switch, labelled, try_catch, try_finally, try_both, debugger, function_declaration, Statements, no_statements, more_statements, Function, function_of}
 use Rattle.js_faults.specs.declared.fault.Check.TheVariants as check
 use Rattle.js_faults.specs.declared.fault.Fault.{Fault}
 use Rattle.js_faults.specs.declared.fault.FaultKind.{FaultKind}
 use Rattle.js_faults.specs.declared.fault.FaultKind.TheVariants as kind
 use Rattle.js_faults.specs.Scopes.{Scope, in_body, looped, switched, labelled_by}
-use Rattle.js_faults.specs.Early.{fault_if, is_eval_or_arguments, is_strict_word, of_name, of_bound, of_bound_maybe, has_text, of_parameters, of_assigned, of_deleted, place_of_property, property_list, clashes, of_repeated, of_properties, of_unary, of_expr, of_declarations, of_first, of_target, of_statement}
-use Rattle.js_faults.specs.Faults.{own_expr, own_property, own_statement, in_expr, in_exprs, in_maybe, in_items, in_property, in_properties, in_declarations, in_first, in_target, in_clauses, in_block, in_statement, in_statements, row, is_before, earlier, first_of}
+use Rattle.js_faults.specs.Early.{fault_if, is_eval_or_arguments, is_strict_word, of_name, of_bound, of_bound_maybe, has_text, of_parameters, of_assigned, of_deleted, place_of_property, property_list, clashes, of_repeated, of_properties, of_unary, of_expr, of_declarations, of_first, of_target, of_statement, of_function}
+use Rattle.js_faults.specs.Faults.{own_expr, own_statement, in_expr, in_exprs, in_maybe, in_items, in_property, in_properties, in_declarations, in_first, in_target, in_clauses, in_block, in_statement, in_statements, row, is_before, earlier, first_of, own_function, in_function}
 
 -- a kind of early errors
 abbrev is_early : FaultKind → Bool
@@ -97,16 +97,14 @@ at_expr : (e : Expr) → Early (own_expr check.Early e)
 unfolding own_expr of_expr
 at_expr (name at text) = at_name at text
 at_expr (object at props final) = at_properties (property_list props)
-at_expr (function at ident params body) = joined (at_bound_maybe ident) (at_parameters [] params)
 at_expr (postfix at e o) = at_assigned e
 at_expr (unary at o e) = at_unary o e
 at_expr (assign at l o r) = at_assigned l
 at_expr _ = none
 
-at_property : (p : Property) → Early (own_property check.Early p)
-unfolding own_property
-at_property (setter at k param body) = at_bound param
-at_property _ = none
+at_function : (f : Function) → Early (own_function check.Early f)
+unfolding own_function of_function
+at_function (function_of at ident params body) = joined (at_bound_maybe ident) (at_parameters [] params)
 
 at_declarations : (ds : Declarations) → Early (of_declarations ds)
 unfolding of_declarations
@@ -132,7 +130,6 @@ at_statement s (return at e semi) = at_if _ at kind.Jump refl
 at_statement s (labelled at text body) = joined (at_if _ at kind.RepeatedLabel refl) (at_name at text)
 at_statement s (try_catch at b ident handler) = at_bound ident
 at_statement s (try_both at b ident handler final) = at_bound ident
-at_statement s (function_declaration at ident params body) = joined (at_bound ident) (at_parameters [] params)
 at_statement s (expression at e semi) = at_if _ at kind.Jump refl
 at_statement s _ = none
 
@@ -149,7 +146,7 @@ mutual
   expr_early (paren at e) = joined (at_expr (paren at e)) (expr_early e)
   expr_early (array at is final) = joined (at_expr (array at is final)) (items_early is)
   expr_early (object at props final) = joined (at_expr (object at props final)) (properties_early props)
-  expr_early (function at ident params body) = joined (at_expr (function at ident params body)) (statements_early in_body body)
+  expr_early (function at f) = joined (at_expr (function at f)) (function_early f)
   expr_early (member at e text) = joined (at_expr (member at e text)) (expr_early e)
   expr_early (index at e i) = joined (at_expr (index at e i)) (joined (expr_early e) (expr_early i))
   expr_early (new_with at e args) = joined (at_expr (new_with at e args)) (joined (expr_early e) (exprs_early args))
@@ -176,9 +173,12 @@ mutual
   items_early (item e is) = joined (expr_early e) (items_early is)
 
   property_early : (p : Property) → Early (in_property check.Early p)
-  property_early (value at k e) = joined (at_property (value at k e)) (expr_early e)
-  property_early (getter at k body) = joined (at_property (getter at k body)) (statements_early in_body body)
-  property_early (setter at k param body) = joined (at_property (setter at k param body)) (statements_early in_body body)
+  property_early (value at k e) = expr_early e
+  property_early (getter at k f) = function_early f
+  property_early (setter at k f) = function_early f
+
+  function_early : (f : Function) → Early (in_function check.Early f)
+  function_early (function_of at ident params body) = joined (at_function (function_of at ident params body)) (statements_early in_body body)
 
   properties_early : (ps : Properties) → Early (in_properties check.Early ps)
   properties_early no_properties = none
@@ -225,7 +225,7 @@ mutual
   statement_early s (try_finally at b final) = joined (at_statement s (try_finally at b final)) (joined (block_early s b) (block_early s final))
   statement_early s (try_both at b ident handler final) = joined (at_statement s (try_both at b ident handler final)) (joined (block_early s b) (joined (block_early s handler) (block_early s final)))
   statement_early s (debugger at semi) = at_statement s (debugger at semi)
-  statement_early s (function_declaration at ident params body) = joined (at_statement s (function_declaration at ident params body)) (statements_early in_body body)
+  statement_early s (function_declaration at f) = joined (at_statement s (function_declaration at f)) (function_early f)
 
   pub statements_early : (s : Scope) (ts : Statements) → Early (in_statements check.Early s ts)
   statements_early s no_statements = none

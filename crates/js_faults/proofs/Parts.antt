@@ -5,7 +5,6 @@ use Rattle.js_ast.specs.declared.trees.Expr.{Expr}
 use Rattle.js_ast.specs.declared.trees.Item.{Item}
 use Rattle.js_ast.specs.declared.trees.Item as an_item
 use Rattle.js_ast.specs.declared.trees.Property.{Property}
-use Rattle.js_ast.specs.declared.trees.FunctionBody.{FunctionBody, out-FunctionBody, roll-out-FunctionBody}
 use Rattle.js_ast.specs.declared.trees.Declaration.{Declaration, out-Declaration}
 use Rattle.js_ast.specs.declared.trees.Declarations.{Declarations, out-Declarations}
 use Rattle.js_ast.specs.declared.trees.Clause.{Clause, roll-Clause, out-Clause, roll-out-Clause}
@@ -13,8 +12,8 @@ use Rattle.js_ast.specs.declared.trees.Block.{Block, out-Block, roll-out-Block}
 use Rattle.js_ast.specs.declared.trees.Stmt.{Stmt}
 use Rattle.js_ast.specs.Nodes.{nodes_of}
 use Rattle.js_ast.specs.Trees.{Ident, MaybeExpr, absent, present, no_items, Clauses, Statements, block_of}
-use Rattle.js_ast.specs.Views.{view_maybe_expr, view_expr, view_exprs, view_expr_kind, view_item, view_items, view_property, view_properties, view_function_body, view_declaration, view_declarations, view_other_declarations, declarations_from, clause_by, view_clause, view_clauses, view_block, view_stmt, view_stmts}
-use Rattle.js_ast.proofs.ViewLaws.{parts_declarations, seen_function_body, seen_block_of, seen_case, seen_default}
+use Rattle.js_ast.specs.Views.{view_maybe_expr, view_expr, view_exprs, view_expr_kind, view_item, view_items, view_property, view_properties, view_declaration, view_declarations, view_other_declarations, declarations_from, clause_by, view_clause, view_clauses, view_block, view_stmt, view_stmts}
+use Rattle.js_ast.proofs.ViewLaws.{parts_declarations, seen_block_of, seen_case, seen_default}
 use Rattle.js_faults.specs.declared.fault.Check.{Check}
 use Rattle.js_faults.specs.declared.fault.Fault.{Fault}
 use Rattle.js_faults.specs.Scopes.{Scope}
@@ -24,9 +23,6 @@ use Rattle.js_faults.proofs.Loops.{last_none}
 use Rattle.js_faults.proofs.Bound.{part_value}
 
 -- ---- nodes by their parts
-
-pub parts_body : (b : FunctionBody) → view_function_body b ≡ view_stmts (nodes_of (out-FunctionBody b).statements)
-parts_body b = ap view_function_body (sym (roll-out-FunctionBody b)) ∙ seen_function_body (out-FunctionBody b).number (out-FunctionBody b).strict (out-FunctionBody b).statements
 
 pub parts_block : (b : Block) → view_block b ≡ block_of (out-Block b).at (view_stmts (nodes_of (out-Block b).body))
 parts_block b = ap view_block (sym (roll-out-Block b)) ∙ seen_block_of (out-Block b).at (out-Block b).body

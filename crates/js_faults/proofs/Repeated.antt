@@ -55,8 +55,8 @@ repeated_step all front p ps = rw (seen_append front (p ∷ []))
 
 place_seen : (at : ℕ) (k : Key) (kind : PropertyKind) → at ≡ place_of_property (view_property_kind at k kind)
 place_seen at k (held_kind.Value' a q e) = refl
-place_seen at k (held_kind.Getter body) = refl
-place_seen at k (held_kind.Setter param body) = refl
+place_seen at k (held_kind.Getter f) = refl
+place_seen at k (held_kind.Setter f) = refl
 
 pub repeated_told : (all : List Property) (front : List held.Property) (p : held.Property) (repeated : Bool) → repeated ≡ list_any (λ q. clashes all (view_property p) (view_property q)) front
     → first_of (fault_if repeated p.at kind.RepeatedProperty) ≡ first_of (fault_if (list_any (clashes all (view_property p)) (seen front)) (place_of_property (view_property p)) kind.RepeatedProperty)

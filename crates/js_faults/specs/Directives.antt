@@ -2,7 +2,7 @@
 use Rattle.std.specs.Prelude.{ℕ, List, [], ◌∷◌, Bool, true, false, ◌==◌, ◌&&◌, ◌||◌, Option, Some, None, codes, nat_eq}
 use Rattle.std.specs.List.{slice_split, starts_with}
 use Rattle.std.specs.Str.{bytes_eq}
-use Rattle.flow_policy.specs.Lists.{are_names}
+use Rattle.flow_lists.specs.Lists.{are_names}
 use Rattle.js_scan.specs.Names.{is_identifier}
 use Rattle.js_ast.specs.Trees.{Expr, string, Statement, expression}
 

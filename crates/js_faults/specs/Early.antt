@@ -5,7 +5,7 @@ use Rattle.std.specs.Str.{bytes_eq}
 use Rattle.std.specs.Fmt.{signed_decimal}
 use Rattle.js_ast.specs.declared.operators.UnaryOperator.{UnaryOperator}
 use Rattle.js_ast.specs.declared.operators.UnaryOperator.TheVariants as unary_operator
-use Rattle.js_ast.specs.Trees.{Ident, Key, name_key, string_key, number_key, Expr, name, paren, object, function, postfix, unary, assign, Properties, no_properties, more_properties, Property, value, getter, setter, Declarations, one_declaration, more_declarations, First, first_expr, first_var, Target, target_expr, target_var, Statement, var, expression, for, for_in, continue, break, return, labelled, try_catch, try_both, function_declaration}
+use Rattle.js_ast.specs.Trees.{Ident, Key, name_key, string_key, number_key, Expr, name, paren, object, function, postfix, unary, assign, Properties, no_properties, more_properties, Property, value, getter, setter, Declarations, one_declaration, more_declarations, First, first_expr, first_var, Target, target_expr, target_var, Statement, var, expression, for, for_in, continue, break, return, labelled, try_catch, try_both, function_declaration, Function, function_of}
 use Rattle.js_faults.specs.declared.fault.Fault.{Fault}
 use Rattle.js_faults.specs.declared.fault.FaultKind.{FaultKind}
 use Rattle.js_faults.specs.declared.fault.FaultKind.TheVariants as kind
@@ -53,6 +53,10 @@ unfoldable pub of_parameters : List Ident → List Ident → List Fault
 of_parameters earlier [] = []
 of_parameters earlier (i ∷ is) = of_bound i ++ (fault_if (has_text i.text earlier) i.at kind.RepeatedParameter ++ of_parameters (earlier ++ i ∷ []) is)
 
+-- a function, without its body: its name and its parameters
+unfoldable pub of_function : Function → List Fault
+of_function (function_of at ident params body) = of_bound_maybe ident ++ of_parameters [] params
+
 -- what is assigned to, also in parentheses
 unfoldable pub of_assigned : Expr → List Fault
 of_assigned (name at text) = fault_if (is_eval_or_arguments text) at kind.EvalArguments
@@ -76,23 +80,23 @@ key_text (number_key n) = signed_decimal n
 -- the key of a property
 abbrev pub key_of : Property → Key
 key_of (value at k e) = k
-key_of (getter at k body) = k
-key_of (setter at k param body) = k
+key_of (getter at k f) = k
+key_of (setter at k f) = k
 
 -- its place
 abbrev pub place_of_property : Property → ℕ
 place_of_property (value at k e) = at
-place_of_property (getter at k body) = at
-place_of_property (setter at k param body) = at
+place_of_property (getter at k f) = at
+place_of_property (setter at k f) = at
 
 -- a property that is read by a function
 abbrev pub is_getter : Property → Bool
-is_getter (getter at k body) = true
+is_getter (getter at k f) = true
 is_getter _ = false
 
 -- a property that is written by a function
 abbrev pub is_setter : Property → Bool
-is_setter (setter at k param body) = true
+is_setter (setter at k f) = true
 is_setter _ = false
 
 -- two properties of one key
@@ -121,11 +125,6 @@ of_repeated all earlier (p ∷ ps) = fault_if (list_any (clashes all p) earlier)
 unfoldable pub of_properties : List Property → List Fault
 of_properties ps = of_repeated ps [] ps
 
--- the parameter of a setter
-abbrev pub of_property : Property → List Fault
-of_property (setter at k param body) = of_bound param
-of_property _ = []
-
 -- ---- expressions
 
 -- `delete`, `++` and `--`
@@ -139,7 +138,6 @@ of_unary _ e = []
 unfoldable pub of_expr : Expr → List Fault
 of_expr (name at text) = of_name at text
 of_expr (object at props final) = of_properties (property_list props)
-of_expr (function at ident params body) = of_bound_maybe ident ++ of_parameters [] params
 of_expr (postfix at e o) = of_assigned e
 of_expr (unary at o e) = of_unary o e
 of_expr (assign at l o r) = of_assigned l
@@ -217,6 +215,5 @@ of_statement s (return at e semi) = fault_if (not s.in_function) at kind.Jump
 of_statement s (labelled at text body) = fault_if (names_statement text s) at kind.RepeatedLabel ++ of_name at text
 of_statement s (try_catch at b ident handler) = of_bound ident
 of_statement s (try_both at b ident handler final) = of_bound ident
-of_statement s (function_declaration at ident params body) = of_bound ident ++ of_parameters [] params
 of_statement s (expression at e semi) = fault_if (not (directive_may_jump (directive_of (expression at e semi)) s)) at kind.Jump
 of_statement s _ = []

@@ -1,7 +1,7 @@
 -- All that is wrong with a tree, and what of it is told: what stands furthest to the left, and of several at one place the first in the order of
 -- the kinds.
 use Rattle.std.specs.Prelude.{ℕ, List, [], ◌∷◌, ◌++◌, Bool, not, ◌==◌, ◌&&◌, ◌||◌, nat_lt, Option, Some, None, if◌then◌else◌}
-use Rattle.js_ast.specs.Trees.{Expr, name, number, string, this, null, boolean, paren, array, object, function, member, index, new_with, new_bare, call, postfix, unary, binary, conditional, assign, comma, Exprs, no_exprs, more_exprs, MaybeExpr, absent, present, Items, no_items, hole, item, Property, value, getter, setter, Properties, no_properties, more_properties, Declarations, one_declaration, more_declarations, First, first_expr, first_var, Target, target_expr, target_var, Clauses, no_clauses, case, default, Block, block_of, Statement, block, var, empty, expression, if_then, if_else, do_while, while, for, for_in, continue, break, return, throw, switch, labelled, try_catch, try_finally, try_both, debugger, function_declaration, Statements, no_statements, more_statements}
+use Rattle.js_ast.specs.Trees.{Expr, name, number, string, this, null, boolean, paren, array, object, function, member, index, new_with, new_bare, call, postfix, unary, binary, conditional, assign, comma, Exprs, no_exprs, more_exprs, MaybeExpr, absent, present, Items, no_items, hole, item, Property, value, getter, setter, Properties, no_properties, more_properties, Declarations, one_declaration, more_declarations, First, first_expr, first_var, Target, target_expr, target_var, Clauses, no_clauses, case, default, Block, block_of, Statement, block, var, empty, expression, if_then, if_else, do_while, while, for, for_in, continue, break, return, throw, switch, labelled, try_catch, try_finally, try_both, debugger, function_declaration, Statements, no_statements, more_statements, Function, function_of}
 use Rattle.js_faults.specs.declared.fault.Check.{Check}
 use Rattle.js_faults.specs.declared.fault.Check.TheVariants as check
 use Rattle.js_faults.specs.declared.fault.Fault.{Fault}
@@ -9,7 +9,7 @@ use Rattle.js_faults.specs.declared.fault.FaultKind.{FaultKind}
 use Rattle.js_faults.specs.declared.fault.FaultKind.TheVariants as kind
 use Rattle.js_faults.specs.Scopes.{Scope, in_body, looped, switched, labelled_by}
 use Rattle.js_faults.specs.Directives.{has_form, directive_of}
-use Rattle.js_faults.specs.Early.{fault_if, of_expr, of_property, of_statement}
+use Rattle.js_faults.specs.Early.{fault_if, of_expr, of_function, of_statement}
 
 -- a directive without a form of one
 abbrev pub of_directive : ℕ → Option (List ℕ) → List Fault
@@ -21,9 +21,9 @@ unfoldable pub own_expr : Check → Expr → List Fault
 own_expr check.Directives e = []
 own_expr check.Early e = of_expr e
 
-unfoldable pub own_property : Check → Property → List Fault
-own_property check.Directives p = []
-own_property check.Early p = of_property p
+unfoldable pub own_function : Check → Function → List Fault
+own_function check.Directives f = []
+own_function check.Early f = of_function f
 
 -- the place of an expression statement, which is that of its literal
 abbrev pub literal_place : Statement → ℕ
@@ -46,7 +46,7 @@ abbrev mutual
   in_expr c (paren at e) = own_expr c (paren at e) ++ in_expr c e
   in_expr c (array at items final) = own_expr c (array at items final) ++ in_items c items
   in_expr c (object at props final) = own_expr c (object at props final) ++ in_properties c props
-  in_expr c (function at ident params body) = own_expr c (function at ident params body) ++ in_statements c in_body body
+  in_expr c (function at f) = own_expr c (function at f) ++ in_function c f
   in_expr c (member at e text) = own_expr c (member at e text) ++ in_expr c e
   in_expr c (index at e i) = own_expr c (index at e i) ++ (in_expr c e ++ in_expr c i)
   in_expr c (new_with at e args) = own_expr c (new_with at e args) ++ (in_expr c e ++ in_exprs c args)
@@ -73,13 +73,16 @@ abbrev mutual
   in_items c (item e items) = in_expr c e ++ in_items c items
 
   pub in_property : Check → Property → List Fault
-  in_property c (value at k e) = own_property c (value at k e) ++ in_expr c e
-  in_property c (getter at k body) = own_property c (getter at k body) ++ in_statements c in_body body
-  in_property c (setter at k param body) = own_property c (setter at k param body) ++ in_statements c in_body body
+  in_property c (value at k e) = in_expr c e
+  in_property c (getter at k f) = in_function c f
+  in_property c (setter at k f) = in_function c f
 
   pub in_properties : Check → Properties → List Fault
   in_properties c no_properties = []
   in_properties c (more_properties p ps) = in_property c p ++ in_properties c ps
+
+  pub in_function : Check → Function → List Fault
+  in_function c (function_of at ident params body) = own_function c (function_of at ident params body) ++ in_statements c in_body body
 
   pub in_declarations : Check → Declarations → List Fault
   in_declarations c (one_declaration ident init) = in_maybe c init
@@ -122,7 +125,7 @@ abbrev mutual
   in_statement c s (try_finally at b final) = own_statement c s (try_finally at b final) ++ (in_block c s b ++ in_block c s final)
   in_statement c s (try_both at b ident handler final) = own_statement c s (try_both at b ident handler final) ++ (in_block c s b ++ (in_block c s handler ++ in_block c s final))
   in_statement c s (debugger at semi) = own_statement c s (debugger at semi)
-  in_statement c s (function_declaration at ident params body) = own_statement c s (function_declaration at ident params body) ++ in_statements c in_body body
+  in_statement c s (function_declaration at f) = own_statement c s (function_declaration at f) ++ in_function c f
 
   pub in_statements : Check → Scope → Statements → List Fault
   in_statements c s no_statements = []

@@ -2,7 +2,6 @@
 
 ghost use Rattle.std.specs.Prelude.{◌≡◌, ℕ, List, map, option_map};
 ghost use Rattle.js_ast.specs.Views.{view_expr, view_stmt};
-ghost use Rattle.flow_policy.specs.Lists.{are_names};
 ghost use Rattle.js_faults.specs.Directives.{is_label, is_jump, is_raised, is_directive, has_form, directive_in, directive_of};
 
 use js_ast::{Expr, ExprKind, Stmt, StmtKind};

@@ -2,15 +2,12 @@
 
 ghost use Rattle.std.specs.Prelude.{◌≡◌, [], ◌∷◌, option_map};
 ghost use Rattle.std.specs.Option.{MatchOption};
-ghost use Rattle.std.specs.List.{list_all, position};
-ghost use Rattle.flow_policy.specs.Names.{is_name, is_name_byte};
-ghost use Rattle.flow_policy.specs.Lists.{are_names};
+ghost use Rattle.std.specs.List.{position};
 ghost use Rattle.js_faults.specs.Directives.{is_space, words_of, parts_in, is_label, is_jump, is_raised, has_form};
 ghost use Rattle.js_faults.specs.WordViews.{parts_held};
 
+use flow_lists::are_names;
 use js_scan::{is_identifier, spells};
-
-const MAX_NAME: usize = 32;
 
 /// The words of a directive behind `flow`.
 #[derive(Clone, Copy, Debug)]
@@ -104,30 +101,4 @@ fn is_label(word: &[u16]) -> bool
         [0x40, text @ ..] => is_identifier(text),
         _ => false,
     }
-}
-
-/// Whether the units are `-`, or names with single commas between.
-fn are_names(list: &[u16]) -> bool
-    ensures { result ≡ are_names list.now }
-{
-    spells(b"-", list) || list.split(|unit| *unit == 0x2C).all(is_name)
-}
-
-#[tactic(auto, unfolding(flow_policy::specs::Names::is_name))]
-fn is_name(word: &[u16]) -> bool
-    ensures { result ≡ is_name word.now }
-{
-    !word.is_empty() && word.len() <= MAX_NAME && are_name_units(word)
-}
-
-fn are_name_units(word: &[u16]) -> bool
-    ensures { result ≡ list_all is_name_byte word.now }
-{
-    word.iter().all(|unit| is_name_unit(*unit))
-}
-
-fn is_name_unit(unit: u16) -> bool
-    ensures { result ≡ is_name_byte unit }
-{
-    matches!(unit, 0x41..=0x5A | 0x61..=0x7A | 0x30..=0x39 | 0x5F)
 }

@@ -1,11 +1,11 @@
 //! What is wrong with a node of its own.
 
 ghost use Rattle.std.specs.Prelude.{◌≡◌};
-ghost use Rattle.js_ast.specs.Views.{view_expr, view_property, view_stmt, view_declarations, view_first, view_target};
+ghost use Rattle.js_ast.specs.Views.{view_expr, view_function, view_stmt, view_declarations, view_first, view_target};
 ghost use Rattle.js_faults.specs.ScopeViews.{scope_of};
 ghost use Rattle.js_faults.specs.declared.fault.Check.TheVariants as check;
 ghost use Rattle.js_faults.specs.Early.{of_unary, of_declarations, of_first, of_target};
-ghost use Rattle.js_faults.specs.Faults.{first_of, of_directive, own_expr, own_property, own_statement};
+ghost use Rattle.js_faults.specs.Faults.{first_of, of_directive, own_expr, own_function, own_statement};
 ghost use Rattle.js_faults.specs.Directives.{directive_of};
 
 use crate::directives::directive_of;
@@ -16,7 +16,7 @@ use crate::names::{of_assigned, of_bound, of_bound_maybe, of_deleted, of_name, o
 use crate::properties;
 use crate::scope::Scope;
 use js_ast::{
-    Declarations, Expr, ExprKind, ForFirst, ForTarget, Property, Stmt, StmtKind, UnaryOperator,
+    Declarations, Expr, ExprKind, ForFirst, ForTarget, Function, Stmt, StmtKind, UnaryOperator,
 };
 
 /// An expression, without its parts.
@@ -37,9 +37,6 @@ fn of_expr(e: &Expr) -> Option<Fault>
     match &*e.kind {
         ExprKind::Name(text) => of_name(e.at, text),
         ExprKind::Object { properties, .. } => properties::of_properties(properties),
-        ExprKind::Function { name, params, .. } => {
-            earlier(of_bound_maybe(name), of_parameters(params))
-        }
         ExprKind::Postfix { operand, .. } => of_assigned(operand),
         ExprKind::Unary { operator, operand } => of_unary(*operator, operand),
         ExprKind::Assign { target, .. } => of_assigned(target),
@@ -57,14 +54,14 @@ fn of_unary(operator: UnaryOperator, operand: &Expr) -> Option<Fault>
     }
 }
 
-/// A property, without its parts.
-#[tactic(auto, unfolding(crate::specs::Faults::own_property))]
-pub(crate) fn own_property(check: Check, property: &Property) -> Option<Fault>
-    ensures { result ≡ first_of (own_property check (view_property property.now)) }
+/// A function, without its body.
+#[tactic(auto, using(crate::proofs::Told::first_of_append, js_ast::proofs::ViewLaws::parts_function), unfolding(crate::specs::Faults::own_function, crate::specs::Early::of_function))]
+pub(crate) fn own_function(check: Check, f: &Function) -> Option<Fault>
+    ensures { result ≡ first_of (own_function check (view_function f.now)) }
 {
     match check {
         Check::Directives => None,
-        Check::Early => properties::of_property(property),
+        Check::Early => earlier(of_bound_maybe(&f.name), of_parameters(&f.params)),
     }
 }
 
@@ -115,7 +112,6 @@ fn of_statement(scope: Scope<'_>, s: &Stmt) -> Option<Fault>
             of_name(s.at, label),
         ),
         StmtKind::TryCatch { param, .. } | StmtKind::TryBoth { param, .. } => of_bound(param),
-        StmtKind::Function { name, params, .. } => earlier(of_bound(name), of_parameters(params)),
         StmtKind::Expr { .. } => fault_if(
             !directive_may_jump(directive_of(s), scope),
             s.at,

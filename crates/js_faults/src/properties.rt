@@ -6,11 +6,10 @@ ghost use Rattle.std.specs.Str.{bytes_eq};
 ghost use Rattle.std.specs.Fmt.{signed_decimal};
 ghost use Rattle.js_ast.specs.Nodes.{nodes_of};
 ghost use Rattle.js_ast.specs.Views.{view_key, view_property, view_properties};
-ghost use Rattle.js_faults.specs.Early.{key_text, same_key, is_pair, clashes, property_list, of_properties, of_property};
+ghost use Rattle.js_faults.specs.Early.{key_text, same_key, is_pair, clashes, property_list, of_properties};
 ghost use Rattle.js_faults.specs.Faults.{first_of};
 
 use crate::fault::{Fault, FaultKind, earlier, fault_if};
-use crate::names::of_bound;
 use flow_text::Text;
 use itoa::Buffer;
 use js_ast::{Key, Property, PropertyKind, PropertyList};
@@ -46,8 +45,8 @@ fn is_pair(a: &Property, b: &Property) -> bool
 {
     matches!(
         (&a.kind, &b.kind),
-        (PropertyKind::Getter(_), PropertyKind::Setter { .. })
-            | (PropertyKind::Setter { .. }, PropertyKind::Getter(_))
+        (PropertyKind::Getter(_), PropertyKind::Setter(_))
+            | (PropertyKind::Setter(_), PropertyKind::Getter(_))
     )
 }
 
@@ -84,14 +83,4 @@ pub(crate) fn of_properties(properties: &PropertyList) -> Option<Fault>
         );
     }
     first
-}
-
-/// The parameter of a setter.
-pub(crate) fn of_property(property: &Property) -> Option<Fault>
-    ensures { result ≡ first_of (of_property (view_property property.now)) }
-{
-    match &property.kind {
-        PropertyKind::Setter { param, .. } => of_bound(param),
-        _ => None,
-    }
 }

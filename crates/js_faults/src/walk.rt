@@ -3,17 +3,17 @@
 ghost use Rattle.std.specs.Prelude.{◌≡◌};
 ghost use Rattle.js_ast.specs.Nodes.{nodes_of};
 ghost use Rattle.js_ast.specs.Trees.{no_items};
-ghost use Rattle.js_ast.specs.Views.{view_expr, view_maybe_expr, view_exprs, view_item, view_items, view_property, view_properties, view_function_body, view_declarations, view_first, view_target, view_clauses, view_block, view_stmt, view_stmts};
+ghost use Rattle.js_ast.specs.Views.{view_expr, view_maybe_expr, view_exprs, view_item, view_items, view_property, view_properties, view_function, view_declarations, view_first, view_target, view_clauses, view_block, view_stmt, view_stmts};
 ghost use Rattle.js_faults.specs.Scopes.{outermost, in_body};
 ghost use Rattle.js_faults.specs.ScopeViews.{scope_of};
-ghost use Rattle.js_faults.specs.Faults.{own_expr, own_statement, in_expr, in_exprs, in_maybe, in_items, in_property, in_properties, in_declarations, in_first, in_target, in_clauses, in_block, in_statement, in_statements, earlier, first_of};
+ghost use Rattle.js_faults.specs.Faults.{own_expr, own_statement, in_expr, in_exprs, in_maybe, in_items, in_property, in_properties, in_function, in_declarations, in_first, in_target, in_clauses, in_block, in_statement, in_statements, earlier, first_of};
 
 use crate::fault::{Check, Fault, earlier};
-use crate::own::{own_expr, own_property, own_statement};
+use crate::own::{own_expr, own_function, own_statement};
 use crate::scope::{Labels, Scope, is_loop};
 use js_ast::{
-    Block, ClauseList, Declarations, Expr, ExprKind, ExprList, ForFirst, ForTarget, FunctionBody,
-    Item, ItemList, Property, PropertyKind, PropertyList, Stmt, StmtKind, StmtList,
+    Block, ClauseList, Declarations, Expr, ExprKind, ExprList, ForFirst, ForTarget, Function, Item,
+    ItemList, Property, PropertyKind, PropertyList, Stmt, StmtKind, StmtList,
 };
 
 /// The fault of an expression that is told.
@@ -40,7 +40,7 @@ fn in_parts(check: Check, e: &Expr) -> Option<Fault>
         ExprKind::Paren(inner) => fault_in_expr(check, inner),
         ExprKind::Array { items, .. } => in_items(check, items),
         ExprKind::Object { properties, .. } => in_properties(check, properties),
-        ExprKind::Function { body, .. } => in_body(check, body),
+        ExprKind::Function(f) => in_function(check, f),
         ExprKind::Member { base, .. } => fault_in_expr(check, base),
         ExprKind::Index { base, index } => {
             earlier(fault_in_expr(check, base), fault_in_expr(check, index))
@@ -126,23 +126,19 @@ fn in_properties(check: Check, list: &PropertyList) -> Option<Fault>
 }
 
 #[cycle(walk)]
-#[tactic(auto, using(crate::proofs::Told::first_of_append))]
 fn in_property(check: Check, property: &Property) -> Option<Fault>
     ensures { result ≡ first_of (in_property check (view_property property.now)) }
 {
-    let own = own_property(check, property);
     match &property.kind {
-        PropertyKind::Value(e) => earlier(own, fault_in_expr(check, e)),
-        PropertyKind::Getter(body) | PropertyKind::Setter { body, .. } => {
-            earlier(own, in_body(check, body))
-        }
+        PropertyKind::Value(e) => fault_in_expr(check, e),
+        PropertyKind::Getter(f) | PropertyKind::Setter(f) => in_function(check, f),
     }
 }
 
 #[cycle(walk)]
-#[tactic(auto, using(crate::proofs::Parts::parts_body))]
-fn in_body(check: Check, body: &FunctionBody) -> Option<Fault>
-    ensures { result ≡ first_of (in_statements check in_body (view_function_body body.now)) }
+#[tactic(auto, using(crate::proofs::Told::first_of_append, js_ast::proofs::ViewLaws::parts_function))]
+fn in_function(check: Check, f: &Function) -> Option<Fault>
+    ensures { result ≡ first_of (in_function check (view_function f.now)) }
 {
     let scope = Scope {
         in_function: true,
@@ -150,7 +146,7 @@ fn in_body(check: Check, body: &FunctionBody) -> Option<Fault>
         in_switch: false,
         labels: &Labels::None,
     };
-    in_list(check, scope, &body.statements)
+    earlier(own_function(check, f), in_list(check, scope, &f.body))
 }
 
 #[cycle(walk)]
@@ -326,7 +322,7 @@ fn in_statement_parts(check: Check, scope: Scope<'_>, s: &Stmt) -> Option<Fault>
                 in_block(check, scope, finalizer),
             ),
         ),
-        StmtKind::Function { body, .. } => in_body(check, body),
+        StmtKind::Function(f) => in_function(check, f),
     }
 }
 

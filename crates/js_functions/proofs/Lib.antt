@@ -1,5 +1,4 @@
 pub mod ListLaws
 pub mod Loops
-pub mod MarkLaws
 pub mod Numbered
 pub mod Parts

@@ -1,31 +1,33 @@
 -- Nodes that are structs, by their parts.
 use Rattle.std.proofs.Common.{refl, sym, ap, ◌∙◌, ◌≡◌, ℕ, Bool, List, [], ◌∷◌, ◌++◌, Option, Some, None, append-nil}
 use Rattle.js_ast.specs.declared.node_list.NodeList.{NodeList}
+use Rattle.js_ast.specs.declared.trees.Ident.{Ident}
 use Rattle.js_ast.specs.declared.trees.Expr.{Expr}
 use Rattle.js_ast.specs.declared.trees.Stmt.{Stmt}
-use Rattle.js_ast.specs.declared.trees.FunctionBody.{FunctionBody, out-FunctionBody, roll-FunctionBody, roll-out-FunctionBody, out-roll-FunctionBody}
+use Rattle.js_ast.specs.declared.trees.Function.{Function, out-Function, roll-Function, out-roll-Function}
 use Rattle.js_ast.specs.declared.trees.Declaration.{Declaration}
 use Rattle.js_ast.specs.declared.trees.Declarations.{Declarations, out-Declarations, roll-Declarations, roll-out-Declarations, out-roll-Declarations, rolls-Declarations'}
 use Rattle.js_ast.specs.declared.trees.Clause.{Clause, out-Clause, roll-Clause, roll-out-Clause, out-roll-Clause, rolls-Clause'}
 use Rattle.js_ast.specs.declared.trees.Block.{Block, out-Block, roll-Block, roll-out-Block, out-roll-Block}
 use Rattle.js_ast.specs.Nodes.{nodes_of}
 use Rattle.js_ast.specs.Trees as trees
-use Rattle.js_ast.specs.Trees.{no_clauses, block_of}
-use Rattle.js_ast.specs.Views.{view_maybe_expr, view_function_body, view_declaration, view_declarations, view_other_declarations, declarations_from, clause_by, view_clause, view_block, view_stmts}
-use Rattle.js_ast.proofs.ViewLaws.{seen_function_body, seen_block_of, parts_declarations, seen_case, seen_default}
-use Rattle.js_functions.specs.Functions.{functions_of_expr, functions_of_maybe, functions_of_others, functions_of_declarations, functions_of_clauses, functions_of_statements}
-use Rattle.js_functions.specs.Marks.{marks_maybe_expr, marks_function_body, marks_declaration, marks_declarations, marks_other_declarations, marks_clause, marks_block, marks_stmts}
-use Rattle.js_functions.proofs.MarkLaws.{marked_body, marked_block, marked_expr, marked_stmts, marked_other_declarations}
+use Rattle.js_ast.specs.Trees.{function_of, no_clauses, block_of}
+use Rattle.js_ast.specs.Views.{view_name, view_idents, view_maybe_expr, view_function, view_declaration, view_declarations, view_other_declarations, declarations_from, clause_by, view_clause, view_block, view_stmts}
+use Rattle.js_ast.proofs.ViewLaws.{parts_function, seen_block_of, parts_declarations, seen_case, seen_default}
+use Rattle.js_ast.specs.Functions.{functions_of_expr, functions_of_maybe, functions_of_others, functions_of_declarations, functions_of_clauses, functions_of_statements}
+use Rattle.js_ast.specs.Held.{held_in_maybe_expr, held_in_function, held_in_declaration, held_in_declarations, held_in_other_declarations, held_in_clause, held_in_block, held_in_stmts}
+use Rattle.js_ast.proofs.HeldLaws.{lent_function, lent_in_block, lent_declarations, lent_clause}
 
--- the body of a function
-pub body_out : (n : ℕ) (strict : Bool) (statements : NodeList Stmt) → out-FunctionBody (roll-FunctionBody (record { number = n; strict = strict; statements = statements })) ≡ record { number = n; strict = strict; statements = statements }
-body_out n strict statements = out-roll-FunctionBody (record { number = n; strict = strict; statements = statements })
+-- a function
+pub function_out : (at n : ℕ) (strict : Bool) (name : Option Ident) (params : NodeList Ident) (body : NodeList Stmt)
+    → out-Function (roll-Function (record { at = at; number = n; strict = strict; name = name; params = params; body = body })) ≡ record { at = at; number = n; strict = strict; name = name; params = params; body = body }
+function_out at n strict name params body = out-roll-Function (record { at = at; number = n; strict = strict; name = name; params = params; body = body })
 
-pub body_view : (b : FunctionBody) → view_function_body b ≡ view_stmts (nodes_of (out-FunctionBody b).statements)
-body_view b = ap view_function_body (sym (roll-out-FunctionBody b)) ∙ seen_function_body (out-FunctionBody b).number (out-FunctionBody b).strict (out-FunctionBody b).statements
+pub function_view : (f : Function) → view_function f ≡ function_of (out-Function f).at (view_name (out-Function f).name) (view_idents (nodes_of (out-Function f).params)) (view_stmts (nodes_of (out-Function f).body))
+function_view f = parts_function f
 
-pub body_marks : (b : FunctionBody) → marks_function_body b ≡ ((out-FunctionBody b).number, (out-FunctionBody b).strict) ∷ marks_stmts (nodes_of (out-FunctionBody b).statements)
-body_marks b = ap marks_function_body (sym (roll-out-FunctionBody b)) ∙ marked_body (out-FunctionBody b).number (out-FunctionBody b).strict (out-FunctionBody b).statements
+pub function_held : (f : Function) → held_in_function f ≡ ((out-Function f).number, record { function = view_function f; strict = (out-Function f).strict }) ∷ held_in_stmts (nodes_of (out-Function f).body)
+function_held f = lent_function f
 
 -- statements between braces
 pub block_out : (at : ℕ) (body : NodeList Stmt) → out-Block (roll-Block (record { at = at; body = body })) ≡ record { at = at; body = body }
@@ -34,8 +36,8 @@ block_out at body = out-roll-Block (record { at = at; body = body })
 pub block_view : (b : Block) → view_block b ≡ block_of (out-Block b).at (view_stmts (nodes_of (out-Block b).body))
 block_view b = ap view_block (sym (roll-out-Block b)) ∙ seen_block_of (out-Block b).at (out-Block b).body
 
-pub block_marks : (b : Block) → marks_block b ≡ marks_stmts (nodes_of (out-Block b).body)
-block_marks b = ap marks_block (sym (roll-out-Block b)) ∙ marked_block (out-Block b).at (out-Block b).body
+pub block_marks : (b : Block) → held_in_block b ≡ held_in_stmts (nodes_of (out-Block b).body)
+block_marks b = lent_in_block b
 
 -- variables
 pub declarations_out : (d : Declaration) (others : NodeList Declaration) → out-Declarations (roll-Declarations (record { first = d; others = others })) ≡ record { first = d; others = others }
@@ -44,8 +46,8 @@ declarations_out d others = out-roll-Declarations (record { first = d; others = 
 pub declarations_view : (ds : Declarations) → view_declarations ds ≡ declarations_from (view_declaration (out-Declarations ds).first) (view_other_declarations (nodes_of (out-Declarations ds).others))
 declarations_view ds = parts_declarations ds
 
-pub declarations_marks : (ds : Declarations) → marks_declarations ds ≡ marks_declaration (out-Declarations ds).first ++ marks_other_declarations (nodes_of (out-Declarations ds).others)
-declarations_marks ds = ap marks_declarations (sym (roll-out-Declarations ds)) ∙ rw rolls-Declarations' (ap (λ more. marks_declaration (out-Declarations ds).first ++ more) (marked_other_declarations (out-Declarations ds).others))
+pub declarations_marks : (ds : Declarations) → held_in_declarations ds ≡ held_in_declaration (out-Declarations ds).first ++ held_in_other_declarations (nodes_of (out-Declarations ds).others)
+declarations_marks ds = lent_declarations ds
 
 pub declarations_functions : (s : Bool) (d : trees.Ident × trees.MaybeExpr) (ds : List (trees.Ident × trees.MaybeExpr)) → functions_of_declarations s (declarations_from d ds) ≡ functions_of_maybe s d.1 ++ functions_of_others s ds
 declarations_functions s d [] = sym (append-nil (functions_of_maybe s d.1))
@@ -62,14 +64,14 @@ clause_view c rest = ap (λ c. view_clause c rest) (sym (roll-out-Clause c)) ∙
     seen_clause None body = seen_default body rest
     seen_clause (Some e) body = seen_case e body rest
 
-pub clause_marks : (c : Clause) → marks_clause c ≡ marks_maybe_expr (out-Clause c).test ++ marks_stmts (nodes_of (out-Clause c).body)
-clause_marks c = ap marks_clause (sym (roll-out-Clause c)) ∙ rw (rolls-Clause', marked_expr (out-Clause c).test, marked_stmts (out-Clause c).body) refl
+pub clause_marks : (c : Clause) → held_in_clause c ≡ held_in_maybe_expr (out-Clause c).test ++ held_in_stmts (nodes_of (out-Clause c).body)
+clause_marks c = lent_clause c
 
 pub clause_functions : (s : Bool) (e : trees.MaybeExpr) (body : trees.Statements) → functions_of_clauses s (clause_by e body no_clauses) ≡ functions_of_maybe s e ++ functions_of_statements s body
 clause_functions s trees.absent body = append-nil (functions_of_statements s body)
 clause_functions s (trees.present e) body = ap (λ fs. functions_of_expr s e ++ fs) (append-nil (functions_of_statements s body))
 
-pub ruleset body = (body_out, body_view, body_marks)
+pub ruleset function = (function_out, function_view, function_held)
 
 pub ruleset block = (block_out, block_view, block_marks)
 

@@ -6,6 +6,3 @@ mod program;
 mod prologue;
 
 pub use program::marked_program;
-
-#[cfg(test)]
-mod tests;

@@ -5,23 +5,23 @@
 ghost use Rattle.std.specs.Prelude.{◌≡◌, Ok, OnOk};
 ghost use Rattle.js_ast.specs.Nodes.{nodes_of};
 ghost use Rattle.js_ast.specs.Trees.{no_items, no_clauses};
-ghost use Rattle.js_ast.specs.Views.{view_expr, view_maybe_expr, view_exprs, view_item, view_items, view_property, view_properties, view_function_body, view_declaration, view_other_declarations, view_declarations, view_first, view_target, view_clause, view_clauses, view_block, view_stmt, view_stmts};
-ghost use Rattle.js_functions.specs.Functions.{functions_of_expr, functions_of_exprs, functions_of_maybe, functions_of_items, functions_of_property, functions_of_properties, functions_of_body, functions_of_others, functions_of_declarations, functions_of_first, functions_of_target, functions_of_clauses, functions_of_block, functions_of_statement, functions_of_statements, numbered, after};
-ghost use Rattle.js_functions.specs.Marks.{marks_expr, marks_maybe_expr, marks_exprs, marks_item, marks_items, marks_property, marks_properties, marks_function_body, marks_declaration, marks_other_declarations, marks_declarations, marks_first, marks_target, marks_clause, marks_clauses, marks_block, marks_stmt, marks_stmts};
+ghost use Rattle.js_ast.specs.Views.{view_expr, view_maybe_expr, view_exprs, view_item, view_items, view_property, view_properties, view_function, view_declaration, view_other_declarations, view_declarations, view_first, view_target, view_clause, view_clauses, view_block, view_stmt, view_stmts};
+ghost use Rattle.js_ast.specs.Functions.{functions_of_expr, functions_of_exprs, functions_of_maybe, functions_of_items, functions_of_property, functions_of_properties, functions_of_function, functions_of_others, functions_of_declarations, functions_of_first, functions_of_target, functions_of_clauses, functions_of_block, functions_of_statement, functions_of_statements, numbered, after};
+ghost use Rattle.js_ast.specs.Held.{held_in_expr, held_in_maybe_expr, held_in_exprs, held_in_item, held_in_items, held_in_property, held_in_properties, held_in_function, held_in_declaration, held_in_other_declarations, held_in_declarations, held_in_first, held_in_target, held_in_clause, held_in_clauses, held_in_block, held_in_stmt, held_in_stmts};
 
 use crate::prologue::body_strict;
 use flow_text::OutOfMemory;
 use js_ast::{
     Block, Clause, ClauseList, Declaration, DeclarationList, Declarations, Expr, ExprKind,
-    ExprList, ForFirst, ForTarget, FunctionBody, Item, ItemList, Property, PropertyKind,
-    PropertyList, Stmt, StmtKind, StmtList,
+    ExprList, ForFirst, ForTarget, Function, Item, ItemList, Property, PropertyKind, PropertyList,
+    Stmt, StmtKind, StmtList,
 };
 
 #[cycle(marking)]
-#[tactic(auto, using(crate::proofs::Numbered::parts, crate::proofs::MarkLaws::held, js_ast::proofs::ViewLaws::held, js_ast::specs::declared::trees::ExprKind::TheViews::the_lemmas))]
+#[tactic(auto, using(crate::proofs::Numbered::parts, js_ast::proofs::HeldLaws::held_functions, js_ast::proofs::ViewLaws::held, js_ast::specs::declared::trees::ExprKind::TheViews::the_lemmas))]
 fn mark_expr(e: &mut Expr, strict: bool, next: u32) -> Result<u32, OutOfMemory>
     ensures kept { OnOk result (view_expr e.new ≡ view_expr e.old) }
-    ensures marks { OnOk result (marks_expr e.new ≡ numbered next (functions_of_expr strict (view_expr e.old))) }
+    ensures marks { OnOk result (held_in_expr e.new ≡ numbered next (functions_of_expr strict (view_expr e.old))) }
     ensures count { OnOk result (result ≡ Ok (after next (functions_of_expr strict (view_expr e.old)))) }
 {
     match &mut *e.kind {
@@ -34,7 +34,7 @@ fn mark_expr(e: &mut Expr, strict: bool, next: u32) -> Result<u32, OutOfMemory>
         ExprKind::Paren(inner) => mark_expr(inner, strict, next),
         ExprKind::Array { items, .. } => mark_items(items, strict, next),
         ExprKind::Object { properties, .. } => mark_properties(properties, strict, next),
-        ExprKind::Function { body, .. } => mark_body(body, strict, next),
+        ExprKind::Function(f) => mark_function(f, strict, next),
         ExprKind::Member { base, .. } => mark_expr(base, strict, next),
         ExprKind::Index { base, index } => {
             let next = mark_expr(base, strict, next)?;
@@ -77,7 +77,7 @@ fn mark_expr(e: &mut Expr, strict: bool, next: u32) -> Result<u32, OutOfMemory>
 #[tactic(auto, using(crate::proofs::Numbered::parts))]
 fn mark_exprs(list: &mut ExprList, strict: bool, next: u32) -> Result<u32, OutOfMemory>
     ensures kept { OnOk result (view_exprs (nodes_of list.new) ≡ view_exprs (nodes_of list.old)) }
-    ensures marks { OnOk result (marks_exprs (nodes_of list.new) ≡ numbered next (functions_of_exprs strict (view_exprs (nodes_of list.old)))) }
+    ensures marks { OnOk result (held_in_exprs (nodes_of list.new) ≡ numbered next (functions_of_exprs strict (view_exprs (nodes_of list.old)))) }
     ensures count { OnOk result (result ≡ Ok (after next (functions_of_exprs strict (view_exprs (nodes_of list.old))))) }
 {
     let mut next = next;
@@ -91,7 +91,7 @@ fn mark_exprs(list: &mut ExprList, strict: bool, next: u32) -> Result<u32, OutOf
 #[tactic(auto, using(crate::proofs::Numbered::parts))]
 fn mark_items(list: &mut ItemList, strict: bool, next: u32) -> Result<u32, OutOfMemory>
     ensures kept { OnOk result (view_items (nodes_of list.new) ≡ view_items (nodes_of list.old)) }
-    ensures marks { OnOk result (marks_items (nodes_of list.new) ≡ numbered next (functions_of_items strict (view_items (nodes_of list.old)))) }
+    ensures marks { OnOk result (held_in_items (nodes_of list.new) ≡ numbered next (functions_of_items strict (view_items (nodes_of list.old)))) }
     ensures count { OnOk result (result ≡ Ok (after next (functions_of_items strict (view_items (nodes_of list.old))))) }
 {
     let mut next = next;
@@ -105,7 +105,7 @@ fn mark_items(list: &mut ItemList, strict: bool, next: u32) -> Result<u32, OutOf
 #[tactic(auto, using(crate::proofs::Numbered::parts))]
 fn mark_item(item: &mut Item, strict: bool, next: u32) -> Result<u32, OutOfMemory>
     ensures kept { OnOk result (view_item item.new no_items ≡ view_item item.old no_items) }
-    ensures marks { OnOk result (marks_item item.new ≡ numbered next (functions_of_items strict (view_item item.old no_items))) }
+    ensures marks { OnOk result (held_in_item item.new ≡ numbered next (functions_of_items strict (view_item item.old no_items))) }
     ensures count { OnOk result (result ≡ Ok (after next (functions_of_items strict (view_item item.old no_items)))) }
 {
     match item {
@@ -118,7 +118,7 @@ fn mark_item(item: &mut Item, strict: bool, next: u32) -> Result<u32, OutOfMemor
 #[tactic(auto, using(crate::proofs::Numbered::parts))]
 fn mark_maybe(e: &mut Option<Expr>, strict: bool, next: u32) -> Result<u32, OutOfMemory>
     ensures kept { OnOk result (view_maybe_expr e.new ≡ view_maybe_expr e.old) }
-    ensures marks { OnOk result (marks_maybe_expr e.new ≡ numbered next (functions_of_maybe strict (view_maybe_expr e.old))) }
+    ensures marks { OnOk result (held_in_maybe_expr e.new ≡ numbered next (functions_of_maybe strict (view_maybe_expr e.old))) }
     ensures count { OnOk result (result ≡ Ok (after next (functions_of_maybe strict (view_maybe_expr e.old)))) }
 {
     match e {
@@ -131,7 +131,7 @@ fn mark_maybe(e: &mut Option<Expr>, strict: bool, next: u32) -> Result<u32, OutO
 #[tactic(auto, using(crate::proofs::Numbered::parts))]
 fn mark_properties(list: &mut PropertyList, strict: bool, next: u32) -> Result<u32, OutOfMemory>
     ensures kept { OnOk result (view_properties (nodes_of list.new) ≡ view_properties (nodes_of list.old)) }
-    ensures marks { OnOk result (marks_properties (nodes_of list.new) ≡ numbered next (functions_of_properties strict (view_properties (nodes_of list.old)))) }
+    ensures marks { OnOk result (held_in_properties (nodes_of list.new) ≡ numbered next (functions_of_properties strict (view_properties (nodes_of list.old)))) }
     ensures count { OnOk result (result ≡ Ok (after next (functions_of_properties strict (view_properties (nodes_of list.old))))) }
 {
     let mut next = next;
@@ -144,39 +144,39 @@ fn mark_properties(list: &mut PropertyList, strict: bool, next: u32) -> Result<u
 #[cycle(marking)]
 fn mark_property(property: &mut Property, strict: bool, next: u32) -> Result<u32, OutOfMemory>
     ensures kept { OnOk result (view_property property.new ≡ view_property property.old) }
-    ensures marks { OnOk result (marks_property property.new ≡ numbered next (functions_of_property strict (view_property property.old))) }
+    ensures marks { OnOk result (held_in_property property.new ≡ numbered next (functions_of_property strict (view_property property.old))) }
     ensures count { OnOk result (result ≡ Ok (after next (functions_of_property strict (view_property property.old)))) }
 {
     match &mut property.kind {
         PropertyKind::Value(e) => mark_expr(e, strict, next),
-        PropertyKind::Getter(body) => mark_body(body, strict, next),
-        PropertyKind::Setter { body, .. } => mark_body(body, strict, next),
+        PropertyKind::Getter(f) => mark_function(f, strict, next),
+        PropertyKind::Setter(f) => mark_function(f, strict, next),
     }
 }
 
 #[cycle(marking)]
-#[tactic(auto, using(crate::proofs::Numbered::parts, crate::proofs::Parts::body), unfolding(crate::specs::Functions::body_strict))]
-fn mark_body(body: &mut FunctionBody, strict: bool, next: u32) -> Result<u32, OutOfMemory>
-    ensures kept { OnOk result (view_function_body body.new ≡ view_function_body body.old) }
-    ensures marks { OnOk result (marks_function_body body.new ≡ numbered next (functions_of_body strict (view_function_body body.old))) }
-    ensures count { OnOk result (result ≡ Ok (after next (functions_of_body strict (view_function_body body.old)))) }
+#[tactic(auto, using(crate::proofs::Numbered::parts, crate::proofs::Parts::function))]
+fn mark_function(f: &mut Function, strict: bool, next: u32) -> Result<u32, OutOfMemory>
+    ensures kept { OnOk result (view_function f.new ≡ view_function f.old) }
+    ensures marks { OnOk result (held_in_function f.new ≡ numbered next (functions_of_function strict (view_function f.old))) }
+    ensures count { OnOk result (result ≡ Ok (after next (functions_of_function strict (view_function f.old)))) }
 {
-    let strict = body_strict(strict, body);
+    let strict = body_strict(strict, &f.body);
     let after = next.checked_add(1).ok_or(OutOfMemory)?;
-    body.number = next;
-    body.strict = strict;
-    mark_list(&mut body.statements, strict, after)
+    f.number = next;
+    f.strict = strict;
+    mark_list(&mut f.body, strict, after)
 }
 
 #[cycle(marking)]
-#[tactic(auto, using(crate::proofs::Numbered::parts, crate::proofs::MarkLaws::held, js_ast::proofs::ViewLaws::held))]
+#[tactic(auto, using(crate::proofs::Numbered::parts, js_ast::proofs::HeldLaws::held_functions, js_ast::proofs::ViewLaws::held))]
 fn mark_declaration(
     declaration: &mut Declaration,
     strict: bool,
     next: u32,
 ) -> Result<u32, OutOfMemory>
     ensures kept { OnOk result (view_declaration declaration.new ≡ view_declaration declaration.old) }
-    ensures marks { OnOk result (marks_declaration declaration.new ≡ numbered next (functions_of_maybe strict (view_declaration declaration.old).1)) }
+    ensures marks { OnOk result (held_in_declaration declaration.new ≡ numbered next (functions_of_maybe strict (view_declaration declaration.old).1)) }
     ensures count { OnOk result (result ≡ Ok (after next (functions_of_maybe strict (view_declaration declaration.old).1))) }
 {
     mark_maybe(&mut declaration.value, strict, next)
@@ -186,7 +186,7 @@ fn mark_declaration(
 #[tactic(auto, using(crate::proofs::Numbered::parts))]
 fn mark_others(list: &mut DeclarationList, strict: bool, next: u32) -> Result<u32, OutOfMemory>
     ensures kept { OnOk result (view_other_declarations (nodes_of list.new) ≡ view_other_declarations (nodes_of list.old)) }
-    ensures marks { OnOk result (marks_other_declarations (nodes_of list.new) ≡ numbered next (functions_of_others strict (view_other_declarations (nodes_of list.old)))) }
+    ensures marks { OnOk result (held_in_other_declarations (nodes_of list.new) ≡ numbered next (functions_of_others strict (view_other_declarations (nodes_of list.old)))) }
     ensures count { OnOk result (result ≡ Ok (after next (functions_of_others strict (view_other_declarations (nodes_of list.old))))) }
 {
     let mut next = next;
@@ -204,7 +204,7 @@ fn mark_declarations(
     next: u32,
 ) -> Result<u32, OutOfMemory>
     ensures kept { OnOk result (view_declarations declarations.new ≡ view_declarations declarations.old) }
-    ensures marks { OnOk result (marks_declarations declarations.new ≡ numbered next (functions_of_declarations strict (view_declarations declarations.old))) }
+    ensures marks { OnOk result (held_in_declarations declarations.new ≡ numbered next (functions_of_declarations strict (view_declarations declarations.old))) }
     ensures count { OnOk result (result ≡ Ok (after next (functions_of_declarations strict (view_declarations declarations.old)))) }
 {
     let next = mark_declaration(&mut declarations.first, strict, next)?;
@@ -214,7 +214,7 @@ fn mark_declarations(
 #[cycle(marking)]
 fn mark_first(first: &mut ForFirst, strict: bool, next: u32) -> Result<u32, OutOfMemory>
     ensures kept { OnOk result (view_first first.new ≡ view_first first.old) }
-    ensures marks { OnOk result (marks_first first.new ≡ numbered next (functions_of_first strict (view_first first.old))) }
+    ensures marks { OnOk result (held_in_first first.new ≡ numbered next (functions_of_first strict (view_first first.old))) }
     ensures count { OnOk result (result ≡ Ok (after next (functions_of_first strict (view_first first.old)))) }
 {
     match first {
@@ -227,7 +227,7 @@ fn mark_first(first: &mut ForFirst, strict: bool, next: u32) -> Result<u32, OutO
 #[tactic(auto, using(crate::proofs::Numbered::parts))]
 fn mark_target(target: &mut ForTarget, strict: bool, next: u32) -> Result<u32, OutOfMemory>
     ensures kept { OnOk result (view_target target.new ≡ view_target target.old) }
-    ensures marks { OnOk result (marks_target target.new ≡ numbered next (functions_of_target strict (view_target target.old))) }
+    ensures marks { OnOk result (held_in_target target.new ≡ numbered next (functions_of_target strict (view_target target.old))) }
     ensures count { OnOk result (result ≡ Ok (after next (functions_of_target strict (view_target target.old)))) }
 {
     match target {
@@ -240,7 +240,7 @@ fn mark_target(target: &mut ForTarget, strict: bool, next: u32) -> Result<u32, O
 #[tactic(auto, using(crate::proofs::Numbered::parts))]
 fn mark_clauses(list: &mut ClauseList, strict: bool, next: u32) -> Result<u32, OutOfMemory>
     ensures kept { OnOk result (view_clauses (nodes_of list.new) ≡ view_clauses (nodes_of list.old)) }
-    ensures marks { OnOk result (marks_clauses (nodes_of list.new) ≡ numbered next (functions_of_clauses strict (view_clauses (nodes_of list.old)))) }
+    ensures marks { OnOk result (held_in_clauses (nodes_of list.new) ≡ numbered next (functions_of_clauses strict (view_clauses (nodes_of list.old)))) }
     ensures count { OnOk result (result ≡ Ok (after next (functions_of_clauses strict (view_clauses (nodes_of list.old))))) }
 {
     let mut next = next;
@@ -254,7 +254,7 @@ fn mark_clauses(list: &mut ClauseList, strict: bool, next: u32) -> Result<u32, O
 #[tactic(auto, using(crate::proofs::Numbered::parts, crate::proofs::Parts::clause))]
 fn mark_clause(clause: &mut Clause, strict: bool, next: u32) -> Result<u32, OutOfMemory>
     ensures kept { OnOk result (view_clause clause.new no_clauses ≡ view_clause clause.old no_clauses) }
-    ensures marks { OnOk result (marks_clause clause.new ≡ numbered next (functions_of_clauses strict (view_clause clause.old no_clauses))) }
+    ensures marks { OnOk result (held_in_clause clause.new ≡ numbered next (functions_of_clauses strict (view_clause clause.old no_clauses))) }
     ensures count { OnOk result (result ≡ Ok (after next (functions_of_clauses strict (view_clause clause.old no_clauses)))) }
 {
     let next = mark_maybe(&mut clause.test, strict, next)?;
@@ -265,17 +265,17 @@ fn mark_clause(clause: &mut Clause, strict: bool, next: u32) -> Result<u32, OutO
 #[tactic(auto, using(crate::proofs::Numbered::parts, crate::proofs::Parts::block))]
 fn mark_block(block: &mut Block, strict: bool, next: u32) -> Result<u32, OutOfMemory>
     ensures kept { OnOk result (view_block block.new ≡ view_block block.old) }
-    ensures marks { OnOk result (marks_block block.new ≡ numbered next (functions_of_block strict (view_block block.old))) }
+    ensures marks { OnOk result (held_in_block block.new ≡ numbered next (functions_of_block strict (view_block block.old))) }
     ensures count { OnOk result (result ≡ Ok (after next (functions_of_block strict (view_block block.old)))) }
 {
     mark_list(&mut block.body, strict, next)
 }
 
 #[cycle(marking)]
-#[tactic(auto, using(crate::proofs::Numbered::parts, crate::proofs::MarkLaws::held, js_ast::proofs::ViewLaws::held, js_ast::specs::declared::trees::ExprKind::TheViews::the_lemmas))]
+#[tactic(auto, using(crate::proofs::Numbered::parts, js_ast::proofs::HeldLaws::held_functions, js_ast::proofs::ViewLaws::held, js_ast::specs::declared::trees::ExprKind::TheViews::the_lemmas))]
 fn mark_statement(s: &mut Stmt, strict: bool, next: u32) -> Result<u32, OutOfMemory>
     ensures kept { OnOk result (view_stmt s.new ≡ view_stmt s.old) }
-    ensures marks { OnOk result (marks_stmt s.new ≡ numbered next (functions_of_statement strict (view_stmt s.old))) }
+    ensures marks { OnOk result (held_in_stmt s.new ≡ numbered next (functions_of_statement strict (view_stmt s.old))) }
     ensures count { OnOk result (result ≡ Ok (after next (functions_of_statement strict (view_stmt s.old)))) }
 {
     match &mut *s.kind {
@@ -347,7 +347,7 @@ fn mark_statement(s: &mut Stmt, strict: bool, next: u32) -> Result<u32, OutOfMem
             let next = mark_block(handler, strict, next)?;
             mark_block(finalizer, strict, next)
         }
-        StmtKind::Function { body, .. } => mark_body(body, strict, next),
+        StmtKind::Function(f) => mark_function(f, strict, next),
     }
 }
 
@@ -355,7 +355,7 @@ fn mark_statement(s: &mut Stmt, strict: bool, next: u32) -> Result<u32, OutOfMem
 #[tactic(auto, using(crate::proofs::Numbered::parts))]
 pub(crate) fn mark_list(list: &mut StmtList, strict: bool, next: u32) -> Result<u32, OutOfMemory>
     ensures kept { OnOk result (view_stmts (nodes_of list.new) ≡ view_stmts (nodes_of list.old)) }
-    ensures marks { OnOk result (marks_stmts (nodes_of list.new) ≡ numbered next (functions_of_statements strict (view_stmts (nodes_of list.old)))) }
+    ensures marks { OnOk result (held_in_stmts (nodes_of list.new) ≡ numbered next (functions_of_statements strict (view_stmts (nodes_of list.old)))) }
     ensures count { OnOk result (result ≡ Ok (after next (functions_of_statements strict (view_stmts (nodes_of list.old))))) }
 {
     let mut next = next;

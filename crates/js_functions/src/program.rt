@@ -3,7 +3,7 @@
 ghost use Rattle.std.specs.Prelude.{◌≡◌, IfOk};
 ghost use Rattle.js_ast.specs.Nodes.{nodes_of};
 ghost use Rattle.js_ast.specs.Views.{view_program, view_stmts};
-ghost use Rattle.js_functions.specs.IsMarked.{IsMarked};
+ghost use Rattle.js_ast.specs.IsMarked.{IsMarked};
 
 use crate::marking::mark_list;
 use crate::prologue::prologue_strict;
@@ -18,6 +18,10 @@ pub fn marked_program(body: StmtList) -> Result<Program, OutOfMemory>
 {
     let strict = prologue_strict(body.items());
     let mut body = body;
-    mark_list(&mut body, strict, 0)?;
-    Ok(Program { body, strict })
+    let function_count = mark_list(&mut body, strict, 0)?;
+    Ok(Program {
+        body,
+        strict,
+        function_count,
+    })
 }

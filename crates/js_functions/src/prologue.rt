@@ -1,10 +1,11 @@
 //! Directive prologues (ECMA-262 14.1).
 
 ghost use Rattle.std.specs.Prelude.{◌≡◌, option_map};
-ghost use Rattle.js_ast.specs.Views.{view_expr, view_function_body, view_stmt, view_stmts};
-ghost use Rattle.js_functions.specs.Functions.{is_use_strict, literal_in, literal_text, prologue_strict, body_strict};
+ghost use Rattle.js_ast.specs.Nodes.{nodes_of};
+ghost use Rattle.js_ast.specs.Views.{view_expr, view_stmt, view_stmts};
+ghost use Rattle.js_ast.specs.Functions.{is_use_strict, literal_in, literal_text, prologue_strict, body_strict};
 
-use js_ast::{Expr, ExprKind, FunctionBody, Stmt, StmtKind};
+use js_ast::{Expr, ExprKind, Stmt, StmtKind, StmtList};
 
 /// `"use strict"`
 const DOUBLE_QUOTED: [u16; 12] = [
@@ -16,7 +17,7 @@ const SINGLE_QUOTED: [u16; 12] = [
     0x27, 0x75, 0x73, 0x65, 0x20, 0x73, 0x74, 0x72, 0x69, 0x63, 0x74, 0x27,
 ];
 
-#[tactic(auto, unfolding(crate::specs::Functions::is_use_strict))]
+#[tactic(auto, unfolding(js_ast::specs::Functions::is_use_strict))]
 fn is_use_strict(text: &[u16]) -> bool
     ensures { result ≡ is_use_strict text.now }
 {
@@ -59,9 +60,9 @@ pub(crate) fn prologue_strict(statements: &[Stmt]) -> bool
 }
 
 /// Whether the code of a function is strict, where the code round it is strict or not.
-#[tactic(auto, using(crate::proofs::Parts::body_view), unfolding(crate::specs::Functions::body_strict))]
-pub(crate) fn body_strict(strict: bool, body: &FunctionBody) -> bool
-    ensures { result ≡ body_strict strict (view_function_body body.now) }
+#[tactic(auto, unfolding(js_ast::specs::Functions::body_strict))]
+pub(crate) fn body_strict(strict: bool, body: &StmtList) -> bool
+    ensures { result ≡ body_strict strict (view_stmts (nodes_of body.now)) }
 {
-    strict || prologue_strict(body.statements.items())
+    strict || prologue_strict(body.items())
 }

@@ -19,6 +19,3 @@ pub use int::{Int, LeftNumbers};
 pub use numeric_text::text_to_number;
 pub use primitive::{Primitive, number_to_text, to_boolean, to_number, to_text};
 pub use sum::{AddFault, add_prims};
-
-#[cfg(test)]
-mod tests;

@@ -6,10 +6,10 @@ use Rattle.js_ast.specs.declared.trees.Program.{Program}
 use Rattle.js_ast.specs.Trees.{Statements}
 use Rattle.js_ast.specs.Grammar.{SpellsProgram}
 use Rattle.js_ast.specs.Views.{view_program}
-use Rattle.js_ast.specs.Reading.{Fault, refused}
-use Rattle.js_ast.specs.Parsing.{program_at}
-use Rattle.js_ast.specs.Refusals.{a_program}
-use Rattle.js_ast.proofs.Sound.{parses_exactly}
+use Rattle.js_list_parser.specs.Reading.{Fault, refused}
+use Rattle.js_list_parser.specs.Parsing.{program_at}
+use Rattle.js_list_parser.specs.Refusals.{a_program}
+use Rattle.js_list_parser.proofs.Sound.{parses_exactly}
 use Rattle.js_faults.specs.declared.fault.Fault.{Fault as Found}
 use Rattle.js_parse_expr.specs.declared.fault.ParseFault.{ParseFault}
 use Rattle.js_parse_expr.specs.declared.fault.ParseFault.TheVariants as fault

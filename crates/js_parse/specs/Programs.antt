@@ -5,7 +5,7 @@ use Rattle.js_ast.specs.Trees.{Statements}
 use Rattle.js_ast.specs.Validity.{ValidProgram}
 use Rattle.js_ast.specs.Grammar.{SpellsProgram}
 use Rattle.js_ast.specs.Depth.{depth_statements}
-use Rattle.js_ast.specs.Refusals.{a_program}
+use Rattle.js_list_parser.specs.Refusals.{a_program}
 use Rattle.js_parse_expr.specs.declared.fault.ParseFault.{ParseFault}
 use Rattle.js_parse_expr.specs.Parsed.{IsFault as IsFaultOf}
 use Rattle.js_parse_expr.specs.Parts.{depth_limit, bad_directive}

@@ -7,8 +7,8 @@ ghost use Rattle.js_ast.specs.Nodes.{nodes_of};
 ghost use Rattle.js_ast.specs.Views.{view_program, view_stmts};
 ghost use Rattle.js_parse_expr.specs.declared.fault.ParseFault.TheVariants.{OutOfMemory};
 ghost use Rattle.js_parse_expr.specs.declared.fault.ParseFault.{ParseFault};
-ghost use Rattle.js_ast.specs.Refusals.{a_program};
-ghost use Rattle.js_functions.specs.IsMarked.{IsMarked};
+ghost use Rattle.js_list_parser.specs.Refusals.{a_program};
+ghost use Rattle.js_ast.specs.IsMarked.{IsMarked};
 ghost use Rattle.js_parse_expr.specs.Parsed.{IsReadFault};
 ghost use Rattle.js_parse.specs.Programs.{IsTree, IsProgram, IsFault};
 

@@ -1,3 +1,6 @@
+ghost use Rattle.std.specs.Prelude.{IfOk};
+ghost use Rattle.js_ast.specs.IsMarked.{IsMarked};
+
 use crate::{ParseFault, parse};
 use flow_text::Text;
 use js_ast::{ExprKind, Program, Stmt, StmtKind};
@@ -13,7 +16,9 @@ enum Refused {
     NoProgram(ParseFault),
 }
 
-fn parsed(alloc: Global, source: &str) -> Result<Program, Refused> {
+fn parsed(alloc: Global, source: &str) -> Result<Program, Refused>
+    ensures { IfOk result IsMarked }
+{
     let text = Text::spelled(alloc, source).map_err(|_| Refused::NoTokens)?;
     let tokens = scan(alloc, &text).map_err(|_| Refused::NoTokens)?;
     parse(alloc, &tokens, text.len()).map_err(|fault| Refused::NoProgram(fault))
@@ -85,63 +90,130 @@ fn refused_tokens(rt: HostRuntime) -> Result<(), Fail> {
     faults(&rt, rt.alloc(), &rows)
 }
 
-// `a++` and `(b)` on two lines are two statements, of which the first ends with its operator.
-fn is_postfix(statement: &Stmt) -> bool {
-    match &*statement.kind {
-        StmtKind::Expr { expr, .. } => matches!(&*expr.kind, ExprKind::Postfix { .. }),
-        _ => false,
+/// What a statement is, as far as the rows tell it.
+#[derive(Clone, Copy, Debug, PartialEq, Eq)]
+enum Form {
+    Name,
+    Paren,
+    Assign,
+    Postfix,
+    Prefix,
+    Other,
+}
+
+fn form_of(statement: &Stmt) -> Form {
+    let StmtKind::Expr { expr, .. } = &*statement.kind else {
+        return Form::Other;
+    };
+    match &*expr.kind {
+        ExprKind::Name(_) => Form::Name,
+        ExprKind::Paren(_) => Form::Paren,
+        ExprKind::Assign { .. } => Form::Assign,
+        ExprKind::Postfix { .. } => Form::Postfix,
+        ExprKind::Unary { .. } => Form::Prefix,
+        _ => Form::Other,
     }
 }
 
+// How many statements a source has, and the first and the last of them.
+fn ends_of(alloc: Global, source: &str) -> Option<(usize, Form, Form)> {
+    let program = parsed(alloc, source).ok()?;
+    let statements = program.body.items();
+    let first = form_of(statements.first()?);
+    Some((statements.len(), first, form_of(statements.last()?)))
+}
+
+// One name, and sources in which a line's end is a semicolon or isn't (ECMA-262 7.9).
 #[test]
-fn postfix_and_parenthesis(rt: HostRuntime) -> Result<(), Fail> {
-    let found = match parsed(rt.alloc(), "a++\n(b)") {
-        Ok(program) => program
-            .body
-            .items()
-            .first()
-            .is_some_and(|first| is_postfix(first)),
-        Err(_) => false,
-    };
-    assert!(rt; found);
+fn trees(rt: HostRuntime) -> Result<(), Fail> {
+    let rows = [
+        ("a", (1, Form::Name, Form::Name)),
+        ("a = b\n(c)", (1, Form::Assign, Form::Assign)),
+        ("a++\n(b)", (2, Form::Postfix, Form::Paren)),
+        ("a\n++b", (2, Form::Name, Form::Prefix)),
+    ];
+    for (source, ends) in rows {
+        assert_eq!(rt; ends_of(rt.alloc(), source), Some(ends), "{source}");
+    }
     Ok(())
 }
 
-// The number of the function that a program's last statement declares, and whether its code is strict.
-fn last_function(program: &Program) -> Option<(u32, bool)> {
-    match &*program.body.items().last()?.kind {
-        StmtKind::Function { body, .. } => Some((body.number, body.strict)),
-        _ => None,
+// How many parameters each function of a source has, and whether its code is strict, by the list and one by one.
+fn functions_of(alloc: Global, source: &str) -> Option<Vec<(usize, bool)>> {
+    let Ok(program) = parsed(alloc, source) else {
+        return None;
+    };
+    let Ok(functions) = program.functions(alloc) else {
+        return None;
+    };
+    let mut shown = Vec::new(alloc);
+    for f in functions.as_slice() {
+        shown.push((f.params.items().len(), f.strict)).ok()?;
     }
+    Some(shown)
 }
 
-// Whether a program is strict, and its last function.
-fn marks_of(alloc: Global, source: &str) -> Option<(bool, (u32, bool))> {
-    let program = parsed(alloc, source).ok()?;
-    Some((program.strict, last_function(&program)?))
+// The same, one by one.
+fn functions_by_number(alloc: Global, source: &str) -> Option<Vec<(usize, bool)>> {
+    let Ok(program) = parsed(alloc, source) else {
+        return None;
+    };
+    let mut shown = Vec::new(alloc);
+    for n in 0..program.function_count {
+        let f = program.function(n);
+        shown.push((f.params.items().len(), f.strict)).ok()?;
+    }
+    Some(shown)
 }
 
 #[test]
-fn marks(rt: HostRuntime) -> Result<(), Fail> {
-    let rows = [
-        ("function f() { }", (false, (0, false))),
-        ("a(function () { }); function f() { }", (false, (1, false))),
-        ("'use strict'; function f() { }", (true, (0, true))),
+fn functions_with_their_marks(rt: HostRuntime) -> Result<(), Fail> {
+    let rows: [(&str, &[(usize, bool)]); 13] = [
+        ("a;", &[]),
+        ("function f(a, b) { }", &[(2, false)]),
         (
-            "'a'; \"use strict\"\n({ get a() { }, set a(b) { } }); function f() { }",
-            (false, (2, false)),
+            "a(function (b) { }); function f() { }",
+            &[(1, false), (0, false)],
         ),
         (
-            "'a'; \"use strict\"; ({ get a() { }, set a(b) { } }); function f() { }",
-            (true, (2, true)),
+            "function f(a) { 'use strict'; return function () { } } function g(a, b) { }",
+            &[(1, true), (0, true), (2, false)],
         ),
-        ("function f() { 'use strict' }", (false, (0, true))),
-        ("'use\\x20strict'; function f() { }", (false, (0, false))),
-        ("('use strict'); function f() { }", (false, (0, false))),
-        ("a; 'use strict'; function f() { }", (false, (0, false))),
+        (
+            "'a'; \"use strict\"\n({ get a() { }, set a(b) { } }); function f(a, b) { }",
+            &[(0, false), (1, false), (2, false)],
+        ),
+        (
+            "'a'; \"use strict\"; ({ get a() { }, set a(b) { } }); function f(a, b) { }",
+            &[(0, true), (1, true), (2, true)],
+        ),
+        ("'use\\x20strict'; function f() { }", &[(0, false)]),
+        ("('use strict'); function f() { }", &[(0, false)]),
+        ("a; 'use strict'; function f() { }", &[(0, false)]),
+        ("function f() { 'use strict' }", &[(0, true)]),
+        (
+            "function f() { function g() { } } ({ get a() { }, set a(b) { } }); function h() { }",
+            &[(0, false), (0, false), (0, false), (1, false), (0, false)],
+        ),
+        (
+            "function f() { 'a'; 'use strict'; function g() { } } function h() { }",
+            &[(0, true), (0, true), (0, false)],
+        ),
+        (
+            "function f() { } 'use strict'; function h() { }",
+            &[(0, false), (0, false)],
+        ),
     ];
-    for (source, marks) in rows {
-        assert_eq!(rt; marks_of(rt.alloc(), source), Some(marks), "{source}");
+    for (source, functions) in rows {
+        assert!(rt;
+            functions_of(rt.alloc(), source).is_some_and(|shown| shown.as_slice() == functions),
+            "{source}"
+        );
+        assert!(rt;
+            functions_by_number(rt.alloc(), source).is_some_and(|shown| shown.as_slice()
+                == functions),
+            "{source}"
+        );
     }
     Ok(())
 }

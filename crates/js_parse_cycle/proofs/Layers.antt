@@ -4,10 +4,10 @@ use Rattle.js_ast.specs.declared.token.Token.{Token}
 use Rattle.js_ast.specs.declared.words.Sign.TheVariants as sign
 use Rattle.js_ast.specs.Words.{Word, a_sign}
 use Rattle.js_ast.specs.Trees.{Expr, Block, Statement, block}
-use Rattle.js_ast.specs.Reading.{refused, syntax, Read, ◌>>=◌, word_at, Suffix, Parsers}
-use Rattle.js_ast.specs.Parsing.{parsers}
-use Rattle.js_ast.specs.ExpressionParsing.{primary, expression_at, operand_at, further_at}
-use Rattle.js_ast.specs.StatementParsing.{block_in, inner_block_by, inner_block, block_by, block_at, statement_by, statement_at, statements_at}
+use Rattle.js_list_parser.specs.Reading.{refused, syntax, Read, ◌>>=◌, word_at, Suffix, Parsers}
+use Rattle.js_list_parser.specs.Parsing.{parsers}
+use Rattle.js_list_parser.specs.ExpressionParsing.{primary, expression_at, operand_at, further_at}
+use Rattle.js_list_parser.specs.StatementParsing.{block_in, inner_block_by, inner_block, block_by, block_at, statement_by, statement_at, statements_at}
 
 -- one less than a successor
 before : (d : ℕ) → suc d - 1 ≡ d

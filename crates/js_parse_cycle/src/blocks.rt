@@ -4,9 +4,9 @@ ghost use Rattle.std.specs.Prelude.{◌≡◌, ℕ, suc, ◌-◌, ◌≤◌, IfO
 ghost use Rattle.js_ast.specs.Depth.{depth_block, depth_clauses, depth_statement};
 ghost use Rattle.js_ast.specs.Grammar.{place_of};
 ghost use Rattle.js_ast.specs.Nodes.{nodes_of};
-ghost use Rattle.js_ast.specs.Parsing.{parsers};
-ghost use Rattle.js_ast.specs.Reading.{behind, room, loop};
-ghost use Rattle.js_ast.specs.StatementParsing.{block_at, inner_block, clause_step, switch_rest, try_rest, catch_rest};
+ghost use Rattle.js_list_parser.specs.Parsing.{parsers};
+ghost use Rattle.js_list_parser.specs.Reading.{behind, room, loop};
+ghost use Rattle.js_list_parser.specs.StatementParsing.{block_at, inner_block, clause_step, switch_rest, try_rest, catch_rest};
 ghost use Rattle.js_ast.specs.Trees.{no_clauses};
 ghost use Rattle.js_ast.specs.Views.{view_block, view_clauses, view_stmt};
 ghost use Rattle.js_parse_parts.specs.Answers.{Gives, Deep, turn_of, TurnIs};
@@ -24,7 +24,7 @@ use std::alloc::Global;
 
 /// A block, which is a part of a statement or a statement.
 #[cycle(parser)]
-#[tactic(auto, unfolding(js_ast::specs::StatementParsing::block_at, js_ast::specs::StatementParsing::block_by, js_ast::specs::StatementParsing::block_rest))]
+#[tactic(auto, unfolding(js_list_parser::specs::StatementParsing::block_at, js_list_parser::specs::StatementParsing::block_by, js_list_parser::specs::StatementParsing::block_rest))]
 pub(crate) fn block<'a>(alloc: Global, limit: u32, tokens: &'a [Token]) -> Found<'a, Block>
     requires { 1 ≤ limit }
     ensures gives { Gives (λ x. (view_block x.0, x.2.now)) result (block_at (parsers (limit - 1)) (limit - 1) tokens.now) }
@@ -44,7 +44,7 @@ pub(crate) fn block<'a>(alloc: Global, limit: u32, tokens: &'a [Token]) -> Found
 
 // A further clause, or the end of the clauses.
 #[cycle(parser)]
-#[tactic(auto, unfolding(js_ast::specs::StatementParsing::clause_step, js_ast::specs::StatementParsing::clause_step_by, js_ast::specs::StatementParsing::case_rest, js_ast::specs::StatementParsing::default_rest))]
+#[tactic(auto, unfolding(js_list_parser::specs::StatementParsing::clause_step, js_list_parser::specs::StatementParsing::clause_step_by, js_list_parser::specs::StatementParsing::case_rest, js_list_parser::specs::StatementParsing::default_rest))]
 fn clause<'a>(
     alloc: Global,
     d: u32,
@@ -98,7 +98,7 @@ fn clauses<'a>(alloc: Global, d: u32, tokens: &'a [Token]) -> Found<'a, ClauseLi
 
 /// A `switch`.
 #[cycle(parser)]
-#[tactic(auto, unfolding(js_ast::specs::StatementParsing::switch_rest))]
+#[tactic(auto, unfolding(js_list_parser::specs::StatementParsing::switch_rest))]
 pub(crate) fn switch_statement<'a>(
     alloc: Global,
     limit: u32,
@@ -119,7 +119,7 @@ pub(crate) fn switch_statement<'a>(
 
 // A handler, and a final block or none.
 #[cycle(parser)]
-#[tactic(auto, using(crate::proofs::Layers::inner_is), unfolding(js_ast::specs::StatementParsing::catch_rest, js_ast::specs::StatementParsing::finally_by))]
+#[tactic(auto, using(crate::proofs::Layers::inner_is), unfolding(js_list_parser::specs::StatementParsing::catch_rest, js_list_parser::specs::StatementParsing::finally_by))]
 fn catch<'a>(
     alloc: Global,
     d: u32,
@@ -150,7 +150,7 @@ fn catch<'a>(
 
 /// A `try`.
 #[cycle(parser)]
-#[tactic(auto, using(crate::proofs::Layers::inner_is), unfolding(js_ast::specs::StatementParsing::try_rest, js_ast::specs::StatementParsing::handler_by))]
+#[tactic(auto, using(crate::proofs::Layers::inner_is), unfolding(js_list_parser::specs::StatementParsing::try_rest, js_list_parser::specs::StatementParsing::handler_by))]
 pub(crate) fn try_statement<'a>(alloc: Global, limit: u32, tokens: &'a [Token]) -> Found<'a, Stmt>
     requires { 1 ≤ limit }
     ensures gives { Gives (λ x. (view_stmt x.0, x.2.now)) result (room (limit - 1) 1 tokens.now (try_rest (parsers (limit - 1)) (place_of tokens.now) (behind tokens.now))) }

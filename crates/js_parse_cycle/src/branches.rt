@@ -3,9 +3,9 @@
 ghost use Rattle.std.specs.Prelude.{◌≡◌, ℕ, suc, ◌-◌, ◌≤◌, IfOk};
 ghost use Rattle.js_ast.specs.Depth.{depth, depth_statement};
 ghost use Rattle.js_ast.specs.Grammar.{place_of};
-ghost use Rattle.js_ast.specs.Parsing.{parsers};
-ghost use Rattle.js_ast.specs.Reading.{behind, room};
-ghost use Rattle.js_ast.specs.StatementParsing.{condition, if_rest, do_rest, while_rest};
+ghost use Rattle.js_list_parser.specs.Parsing.{parsers};
+ghost use Rattle.js_list_parser.specs.Reading.{behind, room};
+ghost use Rattle.js_list_parser.specs.StatementParsing.{condition, if_rest, do_rest, while_rest};
 ghost use Rattle.js_ast.specs.Views.{view_expr, view_stmt};
 ghost use Rattle.js_parse_parts.specs.Answers.{Gives, Deep};
 
@@ -20,7 +20,7 @@ use std::alloc::Global;
 
 // An expression in parentheses.
 #[cycle(parser)]
-#[tactic(auto, unfolding(js_ast::specs::StatementParsing::condition))]
+#[tactic(auto, unfolding(js_list_parser::specs::StatementParsing::condition))]
 pub(crate) fn condition<'a>(alloc: Global, d: u32, tokens: &'a [Token]) -> Found<'a, Expr>
     requires { 1 ≤ d }
     ensures gives { Gives (λ x. (view_expr x.0, x.2.now)) result (condition (parsers d) tokens.now) }
@@ -33,7 +33,7 @@ pub(crate) fn condition<'a>(alloc: Global, d: u32, tokens: &'a [Token]) -> Found
 
 /// An `if`.
 #[cycle(parser)]
-#[tactic(auto, unfolding(js_ast::specs::StatementParsing::if_rest, js_ast::specs::StatementParsing::else_by))]
+#[tactic(auto, unfolding(js_list_parser::specs::StatementParsing::if_rest, js_list_parser::specs::StatementParsing::else_by))]
 pub(crate) fn if_statement<'a>(alloc: Global, limit: u32, tokens: &'a [Token]) -> Found<'a, Stmt>
     requires { 1 ≤ limit }
     ensures gives { Gives (λ x. (view_stmt x.0, x.2.now)) result (room (limit - 1) 0 tokens.now (if_rest (parsers (limit - 1)) (place_of tokens.now) (behind tokens.now))) }
@@ -59,7 +59,7 @@ pub(crate) fn if_statement<'a>(alloc: Global, limit: u32, tokens: &'a [Token]) -
 
 /// A `do` loop.
 #[cycle(parser)]
-#[tactic(auto, unfolding(js_ast::specs::StatementParsing::do_rest))]
+#[tactic(auto, unfolding(js_list_parser::specs::StatementParsing::do_rest))]
 pub(crate) fn do_statement<'a>(alloc: Global, limit: u32, tokens: &'a [Token]) -> Found<'a, Stmt>
     requires { 1 ≤ limit }
     ensures gives { Gives (λ x. (view_stmt x.0, x.2.now)) result (room (limit - 1) 0 tokens.now (do_rest (parsers (limit - 1)) (place_of tokens.now) (behind tokens.now))) }
@@ -77,7 +77,7 @@ pub(crate) fn do_statement<'a>(alloc: Global, limit: u32, tokens: &'a [Token]) -
 
 /// A `while` loop.
 #[cycle(parser)]
-#[tactic(auto, unfolding(js_ast::specs::StatementParsing::while_rest))]
+#[tactic(auto, unfolding(js_list_parser::specs::StatementParsing::while_rest))]
 pub(crate) fn while_statement<'a>(alloc: Global, limit: u32, tokens: &'a [Token]) -> Found<'a, Stmt>
     requires { 1 ≤ limit }
     ensures gives { Gives (λ x. (view_stmt x.0, x.2.now)) result (room (limit - 1) 0 tokens.now (while_rest (parsers (limit - 1)) (place_of tokens.now) (behind tokens.now))) }

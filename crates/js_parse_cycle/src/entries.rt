@@ -3,7 +3,7 @@
 ghost use Rattle.std.specs.Prelude.{◌≡◌, ◌≤◌, []};
 ghost use Rattle.js_ast.specs.Grammar.{closes};
 ghost use Rattle.js_ast.specs.Nodes.{nodes_of};
-ghost use Rattle.js_ast.specs.Parsing.{list_at, longest_at, program_at};
+ghost use Rattle.js_list_parser.specs.Parsing.{list_at, longest_at, program_at};
 ghost use Rattle.js_ast.specs.Views.{view_expr, view_stmts};
 ghost use Rattle.js_parse_parts.specs.Answers.{Gives};
 
@@ -14,7 +14,7 @@ use js_parse_parts::{Fault, ReadFault, Word, word_at};
 use std::alloc::Global;
 
 /// The statements of a program whose depth is below the limit, to the end of the tokens.
-#[tactic(auto, unfolding(js_ast::specs::Parsing::program_at, js_ast::specs::Parsing::to_end))]
+#[tactic(auto, unfolding(js_list_parser::specs::Parsing::program_at, js_list_parser::specs::Parsing::to_end))]
 pub fn program(alloc: Global, limit: u32, tokens: &[Token]) -> Result<StmtList, ReadFault<'_>>
     requires { 1 ≤ limit }
     ensures { Gives (λ list. (view_stmts (nodes_of list), [])) result (program_at limit tokens.now) }
@@ -28,7 +28,7 @@ pub fn program(alloc: Global, limit: u32, tokens: &[Token]) -> Result<StmtList, 
 
 /// The statements of a program or a body, whose depth is below the limit, to the end of the tokens or to a `}` that closes
 /// none of them.
-#[tactic(auto, unfolding(js_ast::specs::Parsing::list_at, js_ast::specs::Parsing::to_close))]
+#[tactic(auto, unfolding(js_list_parser::specs::Parsing::list_at, js_list_parser::specs::Parsing::to_close))]
 pub fn statement_list<'a>(
     alloc: Global,
     limit: u32,
@@ -52,7 +52,7 @@ fn closes(tokens: &[Token]) -> bool
 }
 
 /// The longest expression whose depth is below the limit, where the operator `in` is allowed or not.
-#[tactic(auto, unfolding(js_ast::specs::Parsing::longest_at))]
+#[tactic(auto, unfolding(js_list_parser::specs::Parsing::longest_at))]
 pub fn longest_expression<'a>(
     alloc: Global,
     limit: u32,

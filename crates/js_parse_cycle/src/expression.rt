@@ -2,9 +2,9 @@
 
 ghost use Rattle.std.specs.Prelude.{◌≤◌, suc, IfOk};
 ghost use Rattle.js_ast.specs.Depth.{depth};
-ghost use Rattle.js_ast.specs.Reading.{loop};
-ghost use Rattle.js_ast.specs.Parsing.{parsers};
-ghost use Rattle.js_ast.specs.ExpressionParsing.{suffix, climb_step};
+ghost use Rattle.js_list_parser.specs.Reading.{loop};
+ghost use Rattle.js_list_parser.specs.Parsing.{parsers};
+ghost use Rattle.js_list_parser.specs.ExpressionParsing.{suffix, climb_step};
 ghost use Rattle.js_ast.specs.Views.{view_expr};
 ghost use Rattle.js_parse_parts.specs.Answers.{Gives, Deep, turn_of, TurnIs};
 ghost use Rattle.js_parse_parts.specs.Suffixes.{view_suffix};
@@ -21,7 +21,7 @@ use std::alloc::Global;
 
 /// An expression of a level at least, whose depth is below the limit.
 #[cycle(parser)]
-#[tactic(auto, using(crate::proofs::Layers::expression_layer), unfolding(js_ast::specs::ExpressionParsing::expression_at, js_ast::specs::ExpressionParsing::climb))]
+#[tactic(auto, using(crate::proofs::Layers::expression_layer), unfolding(js_list_parser::specs::ExpressionParsing::expression_at, js_list_parser::specs::ExpressionParsing::climb))]
 pub(crate) fn expression<'a>(
     alloc: Global,
     limit: u32,
@@ -68,7 +68,7 @@ fn climb<'a>(
 
 // A turn: the expression goes on, or ends.
 #[cycle(parser)]
-#[tactic(auto, unfolding(js_ast::specs::ExpressionParsing::climb_step))]
+#[tactic(auto, unfolding(js_list_parser::specs::ExpressionParsing::climb_step))]
 fn climb_step<'a>(
     alloc: Global,
     d: u32,
@@ -91,7 +91,7 @@ fn climb_step<'a>(
 
 /// The expression with what a token makes of it, from the tokens behind that one.
 #[cycle(parser)]
-#[tactic(auto, unfolding(js_ast::specs::ExpressionParsing::suffix))]
+#[tactic(auto, unfolding(js_list_parser::specs::ExpressionParsing::suffix))]
 pub(crate) fn suffix<'a>(
     alloc: Global,
     d: u32,

@@ -3,9 +3,9 @@
 ghost use Rattle.std.specs.Prelude.{◌≡◌, ℕ, suc, ◌-◌, ◌≤◌, IfOk};
 ghost use Rattle.js_ast.specs.Depth.{depth_maybe, depth_first, depth_target, depth_statement};
 ghost use Rattle.js_ast.specs.Grammar.{place_of};
-ghost use Rattle.js_ast.specs.Parsing.{parsers};
-ghost use Rattle.js_ast.specs.Reading.{behind, room};
-ghost use Rattle.js_ast.specs.StatementParsing.{header_part, for_steps, for_each, for_variable, for_expression, for_rest};
+ghost use Rattle.js_list_parser.specs.Parsing.{parsers};
+ghost use Rattle.js_list_parser.specs.Reading.{behind, room};
+ghost use Rattle.js_list_parser.specs.StatementParsing.{header_part, for_steps, for_each, for_variable, for_expression, for_rest};
 ghost use Rattle.js_ast.specs.Views.{view_maybe_expr, view_first, view_target, view_stmt};
 ghost use Rattle.js_parse_parts.specs.Answers.{Gives, Deep};
 
@@ -21,7 +21,7 @@ use std::alloc::Global;
 
 // A part of a header, which may be missing.
 #[cycle(parser)]
-#[tactic(auto, unfolding(js_ast::specs::StatementParsing::header_part, js_ast::specs::StatementParsing::header_part_by))]
+#[tactic(auto, unfolding(js_list_parser::specs::StatementParsing::header_part, js_list_parser::specs::StatementParsing::header_part_by))]
 fn header_part<'a>(alloc: Global, d: u32, tokens: &'a [Token]) -> Found<'a, Option<Expr>>
     requires { 1 ≤ d }
     ensures gives { Gives (λ x. (view_maybe_expr x.0, x.2.now)) result (header_part (parsers d) tokens.now) }
@@ -38,7 +38,7 @@ fn header_part<'a>(alloc: Global, d: u32, tokens: &'a [Token]) -> Found<'a, Opti
 
 // The header from its first semicolon on, and the body.
 #[cycle(parser)]
-#[tactic(auto, unfolding(js_ast::specs::StatementParsing::for_steps))]
+#[tactic(auto, unfolding(js_list_parser::specs::StatementParsing::for_steps))]
 fn for_steps<'a>(
     alloc: Global,
     d: u32,
@@ -61,7 +61,7 @@ fn for_steps<'a>(
 
 // The header behind the word `in`, and the body.
 #[cycle(parser)]
-#[tactic(auto, unfolding(js_ast::specs::StatementParsing::for_each))]
+#[tactic(auto, unfolding(js_list_parser::specs::StatementParsing::for_each))]
 fn for_each<'a>(
     alloc: Global,
     d: u32,
@@ -83,7 +83,7 @@ fn for_each<'a>(
 
 // A header that begins with `var`, from behind that on.
 #[cycle(parser)]
-#[tactic(auto, unfolding(js_ast::specs::StatementParsing::for_variable, js_ast::specs::StatementParsing::for_variable_by))]
+#[tactic(auto, unfolding(js_list_parser::specs::StatementParsing::for_variable, js_list_parser::specs::StatementParsing::for_variable_by))]
 fn for_variable<'a>(alloc: Global, d: u32, at: usize, tokens: &'a [Token]) -> Found<'a, Stmt>
     requires { 1 ≤ d }
     ensures gives { Gives (λ x. (view_stmt x.0, x.2.now)) result (for_variable (parsers d) at tokens.now) }
@@ -101,7 +101,7 @@ fn for_variable<'a>(alloc: Global, d: u32, at: usize, tokens: &'a [Token]) -> Fo
 
 // A header that begins with an expression.
 #[cycle(parser)]
-#[tactic(auto, unfolding(js_ast::specs::StatementParsing::for_expression, js_ast::specs::StatementParsing::for_expression_by))]
+#[tactic(auto, unfolding(js_list_parser::specs::StatementParsing::for_expression, js_list_parser::specs::StatementParsing::for_expression_by))]
 fn for_expression<'a>(alloc: Global, d: u32, at: usize, tokens: &'a [Token]) -> Found<'a, Stmt>
     requires { 1 ≤ d }
     ensures gives { Gives (λ x. (view_stmt x.0, x.2.now)) result (for_expression (parsers d) at tokens.now) }
@@ -121,7 +121,7 @@ fn for_expression<'a>(alloc: Global, d: u32, at: usize, tokens: &'a [Token]) -> 
 
 /// A `for` loop.
 #[cycle(parser)]
-#[tactic(auto, unfolding(js_ast::specs::StatementParsing::for_rest, js_ast::specs::StatementParsing::for_header_by))]
+#[tactic(auto, unfolding(js_list_parser::specs::StatementParsing::for_rest, js_list_parser::specs::StatementParsing::for_header_by))]
 pub(crate) fn for_statement<'a>(alloc: Global, limit: u32, tokens: &'a [Token]) -> Found<'a, Stmt>
     requires { 1 ≤ limit }
     ensures gives { Gives (λ x. (view_stmt x.0, x.2.now)) result (room (limit - 1) 0 tokens.now (for_rest (parsers (limit - 1)) (place_of tokens.now) (behind tokens.now))) }

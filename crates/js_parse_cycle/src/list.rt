@@ -4,9 +4,9 @@ ghost use Rattle.std.specs.Prelude.{◌≡◌, ℕ, ◌-◌, ◌≤◌, IfOk};
 ghost use Rattle.js_ast.specs.Depth.{depth_statement, depth_statements};
 ghost use Rattle.js_ast.specs.Grammar.{place_of};
 ghost use Rattle.js_ast.specs.Nodes.{nodes_of};
-ghost use Rattle.js_ast.specs.Parsing.{parsers};
-ghost use Rattle.js_ast.specs.Reading.{behind, room, word_at};
-ghost use Rattle.js_ast.specs.StatementParsing.{function_declaration_rest, element_by, statements_step};
+ghost use Rattle.js_list_parser.specs.Parsing.{parsers};
+ghost use Rattle.js_list_parser.specs.Reading.{behind, room, word_at};
+ghost use Rattle.js_list_parser.specs.StatementParsing.{function_declaration_rest, element_by, statements_step};
 ghost use Rattle.js_ast.specs.Views.{view_stmt, view_stmts};
 ghost use Rattle.js_parse_parts.specs.Answers.{Gives, Deep, turn_of, TurnIs};
 
@@ -21,7 +21,7 @@ use std::alloc::Global;
 
 // A function declaration.
 #[cycle(parser)]
-#[tactic(auto, unfolding(js_ast::specs::StatementParsing::function_declaration_rest))]
+#[tactic(auto, unfolding(js_list_parser::specs::StatementParsing::function_declaration_rest))]
 fn declared_function<'a>(alloc: Global, limit: u32, tokens: &'a [Token]) -> Found<'a, Stmt>
     requires { 1 ≤ limit }
     ensures gives { Gives (λ x. (view_stmt x.0, x.2.now)) result (room (limit - 1) 0 tokens.now (function_declaration_rest (parsers (limit - 1)) (place_of tokens.now) (behind tokens.now))) }
@@ -36,7 +36,7 @@ fn declared_function<'a>(alloc: Global, limit: u32, tokens: &'a [Token]) -> Foun
 
 // A statement of a list, where function declarations stand or not.
 #[cycle(parser)]
-#[tactic(auto, using(crate::proofs::Layers::statement_layer), unfolding(js_ast::specs::StatementParsing::element_by, js_ast::specs::StatementParsing::statement_at))]
+#[tactic(auto, using(crate::proofs::Layers::statement_layer), unfolding(js_list_parser::specs::StatementParsing::element_by, js_list_parser::specs::StatementParsing::statement_at))]
 fn element<'a>(alloc: Global, limit: u32, outer: bool, tokens: &'a [Token]) -> Found<'a, Stmt>
     requires { 1 ≤ limit }
     ensures gives { Gives (λ x. (view_stmt x.0, x.2.now)) result (element_by (parsers (limit - 1)) (limit - 1) outer (word_at tokens.now) tokens.now) }
@@ -50,7 +50,7 @@ fn element<'a>(alloc: Global, limit: u32, outer: bool, tokens: &'a [Token]) -> F
 
 // A further statement, or the end of the list.
 #[cycle(parser)]
-#[tactic(auto, unfolding(js_ast::specs::StatementParsing::statements_step, js_ast::specs::StatementParsing::next_statement))]
+#[tactic(auto, unfolding(js_list_parser::specs::StatementParsing::statements_step, js_list_parser::specs::StatementParsing::next_statement))]
 fn listed<'a>(
     alloc: Global,
     limit: u32,
@@ -77,7 +77,7 @@ fn listed<'a>(
 
 /// The statements of a program or a body, or of any other list.
 #[cycle(parser)]
-#[tactic(auto, using(crate::proofs::Layers::statements_layer), unfolding(js_ast::specs::StatementParsing::statements_at))]
+#[tactic(auto, using(crate::proofs::Layers::statements_layer), unfolding(js_list_parser::specs::StatementParsing::statements_at))]
 pub(crate) fn statements<'a>(
     alloc: Global,
     limit: u32,

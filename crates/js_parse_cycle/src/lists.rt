@@ -4,9 +4,9 @@ ghost use Rattle.std.specs.Prelude.{◌≤◌, IfOk};
 ghost use Rattle.js_ast.specs.Trees.{no_items};
 ghost use Rattle.js_ast.specs.Nodes.{nodes_of};
 ghost use Rattle.js_ast.specs.Depth.{depth_exprs, depth_items};
-ghost use Rattle.js_ast.specs.Reading.{loop};
-ghost use Rattle.js_ast.specs.Parsing.{parsers};
-ghost use Rattle.js_ast.specs.ExpressionParsing.{argument, arguments, item_turn};
+ghost use Rattle.js_list_parser.specs.Reading.{loop};
+ghost use Rattle.js_list_parser.specs.Parsing.{parsers};
+ghost use Rattle.js_list_parser.specs.ExpressionParsing.{argument, arguments, item_turn};
 ghost use Rattle.js_ast.specs.Views.{view_exprs, view_items};
 ghost use Rattle.js_parse_parts.specs.Answers.{Gives, Deep, turn_of, TurnIs};
 
@@ -20,7 +20,7 @@ use std::alloc::Global;
 
 /// Arguments, and the parenthesis that closes them.
 #[cycle(parser)]
-#[tactic(auto, unfolding(js_ast::specs::ExpressionParsing::arguments, js_ast::specs::ExpressionParsing::arguments_by))]
+#[tactic(auto, unfolding(js_list_parser::specs::ExpressionParsing::arguments, js_list_parser::specs::ExpressionParsing::arguments_by))]
 pub(crate) fn arguments<'a>(alloc: Global, d: u32, tokens: &'a [Token]) -> Found<'a, ExprList>
     requires { 1 ≤ d }
     ensures gives { Gives (λ x. (view_exprs (nodes_of x.0), x.2.now)) result (arguments (parsers d) tokens.now) }
@@ -66,7 +66,7 @@ fn more_arguments<'a>(
 
 // A further argument, or the end of the arguments.
 #[cycle(parser)]
-#[tactic(auto, unfolding(js_ast::specs::ExpressionParsing::argument, js_ast::specs::ExpressionParsing::argument_by))]
+#[tactic(auto, unfolding(js_list_parser::specs::ExpressionParsing::argument, js_list_parser::specs::ExpressionParsing::argument_by))]
 fn argument<'a>(
     alloc: Global,
     d: u32,
@@ -112,7 +112,7 @@ pub(crate) fn items<'a>(alloc: Global, d: u32, tokens: &'a [Token]) -> Found<'a,
 
 // A further item, or the end of the array.
 #[cycle(parser)]
-#[tactic(auto, unfolding(js_ast::specs::ExpressionParsing::item_turn, js_ast::specs::ExpressionParsing::item_by))]
+#[tactic(auto, unfolding(js_list_parser::specs::ExpressionParsing::item_turn, js_list_parser::specs::ExpressionParsing::item_by))]
 fn item_turn<'a>(
     alloc: Global,
     d: u32,

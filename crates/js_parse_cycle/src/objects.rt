@@ -5,9 +5,9 @@ ghost use Rattle.js_ast.specs.Trees.{no_properties};
 ghost use Rattle.js_ast.specs.Nodes.{nodes_of};
 ghost use Rattle.js_ast.specs.Grammar.{place_of};
 ghost use Rattle.js_ast.specs.Depth.{depth_property, depth_properties};
-ghost use Rattle.js_ast.specs.Reading.{loop};
-ghost use Rattle.js_ast.specs.Parsing.{parsers};
-ghost use Rattle.js_ast.specs.ExpressionParsing.{property_at, property_turn};
+ghost use Rattle.js_list_parser.specs.Reading.{loop};
+ghost use Rattle.js_list_parser.specs.Parsing.{parsers};
+ghost use Rattle.js_list_parser.specs.ExpressionParsing.{property_at, property_turn};
 ghost use Rattle.js_ast.specs.Views.{view_property, view_properties};
 ghost use Rattle.js_parse_parts.specs.Answers.{Gives, Deep, turn_of, TurnIs};
 
@@ -48,7 +48,7 @@ pub(crate) fn properties<'a>(
 
 // A further property, or the end of the object.
 #[cycle(parser)]
-#[tactic(auto, unfolding(js_ast::specs::ExpressionParsing::property_turn, js_ast::specs::ExpressionParsing::property_by))]
+#[tactic(auto, unfolding(js_list_parser::specs::ExpressionParsing::property_turn, js_list_parser::specs::ExpressionParsing::property_by))]
 fn property_turn<'a>(
     alloc: Global,
     d: u32,
@@ -84,7 +84,7 @@ fn property_turn<'a>(
 
 // A property (ECMA-262 11.1.5).
 #[cycle(parser)]
-#[tactic(auto, unfolding(js_ast::specs::ExpressionParsing::property_at, js_ast::specs::ExpressionParsing::value_rest, js_ast::specs::ExpressionParsing::getter_rest, js_ast::specs::ExpressionParsing::setter_rest))]
+#[tactic(auto, unfolding(js_list_parser::specs::ExpressionParsing::property_at, js_list_parser::specs::ExpressionParsing::value_rest, js_list_parser::specs::ExpressionParsing::getter_rest, js_list_parser::specs::ExpressionParsing::setter_rest))]
 fn property_at<'a>(alloc: Global, d: u32, tokens: &'a [Token]) -> Found<'a, Property>
     requires { 1 ≤ d }
     ensures gives { Gives (λ x. (view_property x.0, x.2.now)) result (property_at (parsers d) tokens.now) }
@@ -95,7 +95,7 @@ fn property_at<'a>(alloc: Global, d: u32, tokens: &'a [Token]) -> Found<'a, Prop
         let (key, rest) = property_key(alloc, behind(tokens))?;
         let rest = close_paren(open_paren(rest)?)?;
         let (body, inner, rest) = body_at(alloc, d, rest)?;
-        let (property, depth) = getter_property(at, key, (body, inner));
+        let (property, depth) = getter_property(alloc, at, key, (body, inner));
         return Ok((property, depth, rest));
     }
     if begins_setter(tokens) {
@@ -103,7 +103,7 @@ fn property_at<'a>(alloc: Global, d: u32, tokens: &'a [Token]) -> Found<'a, Prop
         let (param, rest) = bound_name(alloc, open_paren(rest)?)?;
         let rest = close_paren(rest)?;
         let (body, inner, rest) = body_at(alloc, d, rest)?;
-        let (property, depth) = setter_property(at, key, param, (body, inner));
+        let (property, depth) = setter_property(alloc, at, key, param, (body, inner))?;
         return Ok((property, depth, rest));
     }
     let (key, rest) = property_key(alloc, tokens)?;

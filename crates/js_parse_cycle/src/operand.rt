@@ -2,9 +2,9 @@
 
 ghost use Rattle.std.specs.Prelude.{◌≡◌, ◌≤◌, suc, IfOk};
 ghost use Rattle.js_ast.specs.Depth.{depth};
-ghost use Rattle.js_ast.specs.Reading.{loop};
-ghost use Rattle.js_ast.specs.Parsing.{parsers};
-ghost use Rattle.js_ast.specs.ExpressionParsing.{further_at, operand_first, operand_step};
+ghost use Rattle.js_list_parser.specs.Reading.{loop};
+ghost use Rattle.js_list_parser.specs.Parsing.{parsers};
+ghost use Rattle.js_list_parser.specs.ExpressionParsing.{further_at, operand_first, operand_step};
 ghost use Rattle.js_ast.specs.Views.{view_expr};
 ghost use Rattle.js_parse_parts.specs.Answers.{Gives, Deep, turn_of, TurnIs};
 ghost use Rattle.js_parse_parts.specs.Suffixes.{view_suffix};
@@ -20,7 +20,7 @@ use std::alloc::Global;
 
 /// An operand of a level at least: a target whose depth and one more are below the limit, or what becomes one.
 #[cycle(parser)]
-#[tactic(auto, using(crate::proofs::Layers::operand_layer), unfolding(js_ast::specs::ExpressionParsing::operand_at, js_ast::specs::ExpressionParsing::operand_climb))]
+#[tactic(auto, using(crate::proofs::Layers::operand_layer), unfolding(js_list_parser::specs::ExpressionParsing::operand_at, js_list_parser::specs::ExpressionParsing::operand_climb))]
 pub(crate) fn operand<'a>(
     alloc: Global,
     limit: u32,
@@ -39,7 +39,7 @@ pub(crate) fn operand<'a>(
 
 // How an operand begins: a name is a target, what is in parentheses may become one, and behind anything else a member must come.
 #[cycle(parser)]
-#[tactic(auto, using(crate::proofs::Layers::first_layer), unfolding(js_ast::specs::ExpressionParsing::operand_first, js_ast::specs::ExpressionParsing::operand_first_by, js_ast::specs::ExpressionParsing::operand_paren))]
+#[tactic(auto, using(crate::proofs::Layers::first_layer), unfolding(js_list_parser::specs::ExpressionParsing::operand_first, js_list_parser::specs::ExpressionParsing::operand_first_by, js_list_parser::specs::ExpressionParsing::operand_paren))]
 fn operand_first<'a>(
     alloc: Global,
     d: u32,
@@ -100,7 +100,7 @@ fn operand_climb<'a>(
 
 // A turn: the operand goes on, or ends.
 #[cycle(parser)]
-#[tactic(auto, using(crate::proofs::Layers::further_layer), unfolding(js_ast::specs::ExpressionParsing::operand_step, js_ast::specs::ExpressionParsing::operand_further))]
+#[tactic(auto, using(crate::proofs::Layers::further_layer), unfolding(js_list_parser::specs::ExpressionParsing::operand_step, js_list_parser::specs::ExpressionParsing::operand_further))]
 fn operand_step<'a>(
     alloc: Global,
     d: u32,
@@ -128,7 +128,7 @@ fn operand_step<'a>(
 
 // An expression with what goes on with it, at the token that says what.
 #[cycle(parser)]
-#[tactic(auto, unfolding(js_ast::specs::ExpressionParsing::further_at))]
+#[tactic(auto, unfolding(js_list_parser::specs::ExpressionParsing::further_at))]
 fn further<'a>(
     alloc: Global,
     d: u32,

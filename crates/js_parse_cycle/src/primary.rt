@@ -3,9 +3,9 @@
 ghost use Rattle.std.specs.Prelude.{◌≤◌, suc, IfOk};
 ghost use Rattle.js_ast.specs.Grammar.{place_of};
 ghost use Rattle.js_ast.specs.Depth.{depth};
-ghost use Rattle.js_ast.specs.Reading as reading;
-ghost use Rattle.js_ast.specs.Parsing.{parsers};
-ghost use Rattle.js_ast.specs.ExpressionParsing.{primary, primary_by, unary_by, unary_of, function_by, ident_at, new_rest};
+ghost use Rattle.js_list_parser.specs.Reading as reading;
+ghost use Rattle.js_list_parser.specs.Parsing.{parsers};
+ghost use Rattle.js_list_parser.specs.ExpressionParsing.{primary, primary_by, unary_by, unary_of, function_by, ident_at, new_rest};
 ghost use Rattle.js_ast.specs.Views.{view_expr};
 ghost use Rattle.js_parse_parts.specs.Answers.{Gives, Deep};
 
@@ -24,7 +24,7 @@ use std::alloc::Global;
 
 /// An expression up to what may be behind it.
 #[cycle(parser)]
-#[tactic(auto, unfolding(js_ast::specs::ExpressionParsing::primary, js_ast::specs::ExpressionParsing::primary_by, js_ast::specs::ExpressionParsing::paren_rest, js_ast::specs::ExpressionParsing::array_rest, js_ast::specs::ExpressionParsing::object_rest))]
+#[tactic(auto, unfolding(js_list_parser::specs::ExpressionParsing::primary, js_list_parser::specs::ExpressionParsing::primary_by, js_list_parser::specs::ExpressionParsing::paren_rest, js_list_parser::specs::ExpressionParsing::array_rest, js_list_parser::specs::ExpressionParsing::object_rest))]
 pub(crate) fn primary<'a>(
     alloc: Global,
     d: u32,
@@ -78,7 +78,7 @@ pub(crate) fn primary<'a>(
 
 // A function, with its name taken where there is one.
 #[cycle(parser)]
-#[tactic(auto, unfolding(js_ast::specs::ExpressionParsing::function_by, js_ast::specs::ExpressionParsing::function_named))]
+#[tactic(auto, unfolding(js_list_parser::specs::ExpressionParsing::function_by, js_list_parser::specs::ExpressionParsing::function_named))]
 fn function_expression<'a>(alloc: Global, d: u32, at: usize, tokens: &'a [Token]) -> Found<'a, Expr>
     requires { 1 ≤ d }
     ensures gives { Gives (λ x. (view_expr x.0, x.2.now)) result (function_by (parsers d) at (ident_at tokens.now) tokens.now) }
@@ -96,7 +96,7 @@ fn function_expression<'a>(alloc: Global, d: u32, at: usize, tokens: &'a [Token]
 
 // What stands behind `new`.
 #[cycle(parser)]
-#[tactic(auto, unfolding(js_ast::specs::ExpressionParsing::new_rest, js_ast::specs::ExpressionParsing::new_by))]
+#[tactic(auto, unfolding(js_list_parser::specs::ExpressionParsing::new_rest, js_list_parser::specs::ExpressionParsing::new_by))]
 fn new_expression<'a>(
     alloc: Global,
     d: u32,
@@ -124,7 +124,7 @@ fn new_expression<'a>(
 
 // An operator in front, where the wanted level allows one, and its operand.
 #[cycle(parser)]
-#[tactic(auto, unfolding(js_ast::specs::ExpressionParsing::unary_by, js_ast::specs::ExpressionParsing::unary_rest, js_ast::specs::ExpressionParsing::unary_operand, js_ast::specs::ExpressionParsing::unary_made))]
+#[tactic(auto, unfolding(js_list_parser::specs::ExpressionParsing::unary_by, js_list_parser::specs::ExpressionParsing::unary_rest, js_list_parser::specs::ExpressionParsing::unary_operand, js_list_parser::specs::ExpressionParsing::unary_made))]
 fn unary_expression<'a>(
     alloc: Global,
     d: u32,

@@ -2,8 +2,8 @@
 
 ghost use Rattle.std.specs.Prelude.{◌≡◌, ℕ, ◌-◌, ◌≤◌, IfOk};
 ghost use Rattle.js_ast.specs.Depth.{depth_statement};
-ghost use Rattle.js_ast.specs.Parsing.{parsers};
-ghost use Rattle.js_ast.specs.StatementParsing.{expression_statement};
+ghost use Rattle.js_list_parser.specs.Parsing.{parsers};
+ghost use Rattle.js_list_parser.specs.StatementParsing.{expression_statement};
 ghost use Rattle.js_ast.specs.Views.{view_stmt};
 ghost use Rattle.js_parse_parts.specs.Answers.{Gives, Deep};
 
@@ -22,7 +22,7 @@ use std::alloc::Global;
 
 // An expression, or a statement with a label.
 #[cycle(parser)]
-#[tactic(auto, using(crate::proofs::Layers::expression_layer, js_parse_parts::proofs::LabelLaws::rest_by_label), unfolding(js_ast::specs::StatementParsing::expression_statement))]
+#[tactic(auto, using(crate::proofs::Layers::expression_layer, js_parse_parts::proofs::LabelLaws::rest_by_label), unfolding(js_list_parser::specs::StatementParsing::expression_statement))]
 fn expression_first<'a>(alloc: Global, limit: u32, tokens: &'a [Token]) -> Found<'a, Stmt>
     requires { 1 ≤ limit }
     ensures gives { Gives (λ x. (view_stmt x.0, x.2.now)) result (expression_statement (parsers (limit - 1)) (limit - 1) tokens.now) }
@@ -48,7 +48,7 @@ fn expression_first<'a>(alloc: Global, limit: u32, tokens: &'a [Token]) -> Found
 
 /// A statement that is no function declaration.
 #[cycle(parser)]
-#[tactic(auto, using(crate::proofs::Layers::statement_layer), unfolding(js_ast::specs::StatementParsing::statement_at, js_ast::specs::StatementParsing::statement_by))]
+#[tactic(auto, using(crate::proofs::Layers::statement_layer), unfolding(js_list_parser::specs::StatementParsing::statement_at, js_list_parser::specs::StatementParsing::statement_by))]
 pub(crate) fn statement<'a>(alloc: Global, limit: u32, tokens: &'a [Token]) -> Found<'a, Stmt>
     requires { 1 ≤ limit }
     ensures gives { Gives (λ x. (view_stmt x.0, x.2.now)) result ((parsers limit).statement tokens.now) }

@@ -3,9 +3,9 @@
 ghost use Rattle.std.specs.Prelude.{◌≡◌, ℕ, ◌-◌, ◌≤◌, IfOk};
 ghost use Rattle.js_ast.specs.Depth.{depth_statement};
 ghost use Rattle.js_ast.specs.Grammar.{place_of};
-ghost use Rattle.js_ast.specs.Parsing.{parsers};
-ghost use Rattle.js_ast.specs.Reading.{behind, room};
-ghost use Rattle.js_ast.specs.StatementParsing.{return_rest, throw_rest};
+ghost use Rattle.js_list_parser.specs.Parsing.{parsers};
+ghost use Rattle.js_list_parser.specs.Reading.{behind, room};
+ghost use Rattle.js_list_parser.specs.StatementParsing.{return_rest, throw_rest};
 ghost use Rattle.js_ast.specs.Views.{view_stmt};
 ghost use Rattle.js_parse_parts.specs.Answers.{Gives, Deep};
 
@@ -18,7 +18,7 @@ use std::alloc::Global;
 
 /// A `return`.
 #[cycle(parser)]
-#[tactic(auto, unfolding(js_ast::specs::StatementParsing::return_rest, js_ast::specs::StatementParsing::return_nothing, js_ast::specs::StatementParsing::return_value))]
+#[tactic(auto, unfolding(js_list_parser::specs::StatementParsing::return_rest, js_list_parser::specs::StatementParsing::return_nothing, js_list_parser::specs::StatementParsing::return_value))]
 pub(crate) fn return_with<'a>(alloc: Global, limit: u32, tokens: &'a [Token]) -> Found<'a, Stmt>
     requires { 1 ≤ limit }
     ensures gives { Gives (λ x. (view_stmt x.0, x.2.now)) result (room (limit - 1) 0 tokens.now (return_rest (parsers (limit - 1)) (place_of tokens.now) (behind tokens.now))) }
@@ -39,7 +39,7 @@ pub(crate) fn return_with<'a>(alloc: Global, limit: u32, tokens: &'a [Token]) ->
 
 /// A `throw`, whose value stands on its line.
 #[cycle(parser)]
-#[tactic(auto, unfolding(js_ast::specs::StatementParsing::throw_rest, js_ast::specs::StatementParsing::throw_value))]
+#[tactic(auto, unfolding(js_list_parser::specs::StatementParsing::throw_rest, js_list_parser::specs::StatementParsing::throw_value))]
 pub(crate) fn throw<'a>(alloc: Global, limit: u32, tokens: &'a [Token]) -> Found<'a, Stmt>
     requires { 1 ≤ limit }
     ensures gives { Gives (λ x. (view_stmt x.0, x.2.now)) result (room (limit - 1) 0 tokens.now (throw_rest (parsers (limit - 1)) (place_of tokens.now) (behind tokens.now))) }

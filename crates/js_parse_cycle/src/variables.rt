@@ -3,9 +3,9 @@
 ghost use Rattle.std.specs.Prelude.{◌≡◌, ℕ, ◌-◌, ◌≤◌, IfOk};
 ghost use Rattle.js_ast.specs.Depth.{depth_maybe, depth_declarations, depth_statement};
 ghost use Rattle.js_ast.specs.Grammar.{place_of};
-ghost use Rattle.js_ast.specs.Parsing.{parsers};
-ghost use Rattle.js_ast.specs.Reading.{behind, room};
-ghost use Rattle.js_ast.specs.StatementParsing.{initialiser, declaration_step, declarations_from, var_rest};
+ghost use Rattle.js_list_parser.specs.Parsing.{parsers};
+ghost use Rattle.js_list_parser.specs.Reading.{behind, room};
+ghost use Rattle.js_list_parser.specs.StatementParsing.{initialiser, declaration_step, declarations_from, var_rest};
 ghost use Rattle.js_ast.specs.Views.{view_ident, view_maybe_expr, view_declarations, view_stmt};
 ghost use Rattle.js_parse_parts.specs.Answers.{Gives, Deep, turn_of, TurnIs};
 
@@ -19,7 +19,7 @@ use std::alloc::Global;
 
 // The initialiser of a variable, or none.
 #[cycle(parser)]
-#[tactic(auto, unfolding(js_ast::specs::StatementParsing::initialiser, js_ast::specs::StatementParsing::initialiser_by))]
+#[tactic(auto, unfolding(js_list_parser::specs::StatementParsing::initialiser, js_list_parser::specs::StatementParsing::initialiser_by))]
 fn initialiser<'a>(
     alloc: Global,
     d: u32,
@@ -41,7 +41,7 @@ fn initialiser<'a>(
 
 // A further variable behind a comma, or the end of the variables.
 #[cycle(parser)]
-#[tactic(auto, unfolding(js_ast::specs::StatementParsing::declaration_step, js_ast::specs::StatementParsing::declaration_step_by, js_ast::specs::StatementParsing::next_declaration))]
+#[tactic(auto, unfolding(js_list_parser::specs::StatementParsing::declaration_step, js_list_parser::specs::StatementParsing::declaration_step_by, js_list_parser::specs::StatementParsing::next_declaration))]
 fn declaration<'a>(
     alloc: Global,
     d: u32,
@@ -67,7 +67,7 @@ fn declaration<'a>(
 
 // The variables of which the first has this name.
 #[cycle(parser)]
-#[tactic(auto, unfolding(js_ast::specs::StatementParsing::declarations_from))]
+#[tactic(auto, unfolding(js_list_parser::specs::StatementParsing::declarations_from))]
 pub(crate) fn declarations_from<'a>(
     alloc: Global,
     d: u32,
@@ -96,7 +96,7 @@ pub(crate) fn declarations_from<'a>(
 
 /// A `var` statement.
 #[cycle(parser)]
-#[tactic(auto, unfolding(js_ast::specs::StatementParsing::var_rest, js_ast::specs::StatementParsing::declarations))]
+#[tactic(auto, unfolding(js_list_parser::specs::StatementParsing::var_rest, js_list_parser::specs::StatementParsing::declarations))]
 pub(crate) fn variables<'a>(alloc: Global, limit: u32, tokens: &'a [Token]) -> Found<'a, Stmt>
     requires { 1 ≤ limit }
     ensures gives { Gives (λ x. (view_stmt x.0, x.2.now)) result (room (limit - 1) 0 tokens.now (var_rest (parsers (limit - 1)) (place_of tokens.now) (behind tokens.now))) }

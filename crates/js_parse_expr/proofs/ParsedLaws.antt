@@ -3,9 +3,9 @@ use Rattle.std.proofs.Common.{arith, refl, sym, ap, ◌∙◌, subst, ◌≡◌,
 use Rattle.std.proofs.lemmas.List.{length-append, length-drop, take_rest}
 use Rattle.js_ast.specs.declared.token.Token.{Token}
 use Rattle.std.specs.Result.{MatchResult}
-use Rattle.js_ast.specs.Reading.{Fault, syntax, with_statement, nesting, refused, Read}
-use Rattle.js_ast.specs.Refusals.{Nonterminal, IsRefused, FindsExactly, RefusesExactly, OneFound, OneRefusal, FoundOrRefused}
-use Rattle.js_ast.proofs.Outcomes.{same_tree as same_tree_of, same_rest}
+use Rattle.js_list_parser.specs.Reading.{Fault, syntax, with_statement, nesting, refused, Read}
+use Rattle.js_list_parser.specs.Refusals.{Nonterminal, IsRefused, FindsExactly, RefusesExactly, OneFound, OneRefusal, FoundOrRefused}
+use Rattle.js_list_parser.proofs.Outcomes.{same_tree as same_tree_of, same_rest}
 use Rattle.js_faults.specs.declared.fault.Fault.{Fault as Found}
 use Rattle.js_parse_expr.specs.declared.fault.ParseFault.{ParseFault}
 use Rattle.js_parse_expr.specs.declared.fault.ParseFault.TheVariants as fault

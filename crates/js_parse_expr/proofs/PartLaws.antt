@@ -1,8 +1,8 @@
 -- What is known of programs, lists of statements and expressions, each for the laws of any kind of tree.
 use Rattle.std.proofs.Common.{arith, ◌≤◌, ℕ, Bool}
-use Rattle.js_ast.specs.Parsing.{program_at, list_at, longest_at}
-use Rattle.js_ast.specs.Refusals.{a_program, a_list, an_expression}
-use Rattle.js_ast.proofs.Refused.{finds_exactly, refuses_exactly, one_found, one_refusal, found_or_refused}
+use Rattle.js_list_parser.specs.Parsing.{program_at, list_at, longest_at}
+use Rattle.js_list_parser.specs.Refusals.{a_program, a_list, an_expression}
+use Rattle.js_list_parser.proofs.Refused.{finds_exactly, refuses_exactly, one_found, one_refusal, found_or_refused}
 use Rattle.js_parse_expr.specs.Parts.{depths_left}
 use Rattle.js_parse_expr.proofs.ParsedLaws.{Lawful}
 

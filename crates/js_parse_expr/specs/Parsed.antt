@@ -1,8 +1,8 @@
 -- What a parser answers, of whatever kind of tree: the tree that the tokens are from a place on, or why they are none.
 use Rattle.std.specs.Prelude.{◌≡◌, ℕ, ◌+◌, List, [], ◌∷◌, ◌++◌, length, drop, Option, Some, None}
 use Rattle.js_ast.specs.declared.token.Token.{Token}
-use Rattle.js_ast.specs.Reading.{Fault, syntax, with_statement, nesting}
-use Rattle.js_ast.specs.Refusals.{Nonterminal, IsRefused}
+use Rattle.js_list_parser.specs.Reading.{Fault, syntax, with_statement, nesting}
+use Rattle.js_list_parser.specs.Refusals.{Nonterminal, IsRefused}
 use Rattle.js_faults.specs.declared.fault.Fault as faults
 use Rattle.js_parse_expr.specs.declared.fault.ParseFault.{ParseFault}
 use Rattle.js_parse_expr.specs.declared.fault.ParseFault.TheVariants as fault

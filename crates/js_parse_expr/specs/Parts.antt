@@ -2,7 +2,7 @@
 use Rattle.std.specs.Prelude.{ℕ, suc, ◌-◌, List, Bool, not, Option}
 use Rattle.js_ast.specs.declared.token.Token.{Token}
 use Rattle.js_ast.specs.Trees.{Expr, Statements}
-use Rattle.js_ast.specs.Refusals.{a_list, an_expression}
+use Rattle.js_list_parser.specs.Refusals.{a_list, an_expression}
 use Rattle.js_faults.specs.declared.fault.Check.TheVariants as check
 use Rattle.js_faults.specs.declared.fault.Fault as faults
 use Rattle.js_faults.specs.Scopes.{outermost}

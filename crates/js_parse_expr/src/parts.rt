@@ -4,7 +4,7 @@ ghost use Rattle.std.specs.Prelude.{◌≡◌, ℕ, ◌≤◌, not, drop, length
 ghost use Rattle.std.specs.Result.{MatchResult};
 ghost use Rattle.js_ast.specs.Trees.{Expr as Tree, Statements};
 ghost use Rattle.js_ast.specs.Nodes.{nodes_of};
-ghost use Rattle.js_ast.specs.Refusals.{a_list, an_expression};
+ghost use Rattle.js_list_parser.specs.Refusals.{a_list, an_expression};
 ghost use Rattle.js_ast.specs.Views.{view_expr, view_stmts};
 ghost use Rattle.js_parse_expr.specs.declared.fault.ParseFault.TheVariants.{OutOfMemory};
 ghost use Rattle.js_parse_expr.specs.declared.fault.ParseFault.{ParseFault};

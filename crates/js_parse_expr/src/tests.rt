@@ -37,7 +37,7 @@ fn form_of(e: &Expr) -> Form {
     match &*e.kind {
         ExprKind::Name(_) => Form::Name,
         ExprKind::Paren(_) => Form::Paren,
-        ExprKind::Function { .. } => Form::Function,
+        ExprKind::Function(_) => Form::Function,
         ExprKind::Member { .. } => Form::Member,
         ExprKind::Call { .. } => Form::Call,
         ExprKind::Postfix { .. } => Form::Postfix,
@@ -143,6 +143,7 @@ fn longest_expressions(rt: HostRuntime) -> Result<(), Fail> {
         ("a, b; c", 0, 0, false, reads(3, Form::Comma)),
         ("a = b ? c : d }", 0, 0, false, reads(7, Form::Assign)),
         ("a; b.c d", 2, 0, false, reads(5, Form::Member)),
+        ("a", 0, 0, false, reads(1, Form::Name)),
         ("a b", 1, 0, false, reads(2, Form::Name)),
         ("function () { a } b", 0, 0, false, reads(6, Form::Function)),
     ];

@@ -4,8 +4,8 @@ use Rattle.js_ast.specs.declared.token.Token.{Token}
 use Rattle.js_ast.specs.declared.words.Sign.TheVariants as sign
 use Rattle.js_ast.specs.Words.{Word, a_sign}
 use Rattle.js_ast.specs.Trees.{Expr, name, expression, labelled, Statement}
-use Rattle.js_ast.specs.Reading.{Read, ◌>>=◌, behind, room, Parsers}
-use Rattle.js_ast.specs.StatementParsing.{ending, expression_rest}
+use Rattle.js_list_parser.specs.Reading.{Read, ◌>>=◌, behind, room, Parsers}
+use Rattle.js_list_parser.specs.StatementParsing.{ending, expression_rest}
 use Rattle.js_parse_parts.specs.Labels.{label_of}
 
 -- the statement behind a label, or the end behind an expression

@@ -5,7 +5,7 @@ use Rattle.js_ast.specs.declared.trees.Item as an_item
 use Rattle.js_ast.specs.declared.trees.Property.{Property}
 use Rattle.js_ast.specs.Trees.{Items, no_items, hole, item}
 use Rattle.js_ast.specs.Validity.{ends_with_item, has_properties}
-use Rattle.js_ast.specs.ExpressionParsing.{joined_items}
+use Rattle.js_ast.specs.Joined.{joined_items}
 use Rattle.js_ast.specs.Views.{view_item, view_items, view_properties}
 use Rattle.js_ast.proofs.ViewLaws.{items_append}
 

@@ -1,8 +1,8 @@
 -- The loops of the parser on lists, a turn at a time, as the loops of the code have them: `total` is what the whole loop gives.
 use Rattle.std.proofs.Common.{◌≡◌, ◌<◌, List, length, Ok, refl, sym, ◌∙◌}
 use Rattle.js_ast.specs.declared.token.Token.{Token}
-use Rattle.js_ast.specs.Reading.{Read, Turn, again, done, loop}
-use Rattle.js_ast.proofs.Turns.{TurnWithin, loop-step}
+use Rattle.js_list_parser.specs.Reading.{Read, Turn, again, done, loop}
+use Rattle.js_list_parser.proofs.Turns.{TurnWithin, loop-step}
 use Rattle.js_parse_parts.specs.declared.reading.ReadFault.{ReadFault}
 use Rattle.js_parse_parts.specs.declared.reading.ReadFault.TheVariants.{Refused, OutOfMemory}
 use Rattle.js_parse_parts.specs.Answers.{Fails}

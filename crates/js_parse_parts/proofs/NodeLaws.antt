@@ -4,7 +4,7 @@ use Rattle.js_ast.specs.declared.trees.Expr.{Expr}
 use Rattle.js_ast.specs.declared.trees.ExprKind.{ExprKind}
 use Rattle.js_ast.specs.declared.trees.ExprKind as expr
 use Rattle.js_ast.specs.declared.trees.ExprKind.TheBlock.{ExprKind-New-1-None', ExprKind-New-1-Some'}
-use Rattle.js_ast.specs.ExpressionParsing.{at_of}
+use Rattle.js_ast.specs.Trees.{at_of}
 use Rattle.js_ast.specs.Views.{view_expr_kind, view_expr}
 
 -- by what the node is

@@ -15,7 +15,7 @@ use Rattle.js_ast.specs.declared.trees.Clause.{Clause, Clause', roll-Clause}
 use Rattle.js_ast.specs.declared.trees.Block.{Block, out-Block, roll-out-Block}
 use Rattle.js_ast.specs.declared.trees.ExprKind.TheBlock.{ForFirst-Expr-0-None', ForFirst-Expr-0-Some'}
 use Rattle.js_ast.specs.Nodes.{nodes_of}
-use Rattle.js_ast.specs.StatementParsing.{clauses_joined}
+use Rattle.js_ast.specs.Joined.{joined_clauses}
 use Rattle.js_ast.specs.Trees.{no_clauses, default, block_of}
 use Rattle.js_ast.specs.Validity.{defaults}
 use Rattle.js_ast.specs.Views.{view_ident, view_expr, view_maybe_expr, declarations_from, view_declaration, view_other_declarations, view_block, view_clause, view_clauses, view_stmts}
@@ -28,8 +28,8 @@ pub parts_block : (b : Block) → view_block b ≡ block_of (out-Block b).at (vi
 parts_block b = ap view_block (sym (roll-out-Block b)) ∙ seen_block_of (out-Block b).at (out-Block b).body
 
 -- a clause with no test behind others
-pub default_behind : (cs ds : List Clause) (body : NodeList Stmt) → ds ≡ cs ++ roll-Clause (record { test = None; body = body }) ∷ [] → view_clauses ds ≡ clauses_joined (view_clauses cs) (default (view_stmts (nodes_of body)) no_clauses)
-default_behind cs ds body e = ap view_clauses e ∙ clauses_append cs (roll-Clause (record { test = None; body = body }) ∷ []) ∙ ap (clauses_joined (view_clauses cs)) (seen_default body no_clauses)
+pub default_behind : (cs ds : List Clause) (body : NodeList Stmt) → ds ≡ cs ++ roll-Clause (record { test = None; body = body }) ∷ [] → view_clauses ds ≡ joined_clauses (view_clauses cs) (default (view_stmts (nodes_of body)) no_clauses)
+default_behind cs ds body e = ap view_clauses e ∙ clauses_append cs (roll-Clause (record { test = None; body = body }) ∷ []) ∙ ap (joined_clauses (view_clauses cs)) (seen_default body no_clauses)
 
 -- how deep it makes them
 pub default_deepens : (cs ds : List Clause) (body : NodeList Stmt) → ds ≡ cs ++ roll-Clause (record { test = None; body = body }) ∷ [] → depth_clauses (view_clauses ds) ≡ max (depth_clauses (view_clauses cs)) (depth_statements (view_stmts (nodes_of body)))

@@ -6,15 +6,15 @@ use Rattle.js_ast.specs.declared.words.Sign.TheVariants as sign
 use Rattle.js_ast.specs.Words.{Word, a_key, a_sign, word_of}
 use Rattle.js_ast.specs.Trees.{Declarations, Clauses, Statement, Statements}
 use Rattle.js_ast.specs.Validity.{defaults}
-use Rattle.js_ast.specs.Reading.{refused, syntax, Read, ◌>>=◌, word_at, behind, Turn, again, done, Parsers}
-use Rattle.js_ast.specs.ExpressionParsing.{is_colon, expect, taken, ident_at, function_rest}
-use Rattle.js_ast.specs.StatementParsing.{initialiser_by, initialiser, next_declaration, declaration_step_by, declaration_step, case_rest, default_rest, clause_step_by, clause_step, statement_by, statement_at, function_declaration_rest, element_by, next_statement, ends_list, statements_step}
-use Rattle.js_ast.specs.Parsing.{parsers}
-use Rattle.js_ast.proofs.Lengths.{statement_shortens}
-use Rattle.js_ast.proofs.Sound.{all_sound}
-use Rattle.js_ast.proofs.Turns.{Within, RestWithin, TurnWithin, within-bind, turn-bind, within-room, behind_within}
-use Rattle.js_ast.proofs.ExpressionTurns.{NoLonger, expect_within, taken_within, function_rest_within}
-use Rattle.js_ast.proofs.Remaining.{no_longer}
+use Rattle.js_list_parser.specs.Reading.{refused, syntax, Read, ◌>>=◌, word_at, behind, Turn, again, done, Parsers}
+use Rattle.js_list_parser.specs.ExpressionParsing.{is_colon, expect, taken, ident_at, function_rest}
+use Rattle.js_list_parser.specs.StatementParsing.{initialiser_by, initialiser, next_declaration, declaration_step_by, declaration_step, case_rest, default_rest, clause_step_by, clause_step, statement_by, statement_at, function_declaration_rest, element_by, next_statement, ends_list, statements_step}
+use Rattle.js_list_parser.specs.Parsing.{parsers}
+use Rattle.js_list_parser.proofs.Lengths.{statement_shortens}
+use Rattle.js_list_parser.proofs.Sound.{all_sound}
+use Rattle.js_list_parser.proofs.Turns.{Within, RestWithin, TurnWithin, within-bind, turn-bind, within-room, behind_within}
+use Rattle.js_list_parser.proofs.ExpressionTurns.{NoLonger, expect_within, taken_within, function_rest_within}
+use Rattle.js_list_parser.proofs.Remaining.{no_longer}
 
 -- both answers of a turn
 turn-if : {S A : Type 0} (n : ℕ) (b : Bool) (r s : Read (Turn S A)) → TurnWithin n r → TurnWithin n s → TurnWithin n (if b then r else s)

@@ -1,8 +1,8 @@
 -- How the code answers: as the parser on lists, unless memory ran out.
 use Rattle.std.specs.Prelude.{◌≡◌, ℕ, ◌<◌, List, Result, Ok, Err}
 use Rattle.js_ast.specs.declared.token.Token.{Token}
-use Rattle.js_ast.specs.Reading as reading
-use Rattle.js_ast.specs.Reading.{Refusal, refused, syntax, with_statement, nesting, Read, again, done}
+use Rattle.js_list_parser.specs.Reading as reading
+use Rattle.js_list_parser.specs.Reading.{Refusal, refused, syntax, with_statement, nesting, Read, again, done}
 use Rattle.js_parse_parts.specs.declared.reading.Fault.{Fault}
 use Rattle.js_parse_parts.specs.declared.reading.Fault.TheVariants as fault
 use Rattle.js_parse_parts.specs.declared.reading.ReadFault.{ReadFault}

@@ -1,6 +1,6 @@
 -- What a token makes of the expression before it, in the code.
-use Rattle.js_ast.specs.Reading as reading
-use Rattle.js_ast.specs.Reading.{by_member, by_index, by_call, by_postfix, by_binary, by_conditional, by_assign, by_comma, by_nothing}
+use Rattle.js_list_parser.specs.Reading as reading
+use Rattle.js_list_parser.specs.Reading.{by_member, by_index, by_call, by_postfix, by_binary, by_conditional, by_assign, by_comma, by_nothing}
 use Rattle.js_parse_parts.specs.declared.suffixes.Suffix.{Suffix}
 use Rattle.js_parse_parts.specs.declared.suffixes.Suffix.TheVariants as suffix
 

@@ -3,7 +3,7 @@
 ghost use Rattle.std.specs.Prelude.{◌≡◌, ℕ, ◌<◌, suc, max, leb, IfOk};
 ghost use Rattle.js_ast.specs.Depth.{depth, depth_statement, depth_statements, depth_clauses};
 ghost use Rattle.js_ast.specs.Nodes.{nodes_of};
-ghost use Rattle.js_ast.specs.StatementParsing.{statements_joined, clauses_joined};
+ghost use Rattle.js_ast.specs.Joined.{joined_statements, joined_clauses};
 ghost use Rattle.js_ast.specs.Trees as trees;
 ghost use Rattle.js_ast.specs.Validity.{defaults};
 ghost use Rattle.js_parse_parts.specs.Clauses.{is_default};
@@ -20,7 +20,7 @@ pub fn further_statement(
 ) -> Result<(StmtList, u32), OutOfMemory>
     requires list { list.1 ≡ depth_statements (view_stmts (nodes_of list.0)) }
     requires statement { statement.1 ≡ depth_statement (view_stmt statement.0) }
-    ensures view { IfOk result (λ x. view_stmts (nodes_of x.0) ≡ statements_joined (view_stmts (nodes_of list.0)) (trees.more_statements (view_stmt statement.0) trees.no_statements)) }
+    ensures view { IfOk result (λ x. view_stmts (nodes_of x.0) ≡ joined_statements (view_stmts (nodes_of list.0)) (trees.more_statements (view_stmt statement.0) trees.no_statements)) }
     ensures deep { IfOk result (λ x. x.1 ≡ depth_statements (view_stmts (nodes_of x.0))) }
     ensures size { IfOk result (λ x. x.1 ≡ max list.1 statement.1) }
 {
@@ -49,7 +49,7 @@ pub fn further_case(
     requires list { list.1 ≡ depth_clauses (view_clauses (nodes_of list.0)) }
     requires test { test.1 ≡ depth (view_expr test.0) }
     requires body { body.1 ≡ depth_statements (view_stmts (nodes_of body.0)) }
-    ensures view { IfOk result (λ x. view_clauses (nodes_of x.0) ≡ clauses_joined (view_clauses (nodes_of list.0)) (trees.case (view_expr test.0) (view_stmts (nodes_of body.0)) trees.no_clauses)) }
+    ensures view { IfOk result (λ x. view_clauses (nodes_of x.0) ≡ joined_clauses (view_clauses (nodes_of list.0)) (trees.case (view_expr test.0) (view_stmts (nodes_of body.0)) trees.no_clauses)) }
     ensures deep { IfOk result (λ x. x.1 ≡ depth_clauses (view_clauses (nodes_of x.0))) }
     ensures size { IfOk result (λ x. x.1 ≡ max list.1 (max test.1 body.1)) }
 {
@@ -69,7 +69,7 @@ pub fn further_default(
 ) -> Result<(ClauseList, u32), OutOfMemory>
     requires list { list.1 ≡ depth_clauses (view_clauses (nodes_of list.0)) }
     requires body { body.1 ≡ depth_statements (view_stmts (nodes_of body.0)) }
-    ensures view { IfOk result (λ x. view_clauses (nodes_of x.0) ≡ clauses_joined (view_clauses (nodes_of list.0)) (trees.default (view_stmts (nodes_of body.0)) trees.no_clauses)) }
+    ensures view { IfOk result (λ x. view_clauses (nodes_of x.0) ≡ joined_clauses (view_clauses (nodes_of list.0)) (trees.default (view_stmts (nodes_of body.0)) trees.no_clauses)) }
     ensures deep { IfOk result (λ x. x.1 ≡ depth_clauses (view_clauses (nodes_of x.0))) }
     ensures size { IfOk result (λ x. x.1 ≡ max list.1 body.1) }
 {

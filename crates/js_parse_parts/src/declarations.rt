@@ -3,7 +3,7 @@
 ghost use Rattle.std.specs.Prelude.{◌≡◌, ℕ, ◌-◌, ◌<◌, max, length, slice_index_or, IfOk, option_map};
 ghost use Rattle.js_ast.specs.Depth.{depth_maybe, depth_declarations};
 ghost use Rattle.js_ast.specs.Grammar.{as_option, last_initialiser};
-ghost use Rattle.js_ast.specs.StatementParsing.{declarations_joined};
+ghost use Rattle.js_ast.specs.Joined.{joined_declarations};
 ghost use Rattle.js_ast.specs.Trees as trees;
 ghost use Rattle.js_ast.specs.Views.{view_ident, view_expr, view_maybe_expr, view_declaration, view_declarations, view_first, view_target};
 
@@ -38,7 +38,7 @@ pub fn further_declaration(
 ) -> Result<(Declarations, u32), OutOfMemory>
     requires list { list.1 ≡ depth_declarations (view_declarations list.0) }
     requires value { value.1 ≡ depth_maybe (view_maybe_expr value.0) }
-    ensures view { IfOk result (λ x. view_declarations x.0 ≡ declarations_joined (view_declarations list.0) (trees.one_declaration (view_ident name) (view_maybe_expr value.0))) }
+    ensures view { IfOk result (λ x. view_declarations x.0 ≡ joined_declarations (view_declarations list.0) (trees.one_declaration (view_ident name) (view_maybe_expr value.0))) }
     ensures deep { IfOk result (λ x. x.1 ≡ depth_declarations (view_declarations x.0)) }
     ensures size { IfOk result (λ x. x.1 ≡ max list.1 value.1) }
 {

@@ -3,10 +3,10 @@
 ghost use Rattle.std.specs.Prelude.{◌≡◌, ◌||◌, None, IfOk, option_map};
 ghost use Rattle.js_ast.specs.Grammar.{continues, may_elide};
 ghost use Rattle.js_ast.specs.Levels.{ends_postfix};
-ghost use Rattle.js_ast.specs.StatementParsing.{semicolon_here, ending, label};
+ghost use Rattle.js_list_parser.specs.StatementParsing.{semicolon_here, ending, label};
 ghost use Rattle.js_ast.specs.Views.{view_expr, view_name, view_semi};
 ghost use Rattle.js_parse_parts.specs.Answers.{Gives};
-ghost use Rattle.js_ast.specs.Reading.{word_at};
+ghost use Rattle.js_list_parser.specs.Reading.{word_at};
 ghost use Rattle.js_parse_parts.specs.Labels.{label_of};
 ghost use Rattle.js_parse_parts.specs.Words.{word_of};
 
@@ -62,7 +62,7 @@ fn semicolon_here(tokens: &[Token]) -> bool
 }
 
 /// The end of a statement behind this expression, or behind none, and the tokens behind that.
-#[tactic(auto, unfolding(js_ast::specs::StatementParsing::ending))]
+#[tactic(auto, unfolding(js_list_parser::specs::StatementParsing::ending))]
 pub fn ending<'a>(
     before: Option<&Expr>,
     tokens: &'a [Token],
@@ -86,7 +86,7 @@ pub fn ends_here(tokens: &[Token]) -> bool
 }
 
 /// A label on the same line, or none, and the tokens behind it.
-#[tactic(auto, unfolding(js_ast::specs::StatementParsing::label, js_ast::specs::StatementParsing::label_by))]
+#[tactic(auto, unfolding(js_list_parser::specs::StatementParsing::label, js_list_parser::specs::StatementParsing::label_by))]
 pub fn label(alloc: Global, tokens: &[Token]) -> Result<(Option<Ident>, &[Token]), ReadFault<'_>>
     ensures { Gives (λ x. (view_name x.0, x.1.now)) result (label tokens.now) }
 {

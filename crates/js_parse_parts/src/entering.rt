@@ -3,7 +3,7 @@
 ghost use Rattle.std.specs.Prelude.{◌≡◌, ◌<◌, ◌≤◌, List, Err, IfOk, IfErr};
 ghost use Rattle.js_ast.specs.declared.token.Token.{Token};
 ghost use Rattle.js_ast.specs.Grammar.{place_of};
-ghost use Rattle.js_ast.specs.Reading as reading;
+ghost use Rattle.js_list_parser.specs.Reading as reading;
 ghost use Rattle.js_parse_parts.specs.Answers.{Fails};
 
 use crate::reading::{ReadFault, room};

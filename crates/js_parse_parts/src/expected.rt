@@ -3,8 +3,8 @@
 ghost use Rattle.std.specs.Prelude.{◌≡◌, IfOk, codes};
 ghost use Rattle.std.specs.Option.{option_map};
 ghost use Rattle.js_ast.specs.Grammar.{is_close_brace, is_semicolon};
-ghost use Rattle.js_ast.specs.ExpressionParsing.{is_open_paren, is_close_paren, is_close_bracket, is_open_brace, is_colon, expect, taken, name_at, key_at, has_key, ident_at, begins_accessor};
-ghost use Rattle.js_ast.specs.StatementParsing.{is_while};
+ghost use Rattle.js_list_parser.specs.ExpressionParsing.{is_open_paren, is_close_paren, is_close_bracket, is_open_brace, is_colon, expect, taken, name_at, key_at, has_key, ident_at, begins_accessor};
+ghost use Rattle.js_list_parser.specs.StatementParsing.{is_while};
 ghost use Rattle.js_ast.specs.Views.{view_ident, view_name, view_key};
 ghost use Rattle.js_parse_parts.specs.Answers.{Gives};
 
@@ -15,7 +15,7 @@ use js_ast::{Ident, Key, Keyword, Sign, Token, TokenKind};
 use std::alloc::Global;
 
 /// The tokens behind a `(`.
-#[tactic(auto, unfolding(js_ast::specs::ExpressionParsing::expect))]
+#[tactic(auto, unfolding(js_list_parser::specs::ExpressionParsing::expect))]
 pub fn open_paren(tokens: &[Token]) -> Result<&[Token], ReadFault<'_>>
     ensures { Gives (λ rest. rest.now) result (expect is_open_paren tokens.now) }
 {
@@ -26,7 +26,7 @@ pub fn open_paren(tokens: &[Token]) -> Result<&[Token], ReadFault<'_>>
 }
 
 /// The tokens behind a `)`.
-#[tactic(auto, unfolding(js_ast::specs::ExpressionParsing::expect))]
+#[tactic(auto, unfolding(js_list_parser::specs::ExpressionParsing::expect))]
 pub fn close_paren(tokens: &[Token]) -> Result<&[Token], ReadFault<'_>>
     ensures { Gives (λ rest. rest.now) result (expect is_close_paren tokens.now) }
 {
@@ -37,7 +37,7 @@ pub fn close_paren(tokens: &[Token]) -> Result<&[Token], ReadFault<'_>>
 }
 
 /// The tokens behind a `]`.
-#[tactic(auto, unfolding(js_ast::specs::ExpressionParsing::expect))]
+#[tactic(auto, unfolding(js_list_parser::specs::ExpressionParsing::expect))]
 pub fn close_bracket(tokens: &[Token]) -> Result<&[Token], ReadFault<'_>>
     ensures { Gives (λ rest. rest.now) result (expect is_close_bracket tokens.now) }
 {
@@ -48,7 +48,7 @@ pub fn close_bracket(tokens: &[Token]) -> Result<&[Token], ReadFault<'_>>
 }
 
 /// The tokens behind a `{`.
-#[tactic(auto, unfolding(js_ast::specs::ExpressionParsing::expect))]
+#[tactic(auto, unfolding(js_list_parser::specs::ExpressionParsing::expect))]
 pub fn open_brace(tokens: &[Token]) -> Result<&[Token], ReadFault<'_>>
     ensures { Gives (λ rest. rest.now) result (expect is_open_brace tokens.now) }
 {
@@ -59,7 +59,7 @@ pub fn open_brace(tokens: &[Token]) -> Result<&[Token], ReadFault<'_>>
 }
 
 /// The tokens behind a `}`.
-#[tactic(auto, unfolding(js_ast::specs::ExpressionParsing::expect))]
+#[tactic(auto, unfolding(js_list_parser::specs::ExpressionParsing::expect))]
 pub fn close_brace(tokens: &[Token]) -> Result<&[Token], ReadFault<'_>>
     ensures { Gives (λ rest. rest.now) result (expect is_close_brace tokens.now) }
 {
@@ -70,7 +70,7 @@ pub fn close_brace(tokens: &[Token]) -> Result<&[Token], ReadFault<'_>>
 }
 
 /// The tokens behind a `:`.
-#[tactic(auto, unfolding(js_ast::specs::ExpressionParsing::expect))]
+#[tactic(auto, unfolding(js_list_parser::specs::ExpressionParsing::expect))]
 pub fn colon(tokens: &[Token]) -> Result<&[Token], ReadFault<'_>>
     ensures { Gives (λ rest. rest.now) result (expect is_colon tokens.now) }
 {
@@ -81,7 +81,7 @@ pub fn colon(tokens: &[Token]) -> Result<&[Token], ReadFault<'_>>
 }
 
 /// The tokens behind a `;`.
-#[tactic(auto, unfolding(js_ast::specs::ExpressionParsing::expect))]
+#[tactic(auto, unfolding(js_list_parser::specs::ExpressionParsing::expect))]
 pub fn semicolon(tokens: &[Token]) -> Result<&[Token], ReadFault<'_>>
     ensures { Gives (λ rest. rest.now) result (expect is_semicolon tokens.now) }
 {
@@ -92,7 +92,7 @@ pub fn semicolon(tokens: &[Token]) -> Result<&[Token], ReadFault<'_>>
 }
 
 /// The tokens behind a `while`.
-#[tactic(auto, unfolding(js_ast::specs::ExpressionParsing::expect))]
+#[tactic(auto, unfolding(js_list_parser::specs::ExpressionParsing::expect))]
 pub fn key_while(tokens: &[Token]) -> Result<&[Token], ReadFault<'_>>
     ensures { Gives (λ rest. rest.now) result (expect is_while tokens.now) }
 {
@@ -103,7 +103,7 @@ pub fn key_while(tokens: &[Token]) -> Result<&[Token], ReadFault<'_>>
 }
 
 /// An identifier name, reserved or not, and the tokens behind it.
-#[tactic(auto, unfolding(js_ast::specs::ExpressionParsing::taken))]
+#[tactic(auto, unfolding(js_list_parser::specs::ExpressionParsing::taken))]
 pub fn identifier_name(tokens: &[Token]) -> Result<(&Text, &[Token]), ReadFault<'_>>
     ensures { Gives (λ x. (x.0.now, x.1.now)) result (taken (name_at tokens.now) tokens.now) }
 {
@@ -150,7 +150,7 @@ pub fn begins_key(tokens: &[Token]) -> bool
 }
 
 /// The key of a property, and the tokens behind it.
-#[tactic(auto, unfolding(js_ast::specs::ExpressionParsing::taken))]
+#[tactic(auto, unfolding(js_list_parser::specs::ExpressionParsing::taken))]
 pub fn property_key(alloc: Global, tokens: &[Token]) -> Result<(Key, &[Token]), ReadFault<'_>>
     ensures { Gives (λ x. (view_key x.0, x.1.now)) result (taken (key_at tokens.now) tokens.now) }
 {
@@ -175,7 +175,7 @@ pub fn ident_at(alloc: Global, tokens: &[Token]) -> Result<Option<Ident>, OutOfM
 }
 
 /// A name that is bound, and the tokens behind it.
-#[tactic(auto, unfolding(js_ast::specs::ExpressionParsing::taken))]
+#[tactic(auto, unfolding(js_list_parser::specs::ExpressionParsing::taken))]
 pub fn bound_name(alloc: Global, tokens: &[Token]) -> Result<(Ident, &[Token]), ReadFault<'_>>
     ensures { Gives (λ x. (view_ident x.0, x.1.now)) result (taken (ident_at tokens.now) tokens.now) }
 {
@@ -190,7 +190,7 @@ const GET: &[u8] = b"get";
 const SET: &[u8] = b"set";
 
 // Whether the tokens begin with this name and a key.
-#[tactic(auto, unfolding(js_ast::specs::ExpressionParsing::begins_accessor))]
+#[tactic(auto, unfolding(js_list_parser::specs::ExpressionParsing::begins_accessor))]
 fn begins_accessor(name: &[u8], tokens: &[Token]) -> bool
     ensures { result ≡ begins_accessor name.now tokens.now }
 {

@@ -3,8 +3,8 @@
 ghost use Rattle.std.specs.Prelude.{◌≡◌, ℕ, ◌-◌, ◌<◌, ◌≤◌, Ok, IfOk};
 ghost use Rattle.js_ast.specs.Depth.{depth_statement};
 ghost use Rattle.js_ast.specs.Grammar.{place_of};
-ghost use Rattle.js_ast.specs.Reading.{behind, room};
-ghost use Rattle.js_ast.specs.StatementParsing.{continue_rest, break_rest, debugger_rest};
+ghost use Rattle.js_list_parser.specs.Reading.{behind, room};
+ghost use Rattle.js_list_parser.specs.StatementParsing.{continue_rest, break_rest, debugger_rest};
 ghost use Rattle.js_ast.specs.Trees.{empty};
 ghost use Rattle.js_ast.specs.Views.{view_stmt};
 ghost use Rattle.js_parse_parts.specs.Answers.{Gives, Deep};
@@ -28,7 +28,7 @@ pub fn empty_statement<'a>(alloc: Global, limit: u32, tokens: &'a [Token]) -> Fo
 }
 
 /// A `continue`.
-#[tactic(auto, unfolding(js_ast::specs::StatementParsing::continue_rest))]
+#[tactic(auto, unfolding(js_list_parser::specs::StatementParsing::continue_rest))]
 pub fn continue_statement<'a>(alloc: Global, limit: u32, tokens: &'a [Token]) -> Found<'a, Stmt>
     requires { 1 ≤ limit }
     ensures gives { Gives (λ x. (view_stmt x.0, x.2.now)) result (room (limit - 1) 0 tokens.now (continue_rest (place_of tokens.now) (behind tokens.now))) }
@@ -42,7 +42,7 @@ pub fn continue_statement<'a>(alloc: Global, limit: u32, tokens: &'a [Token]) ->
 }
 
 /// A `break`.
-#[tactic(auto, unfolding(js_ast::specs::StatementParsing::break_rest))]
+#[tactic(auto, unfolding(js_list_parser::specs::StatementParsing::break_rest))]
 pub fn break_statement<'a>(alloc: Global, limit: u32, tokens: &'a [Token]) -> Found<'a, Stmt>
     requires { 1 ≤ limit }
     ensures gives { Gives (λ x. (view_stmt x.0, x.2.now)) result (room (limit - 1) 0 tokens.now (break_rest (place_of tokens.now) (behind tokens.now))) }
@@ -56,7 +56,7 @@ pub fn break_statement<'a>(alloc: Global, limit: u32, tokens: &'a [Token]) -> Fo
 }
 
 /// A `debugger` statement.
-#[tactic(auto, unfolding(js_ast::specs::StatementParsing::debugger_rest))]
+#[tactic(auto, unfolding(js_list_parser::specs::StatementParsing::debugger_rest))]
 pub fn debugger<'a>(alloc: Global, limit: u32, tokens: &'a [Token]) -> Found<'a, Stmt>
     requires { 1 ≤ limit }
     ensures gives { Gives (λ x. (view_stmt x.0, x.2.now)) result (room (limit - 1) 0 tokens.now (debugger_rest (place_of tokens.now) (behind tokens.now))) }

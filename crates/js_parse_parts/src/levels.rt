@@ -2,7 +2,7 @@
 
 ghost use Rattle.std.specs.Prelude.{◌≡◌, ◌≤◌, suc};
 ghost use Rattle.js_ast.specs.Levels.{binding, is_step, level, is_bare_new, is_target};
-ghost use Rattle.js_ast.specs.ExpressionParsing.{operand_level};
+ghost use Rattle.js_list_parser.specs.ExpressionParsing.{operand_level};
 ghost use Rattle.js_ast.specs.Views.{view_expr};
 
 use js_ast::{BinaryOperator, Expr, ExprKind, UnaryOperator};

@@ -3,8 +3,8 @@
 ghost use Rattle.std.specs.Prelude.{ℕ, IfOk};
 ghost use Rattle.js_ast.specs.Nodes.{nodes_of};
 ghost use Rattle.js_ast.specs.Depth.{depth_items, depth_properties};
-ghost use Rattle.js_ast.specs.Reading.{word_at};
-ghost use Rattle.js_ast.specs.ExpressionParsing.{item_end, property_end};
+ghost use Rattle.js_list_parser.specs.Reading.{word_at};
+ghost use Rattle.js_list_parser.specs.ExpressionParsing.{item_end, property_end};
 ghost use Rattle.js_ast.specs.Views.{view_items, view_properties};
 ghost use Rattle.js_parse_parts.specs.Answers.{Gives, Deep, turn_of, TurnIs};
 
@@ -13,7 +13,7 @@ use crate::words::{Word, behind, word_at};
 use js_ast::{ItemList, PropertyList, Sign, Token};
 
 /// What stands behind an expression in an array: a comma, or its end.
-#[tactic(auto, unfolding(js_ast::specs::ExpressionParsing::item_end))]
+#[tactic(auto, unfolding(js_list_parser::specs::ExpressionParsing::item_end))]
 pub fn item_end<'a>(
     items: (ItemList, u32),
     tokens: &'a [Token],
@@ -31,7 +31,7 @@ pub fn item_end<'a>(
 }
 
 /// What stands behind a property of an object: a comma, or its end.
-#[tactic(auto, unfolding(js_ast::specs::ExpressionParsing::property_end))]
+#[tactic(auto, unfolding(js_list_parser::specs::ExpressionParsing::property_end))]
 pub fn property_end<'a>(
     properties: (PropertyList, u32),
     tokens: &'a [Token],

@@ -4,7 +4,7 @@ ghost use Rattle.std.specs.Prelude.{◌≡◌, IfOk};
 ghost use Rattle.js_ast.specs.Trees as trees;
 ghost use Rattle.js_ast.specs.Grammar.{place_of};
 ghost use Rattle.js_ast.specs.Depth.{depth};
-ghost use Rattle.js_ast.specs.Reading.{behind};
+ghost use Rattle.js_list_parser.specs.Reading.{behind};
 ghost use Rattle.js_ast.specs.Views.{view_expr_kind, view_expr};
 ghost use Rattle.js_parse_parts.specs.Answers.{found, Gives, Deep};
 

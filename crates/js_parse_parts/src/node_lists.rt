@@ -1,18 +1,20 @@
 //! Makers of lists of nodes, each of which goes with the depth of its deepest node, and of properties.
 
-ghost use Rattle.std.specs.Prelude.{◌≡◌, max, IfOk};
-ghost use Rattle.js_ast.specs.Trees.{more_exprs, no_exprs, hole, item, no_items, value, getter, setter, more_properties, no_properties};
+ghost use Rattle.std.specs.Prelude.{◌≡◌, [], ◌∷◌, max, None, IfOk};
+ghost use Rattle.js_ast.specs.Trees.{more_exprs, no_exprs, hole, item, no_items, value, getter, setter, function_of, more_properties, no_properties};
 ghost use Rattle.js_ast.specs.Nodes.{nodes_of};
 ghost use Rattle.js_ast.specs.Validity.{ends_with_item, has_properties};
 ghost use Rattle.js_ast.specs.Depth.{depth, depth_exprs, depth_items, depth_property, depth_properties, depth_statements};
-ghost use Rattle.js_ast.specs.ExpressionParsing.{joined_exprs, joined_items, joined_properties};
-ghost use Rattle.js_ast.specs.Views.{view_ident, view_key, view_expr, view_exprs, view_item, view_items, view_property, view_properties, view_function_body, view_stmts};
+ghost use Rattle.js_ast.specs.Joined.{joined_exprs, joined_items, joined_properties};
+ghost use Rattle.js_ast.specs.Views.{view_ident, view_key, view_expr, view_exprs, view_item, view_items, view_property, view_properties, view_stmts};
 
+use crate::functions::unmarked;
 use flow_text::OutOfMemory;
 use js_ast::{
-    Expr, ExprList, FunctionBody, Ident, Item, ItemList, Key, Property, PropertyKind, PropertyList,
+    Expr, ExprList, Ident, IdentList, Item, ItemList, Key, Property, PropertyKind, PropertyList,
     StmtList,
 };
+use std::alloc::Global;
 
 /// A further argument.
 #[tactic(auto, using(crate::proofs::DepthLaws::joined_exprs_depth, js_ast::proofs::ViewLaws::appended))]
@@ -113,44 +115,33 @@ pub fn value_property(at: usize, key: Key, expr: (Expr, u32)) -> (Property, u32)
     (Property { at, key, kind }, expr.1)
 }
 
-/// A property with `get`.
-pub fn getter_property(at: usize, key: Key, body: (FunctionBody, u32)) -> (Property, u32)
-    requires { body.1 ≡ depth_statements (view_function_body body.0) }
-    ensures node { view_property result.0 ≡ getter at (view_key key) (view_function_body body.0) }
+/// A property with `get`, which has no parameter.
+pub fn getter_property(alloc: Global, at: usize, key: Key, body: (StmtList, u32)) -> (Property, u32)
+    requires { body.1 ≡ depth_statements (view_stmts (nodes_of body.0)) }
+    ensures node { view_property result.0 ≡ getter at (view_key key) (function_of at None [] (view_stmts (nodes_of body.0))) }
     ensures deep { result.1 ≡ depth_property (view_property result.0) }
     ensures size { result.1 ≡ body.1 }
 {
-    let kind = PropertyKind::Getter(body.0);
+    let params = IdentList::new(alloc);
+    let kind = PropertyKind::Getter(unmarked(at, None, params, body.0));
     (Property { at, key, kind }, body.1)
 }
 
-/// A property with `set`.
+/// A property with `set`, and its one parameter.
 pub fn setter_property(
+    alloc: Global,
     at: usize,
     key: Key,
     param: Ident,
-    body: (FunctionBody, u32),
-) -> (Property, u32)
-    requires { body.1 ≡ depth_statements (view_function_body body.0) }
-    ensures node { view_property result.0 ≡ setter at (view_key key) (view_ident param) (view_function_body body.0) }
-    ensures deep { result.1 ≡ depth_property (view_property result.0) }
-    ensures size { result.1 ≡ body.1 }
+    body: (StmtList, u32),
+) -> Result<(Property, u32), OutOfMemory>
+    requires { body.1 ≡ depth_statements (view_stmts (nodes_of body.0)) }
+    ensures node { IfOk result (λ x. view_property x.0 ≡ setter at (view_key key) (function_of at None (view_ident param ∷ []) (view_stmts (nodes_of body.0)))) }
+    ensures deep { IfOk result (λ x. x.1 ≡ depth_property (view_property x.0)) }
+    ensures size { IfOk result (λ x. x.1 ≡ body.1) }
 {
-    let kind = PropertyKind::Setter {
-        param,
-        body: body.0,
-    };
-    (Property { at, key, kind }, body.1)
-}
-
-/// The body of a function. Its number and its strictness are found later.
-#[tactic(auto, using(js_ast::proofs::ViewLaws::held))]
-pub fn function_body(statements: StmtList) -> FunctionBody
-    ensures { view_function_body result ≡ view_stmts (nodes_of statements) }
-{
-    FunctionBody {
-        number: 0,
-        strict: false,
-        statements,
-    }
+    let mut params = IdentList::new(alloc);
+    params.push(param)?;
+    let kind = PropertyKind::Setter(unmarked(at, None, params, body.0));
+    Ok((Property { at, key, kind }, body.1))
 }

@@ -4,15 +4,16 @@ ghost use Rattle.std.specs.Prelude.{◌≡◌, suc, max, IfOk};
 ghost use Rattle.js_ast.specs.Trees as trees;
 ghost use Rattle.js_ast.specs.Nodes.{nodes_of};
 ghost use Rattle.js_ast.specs.Depth.{depth, depth_items, depth_properties, depth_exprs, depth_statements};
-ghost use Rattle.js_ast.specs.ExpressionParsing.{at_of};
-ghost use Rattle.js_ast.specs.Views.{view_name, view_idents, view_expr, view_exprs, view_items, view_properties, view_function_body};
+ghost use Rattle.js_ast.specs.Trees.{at_of, function_of};
+ghost use Rattle.js_ast.specs.Views.{view_name, view_idents, view_expr, view_exprs, view_items, view_properties, view_stmts};
 ghost use Rattle.js_parse_parts.specs.Answers.{Deep};
 
+use crate::functions::unmarked;
 use crate::literals::node;
 use flow_text::{OutOfMemory, Text};
 use js_ast::{
-    AssignOperator, BinaryOperator, Expr, ExprKind, ExprList, FunctionBody, Ident, IdentList,
-    ItemList, PostfixOperator, PropertyList, UnaryOperator,
+    AssignOperator, BinaryOperator, Expr, ExprKind, ExprList, Ident, IdentList, ItemList,
+    PostfixOperator, PropertyList, StmtList, UnaryOperator,
 };
 use std::alloc::Global;
 
@@ -72,18 +73,14 @@ pub fn function(
     at: usize,
     name: Option<Ident>,
     params: IdentList,
-    body: (FunctionBody, u32),
+    body: (StmtList, u32),
 ) -> Result<(Expr, u32), OutOfMemory>
-    requires { Deep u32.MAX (depth_statements (view_function_body body.0)) body.1 }
-    ensures node { IfOk result (λ x. view_expr x.0 ≡ trees.function at (view_name name) (view_idents (nodes_of params)) (view_function_body body.0)) }
+    requires { Deep u32.MAX (depth_statements (view_stmts (nodes_of body.0))) body.1 }
+    ensures node { IfOk result (λ x. view_expr x.0 ≡ trees.function at (function_of at (view_name name) (view_idents (nodes_of params)) (view_stmts (nodes_of body.0)))) }
     ensures deep { IfOk result (λ x. x.1 ≡ depth (view_expr x.0)) }
     ensures size { IfOk result (λ x. x.1 ≡ suc body.1) }
 {
-    let kind = ExprKind::Function {
-        name,
-        params,
-        body: body.0,
-    };
+    let kind = ExprKind::Function(unmarked(at, name, params, body.0));
     node(alloc, at, kind, body.1 + 1)
 }
 

@@ -2,8 +2,8 @@
 
 ghost use Rattle.std.specs.Prelude.{◌≡◌, Some, false, leb};
 ghost use Rattle.js_ast.specs.Words.{a_key, a_sign};
-ghost use Rattle.js_ast.specs.Reading.{word_at};
-ghost use Rattle.js_ast.specs.ExpressionParsing.{unary_of, is_base, applies_by, applies, begins_expression, begins_at};
+ghost use Rattle.js_list_parser.specs.Reading.{word_at};
+ghost use Rattle.js_list_parser.specs.ExpressionParsing.{unary_of, is_base, applies_by, applies, begins_expression, begins_at};
 ghost use Rattle.js_ast.specs.Views.{view_expr};
 ghost use Rattle.js_parse_parts.specs.Suffixes.{view_suffix};
 

@@ -1,8 +1,8 @@
 //! The parameters of a function.
 
 ghost use Rattle.js_ast.specs.Nodes.{nodes_of};
-ghost use Rattle.js_ast.specs.Reading.{loop};
-ghost use Rattle.js_ast.specs.ExpressionParsing.{parameter, parameters};
+ghost use Rattle.js_list_parser.specs.Reading.{loop};
+ghost use Rattle.js_list_parser.specs.ExpressionParsing.{parameter, parameters};
 ghost use Rattle.js_ast.specs.Views.{view_idents};
 ghost use Rattle.js_parse_parts.specs.Answers.{Gives, turn_of};
 
@@ -13,7 +13,7 @@ use js_ast::{IdentList, Sign, Token};
 use std::alloc::Global;
 
 // A further parameter, or the end of the parameters.
-#[tactic(auto, using(js_ast::proofs::ViewLaws::idents_append), unfolding(js_ast::specs::ExpressionParsing::parameter, js_ast::specs::ExpressionParsing::parameter_by))]
+#[tactic(auto, using(js_ast::proofs::ViewLaws::idents_append), unfolding(js_list_parser::specs::ExpressionParsing::parameter, js_list_parser::specs::ExpressionParsing::parameter_by))]
 fn parameter<'a>(
     alloc: Global,
     mut list: IdentList,
@@ -55,7 +55,7 @@ fn more_parameters<'a>(
 }
 
 /// Parameters, and the tokens behind the parenthesis that closes them.
-#[tactic(auto, unfolding(js_ast::specs::ExpressionParsing::parameters, js_ast::specs::ExpressionParsing::parameters_by))]
+#[tactic(auto, unfolding(js_list_parser::specs::ExpressionParsing::parameters, js_list_parser::specs::ExpressionParsing::parameters_by))]
 pub fn parameters(alloc: Global, tokens: &[Token]) -> Result<(IdentList, &[Token]), ReadFault<'_>>
     ensures { Gives (λ x. (view_idents (nodes_of x.0), x.1.now)) result (parameters tokens.now) }
 {

@@ -2,7 +2,7 @@
 
 ghost use Rattle.std.specs.Prelude.{◌≡◌, ◌<◌, ◌≤◌, List, OnOk, IfErr};
 ghost use Rattle.js_ast.specs.declared.token.Token.{Token};
-ghost use Rattle.js_ast.specs.Reading as reading;
+ghost use Rattle.js_list_parser.specs.Reading as reading;
 ghost use Rattle.js_parse_parts.specs.Answers.{Fails};
 ghost use Rattle.js_parse_parts.specs.declared.reading.ReadFault.TheVariants as faults;
 

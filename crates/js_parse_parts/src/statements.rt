@@ -1,14 +1,16 @@
 //! Statements from their parts. Each maker takes its parts with their depths, and gives the statement with its own.
 
-ghost use Rattle.std.specs.Prelude.{◌≡◌, ℕ, ◌<◌, suc, max, IfOk};
+ghost use Rattle.std.specs.Prelude.{◌≡◌, ℕ, ◌<◌, suc, max, Some, IfOk};
 ghost use Rattle.js_ast.specs.Nodes.{nodes_of};
 ghost use Rattle.js_ast.specs.Trees as trees;
-ghost use Rattle.js_ast.specs.Views.{view_ident, view_name, view_idents, view_semi, view_expr, view_maybe_expr, view_function_body, view_declarations, view_first, view_target, view_clauses, view_block, view_stmt};
+ghost use Rattle.js_ast.specs.Trees.{function_of};
+ghost use Rattle.js_ast.specs.Views.{view_ident, view_name, view_idents, view_semi, view_expr, view_maybe_expr, view_declarations, view_first, view_target, view_clauses, view_block, view_stmt, view_stmts};
 
+use crate::functions::unmarked;
 use flow_text::{OutOfMemory, Text};
 use js_ast::{
-    Block, ClauseList, Declarations, Expr, ForFirst, ForTarget, FunctionBody, Ident, IdentList,
-    Semi, Stmt, StmtKind,
+    Block, ClauseList, Declarations, Expr, ForFirst, ForTarget, Ident, IdentList, Semi, Stmt,
+    StmtKind, StmtList,
 };
 use std::alloc::Global;
 
@@ -389,17 +391,13 @@ pub fn function_declaration(
     at: usize,
     name: Ident,
     params: IdentList,
-    body: (FunctionBody, u32),
+    body: (StmtList, u32),
 ) -> Result<(Stmt, u32), OutOfMemory>
     requires { body.1 < u32.MAX }
-    ensures view { IfOk result (λ x. view_stmt x.0 ≡ trees.function_declaration at (view_ident name) (view_idents (nodes_of params)) (view_function_body body.0)) }
+    ensures view { IfOk result (λ x. view_stmt x.0 ≡ trees.function_declaration at (function_of at (Some (view_ident name)) (view_idents (nodes_of params)) (view_stmts (nodes_of body.0)))) }
     ensures depth { IfOk result (λ x. x.1 ≡ suc body.1) }
 {
-    let kind = StmtKind::Function {
-        name,
-        params,
-        body: body.0,
-    };
+    let kind = StmtKind::Function(unmarked(at, Some(name), params, body.0));
     Ok((stmt(alloc, at, kind)?, above(body.1)))
 }
 

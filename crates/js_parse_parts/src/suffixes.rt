@@ -2,7 +2,7 @@
 
 ghost use Rattle.std.specs.Prelude.{◌≡◌, Some};
 ghost use Rattle.js_ast.specs.Words.{a_key, a_sign};
-ghost use Rattle.js_ast.specs.ExpressionParsing.{suffix_of, suffix_at, makes_target};
+ghost use Rattle.js_list_parser.specs.ExpressionParsing.{suffix_of, suffix_at, makes_target};
 ghost use Rattle.js_parse_parts.specs.Suffixes.{view_suffix};
 
 use crate::words::{Word, word_at};

@@ -6,7 +6,7 @@ ghost use Rattle.std.specs.Str.{bytes_eq};
 ghost use Rattle.js_ast.specs.Words.{in_table};
 ghost use Rattle.js_ast.specs.Words as words;
 ghost use Rattle.js_ast.specs.Grammar.{place_of, on_line};
-ghost use Rattle.js_ast.specs.Reading as reading;
+ghost use Rattle.js_list_parser.specs.Reading as reading;
 ghost use Rattle.js_parse_parts.specs.Words.{word_of};
 
 use flow_text::Text;

@@ -1,3 +1,4 @@
+pub mod Blanks
 pub mod CommentLaws
 pub mod Faults
 pub mod Finding

@@ -15,7 +15,7 @@ mod state;
 mod strings;
 mod units;
 
-pub use exactness::one_reading;
+pub use exactness::{one_reading, one_white_space};
 pub use fault::ScanFault;
 pub use names::{is_identifier, is_one_of, spells};
 pub use scanning::scan;

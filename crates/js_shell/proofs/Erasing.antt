@@ -8,8 +8,8 @@ use Rattle.js_shell.specs.declared.script.Term.{Term}
 use Rattle.js_shell.specs.declared.script.Term.TheVariants.{Literal, Read}
 use Rattle.js_shell.specs.declared.ending.Value.{Value}
 use Rattle.js_shell.specs.declared.ending.Leaving.{Leaving}
-use Rattle.js_shell.specs.declared.ending.Rule.{Rule}
-use Rattle.js_shell.specs.declared.ending.Rule.TheVariants.{W11, W12}
+use Rattle.js_shell.specs.declared.ending.ChannelRule.{ChannelRule}
+use Rattle.js_shell.specs.declared.ending.ChannelRule.TheVariants.{W11, W12}
 use Rattle.js_shell.specs.declared.ending.Ending.TheVariants.{Done, Left, Stopped}
 use Rattle.js_shell.specs.Scripts.{Statement}
 use Rattle.js_shell.specs.Runs.{Line, Outcome, Goes, Ends, From, and_then, ◌>>=◌, text_of, sum_of, number_of_channel}
@@ -68,7 +68,7 @@ abbrev same_unit : Unit {0} → Unit {0}
 same_unit u = u
 
 -- a guard that holds goes on, and one that fails stops
-guard_follows : {X Y : Type 0} (e : X → Y) (b : Bool) (rule : Rule) (need have : Label) (f : From tracked.State X) (s : tracked.State) (n : Outcome Y plain.State)
+guard_follows : {X Y : Type 0} (e : X → Y) (b : Bool) (rule : ChannelRule) (need have : Label) (f : From tracked.State X) (s : tracked.State) (n : Outcome Y plain.State)
     → within need have ≡ b → Follows e (f s) n → IsFront (map erased_line s.lines) (outcome_lines n) → Follows e (tracked.guard b rule need have f s) n
 unfolding tracked.guard
 guard_follows e true rule need have f s n w h front = h

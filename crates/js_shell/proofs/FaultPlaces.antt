@@ -2,7 +2,7 @@
 use Rattle.std.proofs.Common.{◌≡◌, ℕ, ◌≤◌, Bool, true, false, not, List, [], ◌∷◌, ◌++◌, Option, Some, None, refl, sym, subst, arith}
 use Rattle.js_ast.specs.declared.operators.UnaryOperator.{UnaryOperator}
 use Rattle.js_ast.specs.declared.operators.UnaryOperator.TheVariants as unary_operator
-use Rattle.js_ast.specs.Trees.{Ident, Expr, name, number, string, this, null, boolean, paren, array, object, function, member, index, new_with, new_bare, call, postfix, unary, binary, conditional, assign, comma, Exprs, no_exprs, more_exprs, MaybeExpr, absent, present, Items, no_items, hole, item, Property, value, getter, setter, Properties, no_properties, more_properties, Declarations, one_declaration, more_declarations, First, first_expr, first_var, Target, target_expr, target_var, Clauses, no_clauses, case, default, Block, block_of, Statement, block, var, empty, expression, if_then, if_else, do_while, while, for, for_in, continue, break, return, throw, switch, labelled, try_catch, try_finally, try_both, debugger, function_declaration, Statements, no_statements, more_statements}
+use Rattle.js_ast.specs.Trees.{Ident, Expr, name, number, string, this, null, boolean, paren, array, object, function, member, index, new_with, new_bare, call, postfix, unary, binary, conditional, assign, comma, Exprs, no_exprs, more_exprs, MaybeExpr, absent, present, Items, no_items, hole, item, Property, value, getter, setter, Properties, no_properties, more_properties, Declarations, one_declaration, more_declarations, First, first_expr, first_var, Target, target_expr, target_var, Clauses, no_clauses, case, default, Block, block_of, Statement, block, var, empty, expression, if_then, if_else, do_while, while, for, for_in, continue, break, return, throw, switch, labelled, try_catch, try_finally, try_both, debugger, function_declaration, Statements, no_statements, more_statements, Function, function_of}
 use Rattle.js_faults.specs.declared.fault.Check.{Check}
 use Rattle.js_faults.specs.declared.fault.Check.TheVariants as check
 use Rattle.js_faults.specs.declared.fault.Fault.{Fault}
@@ -11,9 +11,9 @@ use Rattle.js_faults.specs.declared.fault.FaultKind.TheVariants as kind
 use Rattle.std.specs.List.{list_any}
 use Rattle.js_faults.specs.Scopes.{Scope, in_body, looped, switched, labelled_by, names_statement}
 use Rattle.js_faults.specs.Directives.{has_form, directive_in}
-use Rattle.js_faults.specs.Early.{fault_if, is_eval_or_arguments, is_strict_word, has_text, clashes, may_break, may_continue, label_text, directive_may_jump, of_bound, of_bound_maybe, of_parameters, of_assigned, of_deleted, property_list, place_of_property, of_repeated, of_properties, of_property, of_unary, of_expr, of_declarations, of_first, of_target, of_statement}
-use Rattle.js_faults.specs.Faults.{of_directive, own_expr, own_property, own_statement, in_expr, in_exprs, in_maybe, in_items, in_property, in_properties, in_declarations, in_first, in_target, in_clauses, in_block, in_statement, in_statements, is_before, earlier, first_of}
-use Rattle.js_shell.proofs.Within.{IdentWithin, MaybeIdentWithin, IdentsWithin, ExprWithin, ExprsWithin, MaybeWithin, ItemsWithin, PropertyWithin, PropertiesWithin, DeclarationsWithin, FirstWithin, TargetWithin, ClausesWithin, BlockWithin, StatementWithin, StatementsWithin}
+use Rattle.js_faults.specs.Early.{fault_if, is_eval_or_arguments, is_strict_word, has_text, clashes, may_break, may_continue, label_text, directive_may_jump, of_bound, of_bound_maybe, of_parameters, of_assigned, of_deleted, property_list, place_of_property, of_repeated, of_properties, of_unary, of_expr, of_declarations, of_first, of_target, of_statement, of_function}
+use Rattle.js_faults.specs.Faults.{of_directive, own_expr, own_statement, in_expr, in_exprs, in_maybe, in_items, in_property, in_properties, in_declarations, in_first, in_target, in_clauses, in_block, in_statement, in_statements, is_before, earlier, first_of, own_function, in_function}
+use Rattle.js_shell.proofs.Within.{IdentWithin, MaybeIdentWithin, IdentsWithin, ExprWithin, ExprsWithin, MaybeWithin, ItemsWithin, PropertyWithin, PropertiesWithin, DeclarationsWithin, FirstWithin, TargetWithin, ClausesWithin, BlockWithin, StatementWithin, StatementsWithin, FunctionWithin}
 
 -- each fault is there at the latest
 abbrev Each : ℕ → List Fault → Type 0
@@ -94,8 +94,8 @@ module _ (n : ℕ) where
 
   property_place : (p : Property) → PropertyWithin n p → place_of_property p ≤ n
   property_place (value at k e) h = h.0
-  property_place (getter at k body) h = h.0
-  property_place (setter at k param body) h = h.0
+  property_place (getter at k f) h = h.0
+  property_place (setter at k f) h = h.0
 
   repeated : (all before ps : List Property) → ListWithin ps → AreBy n (of_repeated all before ps)
   unfolding of_repeated
@@ -116,7 +116,6 @@ module _ (n : ℕ) where
   unfolding of_expr
   expr_alone (name at text) h = perhaps (is_strict_word text) at kind.StrictWord h
   expr_alone (object at ps final) h = object_properties ps h.1
-  expr_alone (function at i params body) h = both (bound_maybe i h.1.0) (parameters [] params h.1.1.0)
   expr_alone (postfix at e o) h = assigned e h.1
   expr_alone (unary at o e) h = by_operator o e h.1
   expr_alone (assign at l o r) h = assigned l h.1.0
@@ -127,15 +126,10 @@ module _ (n : ℕ) where
   own check.Directives e h = none
   own check.Early e h = expr_alone e h
 
-  property_alone : (p : Property) → PropertyWithin n p → AreBy n (of_property p)
-  property_alone (value at k e) h = none
-  property_alone (getter at k body) h = none
-  property_alone (setter at k param body) h = bound param h.1.0
-
-  own_of_property : (c : Check) (p : Property) → PropertyWithin n p → AreBy n (own_property c p)
-  unfolding own_property
-  own_of_property check.Directives p h = none
-  own_of_property check.Early p h = property_alone p h
+  own_of_function : (c : Check) (f : Function) → FunctionWithin n f → AreBy n (own_function c f)
+  unfolding own_function of_function
+  own_of_function check.Directives f h = none
+  own_of_function check.Early (function_of at i params body) h = both (bound_maybe i h.0) (parameters [] params h.1.0)
 
   declared : (ds : Declarations) → DeclarationsWithin n ds → AreBy n (of_declarations ds)
   unfolding of_declarations
@@ -161,7 +155,6 @@ module _ (n : ℕ) where
   statement_alone s (labelled at text body) h = both (perhaps (names_statement text s) at kind.RepeatedLabel h.0) (perhaps (is_strict_word text) at kind.StrictWord h.0)
   statement_alone s (try_catch at b i handler) h = bound i h.1.1.0
   statement_alone s (try_both at b i handler final) h = bound i h.1.1.0.0
-  statement_alone s (function_declaration at i params body) h = both (bound i h.1.0) (parameters [] params h.1.1.0)
   statement_alone s (expression at e semi) h = perhaps (not (directive_may_jump (directive_in e) s)) at kind.Jump h.0
   statement_alone s _ h = none
 
@@ -189,7 +182,7 @@ module _ (n : ℕ) where
       expr (paren at e) h = both (own c (paren at e) h) (expr e h.1)
       expr (array at is final) h = both (own c (array at is final) h) (items is h.1)
       expr (object at ps final) h = both (own c (object at ps final) h) (properties ps h.1)
-      expr (function at i params body) h = both (own c (function at i params body) h) (statements in_body body h.1.1.1)
+      expr (function at f) h = both (own c (function at f) h) (function_faults f h.1)
       expr (member at e text) h = both (own c (member at e text) h) (expr e h.1)
       expr (index at e i) h = both (own c (index at e i) h) (both (expr e h.1.0) (expr i h.1.1))
       expr (new_with at e args) h = both (own c (new_with at e args) h) (both (expr e h.1.0) (exprs args h.1.1))
@@ -216,9 +209,12 @@ module _ (n : ℕ) where
       items (item e is) h = both (expr e h.0) (items is h.1)
 
       property : (p : Property) → PropertyWithin n p → AreBy n (in_property c p)
-      property (value at k e) h = both (own_of_property c (value at k e) h) (expr e h.1)
-      property (getter at k body) h = both (own_of_property c (getter at k body) h) (statements in_body body h.1)
-      property (setter at k param body) h = both (own_of_property c (setter at k param body) h) (statements in_body body h.1.1)
+      property (value at k e) h = expr e h.1
+      property (getter at k f) h = function_faults f h.1
+      property (setter at k f) h = function_faults f h.1
+
+      function_faults : (f : Function) → FunctionWithin n f → AreBy n (in_function c f)
+      function_faults (function_of at i params body) h = both (own_of_function c (function_of at i params body) h) (statements in_body body h.1.1)
 
       properties : (ps : Properties) → PropertiesWithin n ps → AreBy n (in_properties c ps)
       properties no_properties h = none
@@ -267,7 +263,7 @@ module _ (n : ℕ) where
       statement s (try_both at b i handler final) h =
           both (own_of_statement c s (try_both at b i handler final) h) (both (in_braces s b h.1.0) (both (in_braces s handler h.1.1.0.1) (in_braces s final h.1.1.1)))
       statement s (debugger at semi) h = own_of_statement c s (debugger at semi) h
-      statement s (function_declaration at i params body) h = both (own_of_statement c s (function_declaration at i params body) h) (statements in_body body h.1.1.1)
+      statement s (function_declaration at f) h = both (own_of_statement c s (function_declaration at f) h) (function_faults f h.1)
 
       pub statements : (s : Scope) (ss : Statements) → StatementsWithin n ss → AreBy n (in_statements c s ss)
       statements s no_statements h = none

@@ -16,8 +16,8 @@ use Rattle.js_shell.specs.declared.script.Term.{Term}
 use Rattle.js_shell.specs.declared.script.Term.TheVariants.{Literal, Read}
 use Rattle.js_shell.specs.declared.ending.Value.{Value}
 use Rattle.js_shell.specs.declared.ending.Leaving.{Leaving}
-use Rattle.js_shell.specs.declared.ending.Rule.{Rule}
-use Rattle.js_shell.specs.declared.ending.Rule.TheVariants.{W11, W12}
+use Rattle.js_shell.specs.declared.ending.ChannelRule.{ChannelRule}
+use Rattle.js_shell.specs.declared.ending.ChannelRule.TheVariants.{W11, W12}
 use Rattle.js_shell.specs.declared.ending.Ending.{Ending}
 use Rattle.js_shell.specs.declared.ending.Ending.TheVariants.{Done}
 use Rattle.js_shell.specs.Scripts.{Statement}
@@ -74,7 +74,7 @@ never_then : {X Y : Type 0} (m : Outcome X State) (f : X → From State Y) → N
 never_then (Goes x s) f p k = k x s
 never_then (Ends ending s) f p k = p
 
-never_guarded : {X : Type 0} (b : Bool) (rule : Rule) (need have : Label) (f : From State X) (s : State) → NeverEndsDone (f s) → NeverEndsDone (guard b rule need have f s)
+never_guarded : {X : Type 0} (b : Bool) (rule : ChannelRule) (need have : Label) (f : From State X) (s : State) → NeverEndsDone (f s) → NeverEndsDone (guard b rule need have f s)
 unfolding guard
 never_guarded true rule need have f s p = p
 never_guarded false rule need have f s p = λ e. cc

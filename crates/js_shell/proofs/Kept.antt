@@ -13,8 +13,8 @@ use Rattle.js_shell.specs.declared.script.Term.{Term}
 use Rattle.js_shell.specs.declared.script.Term.TheVariants.{Literal, Read}
 use Rattle.js_shell.specs.declared.ending.Value.{Value}
 use Rattle.js_shell.specs.declared.ending.Leaving.{Leaving}
-use Rattle.js_shell.specs.declared.ending.Rule.{Rule}
-use Rattle.js_shell.specs.declared.ending.Rule.TheVariants.{W11, W12}
+use Rattle.js_shell.specs.declared.ending.ChannelRule.{ChannelRule}
+use Rattle.js_shell.specs.declared.ending.ChannelRule.TheVariants.{W11, W12}
 use Rattle.js_shell.specs.Scripts.{Statement}
 use Rattle.js_shell.specs.Runs.{Outcome, Goes, Ends, From, and_then, ◌>>=◌, sum_of, number_of_channel}
 use Rattle.js_shell.specs.Tracked.{Labelled, LabelledLine, State, run_of, start, guard, channel_label, read_channel, term, plus, sum, print, statement, statements, tracked}
@@ -34,7 +34,7 @@ module _ (tables : Tables) (P : List LabelledLine → Type 0) (more : (lines : L
   keeps_then (Goes x s) f p k = k x s p
   keeps_then (Ends ending s) f p k = p
 
-  keeps_guarded : {X : Type 0} (b : Bool) (rule : Rule) (need have : Label) (f : From State X) (s : State) → P s.lines → Keeps (f s) → Keeps (guard b rule need have f s)
+  keeps_guarded : {X : Type 0} (b : Bool) (rule : ChannelRule) (need have : Label) (f : From State X) (s : State) → P s.lines → Keeps (f s) → Keeps (guard b rule need have f s)
   unfolding guard
   keeps_guarded true rule need have f s p q = q
   keeps_guarded false rule need have f s p q = p

@@ -8,7 +8,7 @@ use Rattle.js_shell.specs.declared.script.Term.{Term}
 use Rattle.js_shell.specs.declared.script.Term.TheVariants.{Literal, Read}
 use Rattle.js_shell.specs.declared.ending.Value.{Value}
 use Rattle.js_shell.specs.declared.ending.Leaving.{Leaving}
-use Rattle.js_shell.specs.declared.ending.Rule.{Rule}
+use Rattle.js_shell.specs.declared.ending.ChannelRule.{ChannelRule}
 use Rattle.js_shell.specs.declared.ending.Ending.TheVariants.{Done, Left, Stopped}
 use Rattle.js_shell.specs.Scripts.{Statement}
 use Rattle.js_shell.specs.Runs.{Outcome, Goes, Ends, From, and_then, ◌>>=◌, sum_of, number_of_channel}
@@ -83,7 +83,7 @@ module _ (tables : Tables) (given : Given) where
   statements_go [] s = tt
   statements_go (x ∷ more) s = goes_then (statement tables given x s) (λ _. statements tables given more) (statement_goes x s) (λ _ t. statements_go more t)
 
-not_stopped : (m : Outcome (Unit {0}) State) (rule : Rule) (need have : Label) → GoesOn m → (run_of m).ending ≡ Stopped rule need have → ⊥
+not_stopped : (m : Outcome (Unit {0}) State) (rule : ChannelRule) (need have : Label) → GoesOn m → (run_of m).ending ≡ Stopped rule need have → ⊥
 not_stopped (Goes u s) rule need have p e = cc
 not_stopped (Ends Done s) rule need have p e = cc
 not_stopped (Ends (Left name) s) rule need have p e = cc

@@ -7,7 +7,7 @@ use Rattle.flow_policy.specs.declared.policy.Channel.{Channel}
 use Rattle.flow_policy.specs.declared.fault.InputKind.{InputKind}
 use Rattle.flow_policy.specs.declared.fault.PolicyKind.{PolicyKind}
 use Rattle.flow_policy.specs.Lines.{lines_of}
-use Rattle.flow_policy.specs.Names.{words_of}
+use Rattle.flow_policy.specs.Words.{words_of}
 use Rattle.flow_policy.specs.Policies.{Tables, no_tables, with_new_origin, with_new_channel, ok_map, after_origin, after_in, after_out, is_comment, after_words, next_line, after_lines, policy_of, BadLine, AreChannels, IsPolicy}
 use Rattle.flow_policy.specs.Inputs.{Given, IsGivenTo, inputs_of, unless_bad, first_bad, texts_on}
 use Rattle.js_shell.specs.Replies.{too_long, read_file, policy_in, input_in, policy_limit, input_limit}

@@ -7,7 +7,7 @@ use Rattle.flow_policy.specs.Inputs.{Given}
 use Rattle.js_shell.specs.declared.ending.Ending.{Ending}
 use Rattle.js_shell.specs.declared.ending.Ending.TheVariants.{Left, Stopped}
 use Rattle.js_shell.specs.declared.ending.Leaving.TheVariants as leaving
-use Rattle.js_shell.specs.declared.ending.Rule.TheVariants.{W12}
+use Rattle.js_shell.specs.declared.ending.ChannelRule.TheVariants.{W12}
 use Rattle.js_shell.specs.declared.ending.Step.{Step}
 use Rattle.js_shell.specs.declared.ending.Step.TheVariants as step
 use Rattle.js_shell.specs.Scripts.{Statement}

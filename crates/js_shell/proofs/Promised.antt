@@ -11,7 +11,7 @@ use Rattle.js_shell.specs.declared.status.Status.TheVariants as status
 use Rattle.js_shell.specs.declared.ending.Ending.{Ending}
 use Rattle.js_shell.specs.declared.ending.Ending.TheVariants.{Done, Left, Stopped}
 use Rattle.js_shell.specs.declared.ending.Leaving.{Leaving}
-use Rattle.js_shell.specs.declared.ending.Rule.{Rule}
+use Rattle.js_shell.specs.declared.ending.ChannelRule.{ChannelRule}
 use Rattle.js_shell.specs.Plain as plain
 use Rattle.js_shell.specs.Written.{written, erased, erased_line, lines_bytes, report}
 use Rattle.js_shell.specs.Replies.{Task, IsAsked, IsChecked, Reply, IsReply, refuses_words, refuses_script, accepts_script, accepted_reply, refuses_policy, refuses_input, runs, run_reply, plain_run, tracked_run, status_of, usage_reply, source_reply, policy_reply, input_reply, read_fault_report, ReachesAbsent}
@@ -161,15 +161,15 @@ is_left Done e = cc
 is_left (Left name) e = (name, refl)
 is_left (Stopped rule need have) e = cc
 
-is_stopped : (ending : Ending) → status_of ending ≡ status.Stopped → (rule : Rule) × (need : Label) × (have : Label) × (ending ≡ Stopped rule need have)
+is_stopped : (ending : Ending) → status_of ending ≡ status.Stopped → (rule : ChannelRule) × (need : Label) × (have : Label) × (ending ≡ Stopped rule need have)
 is_stopped Done e = cc
 is_stopped (Left name) e = cc
 is_stopped (Stopped rule need have) e = (rule, need, have, refl)
 
-done_isnt_stopped : (e : Ending) (rule : Rule) (need have : Label) → e ≡ Done → e ≡ Stopped rule need have → ⊥
+done_isnt_stopped : (e : Ending) (rule : ChannelRule) (need have : Label) → e ≡ Done → e ≡ Stopped rule need have → ⊥
 done_isnt_stopped e rule need have p q = cc
 
-left_isnt_stopped : (e : Ending) (name : Leaving) (rule : Rule) (need have : Label) → e ≡ Left name → e ≡ Stopped rule need have → ⊥
+left_isnt_stopped : (e : Ending) (name : Leaving) (rule : ChannelRule) (need have : Label) → e ≡ Left name → e ≡ Stopped rule need have → ⊥
 left_isnt_stopped e name rule need have p q = cc
 
 module _ (task : Task) where
@@ -182,7 +182,7 @@ module _ (task : Task) where
   left_erased name (goes_on e) d = sym (ap (λ (r : plain.Run). r.ending) e) ∙ d
   left_erased name (stops rule need have rest e broken front) d = absurd (left_isnt_stopped _ name rule need have d e)
 
-  stop_of : (out : List ℕ) → out ≡ written task.tables (erased (tracked_run task)) → (rule : Rule) (need have : Label) → (tracked_run task).ending ≡ Stopped rule need have
+  stop_of : (out : List ℕ) → out ≡ written task.tables (erased (tracked_run task)) → (rule : ChannelRule) (need have : Label) → (tracked_run task).ending ≡ Stopped rule need have
       → Erases (tracked_run task) (plain_run task) → IsStop task out
   unfolding written
   stop_of out is rule need have at (goes_on e) = absurd (never_stops task.statements task.tables task.given rule need have (sym (ap (λ (r : plain.Run). r.ending) e) ∙ at))

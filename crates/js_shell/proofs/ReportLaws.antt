@@ -7,8 +7,8 @@ use Rattle.origin_labels.specs.Label.{Label, IsLabel, has, within}
 use Rattle.flow_policy.specs.Policies.{Tables}
 use Rattle.js_shell.specs.declared.ending.Leaving.{Leaving}
 use Rattle.js_shell.specs.declared.ending.Leaving.TheVariants as leaving
-use Rattle.js_shell.specs.declared.ending.Rule.{Rule}
-use Rattle.js_shell.specs.declared.ending.Rule.TheVariants.{W11, W12}
+use Rattle.js_shell.specs.declared.ending.ChannelRule.{ChannelRule}
+use Rattle.js_shell.specs.declared.ending.ChannelRule.TheVariants.{W11, W12}
 use Rattle.js_shell.specs.declared.ending.Ending.{Ending}
 use Rattle.js_shell.specs.declared.ending.Ending.TheVariants.{Done, Left, Stopped}
 use Rattle.js_shell.proofs.Declared.{listed_label}
@@ -38,7 +38,7 @@ leaving_on_line leaving.Number = refl
 leaving_on_line leaving.String = refl
 leaving_on_line leaving.Channel = refl
 
-pub rule_on_line : (rule : Rule) → no_line_end (rule_name rule) ≡ true
+pub rule_on_line : (rule : ChannelRule) → no_line_end (rule_name rule) ≡ true
 rule_on_line W11 = refl
 rule_on_line W12 = refl
 

@@ -5,10 +5,9 @@ use Rattle.std.specs.Str.{bytes_eq}
 use Rattle.js_ast.specs.declared.token.Token.{Token}
 use Rattle.js_ast.specs.declared.operators.BinaryOperator.{BinaryOperator}
 use Rattle.js_ast.specs.declared.operators.BinaryOperator.TheVariants as binary_operator
-use Rattle.js_ast.specs.Refusals.{a_program}
+use Rattle.js_list_parser.specs.Refusals.{a_program}
 use Rattle.js_ast.specs.Trees as trees
-use Rattle.js_ast.specs.Trees.{Expr, name, number, string, this, null, boolean, paren, array, object, function, member, index, new_with, new_bare, call, postfix, unary, binary, conditional, assign, comma, Exprs, no_exprs, more_exprs, Block, block_of, block, var, empty, expression, if_then, if_else, do_while, while, for, for_in, continue, break, return, throw, switch, labelled, try_catch, try_finally, try_both, debugger, function_declaration, Statements, no_statements, more_statements}
-use Rattle.js_ast.specs.ExpressionParsing.{at_of}
+use Rattle.js_ast.specs.Trees.{Expr, name, number, string, this, null, boolean, paren, array, object, function, member, index, new_with, new_bare, call, postfix, unary, binary, conditional, assign, comma, Exprs, no_exprs, more_exprs, Block, block_of, block, var, empty, expression, if_then, if_else, do_while, while, for, for_in, continue, break, return, throw, switch, labelled, try_catch, try_finally, try_both, debugger, function_declaration, Statements, no_statements, more_statements, at_of}
 use Rattle.js_scan.specs.Tokens.{IsTokens}
 use Rattle.js_faults.specs.declared.fault.Check.TheVariants as check
 use Rattle.js_faults.specs.declared.fault.Fault.{Fault}
@@ -93,7 +92,7 @@ module _ {n : ℕ} where
   expr_place (paren at e) h = h.0
   expr_place (array at is final) h = h.0
   expr_place (object at ps final) h = h.0
-  expr_place (function at i params body) h = h.0
+  expr_place (function at f) h = h.0
   expr_place (member at e text) h = h.0
   expr_place (index at e i) h = h.0
   expr_place (new_with at e args) h = h.0
@@ -130,7 +129,7 @@ module _ {n : ℕ} where
   statement_place (try_finally at b final) h = h.0
   statement_place (try_both at b i handler final) h = h.0
   statement_place (debugger at semi) h = h
-  statement_place (function_declaration at i params body) h = h.0
+  statement_place (function_declaration at f) h = h.0
 
   literal_fails : (e : Expr) → ExprWithin n e → FailsBy n (literal_of e)
   unfolding literal_of

@@ -2,9 +2,9 @@
 use Rattle.std.proofs.Common.{◌≡◌, ℕ, ◌≤◌, Bool, true, false, List, [], ◌∷◌, Option, Some, None, sym, subst, arith}
 use Rattle.js_ast.specs.declared.token.Token.{Token}
 use Rattle.js_ast.specs.Words.{Word}
-use Rattle.js_ast.specs.Trees.{Ident, Key, name_key, string_key, number_key, Semi, written, elided, Expr, name, number, string, this, null, boolean, paren, array, object, function, member, index, new_with, new_bare, call, postfix, unary, binary, conditional, assign, comma, Exprs, no_exprs, more_exprs, MaybeExpr, absent, present, Items, no_items, hole, item, Property, value, getter, setter, Properties, no_properties, more_properties, Declarations, one_declaration, more_declarations, First, first_expr, first_var, Target, target_expr, target_var, Clauses, no_clauses, case, default, Block, block_of, Statement, block, var, empty, expression, if_then, if_else, do_while, while, for, for_in, continue, break, return, throw, switch, labelled, try_catch, try_finally, try_both, debugger, function_declaration, Statements, no_statements, more_statements}
-use Rattle.js_ast.specs.Grammar.{Part, ◌⨾◌, nothing, place_of, At, OnLine, Takes, TakesName, ReadsIdent, MaybeIdent, MaybeLabel, ReadsIdents, ReadsKey, FinalComma, Ends, StartsExpression, last_initialiser, Reads, ReadsExprs, ReadsMaybe, ReadsItems, ReadsProperty, ReadsProperties, ReadsInitialiser, ReadsDeclarations, ReadsFirst, ReadsTarget, ReadsClauses, ReadsBlock, ReadsStatement, ReadsStatements, SpellsProgram}
-use Rattle.js_shell.proofs.Within.{BeginBy, IdentWithin, MaybeIdentWithin, IdentsWithin, ExprWithin, ExprsWithin, MaybeWithin, ItemsWithin, PropertyWithin, PropertiesWithin, DeclarationsWithin, FirstWithin, TargetWithin, ClausesWithin, BlockWithin, StatementWithin, StatementsWithin}
+use Rattle.js_ast.specs.Trees.{Ident, Key, name_key, string_key, number_key, Semi, written, elided, Expr, name, number, string, this, null, boolean, paren, array, object, function, member, index, new_with, new_bare, call, postfix, unary, binary, conditional, assign, comma, Exprs, no_exprs, more_exprs, MaybeExpr, absent, present, Items, no_items, hole, item, Property, value, getter, setter, Properties, no_properties, more_properties, Declarations, one_declaration, more_declarations, First, first_expr, first_var, Target, target_expr, target_var, Clauses, no_clauses, case, default, Block, block_of, Statement, block, var, empty, expression, if_then, if_else, do_while, while, for, for_in, continue, break, return, throw, switch, labelled, try_catch, try_finally, try_both, debugger, function_declaration, Statements, no_statements, more_statements, Function, function_of}
+use Rattle.js_ast.specs.Grammar.{Part, ◌⨾◌, nothing, place_of, At, OnLine, Takes, TakesName, ReadsIdent, MaybeIdent, MaybeLabel, ReadsIdents, ReadsKey, FinalComma, Ends, StartsExpression, last_initialiser, Reads, ReadsExprs, ReadsMaybe, ReadsItems, ReadsProperty, ReadsProperties, ReadsInitialiser, ReadsDeclarations, ReadsFirst, ReadsTarget, ReadsClauses, ReadsBlock, ReadsStatement, ReadsStatements, SpellsProgram, ReadsFunction}
+use Rattle.js_shell.proofs.Within.{BeginBy, IdentWithin, MaybeIdentWithin, IdentsWithin, ExprWithin, ExprsWithin, MaybeWithin, ItemsWithin, PropertyWithin, PropertiesWithin, DeclarationsWithin, FirstWithin, TargetWithin, ClausesWithin, BlockWithin, StatementWithin, StatementsWithin, FunctionWithin}
 
 -- a part of the grammar over tokens that begin by the number: what is then so of its tree, and the rest begins by it too
 record Shows (n : ℕ) (p : Part) (Q : Type 0) : Type 0 where
@@ -96,7 +96,7 @@ module _ {n : ℕ} where
     expr (paren at e) = at_place (between (expr e))
     expr (array at is final) = at_place (between (items is final))
     expr (object at ps final) = at_place (between (properties ps final))
-    expr (function at i params body) = at_place (then token (both (maybe_ident i) (both (between (idents params)) (between (statements body)))))
+    expr (function at f) = at_place (then token (function_shows f))
     expr (member at e text) = at_place (first_of (expr e) (then token any_name))
     expr (index at e i) = at_place (both (expr e) (between (expr i)))
     expr (new_with at e args) = at_place (then token (both (expr e) (between (exprs args))))
@@ -127,8 +127,11 @@ module _ {n : ℕ} where
 
     property : (p : Property) → Shows n (ReadsProperty p) (PropertyWithin n p)
     property (value at k e) = at_place (then (key k) (then token (expr e)))
-    property (getter at k body) = at_place (then token (then (key k) (then (between no_token) (between (statements body)))))
-    property (setter at k param body) = at_place (then token (then (key k) (both (between (ident param)) (between (statements body)))))
+    property (getter at k f) = at_place (then token (then (key k) (function_shows f)))
+    property (setter at k f) = at_place (then token (then (key k) (function_shows f)))
+
+    function_shows : (f : Function) → Shows n (ReadsFunction f) (FunctionWithin n f)
+    function_shows (function_of at i params body) = both (maybe_ident i) (both (between (idents params)) (between (statements body)))
 
     properties : (ps : Properties) (final : Bool) → Shows n (ReadsProperties ps final) (PropertiesWithin n ps)
     properties no_properties final = no_token
@@ -181,7 +184,7 @@ module _ {n : ℕ} where
     statement (try_finally at b final) = at_place (then token (both (in_braces b) (then token (in_braces final))))
     statement (try_both at b i handler final) = at_place (then token (both (in_braces b) (both (then token (both (between (ident i)) (in_braces handler))) (then token (in_braces final)))))
     statement (debugger at semi) = alone (then token (end None semi))
-    statement (function_declaration at i params body) = at_place (then token (both (ident i) (both (between (idents params)) (between (statements body)))))
+    statement (function_declaration at f) = at_place (then token (function_shows f))
 
     statements : (ss : Statements) → Shows n (ReadsStatements ss) (StatementsWithin n ss)
     statements no_statements = no_token

@@ -10,7 +10,7 @@ use Rattle.flow_text.specs.Written.{escaped}
 use Rattle.flow_text.proofs.Laws.{no_line_end, ascii_bytes}
 use Rattle.origin_labels.specs.Label.{Label}
 use Rattle.flow_policy.specs.declared.policy.Channel.{Channel}
-use Rattle.flow_policy.specs.Names.{is_name}
+use Rattle.flow_lists.specs.Names.{is_name}
 use Rattle.flow_policy.specs.Policies.{Tables, IsPolicy, channel_named}
 use Rattle.flow_policy.specs.Observed.{view_of, sees_line, sees_channel}
 use Rattle.flow_policy.proofs.ViewLaws.{view_of-append, view_of-nil, first_word-append, name_parts, named_is, IsPlain}

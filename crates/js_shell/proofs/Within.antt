@@ -2,7 +2,7 @@
 use Rattle.std.proofs.Common.{◌≡◌, ℕ, ◌+◌, ◌≤◌, List, [], ◌∷◌, ◌++◌, length, Option, Some, None, ap, ◌∙◌, arith}
 use Rattle.std.proofs.lemmas.List.{length-append}
 use Rattle.js_ast.specs.declared.token.Token.{Token}
-use Rattle.js_ast.specs.Trees.{Ident, Expr, name, number, string, this, null, boolean, paren, array, object, function, member, index, new_with, new_bare, call, postfix, unary, binary, conditional, assign, comma, Exprs, no_exprs, more_exprs, MaybeExpr, absent, present, Items, no_items, hole, item, Property, value, getter, setter, Properties, no_properties, more_properties, Declarations, one_declaration, more_declarations, First, first_expr, first_var, Target, target_expr, target_var, Clauses, no_clauses, case, default, Block, block_of, Statement, block, var, empty, expression, if_then, if_else, do_while, while, for, for_in, continue, break, return, throw, switch, labelled, try_catch, try_finally, try_both, debugger, function_declaration, Statements, no_statements, more_statements}
+use Rattle.js_ast.specs.Trees.{Ident, Expr, name, number, string, this, null, boolean, paren, array, object, function, member, index, new_with, new_bare, call, postfix, unary, binary, conditional, assign, comma, Exprs, no_exprs, more_exprs, MaybeExpr, absent, present, Items, no_items, hole, item, Property, value, getter, setter, Properties, no_properties, more_properties, Declarations, one_declaration, more_declarations, First, first_expr, first_var, Target, target_expr, target_var, Clauses, no_clauses, case, default, Block, block_of, Statement, block, var, empty, expression, if_then, if_else, do_while, while, for, for_in, continue, break, return, throw, switch, labelled, try_catch, try_finally, try_both, debugger, function_declaration, Statements, no_statements, more_statements, Function, function_of}
 use Rattle.js_scan.specs.Elements.{spelled}
 use Rattle.js_scan.specs.Tokens.{start, past, after, Splits, nothing, separator, lexeme, IsTokens}
 
@@ -50,7 +50,7 @@ abbrev mutual
   ExprWithin n (paren at e) = (at ≤ n) × ExprWithin n e
   ExprWithin n (array at items final) = (at ≤ n) × ItemsWithin n items
   ExprWithin n (object at props final) = (at ≤ n) × PropertiesWithin n props
-  ExprWithin n (function at ident params body) = (at ≤ n) × (MaybeIdentWithin n ident × (IdentsWithin n params × StatementsWithin n body))
+  ExprWithin n (function at f) = (at ≤ n) × FunctionWithin n f
   ExprWithin n (member at e text) = (at ≤ n) × ExprWithin n e
   ExprWithin n (index at e i) = (at ≤ n) × (ExprWithin n e × ExprWithin n i)
   ExprWithin n (new_with at e args) = (at ≤ n) × (ExprWithin n e × ExprsWithin n args)
@@ -78,8 +78,11 @@ abbrev mutual
 
   pub PropertyWithin : ℕ → Property → Type 0
   PropertyWithin n (value at k e) = (at ≤ n) × ExprWithin n e
-  PropertyWithin n (getter at k body) = (at ≤ n) × StatementsWithin n body
-  PropertyWithin n (setter at k param body) = (at ≤ n) × (IdentWithin n param × StatementsWithin n body)
+  PropertyWithin n (getter at k f) = (at ≤ n) × FunctionWithin n f
+  PropertyWithin n (setter at k f) = (at ≤ n) × FunctionWithin n f
+
+  pub FunctionWithin : ℕ → Function → Type 0
+  FunctionWithin n (function_of at ident params body) = MaybeIdentWithin n ident × (IdentsWithin n params × StatementsWithin n body)
 
   pub PropertiesWithin : ℕ → Properties → Type 0
   PropertiesWithin n no_properties = Unit {0}
@@ -126,7 +129,7 @@ abbrev mutual
   StatementWithin n (try_finally at b final) = (at ≤ n) × (BlockWithin n b × BlockWithin n final)
   StatementWithin n (try_both at b i handler final) = (at ≤ n) × (BlockWithin n b × ((IdentWithin n i × BlockWithin n handler) × BlockWithin n final))
   StatementWithin n (debugger at semi) = at ≤ n
-  StatementWithin n (function_declaration at i params body) = (at ≤ n) × (IdentWithin n i × (IdentsWithin n params × StatementsWithin n body))
+  StatementWithin n (function_declaration at f) = (at ≤ n) × FunctionWithin n f
 
   pub StatementsWithin : ℕ → Statements → Type 0
   StatementsWithin n no_statements = Unit {0}

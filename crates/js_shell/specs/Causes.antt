@@ -8,7 +8,7 @@ use Rattle.flow_policy.specs.declared.fault.InputKind.{InputKind}
 use Rattle.flow_policy.specs.Policies.{Tables}
 use Rattle.js_shell.specs.declared.status.Status.{Status}
 use Rattle.js_shell.specs.declared.ending.Leaving.{Leaving}
-use Rattle.js_shell.specs.declared.ending.Rule.{Rule}
+use Rattle.js_shell.specs.declared.ending.ChannelRule.{ChannelRule}
 use Rattle.js_shell.specs.declared.ending.Ending.TheVariants.{Done, Left, Stopped}
 use Rattle.js_shell.specs.Scripts.{Statement}
 use Rattle.js_shell.specs.Sources.{SourceFault}
@@ -38,7 +38,7 @@ IsDone words files = ((task : Task) × IsAsked words files task × ((tracked_run
 
 -- a rule that is broken stops the labelled run
 abbrev pub IsStopped : List (List ℕ) → Files → Type 0
-IsStopped words files = (task : Task) × (rule : Rule) × (need : Label) × (have : Label) × IsAsked words files task
+IsStopped words files = (task : Task) × (rule : ChannelRule) × (need : Label) × (have : Label) × IsAsked words files task
     × ((tracked_run task).ending ≡ Stopped rule need have) × (within need have ≡ false)
 
 -- both meanings leave by one name

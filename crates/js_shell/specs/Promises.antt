@@ -7,7 +7,7 @@ use Rattle.flow_policy.specs.Inputs.{Given, IsGivenTo}
 use Rattle.flow_policy.specs.Observed.{Agree, view_of}
 use Rattle.js_shell.specs.declared.status.Status.{Status}
 use Rattle.js_shell.specs.declared.status.Status.TheVariants as status
-use Rattle.js_shell.specs.declared.ending.Rule.{Rule}
+use Rattle.js_shell.specs.declared.ending.ChannelRule.{ChannelRule}
 use Rattle.js_shell.specs.declared.ending.Ending.TheVariants.{Done, Stopped}
 use Rattle.js_ast.specs.Trees.{Statements}
 use Rattle.js_shell.specs.Scripts.{Statement}
@@ -30,7 +30,7 @@ IsIsolating = (statements : List Statement) (tables : Tables) (observer : Label)
 -- how the labelled run stands to the plain one: the same, or stopped by a rule that is broken, with a front of its lines
 pub data Erases (labelled : tracked.Run) (unlabelled : plain.Run) : Type 0 where
   goes_on : erased labelled ≡ unlabelled → Erases labelled unlabelled
-  stops : (rule : Rule) (need have : Label) (rest : List Line) → labelled.ending ≡ Stopped rule need have → within need have ≡ false
+  stops : (rule : ChannelRule) (need have : Label) (rest : List Line) → labelled.ending ≡ Stopped rule need have → within need have ≡ false
       → unlabelled.lines ≡ map erased_line labelled.lines ++ rest → Erases labelled unlabelled
 
 -- erasure: without its labels a labelled run is the plain one, up to a stop
@@ -39,7 +39,7 @@ IsErasing = (statements : List Statement) (tables : Tables) (given : Given) → 
 
 -- the plain meaning knows no stops
 abbrev pub NeverStops : Type 0
-NeverStops = (statements : List Statement) (tables : Tables) (given : Given) (rule : Rule) (need have : Label)
+NeverStops = (statements : List Statement) (tables : Tables) (given : Given) (rule : ChannelRule) (need have : Label)
     → (plain.plain statements tables given).ending ≡ Stopped rule need have → ⊥
 
 -- bytes are one program at most and one script at most
@@ -94,7 +94,7 @@ IsPlain words result files out = result ≡ status.Done → (task : Task) → Is
 
 -- a stopped run: the rule that it names is broken, and its lines are a front of those of unlabelled ECMAScript
 pub record IsStop (task : Task) (out : List ℕ) : Type 0 where
-  pub rule : Rule
+  pub rule : ChannelRule
   pub need : Label
   pub have : Label
   pub lines : List Line

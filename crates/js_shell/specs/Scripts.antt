@@ -4,8 +4,7 @@ use Rattle.std.specs.Prelude.{ℕ, List, [], ◌∷◌, ◌++◌, map, Result, O
 use Rattle.std.specs.Str.{bytes_eq}
 use Rattle.js_ast.specs.declared.operators.BinaryOperator.TheVariants as binary_operator
 use Rattle.js_ast.specs.Trees as trees
-use Rattle.js_ast.specs.Trees.{Expr, name, string, call, binary, Exprs, no_exprs, more_exprs, Block, block_of, block, var, empty, expression, if_then, if_else, do_while, while, for, for_in, continue, break, return, throw, switch, labelled, try_catch, try_finally, try_both, debugger, function_declaration, Statements, no_statements, more_statements}
-use Rattle.js_ast.specs.ExpressionParsing.{at_of}
+use Rattle.js_ast.specs.Trees.{Expr, name, string, call, binary, Exprs, no_exprs, more_exprs, Block, block_of, block, var, empty, expression, if_then, if_else, do_while, while, for, for_in, continue, break, return, throw, switch, labelled, try_catch, try_finally, try_both, debugger, function_declaration, Statements, no_statements, more_statements, at_of}
 use Rattle.js_shell.specs.declared.script.Term.{Term}
 use Rattle.js_shell.specs.declared.script.Term.TheVariants.{Literal, Read}
 use Rattle.js_shell.specs.declared.script.Print.{Print}
@@ -54,7 +53,7 @@ place_of_statement (try_catch at b ident handler) = at
 place_of_statement (try_finally at b final) = at
 place_of_statement (try_both at b ident handler final) = at
 place_of_statement (debugger at semi) = at
-place_of_statement (function_declaration at ident params body) = at
+place_of_statement (function_declaration at f) = at
 
 -- the value of a string literal
 unfoldable pub literal_of : Expr → Result (List ℕ) ℕ

@@ -10,8 +10,8 @@ use Rattle.js_shell.specs.declared.ending.Value.{Value}
 use Rattle.js_shell.specs.declared.ending.Value.TheVariants.{String}
 use Rattle.js_shell.specs.declared.ending.Leaving.{Leaving}
 use Rattle.js_shell.specs.declared.ending.Leaving.TheVariants as leaving
-use Rattle.js_shell.specs.declared.ending.Rule.{Rule}
-use Rattle.js_shell.specs.declared.ending.Rule.TheVariants.{W11, W12}
+use Rattle.js_shell.specs.declared.ending.ChannelRule.{ChannelRule}
+use Rattle.js_shell.specs.declared.ending.ChannelRule.TheVariants.{W11, W12}
 use Rattle.js_shell.specs.declared.ending.Ending.{Ending}
 use Rattle.js_shell.specs.declared.ending.Ending.TheVariants.{Done, Left, Stopped}
 use Rattle.js_shell.specs.Scripts.{Statement}
@@ -44,11 +44,11 @@ abbrev pub literal_label : Label
 literal_label = bottom
 
 -- goes on where need is included in have, and else stops the run by the rule
-unfoldable pub guard : {X : Type 0} → Bool → Rule → Label → Label → From State X → From State X
+unfoldable pub guard : {X : Type 0} → Bool → ChannelRule → Label → Label → From State X → From State X
 guard true rule need have go_on s = go_on s
 guard false rule need have go_on s = Ends (Stopped rule need have) s
 
-abbrev pub under : {X : Type 0} → Rule → Label → Label → From State X → From State X
+abbrev pub under : {X : Type 0} → ChannelRule → Label → Label → From State X → From State X
 under rule need have go_on = guard (within need have) rule need have go_on
 
 -- the label of the channel with this number

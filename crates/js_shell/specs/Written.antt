@@ -7,8 +7,8 @@ use Rattle.origin_labels.specs.Label.{Label}
 use Rattle.flow_policy.specs.Policies.{Tables}
 use Rattle.js_shell.specs.declared.ending.Leaving.{Leaving}
 use Rattle.js_shell.specs.declared.ending.Leaving.TheVariants as leaving
-use Rattle.js_shell.specs.declared.ending.Rule.{Rule}
-use Rattle.js_shell.specs.declared.ending.Rule.TheVariants.{W11, W12}
+use Rattle.js_shell.specs.declared.ending.ChannelRule.{ChannelRule}
+use Rattle.js_shell.specs.declared.ending.ChannelRule.TheVariants.{W11, W12}
 use Rattle.js_shell.specs.declared.ending.Ending.{Ending}
 use Rattle.js_shell.specs.declared.ending.Ending.TheVariants.{Done, Left, Stopped}
 use Rattle.js_shell.specs.Runs.{Line}
@@ -34,7 +34,7 @@ leaving_name leaving.Number = codes "number"
 leaving_name leaving.String = codes "string"
 leaving_name leaving.Channel = codes "channel"
 
-abbrev pub rule_name : Rule → List ℕ
+abbrev pub rule_name : ChannelRule → List ℕ
 rule_name W11 = codes "W11"
 rule_name W12 = codes "W12"
 

@@ -21,9 +21,9 @@ pub(crate) enum Leaving {
     Channel,
 }
 
-/// The flow rules that there are.
+/// The flow rules on channels.
 #[derive(Clone, Copy)]
-pub(crate) enum Rule {
+pub(crate) enum ChannelRule {
     /// Reading a channel.
     W11,
     /// Printing on a channel.
@@ -36,7 +36,7 @@ pub(crate) enum Ending {
     Done,
     Left(Leaving),
     Stopped {
-        rule: Rule,
+        rule: ChannelRule,
         need: OriginList,
         have: OriginList,
     },

@@ -8,7 +8,7 @@ ghost use Rattle.js_shell.specs.declared.ending.Ending.TheVariants.{Stopped};
 ghost use Rattle.js_shell.specs.Written.{line_bytes, leaving_name, rule_name, list_bytes, report};
 ghost use Rattle.js_shell.specs.Reports.{AreDeclared, HasDeclared};
 
-use crate::ending::{Ending, Leaving, Rule};
+use crate::ending::{ChannelRule, Ending, Leaving};
 use flow_policy::Policy;
 use flow_text::{OutOfMemory, Text};
 use origin_labels::{Labels, OriginList, Origins};
@@ -58,7 +58,7 @@ fn left_bytes(alloc: Global, name: Leaving) -> Result<Vec<u8>, OutOfMemory>
 fn stopped_bytes(
     alloc: Global,
     policy: &Policy,
-    rule: Rule,
+    rule: ChannelRule,
     need: &OriginList,
     have: &OriginList,
 ) -> Result<Vec<u8>, OutOfMemory>
@@ -86,12 +86,12 @@ fn leaving_name(name: Leaving) -> &'static [u8]
     }
 }
 
-fn rule_name(rule: Rule) -> &'static [u8]
+fn rule_name(rule: ChannelRule) -> &'static [u8]
     ensures { result.now ≡ rule_name rule }
 {
     match rule {
-        Rule::W11 => b"W11",
-        Rule::W12 => b"W12",
+        ChannelRule::W11 => b"W11",
+        ChannelRule::W12 => b"W12",
     }
 }
 

@@ -11,7 +11,7 @@ ghost use Rattle.js_shell.specs.Tracked.{channel_label, print, statement};
 ghost use Rattle.js_shell.specs.Evaluated.{Steps, Holds, Prints, PrintsValue, EndsDeclared, labelled, value_of};
 ghost use Rattle.js_shell.specs.Reports.{HasDeclared};
 
-use crate::ending::{Ending, Labelled, Leaving, Rule, Step};
+use crate::ending::{ChannelRule, Ending, Labelled, Leaving, Step};
 use crate::evaluator::{number_of_channel, sum_value, term_value};
 use crate::report::{copied, origins_in};
 use crate::script::Print;
@@ -120,13 +120,13 @@ fn stopped<L: Labels>(
     requires channel { i < length policy.now.outputs }
     requires made { L.made labels.now need }
     requires declared { within (L.meaning labels.now need) (range_with_len 0 (length policy.now.origins)) ≡ true }
-    ensures stop { IfOk result (λ ending. ending ≡ Ending.Stopped Rule.W12 (L.meaning labels.now need) (channel_label policy.now.outputs i)) }
+    ensures stop { IfOk result (λ ending. ending ≡ Ending.Stopped ChannelRule.W12 (L.meaning labels.now need) (channel_label policy.now.outputs i)) }
     ensures declared { IfOk result (HasDeclared policy.now) }
 {
     let need = origins_in(alloc, labels, need, policy.origins().len())?;
     let have = copied(alloc, &policy.outputs()[i].label)?;
     Ok(Ending::Stopped {
-        rule: Rule::W12,
+        rule: ChannelRule::W12,
         need,
         have,
     })

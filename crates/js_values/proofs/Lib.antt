@@ -1,3 +1,3 @@
 pub mod ChainLaws
-mod IndexLaws
+pub mod IndexLaws
 pub mod ReadingLaws

@@ -76,6 +76,13 @@ fn join_of_a_list(rt: HostRuntime) -> Result<(), Fail> {
 }
 
 #[test]
+fn a_list_of_one_origin(rt: HostRuntime) {
+    let mut list = OriginList::new(rt.alloc());
+    assert!(rt; list.push(3).is_ok());
+    assert_eq!(rt; list.items(), [3].as_slice());
+}
+
+#[test]
 fn names_by_number(rt: HostRuntime) -> Result<(), Fail> {
     let mut origins = Origins::new(rt.alloc());
     let name = text_of(rt.alloc(), 65).ok().ok_or("memory")?;

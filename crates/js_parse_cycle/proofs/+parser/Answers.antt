@@ -1,12 +1,12 @@
 use Rattle.std.proofs.Common.{◌≡◌, ◌-◌, rules, arith, max}
 use Rattle.std.proofs.lemmas.Result.{err_from_is_err_and}
 use Rattle.js_ast.specs.Nodes.{nodes_of}
-use Rattle.js_ast.specs.Parsing.{parsers}
-use Rattle.js_ast.specs.ExpressionParsing.{climb_step, argument, item_turn, property_turn, operand_step}
-use Rattle.js_ast.specs.StatementParsing.{declaration_step, clause_step, try_rest, handler_by, statements_step}
+use Rattle.js_list_parser.specs.Parsing.{parsers}
+use Rattle.js_list_parser.specs.ExpressionParsing.{climb_step, argument, item_turn, property_turn, operand_step}
+use Rattle.js_list_parser.specs.StatementParsing.{declaration_step, clause_step, try_rest, handler_by, statements_step}
 use Rattle.js_ast.specs.Views.{view_expr, view_exprs, view_items, view_properties, view_declarations, view_clauses, view_stmts}
-use Rattle.js_ast.proofs.ExpressionTurns.{climb_turns, argument_turns, item_turns, property_turns, operand_turns}
-use Rattle.js_ast.proofs.Remaining.{no_longer}
+use Rattle.js_list_parser.proofs.ExpressionTurns.{climb_turns, argument_turns, item_turns, property_turns, operand_turns}
+use Rattle.js_list_parser.proofs.Remaining.{no_longer}
 use Rattle.js_parse_parts.proofs.Loops.{loop_on, loop_done, loop_fails, loop_shrinks}
 use Rattle.js_parse_parts.proofs.StatementTurns.{declaration_turns, clause_turns, statements_turns}
 use Rattle.js_parse_cycle.proofs.Layers.{inner_is}

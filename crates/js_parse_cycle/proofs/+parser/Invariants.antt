@@ -1,10 +1,10 @@
 use Rattle.std.proofs.Common.{◌≡◌, suc, length, ◌+◌, ◌-◌, ◌*◌}
 use Rattle.js_ast.specs.Depth.{depth, depth_exprs, depth_items, depth_properties, depth_declarations, depth_clauses, depth_statements}
 use Rattle.js_ast.specs.Nodes.{nodes_of}
-use Rattle.js_ast.specs.Parsing.{parsers}
-use Rattle.js_ast.specs.Reading.{loop}
-use Rattle.js_ast.specs.ExpressionParsing.{climb_step, argument, item_turn, property_turn, operand_step}
-use Rattle.js_ast.specs.StatementParsing.{declaration_step, declarations_from, clause_step, statements_step}
+use Rattle.js_list_parser.specs.Parsing.{parsers}
+use Rattle.js_list_parser.specs.Reading.{loop}
+use Rattle.js_list_parser.specs.ExpressionParsing.{climb_step, argument, item_turn, property_turn, operand_step}
+use Rattle.js_list_parser.specs.StatementParsing.{declaration_step, declarations_from, clause_step, statements_step}
 use Rattle.js_ast.specs.Trees.{no_items, no_properties, no_clauses}
 use Rattle.js_ast.specs.Views.{view_ident, view_expr, view_exprs, view_items, view_properties, view_declarations, view_clauses, view_stmts}
 use Rattle.js_parse_parts.specs.Answers.{Deep}

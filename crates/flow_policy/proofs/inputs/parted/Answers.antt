@@ -1,6 +1,6 @@
 use Rattle.std.proofs.Common.{arith, not, ℕ}
 use Rattle.std.proofs.lemmas.List.Sums.{prefix_len-le-length}
-use Rattle.flow_policy.specs.Names.{is_space}
+use Rattle.flow_policy.specs.Words.{is_space}
 use Rattle.flow_policy.proofs.inputs.parted.Goals as goal
 
 pub slice-requires-clause-within : goal.slice-requires-clause-within

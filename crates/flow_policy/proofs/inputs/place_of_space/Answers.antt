@@ -1,7 +1,7 @@
 use Rattle.std.proofs.Common.{rules, tests}
 use Rattle.std.proofs.lemmas.Iterator.{YieldsList-from_slice}
 use Rattle.std.proofs.lemmas.Iterator.Search.{position_from_yields_List}
-use Rattle.flow_policy.specs.Names.{is_space}
+use Rattle.flow_policy.specs.Words.{is_space}
 use Rattle.flow_policy.proofs.Cuts.{position-unwrap}
 use Rattle.flow_policy.proofs.inputs.place_of_space.Goals as goal
 

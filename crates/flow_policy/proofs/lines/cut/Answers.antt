@@ -1,6 +1,6 @@
 use Rattle.std.proofs.Common.{ℕ, ◌==◌, sym}
 use Rattle.std.proofs.lemmas.List.{take_rest}
-use Rattle.flow_policy.proofs.Cuts.{cut_none, cut_at}
+use Rattle.flow_lists.proofs.Cuts.{cut_none, cut_at}
 use Rattle.flow_policy.proofs.lines.cut.Goals as goal
 
 pub returns-in_err-at-clause-parts : goal.returns-in_err-at-clause-parts

@@ -1,7 +1,7 @@
 use Rattle.std.proofs.lemmas.Result.{err_from_is_err_and}
 use Rattle.std.proofs.Common.{arith, subst, List, ℕ, [], sym}
 use Rattle.std.specs.List.{slice_split}
-use Rattle.flow_policy.specs.Lists.{is_comma}
+use Rattle.flow_lists.specs.Lists.{is_comma}
 use Rattle.flow_policy.proofs.ListedLaws.{AreNumbered, AreNumbered-more, numbers_done, numbers_none, number_fails}
 use Rattle.flow_policy.proofs.listed.numbers_in.Goals as goal
 

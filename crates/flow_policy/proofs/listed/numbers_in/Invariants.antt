@@ -1,6 +1,6 @@
 use Rattle.std.proofs.Common.{length}
 use Rattle.std.specs.List.{slice_split}
-use Rattle.flow_policy.specs.Lists.{is_comma}
+use Rattle.flow_lists.specs.Lists.{is_comma}
 use Rattle.flow_policy.proofs.ListedLaws.{AreNumbered}
 use Rattle.flow_policy.proofs.listed.numbers_in.Given as goal
 

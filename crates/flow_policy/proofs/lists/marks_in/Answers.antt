@@ -1,7 +1,7 @@
 use Rattle.std.proofs.lemmas.Result.{err_from_is_err_and}
 use Rattle.std.proofs.Common.{subst, List, ℕ, replicate, false, refl, sym, arith, ◌<◌, []}
 use Rattle.std.specs.List.{slice_split}
-use Rattle.flow_policy.specs.Lists.{is_comma}
+use Rattle.flow_lists.specs.Lists.{is_comma}
 use Rattle.flow_policy.proofs.Marks.{AreMarked, AreMarked-start, AreMarked-more, unmarked, marks_none, marks_done, place_of-has, mark_fails}
 use Rattle.flow_policy.proofs.lists.marks_in.Goals as goal
 

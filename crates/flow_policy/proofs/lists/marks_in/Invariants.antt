@@ -1,6 +1,6 @@
 use Rattle.std.proofs.Common.{length}
 use Rattle.std.specs.List.{slice_split}
-use Rattle.flow_policy.specs.Lists.{is_comma}
+use Rattle.flow_lists.specs.Lists.{is_comma}
 use Rattle.flow_policy.proofs.Marks.{AreMarked}
 use Rattle.flow_policy.proofs.lists.marks_in.Given as goal
 

@@ -1,5 +1,5 @@
 use Rattle.std.proofs.Common.{◌≡◌, length}
-use Rattle.flow_policy.specs.Names.{words_of}
+use Rattle.flow_policy.specs.Words.{words_of}
 use Rattle.flow_policy.proofs.words.next_word.Given as goal
 
 abbrev pub invariant-loop-word : goal.invariant-loop-word

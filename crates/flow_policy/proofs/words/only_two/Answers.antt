@@ -1,5 +1,5 @@
 use Rattle.std.proofs.Common.{sym}
-use Rattle.flow_policy.specs.Names.{words_of}
+use Rattle.flow_policy.specs.Words.{words_of}
 use Rattle.flow_policy.proofs.Cuts.{only_two-none, only_two-not, only_two-two}
 use Rattle.flow_policy.proofs.words.only_two.Goals as goal
 

@@ -1,5 +1,5 @@
 use Rattle.std.proofs.Common.{sym}
-use Rattle.flow_policy.specs.Names.{words_of}
+use Rattle.flow_policy.specs.Words.{words_of}
 use Rattle.flow_policy.proofs.Cuts.{only_word-none, only_word-one, only_word-more}
 use Rattle.flow_policy.proofs.words.only_word.Goals as goal
 

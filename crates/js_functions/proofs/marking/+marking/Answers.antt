@@ -1,7 +1,7 @@
 use Rattle.std.proofs.Common.{ap, ◌∙◌, ◌∷◌, get_or, Ok}
 use Rattle.js_ast.specs.Trees.{more_exprs, more_properties, more_statements}
 use Rattle.js_ast.specs.Views.{view_exprs, view_items, view_properties, view_other_declarations, view_clauses, view_stmts}
-use Rattle.js_functions.specs.Functions.{functions_of_exprs, functions_of_items, functions_of_properties, functions_of_others, functions_of_clauses, functions_of_statements, after}
+use Rattle.js_ast.specs.Functions.{functions_of_exprs, functions_of_items, functions_of_properties, functions_of_others, functions_of_clauses, functions_of_statements, after}
 use Rattle.js_functions.proofs.Loops.{goes_on, ends}
 use Rattle.js_functions.proofs.ListLaws.{exprs_row, items_row, same_item, properties_row, others_row, clauses_row, same_clause, statements_row}
 use Rattle.js_functions.proofs.marking.+marking.Goals as goal

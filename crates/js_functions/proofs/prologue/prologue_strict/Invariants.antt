@@ -1,6 +1,6 @@
 use Rattle.std.proofs.Common.{◌≡◌, length}
 use Rattle.js_ast.specs.Views.{view_stmts}
-use Rattle.js_functions.specs.Functions.{prologue_strict}
+use Rattle.js_ast.specs.Functions.{prologue_strict}
 use Rattle.js_functions.proofs.prologue.prologue_strict.Given as goal
 
 abbrev pub invariant-loop-rest : goal.invariant-loop-rest

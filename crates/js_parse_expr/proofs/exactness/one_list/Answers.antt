@@ -1,5 +1,5 @@
-use Rattle.js_ast.specs.Parsing.{list_at}
-use Rattle.js_ast.specs.Refusals.{a_list}
+use Rattle.js_list_parser.specs.Parsing.{list_at}
+use Rattle.js_list_parser.specs.Refusals.{a_list}
 use Rattle.js_parse_expr.specs.Parts.{bad_directive, depths_left}
 use Rattle.js_parse_expr.proofs.PartLaws.{of_lists, some_left}
 use Rattle.js_parse_expr.proofs.ParsedLaws as laws

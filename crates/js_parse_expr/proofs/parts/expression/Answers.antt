@@ -1,7 +1,7 @@
 use Rattle.std.proofs.Common.{not}
 use Rattle.js_ast.specs.Views.{view_expr}
-use Rattle.js_ast.specs.Parsing.{longest_at}
-use Rattle.js_ast.specs.Refusals.{an_expression}
+use Rattle.js_list_parser.specs.Parsing.{longest_at}
+use Rattle.js_list_parser.specs.Refusals.{an_expression}
 use Rattle.js_parse_expr.specs.Parts.{bad_directive_in_expr, depths_left}
 use Rattle.js_parse_expr.proofs.PartLaws.{of_expressions}
 use Rattle.js_parse_expr.proofs.ParsedLaws as laws

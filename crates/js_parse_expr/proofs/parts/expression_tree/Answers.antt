@@ -1,7 +1,7 @@
 use Rattle.std.proofs.Common.{inr, not}
 use Rattle.js_ast.specs.Views.{view_expr}
-use Rattle.js_ast.specs.Parsing.{longest_at}
-use Rattle.js_ast.specs.Refusals.{an_expression}
+use Rattle.js_list_parser.specs.Parsing.{longest_at}
+use Rattle.js_list_parser.specs.Refusals.{an_expression}
 use Rattle.js_parse_parts.specs.Answers.{fault_of}
 use Rattle.js_parse_expr.specs.Parts.{depths_left}
 use Rattle.js_parse_expr.proofs.PartLaws.{of_expressions, some_left}

@@ -1,8 +1,8 @@
 use Rattle.std.proofs.Common.{inr}
 use Rattle.js_ast.specs.Nodes.{nodes_of}
 use Rattle.js_ast.specs.Views.{view_stmts}
-use Rattle.js_ast.specs.Parsing.{list_at}
-use Rattle.js_ast.specs.Refusals.{a_list}
+use Rattle.js_list_parser.specs.Parsing.{list_at}
+use Rattle.js_list_parser.specs.Refusals.{a_list}
 use Rattle.js_parse_parts.specs.Answers.{fault_of}
 use Rattle.js_parse_expr.specs.Parts.{depths_left}
 use Rattle.js_parse_expr.proofs.PartLaws.{of_lists, some_left}

@@ -1,8 +1,8 @@
 use Rattle.std.proofs.lemmas.Result.{err_from_is_err_and}
 use Rattle.js_ast.specs.Nodes.{nodes_of}
-use Rattle.js_ast.specs.ExpressionParsing.{parameter}
+use Rattle.js_list_parser.specs.ExpressionParsing.{parameter}
 use Rattle.js_ast.specs.Views.{view_idents}
-use Rattle.js_ast.proofs.ExpressionTurns.{parameter_turns}
+use Rattle.js_list_parser.proofs.ExpressionTurns.{parameter_turns}
 use Rattle.js_parse_parts.proofs.Loops.{loop_on, loop_done, loop_fails, loop_shrinks}
 use Rattle.js_parse_parts.proofs.parameter_lists.more_parameters.Goals as goal
 

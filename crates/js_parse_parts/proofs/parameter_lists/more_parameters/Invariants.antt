@@ -1,7 +1,7 @@
 use Rattle.std.proofs.Common.{◌≡◌, length}
 use Rattle.js_ast.specs.Nodes.{nodes_of}
-use Rattle.js_ast.specs.Reading.{loop}
-use Rattle.js_ast.specs.ExpressionParsing.{parameter}
+use Rattle.js_list_parser.specs.Reading.{loop}
+use Rattle.js_list_parser.specs.ExpressionParsing.{parameter}
 use Rattle.js_ast.specs.Views.{view_idents}
 use Rattle.js_parse_parts.proofs.parameter_lists.more_parameters.Given as goal
 

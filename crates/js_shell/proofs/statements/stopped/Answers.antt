@@ -3,7 +3,7 @@ use Rattle.std.specs.List.{All}
 use Rattle.origin_labels.specs.Label.{Label}
 use Rattle.flow_policy.specs.declared.policy.Channel.{Channel}
 use Rattle.js_shell.specs.declared.ending.Ending.TheVariants.{Stopped}
-use Rattle.js_shell.specs.declared.ending.Rule.TheVariants.{W12}
+use Rattle.js_shell.specs.declared.ending.ChannelRule.TheVariants.{W12}
 use Rattle.js_shell.proofs.Declared.{label_here, label_formed, within_declared}
 use Rattle.js_shell.proofs.statements.stopped.Goals as goal
 

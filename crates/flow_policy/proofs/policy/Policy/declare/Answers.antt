@@ -1,6 +1,6 @@
 use Rattle.std.proofs.Common.{sym, ◌≡◌, true, false, eq-eqb, ne_eqb}
 use Rattle.std.specs.Prelude.{slice_index}
-use Rattle.flow_policy.specs.Names.{words_of}
+use Rattle.flow_policy.specs.Words.{words_of}
 use Rattle.flow_policy.specs.Policies.{is_comment}
 use Rattle.flow_policy.proofs.PolicyLaws.{words_none, words_comment, words_origin, words_in, words_out, words_keyword}
 use Rattle.flow_policy.proofs.policy.Policy.declare.Goals as goal

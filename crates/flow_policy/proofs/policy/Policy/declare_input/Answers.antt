@@ -1,6 +1,6 @@
 use Rattle.std.proofs.Common.{sym}
 use Rattle.std.proofs.lemmas.Result.{err_from_is_err_and}
-use Rattle.flow_policy.specs.Names.{words_of}
+use Rattle.flow_policy.specs.Words.{words_of}
 use Rattle.flow_policy.proofs.PolicyLaws.{after_in-words, input_fails, input_declared, IsPolicy-input}
 use Rattle.flow_policy.proofs.policy.Policy.declare_input.Goals as goal
 

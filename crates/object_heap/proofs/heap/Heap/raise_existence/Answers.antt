@@ -1,0 +1,27 @@
+use Rattle.object_heap.specs.Acts.{raise_own_existence}
+use Rattle.object_heap.proofs.HeapLaws.{lent, heap_does, heap_refuses, IsFormed-set, present_within, HasHeap-set}
+use Rattle.std.proofs.Common.{ap, ◌∙◌, List}
+use Rattle.std.specs.List.{slice_get}
+use Rattle.js_values.specs.Objects.{Object}
+use Rattle.object_heap.proofs.heap.Heap.raise_existence.Goals as goal
+
+pub returns-in_err-raise_existence-clause-acts : goal.returns-in_err-raise_existence-clause-acts
+returns-in_err-raise_existence-clause-acts g c =
+    let here = lent c.self.inside.objects.items c.args.self.now c.args.o.0 c.index_mut.result.now c.self.view_is (present_within c.args.self.now c.args.key.now c.args.o.0 c.requires.present) c.index_mut.ensures.value in
+    heap_refuses g.L.Labels.made g.L.Labels.meaning c.raise_existence.new.labels (λ reading. raise_own_existence c.args.key.now (reading c.args.need) (reading c.args.label)) c.self.inside.objects.items c.args.self.now c.self.view_is c.args.o.0 c.index_mut.result.now here c.raise_existence.new.self c.raise_existence.result c.from_residual.result c.in_err-raise_existence.field-0.0 c.in_err-raise_existence.was c.from_residual.ensures.1 c.raise_existence.ensures.acts
+
+pub returns-in_err-raise_existence-clause-belongs : goal.returns-in_err-raise_existence-clause-belongs
+returns-in_err-raise_existence-clause-belongs g c = HasHeap-set g.L.Labels.made g.L.Labels.meaning g.L.Labels.room g.L.Labels.firm c.args.labels.now c.raise_existence.new.labels c.self.inside.objects.items c.args.self.now c.args.o.0 c.raise_existence.new.self c.self.view_is c.raise_existence.ensures.kept c.requires.belongs c.raise_existence.ensures.belongs
+
+pub invariant_of-self-2 : goal.invariant_of-self-2
+invariant_of-self-2 g c =
+    let here = lent c.self.inside.objects.items c.args.self.now c.args.o.0 c.index_mut.result.now c.self.view_is (present_within c.args.self.now c.args.key.now c.args.o.0 c.requires.present) c.index_mut.ensures.value in
+    IsFormed-set c.self.inside.objects.items c.args.o.0 c.index_mut.result.now c.raise_existence.new.self (ap (λ (h : List (Object g.row.T.Denot)). slice_get h c.args.o.0) c.self.view_is ∙ here) c.raise_existence.ensures.leads c.self.invariant
+
+pub returns-clause-acts : goal.returns-clause-acts
+returns-clause-acts g c =
+    let here = lent c.self.inside.objects.items c.args.self.now c.args.o.0 c.index_mut.result.now c.self.view_is (present_within c.args.self.now c.args.key.now c.args.o.0 c.requires.present) c.index_mut.ensures.value in
+    heap_does g.L.Labels.made g.L.Labels.meaning c.raise_existence.new.labels (λ reading. raise_own_existence c.args.key.now (reading c.args.need) (reading c.args.label)) c.self.inside.objects.items c.args.self.now c.self.view_is c.args.o.0 c.index_mut.result.now here c.raise_existence.new.self c.raise_existence.result c.in_ok-raise_existence.was c.raise_existence.ensures.acts
+
+pub returns-clause-belongs : goal.returns-clause-belongs
+returns-clause-belongs g c = HasHeap-set g.L.Labels.made g.L.Labels.meaning g.L.Labels.room g.L.Labels.firm c.args.labels.now c.raise_existence.new.labels c.self.inside.objects.items c.args.self.now c.args.o.0 c.raise_existence.new.self c.self.view_is c.raise_existence.ensures.kept c.requires.belongs c.raise_existence.ensures.belongs

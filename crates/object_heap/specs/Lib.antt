@@ -1,0 +1,6 @@
+pub mod Acts
+pub mod Answers
+pub mod Arrays
+pub mod Formed
+pub mod Lengths
+pub mod Places

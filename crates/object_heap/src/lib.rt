@@ -1,0 +1,18 @@
+//! Objects: what they have, and the flow rules W1 to W8 on them.
+#![tactic(auto)]
+
+mod arrays;
+mod heap;
+mod laws;
+mod object;
+mod row;
+mod shape;
+
+pub use flow_frames::FlowFault as HeapFault;
+pub use heap::Heap;
+pub use js_values::Inner;
+pub use laws::{objects_belong, objects_read};
+pub use shape::Shape;
+
+#[cfg(test)]
+mod tests;

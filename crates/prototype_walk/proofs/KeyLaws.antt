@@ -1,0 +1,203 @@
+-- Enumerations, row by row and object by object, in a reading of the labels.
+use Rattle.std.proofs.Common.{◌≡◌, ℕ, zero, suc, ◌+◌, Bool, true, false, ◌&&◌, not, List, [], ◌∷◌, ◌++◌, drop, Option, Some, None, refl, sym, ap, ◌∙◌, arith, if◌then◌else◌}
+use Rattle.std.specs.List.{slice_get}
+use Rattle.std.proofs.lemmas.Option.{none-some, same_Some}
+use Rattle.std.proofs.lemmas.List.{append_assoc, append-nil}
+use Rattle.origin_labels.specs.Label.{Label, IsLabel, bottom, union}
+use Rattle.origin_labels.specs.Names.{has_name}
+use Rattle.origin_labels.specs.Stores.{IsKept}
+use Rattle.origin_labels.proofs.LabelLaws.{IsLabel-bottom, IsLabel-union, union-assoc, union-bottom, union-bottom_left}
+use Rattle.js_values.specs.declared.ids.ObjId.{ObjId}
+use Rattle.js_values.specs.declared.property.Slot.{Slot}
+use Rattle.js_values.specs.Chains.{onwards}
+use Rattle.js_values.specs.Objects.{Rows, Object, number_of, keys_of}
+use Rattle.js_values.specs.Readings.{IsReading, read_rows, read_object, read_heap}
+use Rattle.js_values.specs.Walks.{object_chain}
+use Rattle.js_values.proofs.ReadingLaws.{IsReading-earlier}
+use Rattle.object_heap.specs.declared.shape.Shape.{Shape}
+use Rattle.object_heap.specs.Formed.{IsFormed, row_in, IsShape}
+use Rattle.prototype_walk.specs.KeyLists.{fresh_keys, existences, Keys, keys_after, keys, rows_in}
+use Rattle.prototype_walk.specs.Answers.{Means, IsKeyList}
+use Rattle.prototype_walk.proofs.HeldLaws.{HasShape, shape_there}
+use Rattle.prototype_walk.proofs.WalkLaws.{chain_at}
+
+-- ---- the rows that are left
+
+pub row_at : {T : Type 0} (o : Option (Object T)) (n : ℕ) → row_in n o ≡ slice_get (rows_in o) n
+row_at None n = refl
+row_at (Some p) n = refl
+
+pub drop_more : {X : Type 0} (xs : List X) (n : ℕ) (x : X) → slice_get xs n ≡ Some x → drop n xs ≡ x ∷ drop (suc n) xs
+drop_more [] n x e = absurd (none-some x e)
+drop_more (y ∷ xs) zero x e = ap (λ z. z ∷ xs) (same_Some y x e)
+drop_more (y ∷ xs) (suc n) x e = drop_more xs n x e
+
+pub drop_end : {X : Type 0} (xs : List X) (n : ℕ) → slice_get xs n ≡ None → drop n xs ≡ []
+drop_end [] zero e = refl
+drop_end [] (suc n) e = refl
+drop_end (y ∷ xs) zero e = absurd (none-some y (sym e))
+drop_end (y ∷ xs) (suc n) e = drop_end xs n e
+
+module _ {T : Type 0} (o : Option (Object T)) (n : ℕ) where
+  pub rows_more : (r : List ℕ × Slot T) → Some r ≡ row_in n o → drop n (rows_in o) ≡ r ∷ drop (n + 1) (rows_in o)
+  rows_more r e =
+      let next : suc n ≡ n + 1 = omega arith in
+      drop_more (rows_in o) n r (sym (e ∙ row_at o n)) ∙ ap (λ k. r ∷ drop k (rows_in o)) next
+
+  pub rows_end : None ≡ row_in n o → drop n (rows_in o) ≡ []
+  rows_end e = drop_end (rows_in o) n (sym (e ∙ row_at o n))
+
+-- the first row, and the others
+pub fresh_first : {T : Type 0} (met : List (List ℕ)) (r : List ℕ × Slot T) (rows : Rows (Slot T)) → fresh_keys met (r ∷ rows) ≡ fresh_keys met (r ∷ []) ++ fresh_keys met rows
+fresh_first met r rows = one (r.1.marks.enumerable && not (has_name r.0 met))
+  where
+    one : (test : Bool) → (if test then r.0 ∷ fresh_keys met rows else fresh_keys met rows) ≡ (if test then r.0 ∷ [] else []) ++ fresh_keys met rows
+    one true = refl
+    one false = refl
+
+module _ {T : Type 0} (o : Option (Object T)) (n : ℕ) (done all : List (List ℕ)) where
+  pub fresh_on : (met new : List (List ℕ)) (r : List ℕ × Slot T) → Some r ≡ row_in n o → new ≡ done ++ fresh_keys met (r ∷ []) → done ++ fresh_keys met (drop n (rows_in o)) ≡ all → new ++ fresh_keys met (drop (n + 1) (rows_in o)) ≡ all
+  fresh_on met new r is grows same =
+      let rest = fresh_keys met (drop (n + 1) (rows_in o)) in
+      ap (λ ks. ks ++ rest) grows ∙ append_assoc done (fresh_keys met (r ∷ [])) rest
+      ∙ ap (λ ks. done ++ ks) (sym (fresh_first met r (drop (n + 1) (rows_in o)))) ∙ ap (λ rs. done ++ fresh_keys met rs) (sym (rows_more o n r is)) ∙ same
+
+  pub fresh_all : (met : List (List ℕ)) → None ≡ row_in n o → done ++ fresh_keys met (drop n (rows_in o)) ≡ all → done ≡ all
+  fresh_all met is same = sym (append-nil done) ∙ ap (λ rs. done ++ fresh_keys met rs) (sym (rows_end o n is)) ∙ same
+
+  pub meets_on : (new : List (List ℕ)) (r : List ℕ × Slot T) → Some r ≡ row_in n o → new ≡ done ++ r.0 ∷ [] → done ++ keys_of (drop n (rows_in o)) ≡ all → new ++ keys_of (drop (n + 1) (rows_in o)) ≡ all
+  meets_on new r is grows same =
+      let rest = keys_of (drop (n + 1) (rows_in o)) in
+      ap (λ ks. ks ++ rest) grows ∙ append_assoc done (r.0 ∷ []) rest ∙ ap (λ rs. done ++ keys_of rs) (sym (rows_more o n r is)) ∙ same
+
+  pub meets_all : None ≡ row_in n o → done ++ keys_of (drop n (rows_in o)) ≡ all → done ≡ all
+  meets_all is same = sym (append-nil done) ∙ ap (λ rs. done ++ keys_of rs) (sym (rows_end o n is)) ∙ same
+
+-- ---- in a reading
+
+module _ {T : Type 0} (reading : T → Label) where
+  read_fresh : (met : List (List ℕ)) (rows : Rows (Slot T)) → fresh_keys met (read_rows reading rows) ≡ fresh_keys met rows
+  read_fresh met [] = refl
+  read_fresh met (r ∷ rows) = ap (λ ks. if r.1.marks.enumerable && not (has_name r.0 met) then r.0 ∷ ks else ks) (read_fresh met rows)
+
+  read_keys_of : (rows : Rows (Slot T)) → keys_of (read_rows reading rows) ≡ keys_of rows
+  read_keys_of [] = refl
+  read_keys_of (r ∷ rows) = ap (λ ks. r.0 ∷ ks) (read_keys_of rows)
+
+pub IsLabel-existences : (rows : Rows (Slot Label)) → IsLabel (existences rows)
+IsLabel-existences [] = IsLabel-bottom
+IsLabel-existences (r ∷ rows) = IsLabel-union r.1.existence (existences rows) (IsLabel-existences rows)
+
+pub IsLabel-keys : (met : List (List ℕ)) (objects : List (ℕ × Object Label)) → IsLabel (keys_after met objects).walk
+IsLabel-keys met [] = IsLabel-bottom
+IsLabel-keys met (e ∷ objects) =
+    let rest = (keys_after (met ++ keys_of e.1.rows) objects).walk in
+    let first = IsLabel-union (existences e.1.rows) rest (IsLabel-keys (met ++ keys_of e.1.rows) objects) in
+    IsLabel-union e.1.structure (union e.1.link (union (existences e.1.rows) rest)) (IsLabel-union e.1.link (union (existences e.1.rows) rest) first)
+
+-- the existence of one more row
+pub existences_on : {T : Type 0} (o : Option (Object T)) (n : ℕ) (reading : T → Label) (joined label : T) (all : Label) (r : List ℕ × Slot T) → Some r ≡ row_in n o → reading label ≡ union (reading joined) (reading r.1.existence) → union (reading joined) (existences (read_rows reading (drop n (rows_in o)))) ≡ all → union (reading label) (existences (read_rows reading (drop (n + 1) (rows_in o)))) ≡ all
+existences_on o n reading joined label all r is joins same =
+    let rest = existences (read_rows reading (drop (n + 1) (rows_in o))) in
+    ap (λ w. union w rest) joins ∙ union-assoc (reading joined) (reading r.1.existence) rest (IsLabel-existences (read_rows reading (drop (n + 1) (rows_in o))))
+    ∙ ap (λ rs. union (reading joined) (existences (read_rows reading rs))) (sym (rows_more o n r is)) ∙ same
+
+pub existences_all : {T : Type 0} (o : Option (Object T)) (n : ℕ) (reading : T → Label) (joined : T) (all : Label) → None ≡ row_in n o → IsLabel (reading joined) → union (reading joined) (existences (read_rows reading (drop n (rows_in o)))) ≡ all → reading joined ≡ all
+existences_all o n reading joined all is labels same = sym (union-bottom (reading joined) labels) ∙ ap (λ rs. union (reading joined) (existences (read_rows reading rs))) (sym (rows_end o n is)) ∙ same
+
+-- ---- an enumeration that has come to an object
+
+-- the keys so far, and those that are taken from there on
+abbrev pub after : List (List ℕ) → Label → Keys → Keys
+after taken walk rest = record { keys = taken ++ rest.keys; walk = union walk rest.walk }
+
+-- the keys from the first object on are those so far and those from here on
+abbrev pub Enumerates : {S T : Type 0} → (S → T → Type 0) → (S → T → Label) → S → List (Object T) → ℕ → ℕ → List (List ℕ) → List (List ℕ) → T → Type 0
+Enumerates made meaning store heap o at met taken walk = (reading : _) → IsReading made meaning store reading → keys (object_chain (read_heap reading heap) o) ≡ after taken (reading walk) (keys_after met (object_chain (read_heap reading heap) at))
+
+module _ {S T : Type 0} (made : S → T → Type 0) (meaning : S → T → Label) (heap : List (Object T)) (o : ℕ) where
+  pub enumerates_first : (store : S) (walk : T) (met taken : List (List ℕ)) → met ≡ [] → taken ≡ [] → made store walk → meaning store walk ≡ bottom → Enumerates made meaning store heap o o met taken walk
+  enumerates_first store walk met taken none empty m is reading read =
+      let f = keys (object_chain (read_heap reading heap) o) in
+      sym (ap (λ ks. after ks (reading walk) (keys_after met (object_chain (read_heap reading heap) o))) empty
+      ∙ ap (λ ks. after [] (reading walk) (keys_after ks (object_chain (read_heap reading heap) o))) none
+      ∙ ap (λ w. after [] w f) (read.agrees walk m ∙ is) ∙ ap (λ w. record { keys = f.keys; walk = w }) (union-bottom_left f.walk))
+
+  module _ (formed : IsFormed heap) (store : S) (i : ℕ) (met taken met_on taken_on : List (List ℕ)) (walk label : T) (shape : Shape T) (there : IsShape (slice_get heap i) shape)
+      (comes : (reading : T → Label) → IsReading made meaning store reading → keys (object_chain (read_heap reading heap) o) ≡ after taken (reading walk) (keys_after met (object_chain (read_heap reading heap) i)))
+      (meets : met_on ≡ met ++ keys_of (rows_in (slice_get heap i))) (takes : taken_on ≡ taken ++ fresh_keys met (rows_in (slice_get heap i)))
+      (means : (reading : T → Label) → IsReading made meaning store reading → reading label ≡ union (union (union (reading walk) (reading shape.structure)) (reading shape.link)) (existences (read_rows reading (rows_in (slice_get heap i))))) where
+    held : HasShape heap i shape
+    held = shape_there heap i shape there
+
+    rows : Rows (Slot T)
+    rows = held.object.rows
+
+    regroup : (reading : T → Label) → IsReading made meaning store reading → (rest : Label) → IsLabel rest → union (reading label) rest ≡ union (reading walk) (union (reading held.object.structure) (union (reading held.object.link) (union (existences (read_rows reading held.object.rows)) rest)))
+    regroup reading read rest labels =
+        let w = reading walk in
+        let s = reading held.object.structure in
+        let l = reading held.object.link in
+        let e = existences (read_rows reading held.object.rows) in
+        let last = IsLabel-union e rest labels in
+        ap (λ x. union x rest) (means reading read
+        ∙ ap (λ (q : Shape T). union (union (union w (reading q.structure)) (reading q.link)) (existences (read_rows reading (rows_in (slice_get heap i))))) held.is
+        ∙ ap (λ x. union (union (union w s) l) (existences (read_rows reading (rows_in x)))) held.here)
+        ∙ union-assoc (union (union w s) l) e rest labels
+        ∙ union-assoc (union w s) l (union e rest) last
+        ∙ union-assoc w s (union l (union e rest)) (IsLabel-union l (union e rest) last)
+
+    -- what is taken of this object, and the rest
+    step : (reading : T → Label) → (next : Option ObjId) → shape.proto ≡ next → keys_after met (object_chain (read_heap reading heap) i)
+        ≡ record {
+          keys = fresh_keys met held.object.rows ++ (keys_after met_on (onwards (number_of next) (object_chain (read_heap reading heap)))).keys;
+          walk = union (reading held.object.structure) (union (reading held.object.link) (union (existences (read_rows reading held.object.rows)) (keys_after met_on (onwards (number_of next) (object_chain (read_heap reading heap)))).walk));
+        }
+    step reading next leads =
+        let proto = sym (ap (λ (q : Shape T). q.proto) held.is) ∙ leads in
+        let further = ap (λ ks. met ++ ks) (read_keys_of reading held.object.rows) ∙ sym (meets ∙ ap (λ x. met ++ keys_of (rows_in x)) held.here) in
+        ap (keys_after met) (chain_at reading heap formed i held.object held.here)
+        ∙ ap (λ n. keys_after met ((i, read_object reading held.object) ∷ onwards (number_of n) (object_chain (read_heap reading heap)))) proto
+        ∙ ap (λ ks. record {
+          keys = ks ++ (keys_after (met ++ keys_of (read_rows reading held.object.rows)) (onwards (number_of next) (object_chain (read_heap reading heap)))).keys;
+          walk = union (reading held.object.structure) (union (reading held.object.link) (union (existences (read_rows reading held.object.rows)) (keys_after (met ++ keys_of (read_rows reading held.object.rows)) (onwards (number_of next) (object_chain (read_heap reading heap)))).walk));
+        }) (read_fresh reading met held.object.rows)
+        ∙ ap (λ m. record {
+          keys = fresh_keys met held.object.rows ++ (keys_after m (onwards (number_of next) (object_chain (read_heap reading heap)))).keys;
+          walk = union (reading held.object.structure) (union (reading held.object.link) (union (existences (read_rows reading held.object.rows)) (keys_after m (onwards (number_of next) (object_chain (read_heap reading heap)))).walk));
+        }) further
+
+    behind : (next : Option ObjId) → shape.proto ≡ next → (reading : T → Label) → IsReading made meaning store reading
+        → keys (object_chain (read_heap reading heap) o) ≡ after taken_on (reading label) (keys_after met_on (onwards (number_of next) (object_chain (read_heap reading heap))))
+    behind next leads reading read =
+        let rest = keys_after met_on (onwards (number_of next) (object_chain (read_heap reading heap))) in
+        let labels = IsLabel-keys met_on (onwards (number_of next) (object_chain (read_heap reading heap))) in
+        comes reading read
+        ∙ ap (after taken (reading walk)) (step reading next leads)
+        ∙ ap (λ w. record { keys = taken ++ (fresh_keys met held.object.rows ++ rest.keys); walk = w }) (sym (regroup reading read rest.walk labels))
+        ∙ ap (λ ks. record { keys = ks; walk = union (reading label) rest.walk }) (sym (append_assoc taken (fresh_keys met held.object.rows) rest.keys) ∙ ap (λ ks. ks ++ rest.keys) (sym (takes ∙ ap (λ x. taken ++ fresh_keys met (rows_in x)) held.here)))
+
+    ended : shape.proto ≡ None → (reading : T → Label) → IsReading made meaning store reading → IsLabel (reading label) → record { keys = taken_on; walk = reading label } ≡ keys (object_chain (read_heap reading heap) o)
+    ended ends reading read labels =
+        sym (behind None ends reading read ∙ ap (λ ks. record { keys = ks; walk = union (reading label) bottom }) (append-nil taken_on) ∙ ap (λ w. record { keys = taken_on; walk = w }) (union-bottom (reading label) labels))
+
+-- an object was enumerated, in stores that follow on one another
+module _ {S T : Type 0} (made : S → T → Type 0) (meaning : S → T → Label) (room : S → ℕ) (firm : S → Bool) (heap : List (Object T)) (formed : IsFormed heap) (o : ℕ) (old mid new : S) (first : IsKept made meaning room firm old mid) (second : IsKept made meaning room firm mid new)
+    (i : ℕ) (met taken met_on taken_on : List (List ℕ)) (walk passed label : T) (shape : Shape T) (there : IsShape (slice_get heap i) shape) (comes : Enumerates made meaning old heap o i met taken walk)
+    (meets : met_on ≡ met ++ keys_of (rows_in (slice_get heap i))) (takes : taken_on ≡ taken ++ fresh_keys met (rows_in (slice_get heap i)))
+    (passes : Means made meaning mid passed (λ reading. union (union (reading walk) (reading shape.structure)) (reading shape.link)))
+    (joins : Means made meaning new label (λ reading. union (reading passed) (existences (read_rows reading (rows_in (slice_get heap i)))))) where
+  at_mid : (reading : T → Label) → IsReading made meaning new reading → IsReading made meaning mid reading
+  at_mid reading read = IsReading-earlier made meaning room firm mid new reading second read
+
+  comes_new : Enumerates made meaning new heap o i met taken walk
+  comes_new reading read = comes reading (IsReading-earlier made meaning room firm old mid reading first (at_mid reading read))
+
+  means_new : (reading : T → Label) → IsReading made meaning new reading → reading label ≡ union (union (union (reading walk) (reading shape.structure)) (reading shape.link)) (existences (read_rows reading (rows_in (slice_get heap i))))
+  means_new reading read = joins.is reading read ∙ ap (λ w. union w (existences (read_rows reading (rows_in (slice_get heap i))))) (passes.is reading (at_mid reading read))
+
+  pub keys_end : shape.proto ≡ None → ((reading : T → Label) → IsReading made meaning new reading → IsLabel (reading label)) → IsKeyList made meaning new heap o (record { keys = taken_on; walk = label })
+  keys_end ends labels = record { belongs = joins.belongs; is = λ reading read. ended made meaning heap o formed new i met taken met_on taken_on walk label shape there comes_new meets takes means_new ends reading read (labels reading read) }
+
+  pub keys_on : (proto : ObjId) → shape.proto ≡ Some proto → Enumerates made meaning new heap o proto.0 met_on taken_on label
+  keys_on proto leads reading read = behind made meaning heap o formed new i met taken met_on taken_on walk label shape there comes_new meets takes means_new (Some proto) leads reading read

@@ -1,0 +1,4 @@
+mod HeldLaws
+mod WalkLaws
+mod KeyLaws
+mod PutLaws

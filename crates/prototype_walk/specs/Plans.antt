@@ -1,0 +1,53 @@
+-- What a put does with an object and its prototypes (ECMA-262 8.12.4, 8.12.5), and the label on which that depends. A new element of an array isn't its case.
+use Rattle.std.specs.Prelude.{◌≢◌, ℕ, Bool, true, false, ◌&&◌, List, [], ◌∷◌, Option, Some, None}
+use Rattle.origin_labels.specs.Label.{Label, bottom, union}
+use Rattle.js_values.specs.declared.ids.ObjId.{ObjId}
+use Rattle.js_values.specs.declared.property.Slot.{Slot}
+use Rattle.js_values.specs.declared.property.Body.{Body}
+use Rattle.js_values.specs.declared.property.Body.TheVariants.{Data, Accessor}
+use Rattle.js_values.specs.declared.inner.Class.TheVariants.{Array}
+use Rattle.js_values.specs.Indices.{IsArrayIndex}
+use Rattle.js_values.specs.Objects.{Object, own}
+use Rattle.js_values.specs.Walks.{Found, find}
+use Rattle.prototype_walk.specs.declared.plan.PutPlan.{PutPlan}
+use Rattle.prototype_walk.specs.declared.plan.PutPlan.TheVariants.{Write, Add, Setter, Refused}
+
+-- the plan where it is allowed
+abbrev pub if_allowed : Bool → PutPlan Label → Label → PutPlan Label
+if_allowed true plan walk = plan
+if_allowed false plan walk = Refused walk
+
+-- the setter of an accessor, which is found at this object; that there is none depends on its value label besides
+abbrev pub setter_plan : ℕ → Option ObjId → Label → Label → PutPlan Label
+setter_plan at None label walk = Refused (union walk label)
+setter_plan at (Some f) label walk = Setter (record { 0 = at }) walk
+
+-- what a property of the object itself allows
+abbrev pub own_plan : ℕ → Slot Label → Body → Label → PutPlan Label
+own_plan o s (Data v) walk = if_allowed s.marks.writable (Write walk) walk
+own_plan o s (Accessor get set) walk = setter_plan o set s.label walk
+
+-- what a property of a prototype allows, for an object that is extensible or not
+abbrev pub inherited_plan : Bool → ℕ → Slot Label → Body → Label → PutPlan Label
+inherited_plan extensible at s (Data v) walk = if_allowed (extensible && s.marks.writable) (Add walk) walk
+inherited_plan extensible at s (Accessor get set) walk = setter_plan at set s.label walk
+
+-- what the prototypes allow
+abbrev pub beyond_plan : Bool → Option (ℕ × Slot Label) → Label → PutPlan Label
+beyond_plan extensible None walk = if_allowed extensible (Add walk) walk
+beyond_plan extensible (Some f) walk = inherited_plan extensible f.0 f.1 f.1.body walk
+
+-- the object itself, and else its prototypes
+abbrev pub plan_at : ℕ → Object Label → Option (Slot Label) → Found → PutPlan Label
+plan_at o p (Some s) rest = own_plan o s s.body s.existence
+plan_at o p None rest = beyond_plan p.extensible rest.at (union p.structure (union p.link rest.walk))
+
+-- what a put does
+abbrev pub can_put : List ℕ → List (ℕ × Object Label) → PutPlan Label
+can_put key [] = Refused bottom
+can_put key (e ∷ objects) = plan_at e.0 e.1 (own key e.1.rows) (find key objects)
+
+-- the object is no array, or the key is no array index
+abbrev pub IsNoElement : {T : Type 0} → List ℕ → Option (Object T) → Type 0
+IsNoElement key None = Unit {0}
+IsNoElement key (Some p) = (n : ℕ) → IsArrayIndex key n → p.class ≢ Array

@@ -1,0 +1,10 @@
+//! The keys of an enumeration.
+
+use js_values::KeyRow;
+
+/// The keys that `for in` takes, and the label on which they depend.
+#[derive(Debug, Drop)]
+pub struct KeyList<T> {
+    pub keys: KeyRow,
+    pub walk: T,
+}

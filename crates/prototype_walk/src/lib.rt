@@ -1,0 +1,19 @@
+//! Walks along an object and its prototypes: what is found, what a put does, and which keys there are.
+#![tactic(auto)]
+
+mod enumeration;
+mod found;
+mod key_list;
+mod plan;
+mod put;
+mod walk;
+
+pub use enumeration::keys;
+pub use found::Found;
+pub use key_list::KeyList;
+pub use plan::PutPlan;
+pub use put::can_put;
+pub use walk::find;
+
+#[cfg(test)]
+mod tests;

@@ -1,0 +1,108 @@
+//! What a put does.
+
+ghost use Rattle.std.specs.Prelude.{◌≡◌, ◌<◌, true, IfOk, IsOk, length, slice_get};
+ghost use Rattle.origin_labels.specs.Stores.{IsKept};
+ghost use Rattle.js_values.specs.Readings.{HasHeap, read_heap, read_slot};
+ghost use Rattle.js_values.specs.Walks.{object_chain};
+ghost use Rattle.prototype_walk.specs.Plans.{can_put, own_plan, inherited_plan, setter_plan, IsNoElement};
+ghost use Rattle.prototype_walk.specs.Answers.{IsPlan};
+
+use crate::plan::PutPlan;
+use crate::walk::{join, walk_to};
+use flow_text::OutOfMemory;
+use js_values::{Body, Key, ObjId, Slot};
+use object_heap::Heap;
+use origin_labels::Labels;
+
+/// What a put of the key does, by the property that the walk finds and by whether the object is extensible. A new element of an array is not its case: the
+/// object is no array, or the key is no array index.
+pub fn can_put<T: Copy, L: Labels<Label = T>>(
+    heap: &Heap<T>,
+    labels: &mut L,
+    o: ObjId,
+    key: &Key,
+) -> Result<PutPlan<T>, OutOfMemory>
+    requires there { o.0 < length heap.now }
+    requires other { IsNoElement key.now (slice_get heap.now o.0) }
+    requires belongs { HasHeap (L.made labels.old) heap.now }
+    ensures plan { IfOk result (IsPlan L.made L.meaning labels.new (λ reading. can_put key.now (object_chain (read_heap reading heap.now) o.0))) }
+    ensures kept { IsKept L.made L.meaning L.room L.firm labels.old labels.new }
+    ensures firm { L.firm labels.old ≡ true → IsOk result }
+{
+    let count = heap.len();
+    prove!(o.0 < count);
+    if let Some(slot) = heap.own(o, key) {
+        return plan_own(labels, o, slot);
+    }
+    let (place, walk) = walk_to(heap, labels, o, key)?;
+    let extensible = heap.shape(o).extensible;
+    match place {
+        Some((at, slot)) => plan_inherited(labels, extensible, at, slot, walk),
+        None if extensible => Ok(PutPlan::Add { walk }),
+        None => Ok(PutPlan::Refused { walk }),
+    }
+}
+
+/// What a property of the object itself allows.
+fn plan_own<T: Copy, L: Labels<Label = T>>(
+    labels: &mut L,
+    o: ObjId,
+    slot: &Slot<T>,
+) -> Result<PutPlan<T>, OutOfMemory>
+    requires label { L.made labels.old slot.now.label }
+    requires existence { L.made labels.old slot.now.existence }
+    ensures plan { IfOk result (IsPlan L.made L.meaning labels.new (λ reading. own_plan o.0 (read_slot reading slot.now) slot.now.body (reading slot.now.existence))) }
+    ensures kept { IsKept L.made L.meaning L.room L.firm labels.old labels.new }
+    ensures firm { L.firm labels.old ≡ true → IsOk result }
+{
+    let walk = slot.existence;
+    match &slot.body {
+        Body::Accessor { set, .. } => plan_setter(labels, o, *set, slot.label, walk),
+        Body::Data(_) if slot.marks.writable => Ok(PutPlan::Write { walk }),
+        Body::Data(_) => Ok(PutPlan::Refused { walk }),
+    }
+}
+
+/// What a property of a prototype allows.
+fn plan_inherited<T: Copy, L: Labels<Label = T>>(
+    labels: &mut L,
+    extensible: bool,
+    at: ObjId,
+    slot: &Slot<T>,
+    walk: T,
+) -> Result<PutPlan<T>, OutOfMemory>
+    requires label { L.made labels.old slot.now.label }
+    requires walk { L.made labels.old walk }
+    ensures plan { IfOk result (IsPlan L.made L.meaning labels.new (λ reading. inherited_plan extensible at.0 (read_slot reading slot.now) slot.now.body (reading walk))) }
+    ensures kept { IsKept L.made L.meaning L.room L.firm labels.old labels.new }
+    ensures firm { L.firm labels.old ≡ true → IsOk result }
+{
+    match &slot.body {
+        Body::Accessor { set, .. } => plan_setter(labels, at, *set, slot.label, walk),
+        Body::Data(_) if extensible && slot.marks.writable => Ok(PutPlan::Add { walk }),
+        Body::Data(_) => Ok(PutPlan::Refused { walk }),
+    }
+}
+
+/// What an accessor allows: a call of its setter, if it has one.
+fn plan_setter<T: Copy, L: Labels<Label = T>>(
+    labels: &mut L,
+    at: ObjId,
+    set: Option<ObjId>,
+    label: T,
+    walk: T,
+) -> Result<PutPlan<T>, OutOfMemory>
+    requires label { L.made labels.old label }
+    requires walk { L.made labels.old walk }
+    ensures plan { IfOk result (IsPlan L.made L.meaning labels.new (λ reading. setter_plan at.0 set (reading label) (reading walk))) }
+    ensures kept { IsKept L.made L.meaning L.room L.firm labels.old labels.new }
+    ensures firm { L.firm labels.old ≡ true → IsOk result }
+{
+    match set {
+        Some(_) => Ok(PutPlan::Setter { at, walk }),
+        None => {
+            let walk = join(labels, walk, label)?;
+            Ok(PutPlan::Refused { walk })
+        }
+    }
+}
