@@ -1,0 +1,30 @@
+-- Plans behind pending work.
+use Rattle.std.proofs.Common.{refl, ap, ◌∙◌, ◌≡◌, ℕ, List, [], ◌∷◌, ◌++◌, Result, Ok, Err, IfOk}
+use Rattle.origin_labels.specs.Label.{Label}
+use Rattle.flow_policy.specs.Policies.{Tables}
+use Rattle.flow_policy.specs.Inputs.{Given}
+use Rattle.es_meaning.specs.Environments.{Env}
+use Rattle.flow_text.specs.declared.memory.OutOfMemory.{OutOfMemory}
+use Rattle.flow_meaning.specs.Scopes.{State}
+use Rattle.flow_meaning.specs.Planned.{Plan, and_plan}
+use Rattle.step_work.specs.declared.work.Next.{Next}
+use Rattle.step_work.specs.Kept.{Kept}
+use Rattle.step_work.specs.Resuming.{Begins}
+use Rattle.step_work.specs.Pending.{Task, inside, env_above, after_task, behind}
+
+pub env_more : {T : Type 0} → (tasks : List (Task T)) (w : Task T) (e : Env ℕ) → env_above (tasks ++ w ∷ []) e ≡ inside w.0 (env_above tasks e)
+unfolding env_above
+env_more [] w e = refl
+env_more (v ∷ tasks) w e = env_more tasks w (inside v.0 e)
+
+pub behind_more : {T : Type 0} → (tables : Tables) (inputs : Given) (reading : T → Label) (tasks : List (Task T)) (w : Task T) (e : Env ℕ) (p : Plan)
+    → behind tables inputs reading (tasks ++ w ∷ []) e p ≡ behind tables inputs reading tasks e (and_plan p (after_task tables inputs reading w (env_above tasks e)))
+unfolding behind env_above
+behind_more tables inputs reading [] w e p = refl
+behind_more tables inputs reading (v ∷ tasks) w e p = ap (λ q. and_plan q (after_task tables inputs reading v e)) (behind_more tables inputs reading tasks w (inside v.0 e) p)
+
+-- a call that begins with one plan begins with an equal one
+pub begins_as : {T : Type 0} → (plan same : Tables → Given → Env ℕ → State → Plan) (old new : Kept T) (result : Result Next OutOfMemory) → ((tables : Tables) (inputs : Given) (e : Env ℕ) (s : State) → plan tables inputs e s ≡ same tables inputs e s)
+    → IfOk result (Begins plan old new) → IfOk result (Begins same old new)
+begins_as plan same old new (Ok next) equal begins = λ tables inputs reading e s loose. begins tables inputs reading e s loose ∙ ap (behind tables inputs reading old.tasks e) (equal tables inputs (env_above old.tasks e) s)
+begins_as plan same old new (Err fault) equal begins = tt

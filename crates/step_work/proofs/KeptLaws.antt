@@ -1,0 +1,62 @@
+-- Pending work beside the list of operands.
+use Rattle.std.proofs.Common.{refl, sym, ap, ◌∙◌, ◌≡◌, ◌≤◌, ◌<◌, ◌+◌, ◌-◌, ℕ, List, [], ◌∷◌, ◌++◌, length, take, drop, length-drop, arith}
+use Rattle.std.proofs.lemmas.List.{take-append-le, drop-append-le, drop-drop, drop-take, take-take, drop_all, take_all, length-take-le}
+use Rattle.js_values.specs.declared.value.Labelled.{Labelled}
+use Rattle.step_work.specs.declared.work.Work.{Work}
+use Rattle.step_work.specs.Pending.{owns}
+use Rattle.step_work.specs.Kept.{owned, tasks_of, loose_of}
+
+pub owned_more : (works : List Work) (w : Work) → owned (works ++ w ∷ []) ≡ owned works + owns w
+owned_more [] w = omega arith
+owned_more (v ∷ works) w = omega (arith, owned_more works w)
+
+module _ {T : Type 0} where
+  -- a further value is kept by no work
+  pub tasks_stay : (works : List Work) (operands : List (Labelled T)) (v : Labelled T) → owned works ≤ length operands → tasks_of works (operands ++ v ∷ []) ≡ tasks_of works operands
+  tasks_stay [] operands v le = refl
+  tasks_stay (w ∷ works) operands v le =
+      let fits : owns w ≤ length operands = omega (arith, le) in
+      let rest : owned works ≤ length (drop (owns w) operands) = omega (arith, le, length-drop (owns w) operands) in
+      ap (λ kept. (w, kept) ∷ tasks_of works (drop (owns w) (operands ++ v ∷ []))) (take-append-le (owns w) operands (v ∷ []) fits)
+      ∙ ap (λ others. (w, take (owns w) operands) ∷ tasks_of works others) (drop-append-le (owns w) operands (v ∷ []) fits)
+      ∙ ap (λ tasks. (w, take (owns w) operands) ∷ tasks) (tasks_stay works (drop (owns w) operands) v rest)
+
+  pub loose_more : (works : List Work) (operands : List (Labelled T)) (v : Labelled T) → owned works ≤ length operands → loose_of works (operands ++ v ∷ []) ≡ loose_of works operands ++ v ∷ []
+  loose_more works operands v le = drop-append-le (owned works) operands (v ∷ []) le
+
+  -- work takes all values that no work kept
+  pub tasks_more : (works : List Work) (operands : List (Labelled T)) (w : Work) → owns w ≡ length (loose_of works operands) → tasks_of (works ++ w ∷ []) operands ≡ tasks_of works operands ++ (w, loose_of works operands) ∷ []
+  tasks_more [] operands w e = ap (λ kept. (w, kept) ∷ []) (take_all (owns w) operands (omega (arith, e)))
+  tasks_more (v ∷ works) operands w e = let same = drop-drop (owned works) (owns v) operands in
+      ap (λ tasks. (v, take (owns v) operands) ∷ tasks) (tasks_more works (drop (owns v) operands) w (e ∙ sym (ap length same))
+      ∙ ap (λ kept. tasks_of works (drop (owns v) operands) ++ (w, kept) ∷ []) same)
+
+  pub none_loose : (works : List Work) (operands : List (Labelled T)) (w : Work) → owns w ≡ length (loose_of works operands) → loose_of (works ++ w ∷ []) operands ≡ []
+  none_loose works operands w e = rw (owned_more works w) (drop_all (owned works + owns w) operands (omega (arith, e, length-drop (owned works) operands)))
+
+  pub still_enough : (works : List Work) (operands : List (Labelled T)) (w : Work) → owned works ≤ length operands → owns w ≡ length (loose_of works operands) → owned (works ++ w ∷ []) ≤ length operands
+  still_enough works operands w le e = omega (arith, owned_more works w, le, e, length-drop (owned works) operands)
+
+  -- values that no work keeps may be taken away
+  tasks_in_front : (works : List Work) (operands : List (Labelled T)) (n : ℕ) → owned works ≤ n → tasks_of works (take n operands) ≡ tasks_of works operands
+  tasks_in_front [] operands n le = refl
+  tasks_in_front (w ∷ works) operands n le =
+      let m = n - owns w in
+      let whole : owns w + m ≡ n = omega (arith, le) in
+      let rest : drop (owns w) (take n operands) ≡ take m (drop (owns w) operands) = ap (λ k. drop (owns w) (take k operands)) (sym whole) ∙ drop-take (owns w) m operands in
+      ap (λ kept. (w, kept) ∷ tasks_of works (drop (owns w) (take n operands))) (take-take (owns w) n operands (omega (arith, le)))
+      ∙ ap (λ others. (w, take (owns w) operands) ∷ tasks_of works others) rest
+      ∙ ap (λ tasks. (w, take (owns w) operands) ∷ tasks) (tasks_in_front works (drop (owns w) operands) m (omega (arith, le)))
+
+  pub tasks_without_last : (works : List Work) (operands : List (Labelled T)) → owned works ≤ length operands → 0 < length (loose_of works operands) → tasks_of works (take (length operands - 1) operands) ≡ tasks_of works operands
+  tasks_without_last works operands le lt = tasks_in_front works operands (length operands - 1) (omega (arith, le, lt, length-drop (owned works) operands))
+
+  pub loose_without_last : (works : List Work) (operands : List (Labelled T)) → owned works ≤ length operands → 0 < length (loose_of works operands) → loose_of works (take (length operands - 1) operands) ≡ take (length (loose_of works operands) - 1) (loose_of works operands)
+  loose_without_last works operands le lt =
+      let size = length-drop (owned works) operands in
+      let n = length (loose_of works operands) - 1 in
+      let whole : owned works + n ≡ length operands - 1 = omega (arith, le, lt, size) in
+      ap (λ k. drop (owned works) (take k operands)) (sym whole) ∙ drop-take (owned works) n operands
+
+  pub enough_without_last : (works : List Work) (operands : List (Labelled T)) → owned works ≤ length operands → 0 < length (loose_of works operands) → owned works ≤ length (take (length operands - 1) operands)
+  enough_without_last works operands le lt = omega (arith, le, lt, length-drop (owned works) operands, length-take-le (length operands - 1) operands (omega arith))

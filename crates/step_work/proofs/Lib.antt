@@ -1,0 +1,6 @@
+pub mod Behind
+pub mod Keeping
+pub mod KeptLaws
+pub mod Reading
+pub mod ScopeLaws
+pub mod Steps

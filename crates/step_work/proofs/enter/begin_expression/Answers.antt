@@ -1,0 +1,30 @@
+use Rattle.std.proofs.Common.{rules, sym, ap, ◌∙◌, ◌≡◌}
+use Rattle.js_ast.specs.Nodes.{nodes_of}
+use Rattle.js_ast.specs.Trees.{name, call, conditional, comma}
+use Rattle.js_ast.specs.Views.{view_expr, view_exprs}
+use Rattle.js_ast.proofs.ViewLaws.{held_exprs}
+use Rattle.js_ast.specs.declared.trees.ExprKind.TheViews.{the_lemmas}
+use Rattle.es_meaning.specs.Evaluation.{expr_step, call_step, direct_of}
+use Rattle.flow_meaning.specs.Planned.{planned, asking}
+use Rattle.step_work.proofs.Behind.{begins_as}
+use Rattle.step_work.proofs.enter.begin_expression.Goals as goal
+
+pub returns-in-Comma-clause-goes_on : goal.returns-in-Comma-clause-goes_on
+unfolding expr_step
+returns-in-Comma-clause-goes_on g c =
+    let is : view_expr c.args.e.now ≡ comma c.args.e.now.at (view_expr c.in-Comma.left) (view_expr c.in-Comma.right) = search (rules, the_lemmas, c.in-Comma.is) in
+    begins_as _ _ _ _ _ (λ tables inputs e s. sym (ap (λ x. expr_step (planned tables inputs) (asking tables inputs) x e.place s) is)) c.begin_comma.ensures.goes_on
+
+pub returns-in-Conditional-clause-goes_on : goal.returns-in-Conditional-clause-goes_on
+unfolding expr_step
+returns-in-Conditional-clause-goes_on g c =
+    let is : view_expr c.args.e.now ≡ conditional c.args.e.now.at (view_expr c.in-Conditional.test) (view_expr c.in-Conditional.then) (view_expr c.in-Conditional.other) = search (rules, the_lemmas, c.in-Conditional.is) in
+    begins_as _ _ _ _ _ (λ tables inputs e s. sym (ap (λ x. expr_step (planned tables inputs) (asking tables inputs) x e.place s) is)) c.begin_choice.ensures.goes_on
+
+pub returns-in-Name-deref-clause-goes_on : goal.returns-in-Name-deref-clause-goes_on
+unfolding expr_step
+returns-in-Name-deref-clause-goes_on g c =
+    let is : view_expr c.args.e.now ≡ call c.args.e.now.at (view_expr c.in-Call.callee) (view_exprs (nodes_of c.in-Call.args)) = search (rules, held_exprs, the_lemmas, c.in-Call.is) in
+    let named : view_expr c.in-Call.callee ≡ name c.in-Call.callee.at c.in-Name-deref.name = search (rules, the_lemmas, c.in-Name-deref.is) in
+    let whole = is ∙ ap (λ x. call c.args.e.now.at x (view_exprs (nodes_of c.in-Call.args))) named ∙ ap (λ es. call c.args.e.now.at (name c.in-Call.callee.at c.in-Name-deref.name) (view_exprs es)) (sym c.items.ensures) in
+    begins_as (λ tables inputs e. call_step (planned tables inputs) (asking tables inputs) (direct_of c.in-Name-deref.name) (view_exprs c.items.result.now) e.place) _ _ _ _ (λ tables inputs e s. sym (ap (λ x. expr_step (planned tables inputs) (asking tables inputs) x e.place s) whole)) c.begin_call.ensures.goes_on

@@ -1,0 +1,22 @@
+use Rattle.std.proofs.Common.{◌∙◌, Bool}
+use Rattle.std.proofs.lemmas.List.{nil_from_length}
+use Rattle.flow_frames.specs.declared.kind.Kind.TheVariants as kind
+use Rattle.origin_labels.specs.Label.{bottom}
+use Rattle.js_values.proofs.ReadingLaws.{IsReading-earlier}
+use Rattle.es_meaning.specs.Evaluation.{loop, tested}
+use Rattle.flow_meaning.specs.Planned.{planned, asking}
+use Rattle.step_work.specs.declared.work.Work.TheVariants as work
+use Rattle.step_work.specs.Shapes.{round_of}
+use Rattle.step_work.proofs.Steps.{loop_step}
+use Rattle.step_work.proofs.ScopeLaws.{scope_begins}
+use Rattle.step_work.proofs.scopes.begin_loop.Goals as goal
+
+pub returns-clause-goes_on : goal.returns-clause-goes_on
+returns-clause-goes_on g c =
+    let round = round_of c.args.round in
+    scope_begins g.L.Labels.made g.L.Labels.meaning c.enter.new.labels
+    (λ tables inputs e. tested (planned tables inputs) (asking tables inputs) round e) (λ tables inputs e. loop (planned tables inputs) (asking tables inputs) round e) (λ depth. work.EndRound Bool.false depth) kind.Loop bottom
+    c.args.stack.now c.push.new.self c.begin_test.new.stack c.args.frames.now.frames c.enter.new.frames.frames c.len-depth.result c.bottom-none.result c.begin_test.result
+    (λ tables inputs f s. loop_step tables inputs round f s) (nil_from_length c.args.stack.now.loose c.requires.loose) c.in_ok-push.ensures.ok c.len-depth.ensures.length c.in_ok-enter.ensures.entered
+    (λ reading read. (IsReading-earlier g.L.Labels.made g.L.Labels.meaning g.L.Labels.room g.L.Labels.firm c.args.labels.now c.enter.new.labels reading c.enter.ensures.kept read).agrees c.bottom-none.result c.bottom-none.ensures.made ∙ c.bottom-none.ensures.meaning)
+    c.begin_test.ensures.goes_on

@@ -1,0 +1,49 @@
+-- Pending work with the operands that it keeps. The operands stand in one list, from those of the first work on.
+use Rattle.std.specs.Prelude.{ℕ, ◌+◌, ◌-◌, List, [], ◌∷◌, ◌++◌, length, take, drop}
+use Rattle.js_values.specs.declared.value.Labelled.{Labelled}
+use Rattle.step_work.specs.declared.work.Work.{Work}
+use Rattle.step_work.specs.declared.work.Work.TheVariants as work
+use Rattle.step_work.specs.Pending.{Task, owns}
+
+pub record Kept (T : Type 0) : Type 0 where
+  -- the last is done first
+  pub tasks : List (Task T)
+  -- values that no work keeps yet
+  pub loose : List (Labelled T)
+
+-- how many operands the works keep
+abbrev pub owned : List Work → ℕ
+owned [] = 0
+owned (w ∷ works) = owns w + owned works
+
+abbrev pub tasks_of : {T : Type 0} → List Work → List (Labelled T) → List (Task T)
+tasks_of [] operands = []
+tasks_of (w ∷ works) operands = (w, take (owns w) operands) ∷ tasks_of works (drop (owns w) operands)
+
+abbrev pub loose_of : {T : Type 0} → List Work → List (Labelled T) → List (Labelled T)
+loose_of works operands = drop (owned works) operands
+
+abbrev pub kept : {T : Type 0} → List Work → List (Labelled T) → Kept T
+kept works operands = record { tasks = tasks_of works operands; loose = loose_of works operands }
+
+-- all operands, and the values above them
+abbrev pub kept_operands : {T : Type 0} → List (Task T) → List (Labelled T)
+kept_operands [] = []
+kept_operands (w ∷ tasks) = w.1 ++ kept_operands tasks
+
+abbrev pub operands_of : {T : Type 0} → Kept T → List (Labelled T)
+operands_of stack = kept_operands stack.tasks ++ stack.loose
+
+-- the same without its uppermost value
+abbrev pub without_top : {T : Type 0} → Kept T → Kept T
+without_top stack = record { tasks = stack.tasks; loose = take (length stack.loose - 1) stack.loose }
+
+-- the depths of the frames in which the scopes stand that are pending, the outermost first
+abbrev pub scope_of : Work → List ℕ
+scope_of (work.EndBranch gives depth) = depth ∷ []
+scope_of (work.EndRound turn depth) = depth ∷ []
+scope_of _ = []
+
+abbrev pub scopes_of : {T : Type 0} → List (Task T) → List ℕ
+scopes_of [] = []
+scopes_of (w ∷ tasks) = scope_of w.0 ++ scopes_of tasks

@@ -1,0 +1,4 @@
+pub mod Kept
+pub mod Pending
+pub mod Resuming
+pub mod Shapes

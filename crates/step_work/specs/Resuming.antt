@@ -1,0 +1,67 @@
+-- What it means that a call goes on as pending work says.
+use Rattle.std.specs.Prelude.{◌≡◌, ℕ, List, [], ◌∷◌, ◌++◌, length, map}
+use Rattle.origin_labels.specs.Label.{Label}
+use Rattle.flow_policy.specs.Policies.{Tables}
+use Rattle.flow_policy.specs.Inputs.{Given}
+use Rattle.js_values.specs.declared.value.Labelled.{Labelled}
+use Rattle.flow_frames.specs.Held.{Held, seen_frame}
+use Rattle.js_values.specs.Readings.{IsReading, read_value}
+use Rattle.es_meaning.specs.Environments.{Env}
+use Rattle.es_meaning.specs.Plain.{undefined}
+use Rattle.flow_meaning.specs.Erased.{unlabelled}
+use Rattle.flow_meaning.specs.Scopes.{Val, State}
+use Rattle.flow_meaning.specs.Planned.{gave, Plan}
+use Rattle.step_work.specs.declared.work.Work.{Work}
+use Rattle.step_work.specs.declared.work.Next.{Next}
+use Rattle.step_work.specs.Kept.{Kept, scopes_of, operands_of}
+use Rattle.step_work.specs.Pending.{env_above, after, next_plan, behind, values_of}
+
+module _ {T : Type 0} where
+  -- what is done next, and behind it the pending work
+  abbrev pub coming : Tables → Given → (T → Label) → Kept T → Next → Env ℕ → State → Plan
+  coming tables inputs reading stack next e s = behind tables inputs reading stack.tasks e (next_plan tables inputs next (map (read_value reading) stack.loose) (env_above stack.tasks e) s)
+
+  -- it comes to what work that keeps no operand says of the value that it waited for
+  abbrev pub Resumes : Work → Kept T → Kept T → Next → Type 0
+  Resumes w old new next = (tables : Tables) (inputs : Given) (reading : T → Label) (e : Env ℕ) (s : State) (value : Labelled T) → old.loose ≡ value ∷ []
+      → coming tables inputs reading new next e s ≡ behind tables inputs reading old.tasks e (after tables inputs w [] (env_above old.tasks e) (gave (read_value reading value)) s)
+
+  -- and what work says that keeps one operand, which lies below
+  abbrev pub ResumesBeside : Work → Kept T → Kept T → Next → Type 0
+  ResumesBeside w old new next = (tables : Tables) (inputs : Given) (reading : T → Label) (e : Env ℕ) (s : State) (operand value : Labelled T) → old.loose ≡ operand ∷ (value ∷ [])
+      → coming tables inputs reading new next e s ≡ behind tables inputs reading old.tasks e (after tables inputs w (read_value reading operand ∷ []) (env_above old.tasks e) (gave (read_value reading value)) s)
+
+  -- what work says that waited for the end of a part
+  abbrev pub ResumesDone : Work → Kept T → Kept T → Next → Type 0
+  ResumesDone w old new next = (tables : Tables) (inputs : Given) (reading : T → Label) (e : Env ℕ) (s : State) → old.loose ≡ []
+      → coming tables inputs reading new next e s ≡ behind tables inputs reading old.tasks e (after tables inputs w [] (env_above old.tasks e) (gave (unlabelled undefined)) s)
+
+  -- it comes to what a plan says
+  abbrev pub Begins : (Tables → Given → Env ℕ → State → Plan) → Kept T → Kept T → Next → Type 0
+  Begins plan old new next = (tables : Tables) (inputs : Given) (reading : T → Label) (e : Env ℕ) (s : State) → old.loose ≡ []
+      → coming tables inputs reading new next e s ≡ behind tables inputs reading old.tasks e (plan tables inputs (env_above old.tasks e) s)
+
+  -- what the evaluation of further arguments says, before which these values lie loose
+  abbrev pub BeginsBehind : (Tables → Given → List Val → Env ℕ → State → Plan) → Kept T → Kept T → Next → Type 0
+  BeginsBehind plan old new next = (tables : Tables) (inputs : Given) (reading : T → Label) (e : Env ℕ) (s : State)
+      → coming tables inputs reading new next e s ≡ behind tables inputs reading old.tasks e (plan tables inputs (map (read_value reading) old.loose) (env_above old.tasks e) s)
+
+  -- what an argument's work says, which keeps those before it
+  abbrev pub ResumesBehind : Work → Kept T → Kept T → Next → Type 0
+  ResumesBehind w old new next = (tables : Tables) (inputs : Given) (reading : T → Label) (e : Env ℕ) (s : State) (kept : List (Labelled T)) (value : Labelled T) → old.loose ≡ kept ++ value ∷ []
+      → coming tables inputs reading new next e s ≡ behind tables inputs reading old.tasks e (after tables inputs w (map (read_value reading) kept) (env_above old.tasks e) (gave (read_value reading value)) s)
+
+  -- what a call leaves: the values that its next move has, the scopes that were pending, and the same operands and values
+  pub record Keeps (old new : Kept T) (next : Next) : Type 0 where
+    pub values : length new.loose ≡ values_of next
+    pub scopes : scopes_of new.tasks ≡ scopes_of old.tasks
+    pub operands : operands_of new ≡ operands_of old
+
+  -- the state with these frames, as a reading has them
+  abbrev pub with_frames : (T → Label) → List (Held T) → State → State
+  with_frames reading frames s = record s { frames = map (seen_frame reading) frames }
+
+  -- a call that changes frames comes to what a plan says, under each reading that agrees with the store
+  abbrev pub BeginsIn : {S : Type 0} → (S → T → Type 0) → (S → T → Label) → S → (Tables → Given → Env ℕ → State → Plan) → Kept T → Kept T → List (Held T) → List (Held T) → Next → Type 0
+  BeginsIn made meaning store plan old new frames_old frames_new next = (tables : Tables) (inputs : Given) (reading : T → Label) (e : Env ℕ) (s : State) → IsReading made meaning store reading → old.loose ≡ []
+      → coming tables inputs reading new next e (with_frames reading frames_new s) ≡ behind tables inputs reading old.tasks e (plan tables inputs (env_above old.tasks e) (with_frames reading frames_old s))

@@ -1,0 +1,204 @@
+//! Operators: what is evaluated first, and what is done with the values of operands (ECMA-262 11.3 to 11.14).
+
+ghost use Rattle.std.specs.Prelude.{◌≡◌, true, false, length, IfOk};
+ghost use Rattle.js_ast.specs.Views.{view_expr};
+ghost use Rattle.es_meaning.specs.Operations.{Value};
+ghost use Rattle.es_meaning.specs.Evaluation.{unary_value, binary_step, unary_step, typeof_step, is_name, operator_of, assigned_by};
+ghost use Rattle.flow_meaning.specs.Planned.{planned, asking};
+ghost use Rattle.step_work.specs.declared.work.Work.TheVariants as work;
+ghost use Rattle.step_work.specs.Kept.{without_top};
+ghost use Rattle.step_work.specs.Resuming.{Begins, Keeps, Resumes};
+ghost use Rattle.step_work.specs.Shapes.{use_of, evaluates_both};
+
+use crate::stack::Stack;
+use crate::work::{Leaving, Next, Use, Work};
+use flow_text::OutOfMemory;
+use js_ast::{AssignOperator, BinaryOperator, Expr, ExprKind, UnaryOperator};
+
+/// An operator between two expressions: the left one is evaluated first.
+pub(crate) fn begin_binary<'p, T: Copy>(
+    stack: &mut Stack<'p, T>,
+    left: &'p Expr,
+    operator: BinaryOperator,
+    right: &'p Expr,
+) -> Result<Next<'p>, OutOfMemory>
+    requires { length stack.old.loose ≡ 0 }
+    ensures goes_on { IfOk result (Begins (λ tables inputs e. binary_step (planned tables inputs) (asking tables inputs) (view_expr left.entry.now) operator (view_expr right.entry.now) e.place) stack.old stack.new) }
+    ensures keeps { IfOk result (Keeps stack.old stack.new) }
+{
+    if evaluates_both(operator) {
+        begin_both(stack, left, operator, right)
+    } else {
+        begin_logical(stack, left, operator, right)
+    }
+}
+
+/// The operators that evaluate both operands.
+fn evaluates_both(operator: BinaryOperator) -> bool
+    ensures { result ≡ evaluates_both operator }
+{
+    !matches!(
+        operator,
+        BinaryOperator::And | BinaryOperator::Or | BinaryOperator::In | BinaryOperator::Instanceof
+    )
+}
+
+/// An operator that evaluates both operands.
+#[tactic(auto, using(crate::proofs::Behind::behind_more, crate::proofs::Behind::env_more, crate::proofs::Steps::both_operands))]
+fn begin_both<'p, T: Copy>(
+    stack: &mut Stack<'p, T>,
+    left: &'p Expr,
+    operator: BinaryOperator,
+    right: &'p Expr,
+) -> Result<Next<'p>, OutOfMemory>
+    requires loose { length stack.old.loose ≡ 0 }
+    requires both { evaluates_both operator ≡ true }
+    ensures goes_on { IfOk result (Begins (λ tables inputs e. binary_step (planned tables inputs) (asking tables inputs) (view_expr left.entry.now) operator (view_expr right.entry.now) e.place) stack.old stack.new) }
+    ensures keeps { IfOk result (Keeps stack.old stack.new) }
+{
+    stack.push(Work::BinaryRight(operator, right))?;
+    Ok(Next::Expr(left))
+}
+
+/// An operator that may evaluate the left operand alone, or one that isn't built yet.
+#[tactic(auto, using(crate::proofs::Behind::behind_more, crate::proofs::Behind::env_more), unfolding(es_meaning::specs::Evaluation::binary_step))]
+fn begin_logical<'p, T: Copy>(
+    stack: &mut Stack<'p, T>,
+    left: &'p Expr,
+    operator: BinaryOperator,
+    right: &'p Expr,
+) -> Result<Next<'p>, OutOfMemory>
+    requires loose { length stack.old.loose ≡ 0 }
+    requires one { evaluates_both operator ≡ false }
+    ensures goes_on { IfOk result (Begins (λ tables inputs e. binary_step (planned tables inputs) (asking tables inputs) (view_expr left.entry.now) operator (view_expr right.entry.now) e.place) stack.old stack.new) }
+    ensures keeps { IfOk result (Keeps stack.old stack.new) }
+{
+    match operator {
+        BinaryOperator::And => {
+            stack.push(Work::AndRight(right))?;
+            Ok(Next::Expr(left))
+        }
+        BinaryOperator::Or => {
+            stack.push(Work::OrRight(right))?;
+            Ok(Next::Expr(left))
+        }
+        _ => Ok(Next::Leave(Leaving::Unbuilt)),
+    }
+}
+
+/// An operator in front of an expression.
+#[tactic(auto, using(crate::proofs::Behind::behind_more, crate::proofs::Behind::env_more), unfolding(es_meaning::specs::Evaluation::unary_step))]
+pub(crate) fn begin_unary<'p, T: Copy>(
+    stack: &mut Stack<'p, T>,
+    operator: UnaryOperator,
+    operand: &'p Expr,
+) -> Result<Next<'p>, OutOfMemory>
+    requires { length stack.old.loose ≡ 0 }
+    ensures goes_on { IfOk result (Begins (λ tables inputs e. unary_step (planned tables inputs) (asking tables inputs) operator (view_expr operand.entry.now) e.place) stack.old stack.new) }
+    ensures keeps { IfOk result (Keeps stack.old stack.new) }
+{
+    match operator {
+        UnaryOperator::Delete => Ok(Next::Leave(Leaving::Unbuilt)),
+        UnaryOperator::Increment => Ok(Next::Use(Use::Prefixed(BinaryOperator::Add), operand)),
+        UnaryOperator::Decrement => {
+            Ok(Next::Use(Use::Prefixed(BinaryOperator::Subtract), operand))
+        }
+        UnaryOperator::Typeof => begin_typeof(stack, operand),
+        UnaryOperator::Void => begin_value(stack, UnaryOperator::Void, operand),
+        UnaryOperator::Plus => begin_value(stack, UnaryOperator::Plus, operand),
+        UnaryOperator::Minus => begin_value(stack, UnaryOperator::Minus, operand),
+        UnaryOperator::BitNot => begin_value(stack, UnaryOperator::BitNot, operand),
+        UnaryOperator::Not => begin_value(stack, UnaryOperator::Not, operand),
+    }
+}
+
+/// An operator that takes the value of its operand.
+#[tactic(auto, using(crate::proofs::Behind::behind_more, crate::proofs::Behind::env_more))]
+fn begin_value<'p, T: Copy>(
+    stack: &mut Stack<'p, T>,
+    operator: UnaryOperator,
+    operand: &'p Expr,
+) -> Result<Next<'p>, OutOfMemory>
+    requires { length stack.old.loose ≡ 0 }
+    ensures goes_on { IfOk result (Begins (λ tables inputs e. (planned tables inputs).bind Value Value ((asking tables inputs).expr (view_expr operand.entry.now) e.place) (unary_value (planned tables inputs) operator)) stack.old stack.new) }
+    ensures keeps { IfOk result (Keeps stack.old stack.new) }
+{
+    stack.push(Work::Unary(operator))?;
+    Ok(Next::Expr(operand))
+}
+
+/// A name that is asked for its type may have no binding, so it isn't evaluated.
+#[tactic(auto, using(crate::proofs::Behind::behind_more, crate::proofs::Behind::env_more))]
+fn begin_typeof<'p, T: Copy>(
+    stack: &mut Stack<'p, T>,
+    operand: &'p Expr,
+) -> Result<Next<'p>, OutOfMemory>
+    requires { length stack.old.loose ≡ 0 }
+    ensures goes_on { IfOk result (Begins (λ tables inputs e. typeof_step (planned tables inputs) (asking tables inputs) (is_name (view_expr operand.entry.now)) (view_expr operand.entry.now) e.place) stack.old stack.new) }
+    ensures keeps { IfOk result (Keeps stack.old stack.new) }
+{
+    if is_name(operand) {
+        Ok(Next::Use(Use::Asked, operand))
+    } else {
+        stack.push(Work::Unary(UnaryOperator::Typeof))?;
+        Ok(Next::Expr(operand))
+    }
+}
+
+/// Whether it is a name, also in parentheses.
+#[tactic(auto, unfolding(es_meaning::specs::Evaluation::is_name))]
+fn is_name(e: &Expr) -> bool
+    ensures { result ≡ is_name (view_expr e.now) }
+{
+    match &*e.kind {
+        ExprKind::Name(_) => true,
+        ExprKind::Paren(inner) => is_name(inner),
+        _ => false,
+    }
+}
+
+/// What an assignment does with its target.
+pub(crate) fn assigned_by<'p>(operator: AssignOperator, value: &'p Expr) -> Use<'p>
+    ensures { use_of result ≡ assigned_by (operator_of operator) (view_expr value.entry.now) }
+{
+    match operator {
+        AssignOperator::Assign => Use::Assigned(value),
+        AssignOperator::Multiply => Use::Updated(BinaryOperator::Multiply, value),
+        AssignOperator::Divide => Use::Updated(BinaryOperator::Divide, value),
+        AssignOperator::Remainder => Use::Updated(BinaryOperator::Remainder, value),
+        AssignOperator::Add => Use::Updated(BinaryOperator::Add, value),
+        AssignOperator::Subtract => Use::Updated(BinaryOperator::Subtract, value),
+        AssignOperator::ShiftLeft => Use::Updated(BinaryOperator::ShiftLeft, value),
+        AssignOperator::ShiftRight => Use::Updated(BinaryOperator::ShiftRight, value),
+        AssignOperator::ShiftRightZero => Use::Updated(BinaryOperator::ShiftRightZero, value),
+        AssignOperator::BitAnd => Use::Updated(BinaryOperator::BitAnd, value),
+        AssignOperator::BitXor => Use::Updated(BinaryOperator::BitXor, value),
+        AssignOperator::BitOr => Use::Updated(BinaryOperator::BitOr, value),
+    }
+}
+
+/// Behind the left operand the right one is evaluated.
+#[tactic(auto, using(crate::proofs::Behind::behind_more, crate::proofs::Behind::env_more), unfolding(es_meaning::specs::Evaluation::binary_right))]
+pub fn binary_right<'p, T: Copy>(
+    stack: &mut Stack<'p, T>,
+    operator: BinaryOperator,
+    right: &'p Expr,
+) -> Result<Next<'p>, OutOfMemory>
+    requires { length stack.old.loose ≡ 1 }
+    ensures goes_on { IfOk result (Resumes (work.BinaryRight operator right.entry) stack.old stack.new) }
+    ensures keeps { IfOk result (Keeps stack.old stack.new) }
+{
+    stack.push(Work::BinaryDone(operator))?;
+    Ok(Next::Expr(right))
+}
+
+/// Behind the left side of a comma the right one is evaluated.
+#[tactic(auto, unfolding(es_meaning::specs::Evaluation::comma_right))]
+pub fn comma_right<'p, T: Copy>(stack: &mut Stack<'p, T>, right: &'p Expr) -> Next<'p>
+    requires { length stack.old.loose ≡ 1 }
+    ensures goes_on { Resumes (work.CommaRight right.entry) stack.old stack.new result }
+    ensures keeps { Keeps (without_top stack.old) stack.new result }
+{
+    stack.forget();
+    Next::Expr(right)
+}

@@ -1,0 +1,92 @@
+//! Pending work, and the operands that it keeps.
+
+ghost use Rattle.std.specs.Prelude.{◌≡◌, ◌<◌, [], ◌∷◌, ◌++◌, ◌-◌, length, take, OnOk, OnErr};
+ghost use Rattle.step_work.specs.Pending.{owns};
+ghost use Rattle.step_work.specs.Kept.{operands_of, scope_of, scopes_of};
+
+use crate::work::Work;
+use flow_text::OutOfMemory;
+use js_values::Labelled;
+use std::alloc::Global;
+use std::marker::Model;
+
+/// Pending work, the last of which is done first, with the operands that it keeps, and above them values that no work keeps yet.
+#[derive(Drop)]
+pub struct Stack<'p, T> {
+    works: Vec<Work<'p>>,
+    operands: Vec<Labelled<T>>,
+}
+
+impl<'p, T> Model for Stack<'p, T> {
+    ghost use Rattle.std.specs.Prelude.{length, ◌≤◌};
+    ghost use Rattle.step_work.specs.Kept.{Kept, kept, owned};
+
+    ghost Value = { Kept T };
+
+    ghost use Rattle.std.specs.Coded.{codes};
+    ghost use Rattle.js_ast.specs.contracts.trees.ExprKind as expr_kind;
+    ghost use Rattle.js_ast.specs.contracts.trees.StmtKind as stmt_kind;
+    ghost use Rattle.js_ast.specs.contracts.trees.Declaration as declaration;
+
+    ghost coded = { Prim.hlevel (codes, expr_kind.the_row.coded, stmt_kind.the_row.coded, declaration.the_row.coded) };
+
+    ghost view = { λ s. kept s.works.items s.operands.items };
+
+    ghost invariant = { λ s. owned s.works.items ≤ length s.operands.items };
+}
+
+impl<'p, T: Copy> Stack<'p, T> {
+    /// No work, and no values. It takes no memory.
+    pub fn new(alloc: Global) -> Stack<'p, T>
+        ensures { result ≡ record { tasks = []; loose = [] } }
+    {
+        Stack {
+            works: Vec::new(alloc),
+            operands: Vec::new(alloc),
+        }
+    }
+
+    /// Lays a value on top.
+    #[tactic(auto, using(crate::proofs::KeptLaws::tasks_stay, crate::proofs::KeptLaws::loose_more))]
+    pub fn lay(&mut self, value: Labelled<T>) -> Result<(), OutOfMemory>
+        ensures tasks { self.new.tasks ≡ self.old.tasks }
+        ensures laid { OnOk result (self.new.loose ≡ self.old.loose ++ value ∷ []) }
+        ensures unchanged { OnErr result (self.new ≡ self.old) }
+    {
+        self.operands.push(value)?;
+        Ok(())
+    }
+
+    /// Adds work, which keeps the values that no work kept.
+    #[tactic(auto, using(crate::proofs::Keeping::pushed_scopes, crate::proofs::Keeping::pushed_operands))]
+    pub fn push(&mut self, work: Work<'p>) -> Result<(), OutOfMemory>
+        requires { owns work ≡ length self.old.loose }
+        ensures ok { OnOk result (self.new ≡ record { tasks = self.old.tasks ++ (work.entry, self.old.loose) ∷ []; loose = [] }) }
+        ensures scopes { OnOk result (scopes_of self.new.tasks ≡ scopes_of self.old.tasks ++ scope_of work.entry) }
+        ensures operands { OnOk result (operands_of self.new ≡ operands_of self.old) }
+        ensures unchanged { OnErr result (self.new ≡ self.old) }
+    {
+        self.add(work)?;
+        Ok(())
+    }
+
+    #[tactic(auto, using(crate::proofs::KeptLaws::tasks_more, crate::proofs::KeptLaws::none_loose, crate::proofs::KeptLaws::still_enough))]
+    fn add(&mut self, work: Work<'p>) -> Result<(), OutOfMemory>
+        requires { owns work ≡ length self.old.loose }
+        ensures ok { OnOk result (self.new ≡ record { tasks = self.old.tasks ++ (work.entry, self.old.loose) ∷ []; loose = [] }) }
+        ensures unchanged { OnErr result (self.new ≡ self.old) }
+    {
+        self.works.push(work)?;
+        Ok(())
+    }
+
+    /// Takes the uppermost value away.
+    #[tactic(auto, using(crate::proofs::KeptLaws::tasks_without_last, crate::proofs::KeptLaws::loose_without_last, crate::proofs::KeptLaws::enough_without_last))]
+    pub fn forget(&mut self)
+        requires { 0 < length self.old.loose }
+        ensures tasks { self.new.tasks ≡ self.old.tasks }
+        ensures rest { self.new.loose ≡ take (length self.old.loose - 1) self.old.loose }
+    {
+        self.operands.truncate(self.operands.len() - 1);
+    }
+}

@@ -1,0 +1,158 @@
+//! The parts of a script that a machine enters, and the work that waits for what they come to.
+
+ghost use Rattle.std.specs.Prelude.{◌≡◌};
+ghost use Rattle.step_work.specs.Pending.{owns};
+
+use flow_text::Text;
+use js_ast::{BinaryOperator, Declaration, Declarations, Expr, Stmt, UnaryOperator};
+use js_number::Int;
+use js_values::EnvId;
+
+/// A name, and the record that has it, if one has (ECMA-262 8.7).
+#[derive(Clone, Copy)]
+pub struct Reference<'p> {
+    pub name: &'p Text,
+    pub record: Option<EnvId>,
+}
+
+/// What is done with a reference.
+#[derive(Clone, Copy)]
+pub enum Use<'p> {
+    /// It is given the value of an expression.
+    Assigned(&'p Expr),
+    /// It is given what an operator makes of its value and that of an expression.
+    Updated(BinaryOperator, &'p Expr),
+    /// Its value as a number is changed by one, and the new value is given.
+    Prefixed(BinaryOperator),
+    /// The same, and the old value is given.
+    Postfixed(BinaryOperator),
+    /// It is asked for its type.
+    Asked,
+}
+
+/// What a turn of a loop evaluates: its body, and behind it what its header changes, and its condition.
+#[derive(Clone, Copy)]
+pub struct Round<'p> {
+    pub body: &'p Stmt,
+    pub update: Option<&'p Expr>,
+    pub test: Option<&'p Expr>,
+}
+
+/// The functions that this product adds to the language.
+#[derive(Clone, Copy, Debug, PartialEq, Eq)]
+pub enum Direct {
+    /// The next line of an input channel.
+    Read,
+    /// Prints a line on an output channel.
+    Print,
+    /// Joins origins to a value's label.
+    Lbl,
+}
+
+/// What waits for the completion of a part. Some of it keeps values beside it, its operands: `owns` tells how many.
+#[derive(Clone, Copy)]
+pub enum Work<'p> {
+    /// The value is the operand.
+    Unary(UnaryOperator),
+    /// The value is the left operand, and the right one is evaluated next.
+    BinaryRight(BinaryOperator, &'p Expr),
+    /// The value is the right operand. It keeps the left one.
+    BinaryDone(BinaryOperator),
+    AndRight(&'p Expr),
+    OrRight(&'p Expr),
+    /// The value chooses one of two expressions.
+    Choose(&'p Expr, &'p Expr),
+    CommaRight(&'p Expr),
+    /// The value is given to the reference.
+    AssignTo(Reference<'p>),
+    /// The value is the operand of a compound assignment. It keeps the old value of the reference.
+    CompoundDone(BinaryOperator, Reference<'p>),
+    /// The value is an argument. It keeps those before it, and others stand behind.
+    Argument(Direct, u32, &'p [Expr]),
+    /// The value is of no use.
+    Discard,
+    /// The value chooses the statement or nothing.
+    ChooseStmt(&'p Stmt),
+    /// The value chooses one of two statements.
+    ChooseStmts(&'p Stmt, &'p Stmt),
+    /// Statements stand behind.
+    Statements(&'p [Stmt]),
+    /// The value is that of a variable, and others stand behind.
+    Variable(Reference<'p>, &'p [Declaration]),
+    /// The loop's first part was evaluated.
+    Looped(Round<'p>),
+    /// The loop's variables were declared.
+    Declared(Round<'p>),
+    /// The value decides on a further turn.
+    Tested(Round<'p>),
+    /// What the loop's header changes was evaluated.
+    Updated(Round<'p>),
+    /// A turn is over.
+    Turned(Round<'p>),
+    /// The branch that stands in the frame at this depth is over. It has a value, or none.
+    EndBranch(bool, usize),
+    /// The loop or the turn that stands in the frame at this depth is over.
+    EndRound(bool, usize),
+}
+
+impl<'p> Work<'p> {
+    /// How many operands it keeps.
+    pub(crate) fn owns(self) -> usize
+        ensures { result ≡ owns self.entry }
+    {
+        match self {
+            Work::BinaryDone(_) | Work::CompoundDone(_, _) => 1,
+            Work::Argument(_, count, _) => count as usize,
+            _ => 0,
+        }
+    }
+}
+
+/// Why a run leaves the language.
+#[derive(Clone, Copy, Debug, PartialEq, Eq)]
+pub enum Leaving {
+    /// A number that the language doesn't have.
+    Number,
+    /// A text that is too long.
+    String,
+    /// A channel that the policy doesn't have.
+    Channel,
+    /// An origin that the policy doesn't have.
+    Origin,
+    /// A part of the language that isn't built yet.
+    Unbuilt,
+}
+
+/// What a machine does next.
+#[derive(Clone, Copy)]
+pub enum Next<'p> {
+    /// The part has come to the value that lies uppermost among the operands.
+    Value,
+    /// The part has come to its end without a value.
+    Done,
+    /// The part has come to a value that stands in the script.
+    Null,
+    Bool(bool),
+    Number(&'p Int),
+    Text(&'p Text),
+    /// The part comes to the value of a name.
+    Name(&'p Text),
+    /// The part comes to what a function of the product makes of the values that no work keeps.
+    Direct(Direct, u32),
+    /// An expression is evaluated.
+    Expr(&'p Expr),
+    /// A reference, or its parentheses, is evaluated for a use.
+    Use(Use<'p>, &'p Expr),
+    /// A statement is evaluated.
+    Stmt(&'p Stmt),
+    /// Variables are given their first values, where they have one.
+    Variables(&'p Declarations),
+    /// A turn of a loop, and those behind it.
+    Turn(Round<'p>),
+    /// A loop, which begins with its condition.
+    Loop(Round<'p>),
+    /// A loop, which begins with a turn.
+    DoLoop(Round<'p>),
+    /// The run leaves the language.
+    Leave(Leaving),
+}
