@@ -73,10 +73,10 @@ pub lent_function : (f : Function) → held_in_function f ≡ held f ∷ held_in
 lent_function f = parts f ∙ ap (λ more. held f ∷ more) (ap body_of (sym (roll-out-Function f)) ∙ rolled (out-Function f).at (out-Function f).number (out-Function f).strict (out-Function f).name (out-Function f).params (out-Function f).body)
   where
     body_of : Function → List (ℕ × FunctionCode)
-    body_of (Function' at n strict name params shape ss) = held_in_stmt_row ss
+    body_of (Function' at n strict name params shape ss order) = held_in_stmt_row ss
 
     parts : (f : Function) → held_in_function f ≡ held f ∷ body_of f
-    parts (Function' at n strict name params shape ss) = refl
+    parts (Function' at n strict name params shape ss order) = refl
 
     rolled : (at n : ℕ) (strict : Bool) (name : Option Ident) (params : NodeList Ident) (body : NodeList Stmt) → body_of (roll-Function (record { at = at; number = n; strict = strict; name = name; params = params; body = body })) ≡ held_in_stmts (nodes_of body)
     rolled at n strict name params body = rw rolls-Function' (lent_stmts body)

@@ -1,4 +1,5 @@
 pub mod Filling
 pub mod HeldLaws
+pub mod KeyLaws
 pub mod SlotLaws
 pub mod ViewLaws

@@ -9,10 +9,10 @@ use Rattle.js_ast.specs.declared.trees.Item as an_item
 use Rattle.js_ast.specs.declared.trees.Property.{Property}
 use Rattle.js_ast.specs.declared.trees.Function.{Function, out-Function, roll-Function, roll-out-Function, rolls-Function'}
 use Rattle.js_ast.specs.declared.trees.Stmt.{Stmt}
-use Rattle.js_ast.specs.declared.trees.Declaration.{Declaration, roll-Declaration, rolls-Declaration'}
+use Rattle.js_ast.specs.declared.trees.Declaration.{Declaration, out-Declaration, roll-Declaration, roll-out-Declaration, rolls-Declaration'}
 use Rattle.js_ast.specs.declared.trees.Declarations.{Declarations, out-Declarations, roll-Declarations, roll-out-Declarations, rolls-Declarations'}
-use Rattle.js_ast.specs.declared.trees.Block.{roll-Block, rolls-Block'}
-use Rattle.js_ast.specs.declared.trees.Clause.{Clause, Clause', roll-Clause, rolls-Clause'}
+use Rattle.js_ast.specs.declared.trees.Block.{Block, out-Block, roll-Block, roll-out-Block, rolls-Block'}
+use Rattle.js_ast.specs.declared.trees.Clause.{Clause, Clause', out-Clause, roll-Clause, roll-out-Clause, rolls-Clause'}
 use Rattle.js_ast.specs.declared.trees.ExprKind.TheBlock.{back-ForFirst-Expr-0, Row_of-Item, end_of-Item, more_of-Item, items-the_row-Item, hidden-the_row-Item-0, items_hidden-the_row-Item-0, Row_of-Property, end_of-Property, more_of-Property, items-the_row-Property, hidden-the_row-Property-1, items_hidden-the_row-Property-1, Row_of-Expr, end_of-Expr, more_of-Expr, items-the_row-Expr, hidden-the_row-Expr-2, items_hidden-the_row-Expr-2, Row_of-Stmt, end_of-Stmt, more_of-Stmt, items-the_row-Stmt, hidden-the_row-Stmt-3, items_hidden-the_row-Stmt-3, Row_of-Clause, end_of-Clause, more_of-Clause, items-the_row-Clause, hidden-the_row-Clause-4, items_hidden-the_row-Clause-4, Row_of-Declaration, end_of-Declaration, more_of-Declaration, items-the_row-Declaration, hidden-the_row-Declaration-5, items_hidden-the_row-Declaration-5}
 use Rattle.js_ast.specs.Nodes.{nodes_of}
 use Rattle.js_ast.specs.Trees as trees
@@ -65,7 +65,7 @@ clause_by_joined (trees.present e) body cs ds = refl
 
 -- a clause in front of joined ones
 clause_joined : (c : Clause) (cs ds : trees.Clauses) → view_clause c (joined_clauses cs ds) ≡ joined_clauses (view_clause c cs) ds
-clause_joined (Clause' e shape ss) cs ds = clause_by_joined (view_held_expr e) (view_stmt_row ss) cs ds
+clause_joined (Clause' e shape ss order) cs ds = clause_by_joined (view_held_expr e) (view_stmt_row ss) cs ds
 
 -- clauses behind others
 pub clauses_append : (cs ds : List Clause) → view_clauses (cs ++ ds) ≡ joined_clauses (view_clauses cs) (view_clauses ds)
@@ -153,9 +153,17 @@ parts_function f = ap view_function (sym (roll-out-Function f)) ∙ seen_functio
 pub seen_block_of : (at : ℕ) (body : NodeList Stmt) → view_block (roll-Block (record { at = at; body = body })) ≡ block_of at (view_stmts (nodes_of body))
 seen_block_of at body = rw rolls-Block' (ap (block_of at) (held_stmts body))
 
+-- statements between braces that are held
+pub parts_block : (b : Block) → view_block b ≡ block_of (out-Block b).at (view_stmts (nodes_of (out-Block b).body))
+parts_block b = ap view_block (sym (roll-out-Block b)) ∙ seen_block_of (out-Block b).at (out-Block b).body
+
 -- a variable
 pub seen_declaration : (name : Ident) (init : Option Expr) → view_declaration (roll-Declaration (record { name = name; value = init })) ≡ (view_ident name, view_maybe_expr init)
 seen_declaration name init = rw rolls-Declaration' (ap (λ e. (view_ident name, e)) (held_expr init))
+
+-- a variable that is held
+pub parts_declaration : (d : Declaration) → view_declaration d ≡ (view_ident (out-Declaration d).name, view_maybe_expr (out-Declaration d).value)
+parts_declaration d = ap view_declaration (sym (roll-out-Declaration d)) ∙ seen_declaration (out-Declaration d).name (out-Declaration d).value
 
 -- variables
 pub seen_declarations : (d : Declaration) (others : NodeList Declaration) → view_declarations (roll-Declarations (record { first = d; others = others })) ≡ declarations_from (view_declaration d) (view_other_declarations (nodes_of others))
@@ -168,6 +176,10 @@ parts_declarations ds = ap view_declarations (sym (roll-out-Declarations ds)) �
 -- a clause in front of others
 seen_clause : (test : Option Expr) (body : NodeList Stmt) (cs : trees.Clauses) → view_clause (roll-Clause (record { test = test; body = body })) cs ≡ clause_by (view_maybe_expr test) (view_stmts (nodes_of body)) cs
 seen_clause test body cs = rw (rolls-Clause', held_expr test, held_stmts body) refl
+
+-- a clause that is held
+pub parts_clause : (c : Clause) (cs : trees.Clauses) → view_clause c cs ≡ clause_by (view_maybe_expr (out-Clause c).test) (view_stmts (nodes_of (out-Clause c).body)) cs
+parts_clause c cs = ap (λ c. view_clause c cs) (sym (roll-out-Clause c)) ∙ seen_clause (out-Clause c).test (out-Clause c).body cs
 
 -- a clause with a test
 pub seen_case : (test : Expr) (body : NodeList Stmt) (cs : trees.Clauses) → view_clause (roll-Clause (record { test = Some test; body = body })) cs ≡ case (view_expr test) (view_stmts (nodes_of body)) cs

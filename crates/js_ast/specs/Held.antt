@@ -52,14 +52,14 @@ abbrev mutual
   held_in_expr_kind expr.Null = []
   held_in_expr_kind (expr.Bool b) = []
   held_in_expr_kind (expr.Paren' a p e) = held_in_expr_kind e
-  held_in_expr_kind (expr.Array' shape is final) = held_in_item_row is
-  held_in_expr_kind (expr.Object' shape ps final) = held_in_property_row ps
+  held_in_expr_kind (expr.Array' shape is order final) = held_in_item_row is
+  held_in_expr_kind (expr.Object' shape ps order final) = held_in_property_row ps
   held_in_expr_kind (expr.Function f) = held_in_function f
   held_in_expr_kind (expr.Member' a p e text) = held_in_expr_kind e
   held_in_expr_kind (expr.Index' a p e b q i) = held_in_expr_kind e ++ held_in_expr_kind i
   held_in_expr_kind (expr.New' a p e ExprKind-New-1-None') = held_in_expr_kind e
-  held_in_expr_kind (expr.New' a p e (ExprKind-New-1-Some' shape es)) = held_in_expr_kind e ++ held_in_expr_row es
-  held_in_expr_kind (expr.Call' a p e shape es) = held_in_expr_kind e ++ held_in_expr_row es
+  held_in_expr_kind (expr.New' a p e (ExprKind-New-1-Some' shape es order)) = held_in_expr_kind e ++ held_in_expr_row es
+  held_in_expr_kind (expr.Call' a p e shape es order) = held_in_expr_kind e ++ held_in_expr_row es
   held_in_expr_kind (expr.Postfix' a p e o) = held_in_expr_kind e
   held_in_expr_kind (expr.Unary' o a p e) = held_in_expr_kind e
   held_in_expr_kind (expr.Binary' a p l o b q r) = held_in_expr_kind l ++ held_in_expr_kind r
@@ -97,7 +97,7 @@ abbrev mutual
 
   -- a function, and then those in its body
   pub held_in_function : Function → List (ℕ × FunctionCode)
-  held_in_function (Function' at n strict ident params shape ss) = held (Function' at n strict ident params shape ss) ∷ held_in_stmt_row ss
+  held_in_function (Function' at n strict ident params shape ss order) = held (Function' at n strict ident params shape ss order) ∷ held_in_stmt_row ss
 
   -- a variable
   pub held_in_declaration : Declaration → List (ℕ × FunctionCode)
@@ -109,7 +109,7 @@ abbrev mutual
 
   -- variables
   pub held_in_declarations : Declarations → List (ℕ × FunctionCode)
-  held_in_declarations (Declarations' d shape ds) = held_in_declaration d ++ held_in_declaration_row ds
+  held_in_declarations (Declarations' d shape ds order) = held_in_declaration d ++ held_in_declaration_row ds
 
   -- the first part of a `for` header
   pub held_in_first : ForFirst → List (ℕ × FunctionCode)
@@ -123,7 +123,7 @@ abbrev mutual
 
   -- a clause of a `switch`
   pub held_in_clause : Clause → List (ℕ × FunctionCode)
-  held_in_clause (Clause' e shape ss) = held_in_held_expr e ++ held_in_stmt_row ss
+  held_in_clause (Clause' e shape ss order) = held_in_held_expr e ++ held_in_stmt_row ss
 
   pub held_in_clause_row : {m : _} → Row_of-Clause m → List (ℕ × FunctionCode)
   held_in_clause_row end_of-Clause = []
@@ -131,11 +131,11 @@ abbrev mutual
 
   -- statements between braces
   pub held_in_block : Block → List (ℕ × FunctionCode)
-  held_in_block (Block' at shape ss) = held_in_stmt_row ss
+  held_in_block (Block' at shape ss order) = held_in_stmt_row ss
 
   -- a statement
   pub held_in_stmt_kind : StmtKind → List (ℕ × FunctionCode)
-  held_in_stmt_kind (stmt.Block' shape ss) = held_in_stmt_row ss
+  held_in_stmt_kind (stmt.Block' shape ss order) = held_in_stmt_row ss
   held_in_stmt_kind (stmt.Var ds s) = held_in_declarations ds
   held_in_stmt_kind stmt.Empty = []
   held_in_stmt_kind (stmt.Expr' a p e s) = held_in_expr_kind e
@@ -149,7 +149,7 @@ abbrev mutual
   held_in_stmt_kind (stmt.Break label s) = []
   held_in_stmt_kind (stmt.Return' e s) = held_in_held_expr e
   held_in_stmt_kind (stmt.Throw' a p e s) = held_in_expr_kind e
-  held_in_stmt_kind (stmt.Switch' a p e shape cs) = held_in_expr_kind e ++ held_in_clause_row cs
+  held_in_stmt_kind (stmt.Switch' a p e shape cs order) = held_in_expr_kind e ++ held_in_clause_row cs
   held_in_stmt_kind (stmt.Labelled' text a p s) = held_in_stmt_kind s
   held_in_stmt_kind (stmt.TryCatch b i h) = held_in_block b ++ held_in_block h
   held_in_stmt_kind (stmt.TryFinally b f) = held_in_block b ++ held_in_block f

@@ -4,6 +4,7 @@ pub mod Grammar
 pub mod Held
 pub mod IsMarked
 pub mod Joined
+pub mod Keys
 pub mod Lent
 pub mod Levels
 pub mod Nodes

@@ -7,7 +7,7 @@ use Rattle.js_ast.specs.contracts.node_list.NodeList.{the_row}
 
 -- the list with other nodes
 abbrev pub with_nodes : {T : Type 0} → NodeList T → List T → NodeList T
-with_nodes l nodes = record { nodes = with_items l.nodes nodes }
+with_nodes l nodes = record l { nodes = with_items l.nodes nodes }
 
 -- the list ends with what its nodes end as
 abbrev pub LendsNodes : (T : RattleType) → MutBor (the_row T).Denot → MutBor (List T.Denot) → Fml

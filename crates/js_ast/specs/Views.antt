@@ -80,14 +80,14 @@ abbrev mutual
   view_expr_kind at expr.Null = null at
   view_expr_kind at (expr.Bool b) = boolean at b
   view_expr_kind at (expr.Paren' a p e) = paren at (view_expr_kind a e)
-  view_expr_kind at (expr.Array' shape is final) = array at (view_item_row is) final
-  view_expr_kind at (expr.Object' shape ps final) = object at (view_property_row ps) final
+  view_expr_kind at (expr.Array' shape is order final) = array at (view_item_row is) final
+  view_expr_kind at (expr.Object' shape ps order final) = object at (view_property_row ps) final
   view_expr_kind at (expr.Function f) = function at (view_function f)
   view_expr_kind at (expr.Member' a p e text) = member at (view_expr_kind a e) text
   view_expr_kind at (expr.Index' a p e b q i) = index at (view_expr_kind a e) (view_expr_kind b i)
   view_expr_kind at (expr.New' a p e ExprKind-New-1-None') = new_bare at (view_expr_kind a e)
-  view_expr_kind at (expr.New' a p e (ExprKind-New-1-Some' shape es)) = new_with at (view_expr_kind a e) (view_expr_row es)
-  view_expr_kind at (expr.Call' a p e shape es) = call at (view_expr_kind a e) (view_expr_row es)
+  view_expr_kind at (expr.New' a p e (ExprKind-New-1-Some' shape es order)) = new_with at (view_expr_kind a e) (view_expr_row es)
+  view_expr_kind at (expr.Call' a p e shape es order) = call at (view_expr_kind a e) (view_expr_row es)
   view_expr_kind at (expr.Postfix' a p e o) = postfix at (view_expr_kind a e) o
   view_expr_kind at (expr.Unary' o a p e) = unary at o (view_expr_kind a e)
   view_expr_kind at (expr.Binary' a p l o b q r) = binary at (view_expr_kind a l) o (view_expr_kind b r)
@@ -125,7 +125,7 @@ abbrev mutual
 
   -- a function
   pub view_function : Function → trees.Function
-  view_function (Function' at n strict ident params shape ss) = function_of at (view_name ident) (view_idents (nodes_of params)) (view_stmt_row ss)
+  view_function (Function' at n strict ident params shape ss order) = function_of at (view_name ident) (view_idents (nodes_of params)) (view_stmt_row ss)
 
   -- a variable
   pub view_declaration : Declaration → trees.Ident × trees.MaybeExpr
@@ -137,7 +137,7 @@ abbrev mutual
 
   -- variables
   pub view_declarations : Declarations → trees.Declarations
-  view_declarations (Declarations' d shape ds) = declarations_from (view_declaration d) (view_declaration_row ds)
+  view_declarations (Declarations' d shape ds order) = declarations_from (view_declaration d) (view_declaration_row ds)
 
   -- the first part of a `for` header
   pub view_first : ForFirst → trees.First
@@ -151,7 +151,7 @@ abbrev mutual
 
   -- a clause in front of others
   pub view_clause : Clause → trees.Clauses → trees.Clauses
-  view_clause (Clause' e shape ss) rest = clause_by (view_held_expr e) (view_stmt_row ss) rest
+  view_clause (Clause' e shape ss order) rest = clause_by (view_held_expr e) (view_stmt_row ss) rest
 
   pub view_clause_row : {m : _} → Row_of-Clause m → trees.Clauses
   view_clause_row end_of-Clause = no_clauses
@@ -159,11 +159,11 @@ abbrev mutual
 
   -- statements between braces
   pub view_block : Block → trees.Block
-  view_block (Block' at shape ss) = block_of at (view_stmt_row ss)
+  view_block (Block' at shape ss order) = block_of at (view_stmt_row ss)
 
   -- a statement, by its place and what it is
   pub view_stmt_kind : ℕ → StmtKind → trees.Statement
-  view_stmt_kind at (stmt.Block' shape ss) = block (block_of at (view_stmt_row ss))
+  view_stmt_kind at (stmt.Block' shape ss order) = block (block_of at (view_stmt_row ss))
   view_stmt_kind at (stmt.Var ds s) = var at (view_declarations ds) (view_semi s)
   view_stmt_kind at stmt.Empty = empty at
   view_stmt_kind at (stmt.Expr' a p e s) = expression at (view_expr_kind a e) (view_semi s)
@@ -177,7 +177,7 @@ abbrev mutual
   view_stmt_kind at (stmt.Break label s) = break at (view_name label) (view_semi s)
   view_stmt_kind at (stmt.Return' e s) = return at (view_held_expr e) (view_semi s)
   view_stmt_kind at (stmt.Throw' a p e s) = throw at (view_expr_kind a e) (view_semi s)
-  view_stmt_kind at (stmt.Switch' a p e shape cs) = switch at (view_expr_kind a e) (view_clause_row cs)
+  view_stmt_kind at (stmt.Switch' a p e shape cs order) = switch at (view_expr_kind a e) (view_clause_row cs)
   view_stmt_kind at (stmt.Labelled' text a p s) = labelled at text (view_stmt_kind a s)
   view_stmt_kind at (stmt.TryCatch b i h) = try_catch at (view_block b) (view_ident i) (view_block h)
   view_stmt_kind at (stmt.TryFinally b f) = try_finally at (view_block b) (view_block f)

@@ -1,6 +1,7 @@
 //! What a script is made of: its tokens and its trees.
 #![tactic(auto)]
 
+mod keys;
 mod lending;
 mod node_list;
 mod operators;

@@ -1,17 +1,17 @@
 -- The early error of a program that is told.
 use Rattle.std.specs.Prelude.{Option}
 use Rattle.js_ast.specs.Trees.{Statements}
-use Rattle.js_faults.specs.declared.fault.Check.TheVariants as check
 use Rattle.js_faults.specs.declared.fault.Fault.{Fault}
 use Rattle.js_faults.specs.declared.fault.FaultKind.TheVariants as kind
 use Rattle.js_faults.specs.Scopes.{outermost}
 use Rattle.js_faults.specs.Faults.{in_statements, first_of}
+use Rattle.js_faults.specs.Early.{early}
 use Rattle.js_early.specs.declared.fault.EarlyFault.{EarlyFault}
 use Rattle.js_early.specs.declared.fault.EarlyFault.TheVariants as fault
 
 -- the one that stands furthest to the left, and of several at one place the first in the order of the kinds
 abbrev pub early_error : Statements → Option Fault
-early_error program = first_of (in_statements check.Early outermost program)
+early_error program = first_of (in_statements early outermost program)
 
 -- the same as a fault and its place
 abbrev pub fault_of : EarlyFault → Fault

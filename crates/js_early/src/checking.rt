@@ -1,21 +1,25 @@
 //! Early errors of programs.
 
-ghost use Rattle.std.specs.Prelude.{◌≡◌, Some, None};
+ghost use Rattle.std.specs.Prelude.{◌≡◌, ◌≤◌, ℕ, List, Some, None, IfErr};
+ghost use Rattle.std.specs.List.{All};
 ghost use Rattle.std.specs.Result.{MatchResult};
+ghost use Rattle.js_ast.specs.declared.token.Token.{Token};
+ghost use Rattle.js_ast.specs.Grammar.{SpellsProgram};
 ghost use Rattle.js_ast.specs.Views.{view_program};
-ghost use Rattle.js_faults.specs.declared.fault.FaultKind.TheVariants as kind;
 ghost use Rattle.js_early.specs.EarlyErrors.{early_error, fault_of};
 
 use crate::fault::EarlyFault;
 use js_ast::Program;
-use js_faults::{Check, Fault, FaultKind, fault_in_statements};
+use js_faults::{Fault, FaultKind, early_error};
 
 /// Refuses a program that has an early error, with the one that stands furthest to the left; of several at one place
-/// with the first in the order of the kinds. It takes no memory.
+/// with the first in the order of the kinds. Where the tokens of the program begin in a source, so does the error. It
+/// takes no memory.
 pub fn early(program: &Program) -> Result<(), EarlyFault>
-    ensures { MatchResult result (λ _. early_error (view_program program.now) ≡ None) (λ f. early_error (view_program program.now) ≡ Some (fault_of f)) }
+    ensures error { MatchResult result (λ _. early_error (view_program program.now) ≡ None) (λ f. early_error (view_program program.now) ≡ Some (fault_of f)) }
+    ensures place { (tokens : List Token) (end : ℕ) → SpellsProgram (view_program program.now) tokens → All (λ t. t.from ≤ end) tokens → IfErr result (λ f. (fault_of f).at ≤ end) }
 {
-    match fault_in_statements(Check::Early, &program.body) {
+    match early_error(&program.body) {
         Some(fault) => Err(early_fault(fault)),
         None => Ok(()),
     }
@@ -23,7 +27,6 @@ pub fn early(program: &Program) -> Result<(), EarlyFault>
 
 /// The same as an early error.
 fn early_fault(fault: Fault) -> EarlyFault
-    requires { fault.kind ≡ kind.Directive → ⊥ }
     ensures { fault_of result ≡ fault }
 {
     let at = fault.at;
@@ -35,7 +38,5 @@ fn early_fault(fault: Fault) -> EarlyFault
         FaultKind::Jump => EarlyFault::Jump { at },
         FaultKind::RepeatedLabel => EarlyFault::RepeatedLabel { at },
         FaultKind::StrictWord => EarlyFault::StrictWord { at },
-        // it is no early error
-        FaultKind::Directive => unreachable!(),
     }
 }

@@ -1,12 +1,12 @@
 -- What is told of names that are bound in turn: variables and parameters.
 use Rattle.std.proofs.Common.{refl, sym, ap, ◌∙◌, ◌≡◌, List, [], ◌∷◌, ◌++◌, append_assoc}
 use Rattle.js_ast.specs.declared.trees.Ident as held
-use Rattle.js_ast.specs.declared.trees.Declaration.{Declaration, out-Declaration, roll-out-Declaration}
+use Rattle.js_ast.specs.declared.trees.Declaration.{Declaration, out-Declaration}
 use Rattle.js_ast.specs.declared.trees.Declarations.{Declarations, out-Declarations}
 use Rattle.js_ast.specs.Nodes.{nodes_of}
 use Rattle.js_ast.specs.Trees.{Ident, MaybeExpr}
 use Rattle.js_ast.specs.Views.{view_ident, view_idents, view_maybe_expr, view_declaration, view_declarations, view_other_declarations, declarations_from}
-use Rattle.js_ast.proofs.ViewLaws.{idents_append, seen_declaration, parts_declarations}
+use Rattle.js_ast.proofs.ViewLaws.{idents_append, parts_declaration, parts_declarations}
 use Rattle.js_faults.specs.declared.fault.Fault.{Fault}
 use Rattle.js_faults.specs.declared.fault.FaultKind.TheVariants as kind
 use Rattle.js_faults.specs.Early.{fault_if, has_text, of_bound, of_declarations, of_parameters}
@@ -31,10 +31,10 @@ no_parameters front = refl
 
 -- the parts of a variable
 pub part_name : (d : Declaration) → (view_declaration d).0 ≡ view_ident (out-Declaration d).name
-part_name d = ap (λ d. (view_declaration d).0) (sym (roll-out-Declaration d)) ∙ ap (λ d. d.0) (seen_declaration (out-Declaration d).name (out-Declaration d).value)
+part_name d = ap (λ d. d.0) (parts_declaration d)
 
 pub part_value : (d : Declaration) → (view_declaration d).1 ≡ view_maybe_expr (out-Declaration d).value
-part_value d = ap (λ d. (view_declaration d).1) (sym (roll-out-Declaration d)) ∙ ap (λ d. d.1) (seen_declaration (out-Declaration d).name (out-Declaration d).value)
+part_value d = ap (λ d. d.1) (parts_declaration d)
 
 -- names that are bound
 abbrev pub bound_in : List (Ident × MaybeExpr) → List Fault

@@ -1,6 +1,13 @@
+pub mod Alike
 pub mod Bound
+pub mod Counts
+pub mod Entries
 pub mod Loops
+pub mod Neighbours
 pub mod Parts
+pub mod Placed
 pub mod Repeated
+pub mod Runs
 pub mod Told
+pub mod Walking
 pub mod Words

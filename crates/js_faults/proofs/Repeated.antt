@@ -13,9 +13,10 @@ use Rattle.js_ast.specs.declared.trees.Property as held
 use Rattle.js_ast.specs.declared.trees.PropertyKind.{PropertyKind}
 use Rattle.js_ast.specs.declared.trees.PropertyKind as held_kind
 use Rattle.js_ast.specs.Trees.{Property}
-use Rattle.js_ast.specs.Views.{view_property_kind, view_property, view_properties}
+use Rattle.js_ast.specs.Keys.{key_text}
+use Rattle.js_ast.specs.Views.{view_key, view_property_kind, view_property, view_properties}
 use Rattle.js_faults.specs.declared.fault.FaultKind.TheVariants as kind
-use Rattle.js_faults.specs.Early.{fault_if, clashes, place_of_property, property_list, of_repeated}
+use Rattle.js_faults.specs.Early.{fault_if, key_of, clashes, place_of_property, property_list, of_repeated}
 use Rattle.js_faults.specs.Faults.{earlier, first_of}
 use Rattle.js_faults.proofs.Told.{first_of_append}
 
@@ -53,10 +54,15 @@ unfolding of_repeated
 repeated_step all front p ps = rw (seen_append front (p ∷ []))
     (first_of_append (fault_if (list_any (clashes all (view_property p)) (seen front)) (place_of_property (view_property p)) kind.RepeatedProperty) (of_repeated all (seen front ++ view_property p ∷ []) (seen ps)))
 
-place_seen : (at : ℕ) (k : Key) (kind : PropertyKind) → at ≡ place_of_property (view_property_kind at k kind)
+pub place_seen : (at : ℕ) (k : Key) (kind : PropertyKind) → at ≡ place_of_property (view_property_kind at k kind)
 place_seen at k (held_kind.Value' a q e) = refl
 place_seen at k (held_kind.Getter f) = refl
 place_seen at k (held_kind.Setter f) = refl
+
+pub key_seen : (at : ℕ) (k : Key) (kind : PropertyKind) → key_text (view_key k) ≡ key_text (key_of (view_property_kind at k kind))
+key_seen at k (held_kind.Value' a q e) = refl
+key_seen at k (held_kind.Getter f) = refl
+key_seen at k (held_kind.Setter f) = refl
 
 pub repeated_told : (all : List Property) (front : List held.Property) (p : held.Property) (repeated : Bool) → repeated ≡ list_any (λ q. clashes all (view_property p) (view_property q)) front
     → first_of (fault_if repeated p.at kind.RepeatedProperty) ≡ first_of (fault_if (list_any (clashes all (view_property p)) (seen front)) (place_of_property (view_property p)) kind.RepeatedProperty)

@@ -1,10 +1,12 @@
 -- Upgrade directives: expression statements that are one string literal whose value begins with `flow `. In ECMAScript they do nothing.
-use Rattle.std.specs.Prelude.{ℕ, List, [], ◌∷◌, Bool, true, false, ◌==◌, ◌&&◌, ◌||◌, Option, Some, None, codes, nat_eq}
+use Rattle.std.specs.Prelude.{ℕ, List, [], ◌∷◌, Bool, true, false, not, ◌==◌, ◌&&◌, ◌||◌, Option, Some, None, codes, nat_eq}
 use Rattle.std.specs.List.{slice_split, starts_with}
 use Rattle.std.specs.Str.{bytes_eq}
 use Rattle.flow_lists.specs.Lists.{are_names}
 use Rattle.js_scan.specs.Names.{is_identifier}
 use Rattle.js_ast.specs.Trees.{Expr, string, Statement, expression}
+use Rattle.js_faults.specs.declared.directives.BadDirective.{BadDirective}
+use Rattle.js_faults.specs.Faults.{Own, Order}
 
 abbrev pub is_space : ℕ → Bool
 is_space unit = unit == 32
@@ -61,3 +63,24 @@ directive_in _ = None
 abbrev pub directive_of : Statement → Option (List ℕ)
 directive_of (expression at e semi) = directive_in e
 directive_of _ = None
+
+-- a directive without a form of one, at the statement
+abbrev pub bad_if : Bool → ℕ → List BadDirective
+bad_if true at = record { at = at } ∷ []
+bad_if false at = []
+
+abbrev pub of_directive : ℕ → Option (List ℕ) → List BadDirective
+of_directive at (Some units) = bad_if (not (has_form units)) at
+of_directive at None = []
+
+-- the same of a statement
+unfoldable pub without_form : Statement → List BadDirective
+without_form (expression at e semi) = of_directive at (directive_in e)
+without_form _ = []
+
+-- nothing is told of other nodes
+abbrev pub directives : Own BadDirective
+directives = record { expr = λ e. []; function = λ f. []; statement = λ s statement. without_form statement }
+
+abbrev pub by_place : Order BadDirective
+by_place = record { at = λ d. d.at; row = λ d. 0 }

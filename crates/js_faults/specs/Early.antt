@@ -2,15 +2,16 @@
 use Rattle.std.specs.Prelude.{ℕ, List, [], ◌∷◌, ◌++◌, length, Bool, true, false, not, ◌==◌, ◌&&◌, ◌||◌, Option, Some, None, codes, if◌then◌else◌}
 use Rattle.std.specs.List.{list_any, filter}
 use Rattle.std.specs.Str.{bytes_eq}
-use Rattle.std.specs.Fmt.{signed_decimal}
 use Rattle.js_ast.specs.declared.operators.UnaryOperator.{UnaryOperator}
 use Rattle.js_ast.specs.declared.operators.UnaryOperator.TheVariants as unary_operator
-use Rattle.js_ast.specs.Trees.{Ident, Key, name_key, string_key, number_key, Expr, name, paren, object, function, postfix, unary, assign, Properties, no_properties, more_properties, Property, value, getter, setter, Declarations, one_declaration, more_declarations, First, first_expr, first_var, Target, target_expr, target_var, Statement, var, expression, for, for_in, continue, break, return, labelled, try_catch, try_both, function_declaration, Function, function_of}
+use Rattle.js_ast.specs.Keys.{key_text}
+use Rattle.js_ast.specs.Trees.{Ident, Key, Expr, name, paren, object, function, postfix, unary, assign, Properties, no_properties, more_properties, Property, value, getter, setter, Declarations, one_declaration, more_declarations, First, first_expr, first_var, Target, target_expr, target_var, Statement, var, expression, for, for_in, continue, break, return, labelled, try_catch, try_both, function_declaration, Function, function_of}
 use Rattle.js_faults.specs.declared.fault.Fault.{Fault}
 use Rattle.js_faults.specs.declared.fault.FaultKind.{FaultKind}
 use Rattle.js_faults.specs.declared.fault.FaultKind.TheVariants as kind
 use Rattle.js_faults.specs.Scopes.{Scope, names_statement, names_loop}
 use Rattle.js_faults.specs.Directives.{parts_in, directive_of}
+use Rattle.js_faults.specs.Faults.{Own}
 
 -- a fault, where something holds
 abbrev pub fault_if : Bool → ℕ → FaultKind → List Fault
@@ -70,12 +71,6 @@ of_deleted (paren at e) = of_deleted e
 of_deleted _ = []
 
 -- ---- properties (ECMA-262 11.1.5)
-
--- the name that a key gives its property
-abbrev pub key_text : Key → List ℕ
-key_text (name_key text) = text
-key_text (string_key text v) = v
-key_text (number_key n) = signed_decimal n
 
 -- the key of a property
 abbrev pub key_of : Property → Key
@@ -217,3 +212,8 @@ of_statement s (try_catch at b ident handler) = of_bound ident
 of_statement s (try_both at b ident handler final) = of_bound ident
 of_statement s (expression at e semi) = fault_if (not (directive_may_jump (directive_of (expression at e semi)) s)) at kind.Jump
 of_statement s _ = []
+
+-- ---- all of it
+
+abbrev pub early : Own Fault
+early = record { expr = of_expr; function = of_function; statement = of_statement }

@@ -2,10 +2,69 @@
 
 ghost use Rattle.std.specs.Prelude.{◌≡◌, ℕ, List, map, option_map};
 ghost use Rattle.js_ast.specs.Views.{view_expr, view_stmt};
-ghost use Rattle.js_faults.specs.Directives.{is_label, is_jump, is_raised, is_directive, has_form, directive_in, directive_of};
+ghost use Rattle.js_faults.specs.Directives.{is_label, is_jump, is_raised, is_directive, has_form, directive_in, directive_of, bad_if, of_directive, without_form, by_place};
+ghost use Rattle.js_faults.specs.Faults.{precedes, earlier_by, first_by};
 
+use crate::forms::has_form;
 use js_ast::{Expr, ExprKind, Stmt, StmtKind};
-use js_scan::{is_identifier, spells};
+
+/// An upgrade directive that has no form of one, and where it is.
+#[derive(Clone, Copy, Debug, PartialEq, Eq)]
+pub struct BadDirective {
+    pub at: usize,
+}
+
+impl BadDirective {
+    /// Whether it comes before another.
+    #[tactic(auto, using(crate::proofs::Told::place_alone))]
+    fn is_before(self, other: BadDirective) -> bool
+        ensures { result ≡ precedes by_place self other }
+    {
+        self.at < other.at
+    }
+}
+
+/// The first of two.
+pub(crate) fn first_of_two(f: Option<BadDirective>, g: Option<BadDirective>) -> Option<BadDirective>
+    ensures { result ≡ earlier_by by_place f g }
+{
+    match (f, g) {
+        (Some(f), Some(g)) => Some(if g.is_before(f) { g } else { f }),
+        (None, g) => g,
+        (f, None) => f,
+    }
+}
+
+/// A statement that is a directive without its form.
+#[tactic(auto, unfolding(crate::specs::Directives::without_form))]
+pub(crate) fn without_form(s: &Stmt) -> Option<BadDirective>
+    ensures { result ≡ first_by by_place (without_form (view_stmt s.now)) }
+{
+    match &*s.kind {
+        StmtKind::Expr { expr, .. } => of_directive(s.at, directive_in(expr)),
+        _ => None,
+    }
+}
+
+fn of_directive(at: usize, value: Option<&[u16]>) -> Option<BadDirective>
+    ensures { result ≡ first_by by_place (of_directive at (option_map (λ value. value.now) value.entry)) }
+{
+    match value {
+        Some(value) => bad_if(!has_form(value), at),
+        None => None,
+    }
+}
+
+/// A directive without its form, where something holds.
+fn bad_if(holds: bool, at: usize) -> Option<BadDirective>
+    ensures { result ≡ first_by by_place (bad_if holds at) }
+{
+    if holds {
+        Some(BadDirective { at })
+    } else {
+        None
+    }
+}
 
 /// The value of the directive that a statement is.
 pub(crate) fn directive_of(statement: &Stmt) -> Option<&[u16]>

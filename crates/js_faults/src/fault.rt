@@ -1,23 +1,12 @@
-//! What is wrong with a tree.
+//! Early errors.
 
 ghost use Rattle.std.specs.Prelude.{◌≡◌};
 ghost use Rattle.js_faults.specs.Early.{fault_if};
 ghost use Rattle.js_faults.specs.Faults.{row, is_before, earlier, first_of};
 
-/// What a walk over a tree looks for.
-#[derive(Clone, Copy, Debug, PartialEq, Eq)]
-pub enum Check {
-    /// Upgrade directives that have no form of one.
-    Directives,
-    /// Early errors.
-    Early,
-}
-
-/// What is wrong.
+/// What an early error is.
 #[derive(Clone, Copy, Debug, PartialEq, Eq)]
 pub enum FaultKind {
-    /// An upgrade directive that has no form of one.
-    Directive,
     /// `eval` or `arguments` is assigned or bound.
     EvalArguments,
     /// A parameter has the name of an earlier one.
@@ -34,7 +23,7 @@ pub enum FaultKind {
     StrictWord,
 }
 
-/// What is wrong, and where.
+/// An early error, and where it is.
 #[derive(Clone, Copy, Debug, PartialEq, Eq)]
 pub struct Fault {
     pub at: usize,
@@ -47,14 +36,13 @@ impl FaultKind {
         ensures { result ≡ row self }
     {
         match self {
-            FaultKind::Directive => 0,
-            FaultKind::EvalArguments => 1,
-            FaultKind::RepeatedParameter => 2,
-            FaultKind::RepeatedProperty => 3,
-            FaultKind::DeleteName => 4,
-            FaultKind::Jump => 5,
-            FaultKind::RepeatedLabel => 6,
-            FaultKind::StrictWord => 7,
+            FaultKind::EvalArguments => 0,
+            FaultKind::RepeatedParameter => 1,
+            FaultKind::RepeatedProperty => 2,
+            FaultKind::DeleteName => 3,
+            FaultKind::Jump => 4,
+            FaultKind::RepeatedLabel => 5,
+            FaultKind::StrictWord => 6,
         }
     }
 }

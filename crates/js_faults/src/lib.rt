@@ -6,10 +6,13 @@ mod fault;
 mod forms;
 mod jumps;
 mod names;
+mod ordered;
 mod own;
 mod properties;
 mod scope;
+mod telling;
 mod walk;
 
-pub use fault::{Check, Fault, FaultKind};
-pub use walk::{fault_in_expr, fault_in_statements};
+pub use directives::BadDirective;
+pub use fault::{Fault, FaultKind};
+pub use walk::{bad_directive, bad_directive_in_expr, early_error};

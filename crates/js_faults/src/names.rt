@@ -1,6 +1,6 @@
 //! Early errors of names, of parameters, and of what is assigned to or deleted.
 
-ghost use Rattle.std.specs.Prelude.{◌≡◌, [], ◌++◌};
+ghost use Rattle.std.specs.Prelude.{◌≡◌, [], ◌++◌, map};
 ghost use Rattle.std.specs.List.{list_any};
 ghost use Rattle.std.specs.Str.{bytes_eq};
 ghost use Rattle.js_ast.specs.Nodes.{nodes_of};
@@ -8,11 +8,14 @@ ghost use Rattle.js_ast.specs.Views.{view_ident, view_name, view_idents, view_ex
 ghost use Rattle.js_faults.specs.Early.{is_eval_or_arguments, is_strict_word, of_name, of_bound, of_bound_maybe, of_parameters, fault_if, has_text, of_assigned, of_deleted};
 ghost use Rattle.js_faults.specs.declared.fault.FaultKind.TheVariants as kind;
 ghost use Rattle.js_faults.specs.Faults.{first_of};
+ghost use Rattle.js_faults.specs.Ordered.{IsOrder, name_entry, of_each};
 
 use crate::fault::{Fault, FaultKind, earlier, fault_if};
+use crate::ordered::{Keyed, is_order, of_ordered};
 use flow_text::Text;
 use js_ast::{Expr, ExprKind, Ident, IdentList};
 use js_scan::{is_one_of, spells};
+use std::cmp::Ordering;
 
 // The words that are reserved in strict code alone.
 const STRICT_WORDS: [&[u8]; 9] = [
@@ -94,16 +97,67 @@ fn of_parameter(earlier_ones: &[Ident], name: &Ident) -> Option<Fault>
     )
 }
 
-/// Parameters.
-pub(crate) fn of_parameters(params: &IdentList) -> Option<Fault>
-    ensures { result ≡ first_of (of_parameters [] (view_idents (nodes_of params.now))) }
+// Parameters, each against all earlier ones.
+fn by_pairs(names: &[Ident]) -> Option<Fault>
+    ensures { result ≡ first_of (of_parameters [] (view_idents names.now)) }
 {
-    let names = params.items();
     let mut first = None;
     'names: for (i, name) in names.iter().enumerate() {
         first = earlier(first, of_parameter(&names[..i], name));
     }
     first
+}
+
+// Names that are bound, each on its own.
+fn of_each(names: &[Ident]) -> Option<Fault>
+    ensures { result ≡ first_of (of_each (view_idents names.now)) }
+{
+    let mut first = None;
+    'names: for name in names {
+        first = earlier(first, of_bound(name));
+    }
+    first
+}
+
+// Parameters with an order by name, which has equal ones side by side.
+#[tactic(auto, using(crate::proofs::Entries::parameters_are))]
+fn by_order(names: &[Ident], order: &[usize]) -> Option<Fault>
+    requires { IsOrder (map (λ i. name_entry (view_ident i)) names.now) order.now }
+    ensures { result ≡ first_of (of_parameters [] (view_idents names.now)) }
+{
+    earlier(
+        of_each(names),
+        of_ordered(names, order, FaultKind::RepeatedParameter),
+    )
+}
+
+/// Parameters. Their order serves where it is one.
+pub(crate) fn of_parameters(params: &IdentList) -> Option<Fault>
+    ensures { result ≡ first_of (of_parameters [] (view_idents (nodes_of params.now))) }
+{
+    let names = params.items();
+    let order = params.order();
+    if is_order(names, order) {
+        by_order(names, order)
+    } else {
+        by_pairs(names)
+    }
+}
+
+impl Keyed for Ident {
+    ghost entry = { λ i. name_entry (view_ident i) };
+
+    fn compared(&self, other: &Ident) -> Ordering {
+        self.text.cmp(&other.text)
+    }
+
+    fn is_pair(&self, _other: &Ident) -> bool {
+        false
+    }
+
+    fn place(&self) -> usize {
+        self.at
+    }
 }
 
 /// What is assigned to, also in parentheses.

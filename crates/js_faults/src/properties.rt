@@ -6,15 +6,19 @@ ghost use Rattle.std.specs.Str.{bytes_eq};
 ghost use Rattle.std.specs.Fmt.{signed_decimal};
 ghost use Rattle.js_ast.specs.Nodes.{nodes_of};
 ghost use Rattle.js_ast.specs.Views.{view_key, view_property, view_properties};
-ghost use Rattle.js_faults.specs.Early.{key_text, same_key, is_pair, clashes, property_list, of_properties};
+ghost use Rattle.js_ast.specs.Keys.{key_text};
+ghost use Rattle.js_faults.specs.Early.{same_key, is_pair, clashes, property_list, of_properties};
 ghost use Rattle.js_faults.specs.Faults.{first_of};
+ghost use Rattle.js_faults.specs.Ordered.{property_entry};
 
 use crate::fault::{Fault, FaultKind, earlier, fault_if};
+use crate::ordered::{Keyed, is_order, of_ordered};
 use flow_text::Text;
 use itoa::Buffer;
 use js_ast::{Key, Property, PropertyKind, PropertyList};
 use js_number::Int;
 use js_scan::spells;
+use std::cmp::Ordering;
 
 /// Whether the number is written so.
 fn writes(n: Int, text: &Text) -> bool
@@ -69,11 +73,10 @@ fn is_repeated(all: &[Property], others: &[Property], property: &Property) -> bo
     })
 }
 
-/// The properties of an object.
-pub(crate) fn of_properties(properties: &PropertyList) -> Option<Fault>
-    ensures { result ≡ first_of (of_properties (property_list (view_properties (nodes_of properties.now)))) }
+// Properties, each against all earlier ones.
+fn by_pairs(all: &[Property]) -> Option<Fault>
+    ensures { result ≡ first_of (of_properties (property_list (view_properties all.now))) }
 {
-    let all = properties.items();
     let mut first = None;
     'properties: for (i, property) in all.iter().enumerate() {
         let repeated = is_repeated(all, &all[..i], property);
@@ -83,4 +86,36 @@ pub(crate) fn of_properties(properties: &PropertyList) -> Option<Fault>
         );
     }
     first
+}
+
+/// The properties of an object. Their order serves where it is one.
+#[tactic(auto, using(crate::proofs::Entries::properties_are))]
+pub(crate) fn of_properties(properties: &PropertyList) -> Option<Fault>
+    ensures { result ≡ first_of (of_properties (property_list (view_properties (nodes_of properties.now)))) }
+{
+    let all = properties.items();
+    let order = properties.order();
+    if is_order(all, order) {
+        of_ordered(all, order, FaultKind::RepeatedProperty)
+    } else {
+        by_pairs(all)
+    }
+}
+
+impl Keyed for Property {
+    ghost entry = { λ p. property_entry (view_property p) };
+
+    #[tactic(auto, using(crate::proofs::Repeated::key_seen))]
+    fn compared(&self, other: &Property) -> Ordering {
+        self.key.compared(&other.key)
+    }
+
+    fn is_pair(&self, other: &Property) -> bool {
+        is_pair(self, other)
+    }
+
+    #[tactic(auto, using(crate::proofs::Repeated::place_seen))]
+    fn place(&self) -> usize {
+        self.at
+    }
 }

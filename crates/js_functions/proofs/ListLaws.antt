@@ -39,7 +39,7 @@ by_test s trees.absent body rest = ap (λ fs. fs ++ functions_of_clauses s rest)
 by_test s (trees.present e) body rest = sym (append_assoc (functions_of_expr s e) (functions_of_statements s body) (functions_of_clauses s rest)) ∙ ap (λ fs. (functions_of_expr s e ++ fs) ++ functions_of_clauses s rest) (sym (append-nil (functions_of_statements s body)))
 
 first_clause : (s : Bool) (c : Clause) (rest : trees.Clauses) → functions_of_clauses s (view_clause c rest) ≡ functions_of_clauses s (view_clause c no_clauses) ++ functions_of_clauses s rest
-first_clause s (Clause' e shape ss) rest = by_test s (view_held_expr e) (view_stmt_row ss) rest
+first_clause s (Clause' e shape ss order) rest = by_test s (view_held_expr e) (view_stmt_row ss) rest
 
 pub clauses_row : (s : Bool) → IsRow view_clauses held_in_clauses (functions_of_clauses s) held_in_clause (λ c. functions_of_clauses s (view_clause c no_clauses))
 clauses_row s = record { congruent = λ y ys zs e. ap (view_clause y) e; no_marks = refl; first_marks = λ y ys. refl; no_functions = refl; first_functions = λ y ys. first_clause s y (view_clauses ys) }

@@ -1,19 +1,19 @@
 -- Nodes that are structs, by their parts.
-use Rattle.std.proofs.Common.{refl, sym, ap, ◌∙◌, ◌≡◌, ℕ, Bool, List, [], ◌∷◌, ◌++◌, Option, Some, None, append-nil}
+use Rattle.std.proofs.Common.{sym, ap, ◌≡◌, ℕ, Bool, List, [], ◌∷◌, ◌++◌, Option, append-nil}
 use Rattle.js_ast.specs.declared.node_list.NodeList.{NodeList}
 use Rattle.js_ast.specs.declared.trees.Ident.{Ident}
 use Rattle.js_ast.specs.declared.trees.Expr.{Expr}
 use Rattle.js_ast.specs.declared.trees.Stmt.{Stmt}
 use Rattle.js_ast.specs.declared.trees.Function.{Function, out-Function, roll-Function, out-roll-Function}
 use Rattle.js_ast.specs.declared.trees.Declaration.{Declaration}
-use Rattle.js_ast.specs.declared.trees.Declarations.{Declarations, out-Declarations, roll-Declarations, roll-out-Declarations, out-roll-Declarations, rolls-Declarations'}
-use Rattle.js_ast.specs.declared.trees.Clause.{Clause, out-Clause, roll-Clause, roll-out-Clause, out-roll-Clause, rolls-Clause'}
-use Rattle.js_ast.specs.declared.trees.Block.{Block, out-Block, roll-Block, roll-out-Block, out-roll-Block}
+use Rattle.js_ast.specs.declared.trees.Declarations.{Declarations, out-Declarations, roll-Declarations, out-roll-Declarations}
+use Rattle.js_ast.specs.declared.trees.Clause.{Clause, out-Clause, roll-Clause, out-roll-Clause}
+use Rattle.js_ast.specs.declared.trees.Block.{Block, out-Block, roll-Block, out-roll-Block}
 use Rattle.js_ast.specs.Nodes.{nodes_of}
 use Rattle.js_ast.specs.Trees as trees
-use Rattle.js_ast.specs.Trees.{function_of, no_clauses, block_of}
-use Rattle.js_ast.specs.Views.{view_name, view_idents, view_maybe_expr, view_function, view_declaration, view_declarations, view_other_declarations, declarations_from, clause_by, view_clause, view_block, view_stmts}
-use Rattle.js_ast.proofs.ViewLaws.{parts_function, seen_block_of, parts_declarations, seen_case, seen_default}
+use Rattle.js_ast.specs.Trees.{no_clauses}
+use Rattle.js_ast.specs.Views.{view_function, declarations_from, clause_by}
+use Rattle.js_ast.proofs.ViewLaws.{parts_function, parts_block, parts_declarations, parts_clause}
 use Rattle.js_ast.specs.Functions.{functions_of_expr, functions_of_maybe, functions_of_others, functions_of_declarations, functions_of_clauses, functions_of_statements}
 use Rattle.js_ast.specs.Held.{held_in_maybe_expr, held_in_function, held_in_declaration, held_in_declarations, held_in_other_declarations, held_in_clause, held_in_block, held_in_stmts}
 use Rattle.js_ast.proofs.HeldLaws.{lent_function, lent_in_block, lent_declarations, lent_clause}
@@ -23,9 +23,6 @@ pub function_out : (at n : ℕ) (strict : Bool) (name : Option Ident) (params : 
     → out-Function (roll-Function (record { at = at; number = n; strict = strict; name = name; params = params; body = body })) ≡ record { at = at; number = n; strict = strict; name = name; params = params; body = body }
 function_out at n strict name params body = out-roll-Function (record { at = at; number = n; strict = strict; name = name; params = params; body = body })
 
-pub function_view : (f : Function) → view_function f ≡ function_of (out-Function f).at (view_name (out-Function f).name) (view_idents (nodes_of (out-Function f).params)) (view_stmts (nodes_of (out-Function f).body))
-function_view f = parts_function f
-
 pub function_held : (f : Function) → held_in_function f ≡ ((out-Function f).number, record { function = view_function f; strict = (out-Function f).strict }) ∷ held_in_stmts (nodes_of (out-Function f).body)
 function_held f = lent_function f
 
@@ -33,18 +30,12 @@ function_held f = lent_function f
 pub block_out : (at : ℕ) (body : NodeList Stmt) → out-Block (roll-Block (record { at = at; body = body })) ≡ record { at = at; body = body }
 block_out at body = out-roll-Block (record { at = at; body = body })
 
-pub block_view : (b : Block) → view_block b ≡ block_of (out-Block b).at (view_stmts (nodes_of (out-Block b).body))
-block_view b = ap view_block (sym (roll-out-Block b)) ∙ seen_block_of (out-Block b).at (out-Block b).body
-
 pub block_marks : (b : Block) → held_in_block b ≡ held_in_stmts (nodes_of (out-Block b).body)
 block_marks b = lent_in_block b
 
 -- variables
 pub declarations_out : (d : Declaration) (others : NodeList Declaration) → out-Declarations (roll-Declarations (record { first = d; others = others })) ≡ record { first = d; others = others }
 declarations_out d others = out-roll-Declarations (record { first = d; others = others })
-
-pub declarations_view : (ds : Declarations) → view_declarations ds ≡ declarations_from (view_declaration (out-Declarations ds).first) (view_other_declarations (nodes_of (out-Declarations ds).others))
-declarations_view ds = parts_declarations ds
 
 pub declarations_marks : (ds : Declarations) → held_in_declarations ds ≡ held_in_declaration (out-Declarations ds).first ++ held_in_other_declarations (nodes_of (out-Declarations ds).others)
 declarations_marks ds = lent_declarations ds
@@ -57,13 +48,6 @@ declarations_functions s d (e ∷ es) = ap (λ fs. functions_of_maybe s d.1 ++ f
 pub clause_out : (test : Option Expr) (body : NodeList Stmt) → out-Clause (roll-Clause (record { test = test; body = body })) ≡ record { test = test; body = body }
 clause_out test body = out-roll-Clause (record { test = test; body = body })
 
-pub clause_view : (c : Clause) (rest : trees.Clauses) → view_clause c rest ≡ clause_by (view_maybe_expr (out-Clause c).test) (view_stmts (nodes_of (out-Clause c).body)) rest
-clause_view c rest = ap (λ c. view_clause c rest) (sym (roll-out-Clause c)) ∙ seen_clause (out-Clause c).test (out-Clause c).body
-  where
-    seen_clause : (test : Option Expr) (body : NodeList Stmt) → view_clause (roll-Clause (record { test = test; body = body })) rest ≡ clause_by (view_maybe_expr test) (view_stmts (nodes_of body)) rest
-    seen_clause None body = seen_default body rest
-    seen_clause (Some e) body = seen_case e body rest
-
 pub clause_marks : (c : Clause) → held_in_clause c ≡ held_in_maybe_expr (out-Clause c).test ++ held_in_stmts (nodes_of (out-Clause c).body)
 clause_marks c = lent_clause c
 
@@ -71,10 +55,10 @@ pub clause_functions : (s : Bool) (e : trees.MaybeExpr) (body : trees.Statements
 clause_functions s trees.absent body = append-nil (functions_of_statements s body)
 clause_functions s (trees.present e) body = ap (λ fs. functions_of_expr s e ++ fs) (append-nil (functions_of_statements s body))
 
-pub ruleset function = (function_out, function_view, function_held)
+pub ruleset function = (function_out, parts_function, function_held)
 
-pub ruleset block = (block_out, block_view, block_marks)
+pub ruleset block = (block_out, parts_block, block_marks)
 
-pub ruleset declarations = (declarations_out, declarations_view, declarations_marks, declarations_functions)
+pub ruleset declarations = (declarations_out, parts_declarations, declarations_marks, declarations_functions)
 
-pub ruleset clause = (clause_out, clause_view, clause_marks, clause_functions)
+pub ruleset clause = (clause_out, parts_clause, clause_marks, clause_functions)

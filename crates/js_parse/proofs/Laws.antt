@@ -1,5 +1,6 @@
 -- A program is what the tokens are from the first to the last, so that what is known of parts holds of programs.
-use Rattle.std.proofs.Common.{arith, refl, sym, ap, ◌∙◌, subst, ◌≡◌, ◌⊎◌, inl, inr, ℕ, List, [], ◌++◌, append-nil, length, Some, Result, Ok, Err, IfOk, IfErr}
+use Rattle.std.proofs.Common.{arith, refl, sym, ap, ◌∙◌, subst, ◌≡◌, ◌≤◌, ◌⊎◌, inl, inr, ℕ, List, [], ◌++◌, append-nil, length, Some, Result, Ok, Err, IfOk, IfErr}
+use Rattle.std.specs.List.{All}
 use Rattle.std.specs.Result.{MatchResult}
 use Rattle.js_ast.specs.declared.token.Token.{Token}
 use Rattle.js_ast.specs.declared.trees.Program.{Program}
@@ -10,12 +11,12 @@ use Rattle.js_list_parser.specs.Reading.{Fault, refused}
 use Rattle.js_list_parser.specs.Parsing.{program_at}
 use Rattle.js_list_parser.specs.Refusals.{a_program}
 use Rattle.js_list_parser.proofs.Sound.{parses_exactly}
-use Rattle.js_faults.specs.declared.fault.Fault.{Fault as Found}
+use Rattle.js_faults.specs.declared.directives.BadDirective.{BadDirective}
 use Rattle.js_parse_expr.specs.declared.fault.ParseFault.{ParseFault}
 use Rattle.js_parse_expr.specs.declared.fault.ParseFault.TheVariants as fault
-use Rattle.js_parse_expr.specs.Parsed.{IsTreeAt, IsParsed, place_or, IsReadFault, told}
+use Rattle.js_parse_expr.specs.Parsed.{IsTreeAt, IsParsed, place_or, IsReadFault, told, fault_at}
 use Rattle.js_parse_expr.specs.Parts.{bad_directive}
-use Rattle.js_parse_expr.proofs.PartLaws.{of_programs}
+use Rattle.js_parse_expr.proofs.PartLaws.{of_programs, directive_of_program}
 use Rattle.js_parse_expr.proofs.ParsedLaws as laws
 use Rattle.js_parse.specs.Programs.{IsTree, IsProgram, IsFault}
 
@@ -70,8 +71,12 @@ pub fault_read : (tokens : List Token) (end : ℕ) (f : Fault) (others : List To
 fault_read tokens end f others e = laws.fault_read a_program program_at of_programs 201 (omega arith) tokens end f others e
 
 -- a tree with a bad directive has a fault
-pub directive_fault : (tokens : List Token) (end : ℕ) (program : Statements) (directive : Found) → IsTree tokens program → Some directive ≡ bad_directive program → IsFault tokens end (fault.Directive directive.at)
+pub directive_fault : (tokens : List Token) (end : ℕ) (program : Statements) (directive : BadDirective) → IsTree tokens program → Some directive ≡ bad_directive program → IsFault tokens end (fault.Directive directive.at)
 directive_fault tokens end program directive t e = record { tree = program; to = length tokens; tree_at = tree_from tokens program t; directive = directive; first = sym e; place = refl }
+
+-- where the tokens begin in the source, so is the fault
+pub fault_within : (tokens : List Token) (end : ℕ) (r : Result Program ParseFault) → IfErr r (λ f. (f ≡ fault.OutOfMemory) ⊎ IsFault tokens end f) → All (λ (t : Token). t.from ≤ end) tokens → IfErr r (λ f. fault_at f ≤ end)
+fault_within tokens end r h all = laws.answer_within a_program program_at of_programs bad_directive 201 tokens 0 end (directive_of_program 201 end) all r h
 
 -- a program is answered where there is one
 pub only_program : (tokens : List Token) (end : ℕ) (r : Result Program ParseFault) → IfOk r (λ p. IsProgram tokens (view_program p)) → IfErr r (λ f. (f ≡ fault.OutOfMemory) ⊎ IsFault tokens end f)

@@ -1,6 +1,7 @@
 //! Programs from tokens.
 
-ghost use Rattle.std.specs.Prelude.{◌≡◌, IfOk, IfErr, ◌⊎◌};
+ghost use Rattle.std.specs.Prelude.{◌≡◌, ◌≤◌, IfOk, IfErr, ◌⊎◌};
+ghost use Rattle.std.specs.List.{All};
 ghost use Rattle.std.specs.Result.{MatchResult};
 ghost use Rattle.js_ast.specs.Trees.{Statements};
 ghost use Rattle.js_ast.specs.Nodes.{nodes_of};
@@ -9,11 +10,11 @@ ghost use Rattle.js_parse_expr.specs.declared.fault.ParseFault.TheVariants.{OutO
 ghost use Rattle.js_parse_expr.specs.declared.fault.ParseFault.{ParseFault};
 ghost use Rattle.js_list_parser.specs.Refusals.{a_program};
 ghost use Rattle.js_ast.specs.IsMarked.{IsMarked};
-ghost use Rattle.js_parse_expr.specs.Parsed.{IsReadFault};
+ghost use Rattle.js_parse_expr.specs.Parsed.{IsReadFault, fault_at};
 ghost use Rattle.js_parse.specs.Programs.{IsTree, IsProgram, IsFault};
 
 use js_ast::{Program, StmtList, Token};
-use js_faults::{Check, fault_in_statements};
+use js_faults::bad_directive;
 use js_functions::marked_program;
 use js_parse_cycle::program;
 use js_parse_expr::{ParseFault, refused};
@@ -28,6 +29,7 @@ pub fn parse(alloc: Global, tokens: &[Token], end: usize) -> Result<Program, Par
     ensures program { IfOk result (λ p. IsProgram tokens.now (view_program p)) }
     ensures marks { IfOk result IsMarked }
     ensures fault { IfErr result (λ f. (f ≡ OutOfMemory) ⊎ IsFault tokens.now end f) }
+    ensures place { All (λ t. t.from ≤ end) tokens.now → IfErr result (λ f. fault_at f ≤ end) }
     ensures only_program { (p : Statements) → IsProgram tokens.now p → MatchResult result (λ found. view_program found ≡ p) (λ f. f ≡ OutOfMemory) }
     ensures only_fault { (f : ParseFault) → IsFault tokens.now end f → MatchResult result (λ p. ⊥) (λ found. (found ≡ f) ⊎ (found ≡ OutOfMemory)) }
 {
@@ -41,8 +43,8 @@ fn read(alloc: Global, tokens: &[Token], end: usize) -> Result<Program, ParseFau
     ensures fault { IfErr result (λ f. (f ≡ OutOfMemory) ⊎ IsFault tokens.now end f) }
 {
     let body = tree(alloc, tokens, end)?;
-    if let Some(fault) = fault_in_statements(Check::Directives, &body) {
-        return Err(ParseFault::Directive { at: fault.at });
+    if let Some(directive) = bad_directive(&body) {
+        return Err(ParseFault::Directive { at: directive.at });
     }
     Ok(marked_program(body)?)
 }

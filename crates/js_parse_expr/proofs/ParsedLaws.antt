@@ -1,15 +1,17 @@
 -- Tokens from a place on are one tree, or they have one fault, and never both: for each kind of tree of which the definitions promise that.
-use Rattle.std.proofs.Common.{arith, refl, sym, ap, ◌∙◌, subst, ◌≡◌, ◌≤◌, ◌⊎◌, inl, inr, ℕ, ◌+◌, ◌-◌, List, ◌++◌, length, take, drop, Option, Some, None, Result, Ok, Err, IfOk, IfErr}
+use Rattle.std.proofs.Common.{arith, refl, sym, ap, ◌∙◌, subst, ◌≡◌, ◌≤◌, ◌⊎◌, inl, inr, ℕ, ◌+◌, ◌-◌, List, [], ◌∷◌, ◌++◌, length, take, drop, Option, Some, None, Result, Ok, Err, IfOk, IfErr}
+use Rattle.std.specs.List.{All}
 use Rattle.std.proofs.lemmas.List.{length-append, length-drop, take_rest}
+use Rattle.std.proofs.lemmas.List.Elements.{All-nil, All-cons, All-head, All-tail, All-drop}
 use Rattle.js_ast.specs.declared.token.Token.{Token}
 use Rattle.std.specs.Result.{MatchResult}
 use Rattle.js_list_parser.specs.Reading.{Fault, syntax, with_statement, nesting, refused, Read}
 use Rattle.js_list_parser.specs.Refusals.{Nonterminal, IsRefused, FindsExactly, RefusesExactly, OneFound, OneRefusal, FoundOrRefused}
 use Rattle.js_list_parser.proofs.Outcomes.{same_tree as same_tree_of, same_rest}
-use Rattle.js_faults.specs.declared.fault.Fault.{Fault as Found}
+use Rattle.js_faults.specs.declared.directives.BadDirective.{BadDirective}
 use Rattle.js_parse_expr.specs.declared.fault.ParseFault.{ParseFault}
 use Rattle.js_parse_expr.specs.declared.fault.ParseFault.TheVariants as fault
-use Rattle.js_parse_expr.specs.Parsed.{IsTreeAt, IsParsed, place_or, IsRefusedAt, HasBadDirective, IsReadFault, IsFault, told}
+use Rattle.js_parse_expr.specs.Parsed.{IsTreeAt, IsParsed, place_or, IsRefusedAt, HasBadDirective, IsReadFault, IsFault, told, fault_at}
 
 -- a refusal as a fault
 pub refusal_fault : {T : Type 0} (kind : Nonterminal T) (limit : ℕ) (tokens : List Token) (end : ℕ) (f : Fault) (others : List Token) → IsRefused kind limit f tokens others → IsReadFault kind limit tokens end (told f (place_or end others))
@@ -18,12 +20,23 @@ refusal_fault kind limit tokens end with_statement others r = record { others = 
 refusal_fault kind limit tokens end nesting others r = record { others = others; refused = r; place = refl }
 
 -- which is one whatever is asked of directives
-pub read_fault : {T : Type 0} (kind : Nonterminal T) (bad_directive : T → Option Found) (limit : ℕ) (tokens : List Token) (from end : ℕ) (f : ParseFault) → IsReadFault kind limit (drop from tokens) end f → IsFault kind bad_directive limit tokens from end f
+pub read_fault : {T : Type 0} (kind : Nonterminal T) (bad_directive : T → Option BadDirective) (limit : ℕ) (tokens : List Token) (from end : ℕ) (f : ParseFault) → IsReadFault kind limit (drop from tokens) end f → IsFault kind bad_directive limit tokens from end f
 read_fault kind bad_directive limit tokens from end (fault.Syntax at) r = r
 read_fault kind bad_directive limit tokens from end (fault.With at) r = r
 read_fault kind bad_directive limit tokens from end (fault.Nesting at) r = r
 read_fault kind bad_directive limit tokens from end (fault.Directive at) r = absurd r
 read_fault kind bad_directive limit tokens from end fault.OutOfMemory r = absurd r
+
+-- where each of the tokens begins at most at some place, so do the tokens that a tree takes of them, and the others
+pub begin_split : (n : ℕ) (taken others : List Token) → All (λ (t : Token). t.from ≤ n) (taken ++ others) → All (λ (t : Token). t.from ≤ n) taken × All (λ (t : Token). t.from ≤ n) others
+begin_split n [] others all = (All-nil (λ (t : Token). t.from ≤ n), all)
+begin_split n (t ∷ taken) others all =
+    let more = begin_split n taken others (All-tail (λ (t : Token). t.from ≤ n) t (taken ++ others) all) in
+    (All-cons (λ (t : Token). t.from ≤ n) t taken (All-head (λ (t : Token). t.from ≤ n) t (taken ++ others) all) more.0, more.1)
+
+place_by : (end : ℕ) (tokens : List Token) → All (λ (t : Token). t.from ≤ end) tokens → place_or end tokens ≤ end
+place_by end [] all = omega arith
+place_by end (t ∷ ts) all = All-head (λ (t : Token). t.from ≤ end) t ts all
 
 -- what is known of a kind of tree, and of the parser on lists that reads it
 pub record Lawful {T : Type 0} (kind : Nonterminal T) (read : ℕ → List Token → Read T) : Type 0 where
@@ -76,7 +89,7 @@ module _ {T : Type 0} (kind : Nonterminal T) (read : ℕ → List Token → Read
     pub part_fault : (end : ℕ) (f : Fault) (others : List Token) → read limit (take (length tokens - from) (drop from tokens)) ≡ Err (refused f others) → IsReadFault kind limit (drop from tokens) end (told f (place_or end others))
     part_fault end f others e = fault_read limit pos (drop from tokens) end f others (of_part (Err (refused f others)) e)
 
-  module _ (bad_directive : T → Option Found) (limit : ℕ) (tokens : List Token) (from : ℕ) where
+  module _ (bad_directive : T → Option BadDirective) (limit : ℕ) (tokens : List Token) (from : ℕ) where
     -- ---- one tree
 
     pub same_tree : (p q : T) (a b : ℕ) → IsTreeAt kind limit tokens from p a → IsTreeAt kind limit tokens from q b → (p ≡ q) × (a ≡ b)
@@ -101,7 +114,7 @@ module _ {T : Type 0} (kind : Nonterminal T) (read : ℕ → List Token → Read
           let p : r.tree ≡ s.tree = (same_tree r.tree s.tree r.to s.to r.tree_at s.tree_at).0 in
           let d : Some r.directive ≡ Some s.directive = sym r.first ∙ ap bad_directive p ∙ s.first in
           let e : r.directive ≡ s.directive = cc in
-          r.place ∙ ap (λ (x : Found). x.at) e ∙ sym s.place
+          r.place ∙ ap (λ (x : BadDirective). x.at) e ∙ sym s.place
 
       pub one_fault : (f g : ParseFault) → IsFault kind bad_directive limit tokens from end f → IsFault kind bad_directive limit tokens from end g → f ≡ g
       one_fault (fault.Syntax at) (fault.Syntax other) r s = ap fault.Syntax (same_refusal _ _ at other r s).1
@@ -134,7 +147,7 @@ module _ {T : Type 0} (kind : Nonterminal T) (read : ℕ → List Token → Read
 
       -- ---- one or the other
 
-      with_tree : (p : T) (to : ℕ) → IsTreeAt kind limit tokens from p to → (o : Option Found) → bad_directive p ≡ o
+      with_tree : (p : T) (to : ℕ) → IsTreeAt kind limit tokens from p to → (o : Option BadDirective) → bad_directive p ≡ o
           → ((p : T) × (to : ℕ) × IsParsed kind bad_directive limit tokens from p to) ⊎ ((f : ParseFault) × IsFault kind bad_directive limit tokens from end f)
       with_tree p to t None e = inl (p, to, record { tree_at = t; formed = e })
       with_tree p to t (Some d) e = inr (fault.Directive d.at, record { tree = p; to = to; tree_at = t; directive = d; first = e; place = refl })
@@ -144,6 +157,31 @@ module _ {T : Type 0} (kind : Nonterminal T) (read : ℕ → List Token → Read
         | inl h ↦ with_tree h.0 (from + length h.1) (record { taken = h.1; others = h.2; parts = h.3; place = refl; is = h.4 }) (bad_directive h.0) refl
         | inr h ↦ inr (told h.0 (place_or end h.1), read_fault kind bad_directive limit tokens from end _ (refusal_fault kind limit (drop from tokens) end h.0 h.1 h.2))
       ]
+
+      -- ---- where a fault is: in the source, where the tokens are and a tree's bad directive is among its tokens
+
+      module _ (placed : (tree : T) (taken others : List Token) → kind.Is limit tree taken others → All (λ (t : Token). t.from ≤ end) taken → All (λ (t : Token). t.from ≤ end) others
+          → (d : BadDirective) → bad_directive tree ≡ Some d → d.at ≤ end) (all : All (λ (t : Token). t.from ≤ end) tokens) where
+        begin : (taken others : List Token) → drop from tokens ≡ taken ++ others → All (λ (t : Token). t.from ≤ end) taken × All (λ (t : Token). t.from ≤ end) others
+        begin taken others parts = begin_split end taken others (subst (All (λ (t : Token). t.from ≤ end)) parts (All-drop (λ (t : Token). t.from ≤ end) from tokens all))
+
+        refused_within : (at : ℕ) (why : Fault) → IsRefusedAt kind limit (drop from tokens) end at why → at ≤ end
+        refused_within at why r = subst (λ k. k ≤ end) (sym r.place) (place_by end r.others (begin r.refused.taken r.others r.refused.parts).1)
+
+        fault_within : (f : ParseFault) → IsFault kind bad_directive limit tokens from end f → fault_at f ≤ end
+        fault_within (fault.Syntax at) r = refused_within at syntax r
+        fault_within (fault.With at) r = refused_within at with_statement r
+        fault_within (fault.Nesting at) r = refused_within at nesting r
+        fault_within (fault.Directive at) r =
+            let t = r.tree_at in
+            let by = begin t.taken t.others t.parts in
+            subst (λ k. k ≤ end) (sym r.place) (placed r.tree t.taken t.others t.is by.0 by.1 r.directive r.first)
+        fault_within fault.OutOfMemory r = absurd r
+
+        pub answer_within : {X : Type 0} (r : Result X ParseFault) → IfErr r (λ f. (f ≡ fault.OutOfMemory) ⊎ IsFault kind bad_directive limit tokens from end f) → IfErr r (λ f. fault_at f ≤ end)
+        answer_within (Ok x) h = tt
+        answer_within (Err f) (inl e) = rw e (omega arith)
+        answer_within (Err f) (inr h) = fault_within f h
 
       -- ---- how the code answers: a tree and where it ends, or a fault, but for want of memory
 

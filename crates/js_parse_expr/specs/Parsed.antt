@@ -3,7 +3,7 @@ use Rattle.std.specs.Prelude.{◌≡◌, ℕ, ◌+◌, List, [], ◌∷◌, ◌+
 use Rattle.js_ast.specs.declared.token.Token.{Token}
 use Rattle.js_list_parser.specs.Reading.{Fault, syntax, with_statement, nesting}
 use Rattle.js_list_parser.specs.Refusals.{Nonterminal, IsRefused}
-use Rattle.js_faults.specs.declared.fault.Fault as faults
+use Rattle.js_faults.specs.declared.directives.BadDirective.{BadDirective}
 use Rattle.js_parse_expr.specs.declared.fault.ParseFault.{ParseFault}
 use Rattle.js_parse_expr.specs.declared.fault.ParseFault.TheVariants as fault
 
@@ -16,7 +16,7 @@ pub record IsTreeAt {T : Type 0} (kind : Nonterminal T) (limit : ℕ) (tokens : 
   pub is : kind.Is limit tree taken others
 
 -- and each upgrade directive in it has the form of one: the first that hasn't is given for each tree
-pub record IsParsed {T : Type 0} (kind : Nonterminal T) (bad_directive : T → Option faults.Fault) (limit : ℕ) (tokens : List Token) (from : ℕ) (tree : T) (to : ℕ) : Type 0 where
+pub record IsParsed {T : Type 0} (kind : Nonterminal T) (bad_directive : T → Option BadDirective) (limit : ℕ) (tokens : List Token) (from : ℕ) (tree : T) (to : ℕ) : Type 0 where
   pub tree_at : IsTreeAt kind limit tokens from tree to
   pub formed : bad_directive tree ≡ None
 
@@ -32,11 +32,11 @@ pub record IsRefusedAt {T : Type 0} (kind : Nonterminal T) (limit : ℕ) (tokens
   pub place : at ≡ place_or end others
 
 -- a tree but for the form of a directive
-pub record HasBadDirective {T : Type 0} (kind : Nonterminal T) (bad_directive : T → Option faults.Fault) (limit : ℕ) (tokens : List Token) (from at : ℕ) : Type 0 where
+pub record HasBadDirective {T : Type 0} (kind : Nonterminal T) (bad_directive : T → Option BadDirective) (limit : ℕ) (tokens : List Token) (from at : ℕ) : Type 0 where
   pub tree : T
   pub to : ℕ
   pub tree_at : IsTreeAt kind limit tokens from tree to
-  pub directive : faults.Fault
+  pub directive : BadDirective
   pub first : bad_directive tree ≡ Some directive
   pub place : at ≡ directive.at
 
@@ -49,7 +49,7 @@ IsReadFault kind limit tokens end (fault.Directive at) = ⊥
 IsReadFault kind limit tokens end fault.OutOfMemory = ⊥
 
 -- why the tokens from a place on are none
-abbrev pub IsFault : {T : Type 0} → Nonterminal T → (T → Option faults.Fault) → ℕ → List Token → ℕ → ℕ → ParseFault → Type 0
+abbrev pub IsFault : {T : Type 0} → Nonterminal T → (T → Option BadDirective) → ℕ → List Token → ℕ → ℕ → ParseFault → Type 0
 IsFault kind bad_directive limit tokens from end (fault.Directive at) = HasBadDirective kind bad_directive limit tokens from at
 IsFault kind bad_directive limit tokens from end f = IsReadFault kind limit (drop from tokens) end f
 
@@ -58,3 +58,11 @@ abbrev pub told : Fault → ℕ → ParseFault
 told syntax at = fault.Syntax at
 told with_statement at = fault.With at
 told nesting at = fault.Nesting at
+
+-- where a fault is
+abbrev pub fault_at : ParseFault → ℕ
+fault_at (fault.Syntax at) = at
+fault_at (fault.With at) = at
+fault_at (fault.Nesting at) = at
+fault_at (fault.Directive at) = at
+fault_at fault.OutOfMemory = 0

@@ -3,10 +3,10 @@ use Rattle.std.specs.Prelude.{ℕ, suc, ◌-◌, List, Bool, not, Option}
 use Rattle.js_ast.specs.declared.token.Token.{Token}
 use Rattle.js_ast.specs.Trees.{Expr, Statements}
 use Rattle.js_list_parser.specs.Refusals.{a_list, an_expression}
-use Rattle.js_faults.specs.declared.fault.Check.TheVariants as check
-use Rattle.js_faults.specs.declared.fault.Fault as faults
+use Rattle.js_faults.specs.declared.directives.BadDirective.{BadDirective}
 use Rattle.js_faults.specs.Scopes.{outermost}
-use Rattle.js_faults.specs.Faults.{in_expr, in_statements, first_of}
+use Rattle.js_faults.specs.Directives.{directives, by_place}
+use Rattle.js_faults.specs.Faults.{in_expr, in_statements, first_by}
 use Rattle.js_parse_expr.specs.declared.fault.ParseFault.{ParseFault}
 use Rattle.js_parse_expr.specs.Parsed.{IsParsed, IsFault}
 
@@ -19,11 +19,11 @@ abbrev pub depths_left : ℕ → ℕ
 depths_left deep = suc depth_limit - deep
 
 -- the first upgrade directive that hasn't the form of one
-abbrev pub bad_directive_in_expr : Expr → Option faults.Fault
-bad_directive_in_expr e = first_of (in_expr check.Directives e)
+abbrev pub bad_directive_in_expr : Expr → Option BadDirective
+bad_directive_in_expr e = first_by by_place (in_expr directives e)
 
-abbrev pub bad_directive : Statements → Option faults.Fault
-bad_directive ss = first_of (in_statements check.Directives outermost ss)
+abbrev pub bad_directive : Statements → Option BadDirective
+bad_directive ss = first_by by_place (in_statements directives outermost ss)
 
 -- the tokens from one to another are the longest expression, where `in` is no operator outside brackets, or is one
 abbrev pub IsExpression : List Token → ℕ → ℕ → Bool → Expr → ℕ → Type 0

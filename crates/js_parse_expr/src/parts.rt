@@ -1,6 +1,7 @@
 //! The longest expression, and the statements up to a `}`.
 
 ghost use Rattle.std.specs.Prelude.{◌≡◌, ℕ, ◌≤◌, not, drop, length, IfOk, IfErr, ◌⊎◌};
+ghost use Rattle.std.specs.List.{All};
 ghost use Rattle.std.specs.Result.{MatchResult};
 ghost use Rattle.js_ast.specs.Trees.{Expr as Tree, Statements};
 ghost use Rattle.js_ast.specs.Nodes.{nodes_of};
@@ -8,12 +9,12 @@ ghost use Rattle.js_list_parser.specs.Refusals.{a_list, an_expression};
 ghost use Rattle.js_ast.specs.Views.{view_expr, view_stmts};
 ghost use Rattle.js_parse_expr.specs.declared.fault.ParseFault.TheVariants.{OutOfMemory};
 ghost use Rattle.js_parse_expr.specs.declared.fault.ParseFault.{ParseFault};
-ghost use Rattle.js_parse_expr.specs.Parsed.{IsTreeAt, IsReadFault};
+ghost use Rattle.js_parse_expr.specs.Parsed.{IsTreeAt, IsReadFault, fault_at};
 ghost use Rattle.js_parse_expr.specs.Parts.{depths_left, IsExpression, IsNoExpression, AreStatements, AreNoStatements};
 
 use crate::fault::{ParseFault, refused};
 use js_ast::{Expr, StmtList, Token};
-use js_faults::{Check, fault_in_expr, fault_in_statements};
+use js_faults::{bad_directive, bad_directive_in_expr};
 use js_parse_cycle::{longest_expression, statement_list};
 use js_parse_parts::ReadFault;
 use std::alloc::Global;
@@ -36,6 +37,7 @@ pub fn expression(
     requires deep { deep ≤ 200 }
     ensures read { IfOk result (λ x. IsExpression tokens.now from deep no_in (view_expr x.0) x.1) }
     ensures fault { IfErr result (λ f. (f ≡ OutOfMemory) ⊎ IsNoExpression tokens.now from deep no_in end f) }
+    ensures place { All (λ t. t.from ≤ end) tokens.now → IfErr result (λ f. fault_at f ≤ end) }
     ensures only_read { (e : Tree) (to : ℕ) → IsExpression tokens.now from deep no_in e to → MatchResult result (λ x. (view_expr x.0 ≡ e) × (x.1 ≡ to)) (λ f. f ≡ OutOfMemory) }
     ensures only_fault { (f : ParseFault) → IsNoExpression tokens.now from deep no_in end f → MatchResult result (λ x. ⊥) (λ found. (found ≡ f) ⊎ (found ≡ OutOfMemory)) }
 {
@@ -57,8 +59,8 @@ fn formed_expression(
     ensures fault { IfErr result (λ f. (f ≡ OutOfMemory) ⊎ IsNoExpression tokens.now from deep no_in end f) }
 {
     let (found, to) = expression_tree(alloc, tokens, from, deep, no_in, end)?;
-    if let Some(fault) = fault_in_expr(Check::Directives, &found) {
-        return Err(ParseFault::Directive { at: fault.at });
+    if let Some(directive) = bad_directive_in_expr(&found) {
+        return Err(ParseFault::Directive { at: directive.at });
     }
     Ok((found, to))
 }
@@ -98,6 +100,7 @@ pub fn statements(
     requires deep { deep ≤ 200 }
     ensures read { IfOk result (λ x. AreStatements tokens.now from deep (view_stmts (nodes_of x.0)) x.1) }
     ensures fault { IfErr result (λ f. (f ≡ OutOfMemory) ⊎ AreNoStatements tokens.now from deep end f) }
+    ensures place { All (λ t. t.from ≤ end) tokens.now → IfErr result (λ f. fault_at f ≤ end) }
     ensures only_read { (ss : Statements) (to : ℕ) → AreStatements tokens.now from deep ss to → MatchResult result (λ x. (view_stmts (nodes_of x.0) ≡ ss) × (x.1 ≡ to)) (λ f. f ≡ OutOfMemory) }
     ensures only_fault { (f : ParseFault) → AreNoStatements tokens.now from deep end f → MatchResult result (λ x. ⊥) (λ found. (found ≡ f) ⊎ (found ≡ OutOfMemory)) }
 {
@@ -118,8 +121,8 @@ fn formed_statements(
     ensures fault { IfErr result (λ f. (f ≡ OutOfMemory) ⊎ AreNoStatements tokens.now from deep end f) }
 {
     let (list, to) = statement_trees(alloc, tokens, from, deep, end)?;
-    if let Some(fault) = fault_in_statements(Check::Directives, &list) {
-        return Err(ParseFault::Directive { at: fault.at });
+    if let Some(directive) = bad_directive(&list) {
+        return Err(ParseFault::Directive { at: directive.at });
     }
     Ok((list, to))
 }

@@ -10,7 +10,7 @@ use Rattle.js_ast.specs.Views.{view_expr_kind, view_expr}
 -- by what the node is
 kind_place : (at : ℕ) (k : ExprKind) → at_of (view_expr_kind at k) ≡ at
 kind_place at (expr.New' a p e ExprKind-New-1-None') = refl
-kind_place at (expr.New' a p e (ExprKind-New-1-Some' shape es)) = refl
+kind_place at (expr.New' a p e (ExprKind-New-1-Some' shape es order)) = refl
 kind_place at _ = refl
 
 -- the place of an expression

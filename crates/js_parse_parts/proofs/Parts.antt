@@ -1,8 +1,8 @@
--- Views of lists and of blocks, as the code builds them and takes them apart.
-use Rattle.std.proofs.Common.{◌≡◌, ℕ, suc, ◌-◌, leb, Bool, true, false, cond, List, [], ◌∷◌, ◌++◌, max, length, get_or, Option, Some, None, option_map, refl, sym, ap, ◌∙◌, arith, Bor}
+-- Views of lists, as the code builds them and takes them apart.
+use Rattle.std.proofs.Common.{◌≡◌, suc, ◌-◌, leb, List, [], ◌∷◌, ◌++◌, max, length, get_or, Option, Some, None, option_map, refl, sym, ap, ◌∙◌, arith, Bor}
 use Rattle.std.proofs.lemmas.Option.{slice_get-get_or}
 use Rattle.js_ast.specs.declared.trees.Expr.{Expr}
-use Rattle.js_ast.specs.declared.trees.Declaration.{Declaration, out-Declaration, roll-out-Declaration}
+use Rattle.js_ast.specs.declared.trees.Declaration.{Declaration, out-Declaration}
 use Rattle.js_ast.specs.Trees as trees
 use Rattle.std.specs.Option.{option_copied}
 use Rattle.js_ast.specs.Depth.{depth_clauses, depth_statements}
@@ -12,20 +12,15 @@ use Rattle.std.proofs.lemmas.Bool.Decides.{nat_tests}
 use Rattle.js_ast.specs.declared.node_list.NodeList.{NodeList}
 use Rattle.js_ast.specs.declared.trees.Stmt.{Stmt}
 use Rattle.js_ast.specs.declared.trees.Clause.{Clause, Clause', roll-Clause}
-use Rattle.js_ast.specs.declared.trees.Block.{Block, out-Block, roll-out-Block}
 use Rattle.js_ast.specs.declared.trees.ExprKind.TheBlock.{ForFirst-Expr-0-None', ForFirst-Expr-0-Some'}
 use Rattle.js_ast.specs.Nodes.{nodes_of}
 use Rattle.js_ast.specs.Joined.{joined_clauses}
-use Rattle.js_ast.specs.Trees.{no_clauses, default, block_of}
+use Rattle.js_ast.specs.Trees.{no_clauses, default}
 use Rattle.js_ast.specs.Validity.{defaults}
-use Rattle.js_ast.specs.Views.{view_ident, view_expr, view_maybe_expr, declarations_from, view_declaration, view_other_declarations, view_block, view_clause, view_clauses, view_stmts}
+use Rattle.js_ast.specs.Views.{view_expr, view_maybe_expr, declarations_from, view_declaration, view_other_declarations, view_clauses, view_stmts}
 use Rattle.js_parse_parts.specs.Clauses.{is_default}
 use Rattle.js_parse_parts.proofs.DepthLaws.{joined_default_depth}
-use Rattle.js_ast.proofs.ViewLaws.{clauses_append, seen_block_of, seen_declaration, seen_default}
-
--- statements between braces
-pub parts_block : (b : Block) → view_block b ≡ block_of (out-Block b).at (view_stmts (nodes_of (out-Block b).body))
-parts_block b = ap view_block (sym (roll-out-Block b)) ∙ seen_block_of (out-Block b).at (out-Block b).body
+use Rattle.js_ast.proofs.ViewLaws.{clauses_append, parts_declaration, seen_default}
 
 -- a clause with no test behind others
 pub default_behind : (cs ds : List Clause) (body : NodeList Stmt) → ds ≡ cs ++ roll-Clause (record { test = None; body = body }) ∷ [] → view_clauses ds ≡ joined_clauses (view_clauses cs) (default (view_stmts (nodes_of body)) no_clauses)
@@ -38,8 +33,8 @@ default_deepens cs ds body e = ap depth_clauses (default_behind cs ds body e) �
 -- whether one clause of several has no test
 pub any_default : (cs : List Clause) → list_any is_default cs ≡ leb 1 (defaults (view_clauses cs))
 any_default [] = refl
-any_default (Clause' ForFirst-Expr-0-None' shape ss ∷ cs) = grind (arith, nat_tests)
-any_default (Clause' (ForFirst-Expr-0-Some' a p e) shape ss ∷ cs) = any_default cs
+any_default (Clause' ForFirst-Expr-0-None' shape ss order ∷ cs) = grind (arith, nat_tests)
+any_default (Clause' (ForFirst-Expr-0-Some' a p e) shape ss order ∷ cs) = any_default cs
 
 -- the last of some elements, or a first one before them, as the last of one more
 last_more : {X : Type 0} (d e : X) (es : List X) → get_or (e ∷ es) (length (e ∷ es) - 1) d ≡ get_or es (length es - 1) e
@@ -63,10 +58,6 @@ borrowed_seen : (r : Option (Bor Expr)) → option_map (λ e. view_expr e.now) r
 borrowed_seen None = refl
 borrowed_seen (Some e) = refl
 
--- a variable
-parts_declaration : (d : Declaration) → view_declaration d ≡ (view_ident (out-Declaration d).name, view_maybe_expr (out-Declaration d).value)
-parts_declaration d = ap view_declaration (sym (roll-out-Declaration d)) ∙ seen_declaration (out-Declaration d).name (out-Declaration d).value
-
--- its initialiser
+-- the initialiser of a variable
 pub value_seen : (d : Declaration) (r : Option (Bor Expr)) → option_copied r ≡ (out-Declaration d).value → option_map (λ e. view_expr e.now) r ≡ as_option (view_declaration d).1
 value_seen d r h = borrowed_seen r ∙ ap (option_map view_expr) h ∙ option_seen (out-Declaration d).value ∙ sym (ap (λ (v : trees.Ident × trees.MaybeExpr). as_option v.1) (parts_declaration d))

@@ -5,5 +5,5 @@ use Rattle.js_ast.specs.declared.trees.ExprKind.TheBlock.{ForFirst-Expr-0-None',
 
 -- a clause with no test, which is `default` (ECMA-262 12.11)
 abbrev pub is_default : Clause → Bool
-is_default (Clause' ForFirst-Expr-0-None' shape ss) = true
-is_default (Clause' (ForFirst-Expr-0-Some' a p e) shape ss) = false
+is_default (Clause' ForFirst-Expr-0-None' shape ss order) = true
+is_default (Clause' (ForFirst-Expr-0-Some' a p e) shape ss order) = false

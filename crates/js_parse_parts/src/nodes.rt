@@ -10,6 +10,7 @@ ghost use Rattle.js_parse_parts.specs.Answers.{Deep};
 
 use crate::functions::unmarked;
 use crate::literals::node;
+use crate::orders::ordered_properties;
 use flow_text::{OutOfMemory, Text};
 use js_ast::{
     AssignOperator, BinaryOperator, Expr, ExprKind, ExprList, Ident, IdentList, ItemList,
@@ -60,8 +61,9 @@ pub fn object(
     ensures deep { IfOk result (λ x. x.1 ≡ depth (view_expr x.0)) }
     ensures size { IfOk result (λ x. x.1 ≡ suc properties.1) }
 {
+    let list = ordered_properties(alloc, properties.0)?;
     let kind = ExprKind::Object {
-        properties: properties.0,
+        properties: list,
         comma,
     };
     node(alloc, at, kind, properties.1 + 1)

@@ -7,6 +7,7 @@ ghost use Rattle.js_ast.specs.Views.{view_idents};
 ghost use Rattle.js_parse_parts.specs.Answers.{Gives, turn_of};
 
 use crate::expected::bound_name;
+use crate::orders::ordered_names;
 use crate::reading::{Fault, ReadFault, Turn};
 use crate::words::{Word, behind, word_at};
 use js_ast::{IdentList, Sign, Token};
@@ -65,7 +66,8 @@ pub fn parameters(alloc: Global, tokens: &[Token]) -> Result<(IdentList, &[Token
         _ => {
             let (first, rest) = bound_name(alloc, tokens)?;
             list.push(first)?;
-            more_parameters(alloc, list, rest)
+            let (whole, rest) = more_parameters(alloc, list, rest)?;
+            Ok((ordered_names(alloc, whole)?, rest))
         }
     }
 }

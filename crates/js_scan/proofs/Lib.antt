@@ -1,3 +1,4 @@
+pub mod Beginnings
 pub mod Blanks
 pub mod CommentLaws
 pub mod Faults
@@ -12,7 +13,7 @@ pub mod Readings
 pub mod Rests
 pub mod Sames
 pub mod Steps
-pub mod Totality
 pub mod StringLaws
 pub mod StringReadingLaws
+pub mod Totality
 pub mod UnitLaws

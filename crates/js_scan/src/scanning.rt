@@ -1,6 +1,7 @@
 //! All tokens of a source.
 
 ghost use Rattle.std.specs.Prelude.{◌≡◌, ◌≤◌, ◌⊎◌, List, length, IfOk, IfErr, MatchResult};
+ghost use Rattle.std.specs.List.{All};
 ghost use Rattle.js_ast.specs.declared.token.Token.{Token};
 ghost use Rattle.js_scan.specs.declared.fault.ScanFault.{ScanFault};
 ghost use Rattle.js_scan.specs.declared.fault.ScanFault.TheVariants.{OutOfMemory};
@@ -16,6 +17,7 @@ use std::alloc::Global;
 /// The tokens of the source.
 pub fn scan(alloc: Global, source: &Text) -> Result<Vec<Token>, ScanFault>
     ensures tokens { IfOk result (λ tokens. IsTokens source.now tokens.items) }
+    ensures begins { IfOk result (λ tokens. All (λ t. t.from ≤ length source.now) tokens.items) }
     ensures fault { IfErr result (λ f. IsFaultOf source.now f) }
     ensures place { IfErr result (λ f. fault_at f ≤ length source.now) }
     ensures only_tokens { (ts : List Token) → IsTokens source.now ts → MatchResult result (λ tokens. tokens.items ≡ ts) (λ f. f ≡ OutOfMemory) }

@@ -4,7 +4,6 @@ pub mod Asked
 pub mod Declared
 pub mod Erasing
 pub mod Evaluation
-pub mod FaultPlaces
 pub mod Isolating
 pub mod Kept
 pub mod Meanings
@@ -17,9 +16,7 @@ pub mod ReportLaws
 pub mod ReportLoops
 pub mod Runs
 pub mod ScriptLoops
-pub mod SourcePlaces
+pub mod ScriptPlaces
 pub mod Sourced
 pub mod Texts
-pub mod TreePlaces
 pub mod Views
-pub mod Within

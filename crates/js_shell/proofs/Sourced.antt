@@ -12,13 +12,14 @@ use Rattle.js_scan.proofs.Laws as scanned
 use Rattle.js_faults.specs.declared.fault.Fault.{Fault}
 use Rattle.js_parse_expr.specs.declared.fault.ParseFault.{ParseFault}
 use Rattle.js_parse_expr.specs.declared.fault.ParseFault.TheVariants as parse_fault
+use Rattle.js_parse_expr.specs.Parsed.{fault_at as parse_fault_at}
 use Rattle.js_parse.specs.Programs.{IsProgram, IsFault as IsNoProgram}
 use Rattle.js_parse.proofs.Laws as parsed
 use Rattle.js_early.specs.EarlyErrors.{early_error}
 use Rattle.js_shell.specs.declared.refusals.SourceKind.{SourceKind}
 use Rattle.js_shell.specs.declared.refusals.SourceKind.TheVariants as kind
 use Rattle.js_shell.specs.Scripts.{Statement}
-use Rattle.js_shell.specs.Sources.{SourceFault, long_source, source_utf8, bad_source, source_text, source_limit, read_source, scan_kind, parse_kind, parse_fault_at, early_kind, HasTokens, HasProgram, runnable, IsScriptOf, RefusesProgram, has_no_text, has_no_tokens, is_no_program, has_early_error, RefusesSource, refuses_program, unbuilt}
+use Rattle.js_shell.specs.Sources.{SourceFault, long_source, source_utf8, bad_source, source_text, source_limit, read_source, scan_kind, parse_kind, early_kind, HasTokens, HasProgram, runnable, IsScriptOf, RefusesProgram, has_no_text, has_no_tokens, is_no_program, has_early_error, RefusesSource, refuses_program, unbuilt}
 use Rattle.js_shell.specs.Promises.{IsProgramOnce, IsScriptOnce, IsProgramOrRefused}
 
 pub ok_is : {X E : Type 0} (x y : X) (r : Result X E) → r ≡ Ok x → r ≡ Ok y → x ≡ y

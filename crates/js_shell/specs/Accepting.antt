@@ -14,6 +14,7 @@ use Rattle.js_scan.specs.Tokens.{IsTokens, IsFault, fault_at}
 use Rattle.js_faults.specs.declared.fault.Fault.{Fault}
 use Rattle.js_parse_expr.specs.declared.fault.ParseFault.{ParseFault}
 use Rattle.js_parse_expr.specs.declared.fault.ParseFault.TheVariants as parse_fault
+use Rattle.js_parse_expr.specs.Parsed.{fault_at as parse_fault_at}
 use Rattle.js_parse.specs.Programs.{IsProgram, IsFault as IsNoProgram}
 use Rattle.js_early.specs.EarlyErrors.{early_error}
 use Rattle.flow_policy.specs.Policies.{Tables}
@@ -27,7 +28,7 @@ use Rattle.js_shell.specs.declared.refusals.SourceKind.{SourceKind}
 use Rattle.js_shell.specs.declared.refusals.Refusal.{Refusal}
 use Rattle.js_shell.specs.declared.refusals.Refusal.TheVariants as refusal
 use Rattle.js_shell.specs.Scripts.{Statement}
-use Rattle.js_shell.specs.Sources.{SourceFault, long_source, source_utf8, bad_source, source_limit, source_text, HasTokens, HasProgram, IsScriptOf, RefusesProgram, RefusesSource, scan_kind, parse_kind, parse_fault_at, early_kind}
+use Rattle.js_shell.specs.Sources.{SourceFault, long_source, source_utf8, bad_source, source_limit, source_text, HasTokens, HasProgram, IsScriptOf, RefusesProgram, RefusesSource, scan_kind, parse_kind, early_kind}
 use Rattle.js_shell.specs.Replies.{Task, IsAsked, IsChecked, IsProgramAt, HasNoProgram, HasScript, HasNoScript, HasPolicy, HasNoPolicy, HasInput, HasNoInput, too_long, bad_line, Reply, IsReply, read_fault_report, accepted_report, usage_reply, source_reply, policy_reply, input_reply}
 
 -- what is said of the files, where the store tells them

@@ -13,6 +13,7 @@ use Rattle.js_faults.specs.declared.fault.FaultKind.{FaultKind}
 use Rattle.js_faults.specs.declared.fault.FaultKind.TheVariants as fault_kind
 use Rattle.js_parse_expr.specs.declared.fault.ParseFault.{ParseFault}
 use Rattle.js_parse_expr.specs.declared.fault.ParseFault.TheVariants as parse_fault
+use Rattle.js_parse_expr.specs.Parsed.{fault_at as parse_fault_at}
 use Rattle.js_parse.specs.Programs.{IsProgram, IsFault as IsNoProgram}
 use Rattle.js_early.specs.EarlyErrors.{early_error}
 use Rattle.js_shell.specs.declared.refusals.SourceKind.{SourceKind}
@@ -82,17 +83,8 @@ parse_kind (parse_fault.Nesting at) = Some kind.Nesting
 parse_kind (parse_fault.Directive at) = Some kind.Directive
 parse_kind parse_fault.OutOfMemory = None
 
--- and where it is
-abbrev pub parse_fault_at : ParseFault → ℕ
-parse_fault_at (parse_fault.Syntax at) = at
-parse_fault_at (parse_fault.With at) = at
-parse_fault_at (parse_fault.Nesting at) = at
-parse_fault_at (parse_fault.Directive at) = at
-parse_fault_at parse_fault.OutOfMemory = 0
-
 -- how an early error is called
 abbrev pub early_kind : FaultKind → SourceKind
-early_kind fault_kind.Directive = kind.Directive
 early_kind fault_kind.EvalArguments = kind.EvalArguments
 early_kind fault_kind.RepeatedParameter = kind.RepeatedParameter
 early_kind fault_kind.RepeatedProperty = kind.RepeatedProperty

@@ -6,7 +6,8 @@ ghost use Rattle.js_ast.specs.Views.{view_program};
 ghost use Rattle.js_faults.specs.declared.fault.Fault.{Fault};
 ghost use Rattle.js_scan.specs.Tokens.{fault_at, IsTokens, IsFaultOf};
 ghost use Rattle.js_early.specs.EarlyErrors.{early_error};
-ghost use Rattle.js_shell.specs.Sources.{source_limit, parse_fault_at};
+ghost use Rattle.js_parse_expr.specs.Parsed.{fault_at as parse_fault_at};
+ghost use Rattle.js_shell.specs.Sources.{source_limit};
 ghost use Rattle.js_shell.specs.Accepting.{TakesText, TakesTokens, TakesTree, TakesEarly, TakesSource, TakesProgram, TakesScript, IsParseFault};
 ghost use Rattle.js_shell.specs.Seen.{seen_script};
 

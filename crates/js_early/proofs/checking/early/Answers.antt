@@ -1,7 +1,9 @@
-use Rattle.std.proofs.Common.{sym, ◌∙◌}
-use Rattle.js_faults.specs.Scopes.{outermost}
-use Rattle.js_early.proofs.NoDirectives.{early_kind, statements_early}
+use Rattle.std.proofs.Common.{[], sym, subst, ◌≤◌, ◌∙◌}
+use Rattle.js_ast.specs.Views.{view_program}
+use Rattle.js_faults.specs.declared.fault.Fault.{Fault}
+use Rattle.js_faults.proofs.Placed.{early_in_statements}
 use Rattle.js_early.proofs.checking.early.Goals as goal
 
-pub early_fault-requires : goal.early_fault-requires
-early_fault-requires c = early_kind _ c.in-Some.fault (statements_early outermost _) (sym c.fault_in_statements.ensures ∙ c.in-Some.is)
+pub returns-in-Some-clause-place : goal.returns-in-Some-clause-place
+returns-in-Some-clause-place c = λ tokens end spelled all.
+    subst (λ (f : Fault). f.at ≤ end) (sym c.early_fault.ensures) (early_in_statements end tokens [] all (view_program c.args.program.now) spelled c.in-Some.fault (sym c.early_error.ensures ∙ c.in-Some.is))

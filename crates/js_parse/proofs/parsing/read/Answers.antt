@@ -5,4 +5,4 @@ use Rattle.js_parse.proofs.Laws.{directive_fault}
 use Rattle.js_parse.proofs.parsing.read.Goals as goal
 
 pub returns-in-Some-clause-fault : goal.returns-in-Some-clause-fault
-returns-in-Some-clause-fault c = inr (directive_fault c.args.tokens.now c.args.end (view_stmts (nodes_of c.in_ok-body.body)) c.in-Some.fault c.in_ok-body.ensures.tree c.in-Some.ensures)
+returns-in-Some-clause-fault c = inr (directive_fault c.args.tokens.now c.args.end (view_stmts (nodes_of c.in_ok-body.body)) c.in-Some.directive c.in_ok-body.ensures.tree c.in-Some.ensures)

@@ -1,7 +1,12 @@
 use Rattle.std.proofs.Common.{rules, IfOk, IfErr, subst}
 use Rattle.js_scan.specs.Tokens.{IsTokens, IsFaultOf}
+use Rattle.js_scan.proofs.Beginnings.{answer_begins}
 use Rattle.js_scan.proofs.scanning.scan.Goals as goal
 use Rattle.js_scan.proofs.Laws.{answer_within, only_tokens, only_fault}
+
+pub returns-clause-begins : goal.returns-clause-begins
+returns-clause-begins c =
+    answer_begins (λ x. x.items) c.args.source.now c.tokens_of.result (subst (λ us. IfOk c.tokens_of.result (λ x. IsTokens us x.items)) c.units.ensures c.tokens_of.ensures.tokens)
 
 pub returns-clause-place : goal.returns-clause-place
 returns-clause-place c = search (rules, answer_within)

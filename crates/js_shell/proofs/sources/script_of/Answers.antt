@@ -4,7 +4,7 @@ use Rattle.js_ast.specs.Views.{view_program}
 use Rattle.js_shell.specs.Scripts.{statements_of}
 use Rattle.js_shell.specs.Sources.{RefusesProgram, RefusesSource, refuses_program, IsScriptOf}
 use Rattle.js_shell.specs.Accepting.{IsSourceOf}
-use Rattle.js_shell.proofs.SourcePlaces.{script_within_source}
+use Rattle.js_shell.proofs.ScriptPlaces.{script_within_source}
 use Rattle.js_shell.proofs.Refusing.{refused_too, too_long, short_enough, refused_unbuilt}
 use Rattle.js_shell.proofs.sources.script_of.Goals as goal
 

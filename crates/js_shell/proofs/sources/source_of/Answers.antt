@@ -1,10 +1,11 @@
-use Rattle.std.proofs.Common.{◌≡◌, refl}
+use Rattle.std.proofs.Common.{◌≡◌, [], length, refl}
 use Rattle.std.proofs.lemmas.Result.{err_from_is_err_and}
 use Rattle.js_ast.specs.Views.{view_program}
 use Rattle.js_scan.specs.Tokens.{IsTokens}
+use Rattle.js_scan.proofs.Beginnings.{tokens_within}
+use Rattle.js_faults.proofs.Placed.{early_in_statements}
 use Rattle.js_shell.specs.Sources.{HasTokens}
 use Rattle.js_shell.specs.Accepting.{IsSourceOf}
-use Rattle.js_shell.proofs.SourcePlaces.{early_within}
 use Rattle.js_shell.proofs.Refusing.{tokens_refused, tree_refused, early_refused}
 use Rattle.js_shell.proofs.sources.source_of.Goals as goal
 
@@ -23,7 +24,7 @@ returns-in_err-program c =
 pub refuse_early_error-requires : goal.refuse_early_error-requires
 refuse_early_error-requires c =
     let are : IsTokens c.in_ok-text.text c.deref.result.now = rw c.deref.ensures.value c.in_ok-tokens.ensures in
-    early_within c.in_ok-text.text c.deref.result.now are (view_program c.in_ok-program.program) c.in_ok-program.ensures.tree
+    early_in_statements (length c.in_ok-text.text) c.deref.result.now [] (tokens_within c.in_ok-text.text c.deref.result.now are) (view_program c.in_ok-program.program) c.in_ok-program.ensures.tree.spelled
 
 pub returns-in_err-refuse_early_error : goal.returns-in_err-refuse_early_error
 returns-in_err-refuse_early_error c =

@@ -1,0 +1,3 @@
+pub mod CameLaws
+pub mod ConvertedLaws
+pub mod Words

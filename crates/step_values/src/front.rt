@@ -1,0 +1,136 @@
+//! Operators in front of a value.
+
+ghost use Rattle.std.specs.Prelude.{◌≡◌, IfOk, slice_get};
+ghost use Rattle.js_ast.specs.declared.operators.UnaryOperator.TheVariants as operator;
+ghost use Rattle.es_meaning.specs.Evaluation.{takes_number};
+ghost use Rattle.es_meaning.specs.Operators.{type_of, type_of_class, unary_of, unary_of_object, unary_of_primitive};
+ghost use Rattle.step_values.specs.Answers.{Answers};
+ghost use Rattle.step_values.specs.Converted.{in_front, object_seen};
+
+use crate::refusal::Refusal;
+use flow_text::{OutOfMemory, Text};
+use js_ast::UnaryOperator;
+use js_number::{Primitive, bit_not, negate, to_boolean, to_number};
+use js_values::{Class, ObjId, Value};
+use object_heap::Heap;
+use std::alloc::Global;
+use step_world::Leaving;
+
+/// An operator in front of a value, which is converted first where the operator takes it as a number.
+#[tactic(auto, unfolding(crate::specs::Converted::in_front))]
+pub(crate) fn in_front<T: Copy>(
+    alloc: Global,
+    heap: &Heap<T>,
+    operator: UnaryOperator,
+    value: &Value,
+) -> Result<Primitive, Refusal>
+    ensures { Answers result (in_front heap.now operator value.now) }
+{
+    match value {
+        Value::Primitive(v) => of_primitive(alloc, operator, v),
+        Value::Object(_) if takes_number(operator) => Err(Refusal::Leaves(Leaving::Unbuilt)),
+        Value::Object(o) => of_object(alloc, heap, operator, *o),
+    }
+}
+
+/// Whether it takes its operand as a number.
+fn takes_number(operator: UnaryOperator) -> bool
+    ensures { result ≡ takes_number operator }
+{
+    matches!(
+        operator,
+        UnaryOperator::Plus | UnaryOperator::Minus | UnaryOperator::BitNot
+    )
+}
+
+/// An operator in front of a primitive value.
+fn of_primitive(alloc: Global, operator: UnaryOperator, v: &Primitive) -> Result<Primitive, Refusal>
+    ensures { Answers result (unary_of_primitive operator v.now) }
+{
+    match operator {
+        UnaryOperator::Void => Ok(Primitive::Undefined),
+        UnaryOperator::Typeof => Ok(Primitive::Str(type_name(alloc, v)?)),
+        UnaryOperator::Plus => plus(v),
+        UnaryOperator::Minus => minus(v),
+        UnaryOperator::BitNot => flipped(v),
+        UnaryOperator::Not => Ok(Primitive::Bool(!to_boolean(v))),
+        UnaryOperator::Delete | UnaryOperator::Increment | UnaryOperator::Decrement => {
+            Err(Refusal::Leaves(Leaving::Unbuilt))
+        }
+    }
+}
+
+/// `typeof v`.
+#[tactic(auto, using(crate::proofs::Words::words))]
+fn type_name(alloc: Global, v: &Primitive) -> Result<Text, OutOfMemory>
+    ensures { IfOk result (λ text. text ≡ type_of v.now) }
+{
+    match v {
+        Primitive::Undefined => Text::spelled(alloc, "undefined"),
+        Primitive::Null => Text::spelled(alloc, "object"),
+        Primitive::Bool(_) => Text::spelled(alloc, "boolean"),
+        Primitive::Num(_) => Text::spelled(alloc, "number"),
+        Primitive::Str(_) => Text::spelled(alloc, "string"),
+    }
+}
+
+/// `+v`.
+fn plus(v: &Primitive) -> Result<Primitive, Refusal>
+    ensures { Answers result (unary_of_primitive operator.Plus v.now) }
+{
+    Ok(Primitive::Num(to_number(v)?))
+}
+
+/// `-v`.
+fn minus(v: &Primitive) -> Result<Primitive, Refusal>
+    ensures { Answers result (unary_of_primitive operator.Minus v.now) }
+{
+    Ok(Primitive::Num(negate(to_number(v)?)))
+}
+
+/// `~v`.
+fn flipped(v: &Primitive) -> Result<Primitive, Refusal>
+    ensures { Answers result (unary_of_primitive operator.BitNot v.now) }
+{
+    Ok(Primitive::Num(bit_not(to_number(v)?)))
+}
+
+/// An operator in front of an object. Of one that isn't there, nothing is known.
+#[tactic(auto, unfolding(es_meaning::specs::Operators::unary_of))]
+fn of_object<T: Copy>(
+    alloc: Global,
+    heap: &Heap<T>,
+    operator: UnaryOperator,
+    o: ObjId,
+) -> Result<Primitive, Refusal>
+    ensures { Answers result (unary_of operator (object_seen (slice_get heap.now o.0))) }
+{
+    if o.0 < heap.len() {
+        of_class(alloc, operator, heap.shape(o).class)
+    } else {
+        of_primitive(alloc, operator, &Primitive::Undefined)
+    }
+}
+
+/// An operator in front of an object of a class.
+fn of_class(alloc: Global, operator: UnaryOperator, class: Class) -> Result<Primitive, Refusal>
+    ensures { Answers result (unary_of_object operator class) }
+{
+    match operator {
+        UnaryOperator::Void => Ok(Primitive::Undefined),
+        UnaryOperator::Typeof => Ok(Primitive::Str(class_name(alloc, class)?)),
+        UnaryOperator::Not => Ok(Primitive::Bool(false)),
+        _ => Err(Refusal::Leaves(Leaving::Unbuilt)),
+    }
+}
+
+/// `typeof` of an object of a class.
+#[tactic(auto, using(crate::proofs::Words::words))]
+fn class_name(alloc: Global, class: Class) -> Result<Text, OutOfMemory>
+    ensures { IfOk result (λ text. text ≡ type_of_class class) }
+{
+    match class {
+        Class::Function => Text::spelled(alloc, "function"),
+        _ => Text::spelled(alloc, "object"),
+    }
+}

@@ -1,0 +1,8 @@
+//! What a run holds besides its pending work, and what an act on it comes to.
+#![tactic(auto)]
+
+mod came;
+mod world;
+
+pub use came::{Came, Leaving, Reference};
+pub use world::World;
