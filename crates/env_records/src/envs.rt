@@ -107,6 +107,16 @@ impl<T: Copy> Envs<T> {
         self.record(e).binding(place).value()
     }
 
+    /// The value of a name in the record alone, if the record has it.
+    pub fn own(&self, e: EnvId, name: &Text) -> Option<&Labelled<T>>
+        requires { e.0 < length self.now }
+        ensures { option_map (λ v. v.now) result ≡ option_map (λ b. b.value) (bound_in name.now (slice_get self.now e.0)) }
+    {
+        let record = self.record(e);
+        let place = record.place(name)?;
+        Some(record.binding(place).value())
+    }
+
     /// Assigns to a name of the record, which has it, if that can be changed and its label includes the context (rule W1).
     pub fn assign<L: Labels<Label = T>>(
         &mut self,

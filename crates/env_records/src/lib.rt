@@ -9,6 +9,3 @@ mod record;
 pub use envs::Envs;
 pub use faults::AssignFault;
 pub use laws::{records_belong, records_read};
-
-#[cfg(test)]
-mod tests;

@@ -16,6 +16,3 @@ pub use inputs::{Inputs, read_inputs};
 pub use listed::read_list;
 pub use observed::disagree;
 pub use policy::{Channel, Policy, read_policy};
-
-#[cfg(test)]
-mod tests;

@@ -19,6 +19,3 @@ pub use trees::{
     Property, PropertyKind, PropertyList, Semi, Stmt, StmtKind, StmtList,
 };
 pub use words::{Keyword, Sign};
-
-#[cfg(test)]
-mod tests;

@@ -10,7 +10,7 @@ ghost use Rattle.js_early.specs.EarlyErrors.{early_error, fault_of};
 
 use crate::fault::EarlyFault;
 use js_ast::Program;
-use js_faults::{Fault, FaultKind, early_error};
+use js_faults::{EarlyError, EarlyErrorKind, early_error};
 
 /// Refuses a program that has an early error, with the one that stands furthest to the left; of several at one place
 /// with the first in the order of the kinds. Where the tokens of the program begin in a source, so does the error. It
@@ -26,17 +26,17 @@ pub fn early(program: &Program) -> Result<(), EarlyFault>
 }
 
 /// The same as an early error.
-fn early_fault(fault: Fault) -> EarlyFault
+fn early_fault(fault: EarlyError) -> EarlyFault
     ensures { fault_of result ≡ fault }
 {
     let at = fault.at;
     match fault.kind {
-        FaultKind::EvalArguments => EarlyFault::EvalArguments { at },
-        FaultKind::RepeatedParameter => EarlyFault::RepeatedParameter { at },
-        FaultKind::RepeatedProperty => EarlyFault::RepeatedProperty { at },
-        FaultKind::DeleteName => EarlyFault::DeleteName { at },
-        FaultKind::Jump => EarlyFault::Jump { at },
-        FaultKind::RepeatedLabel => EarlyFault::RepeatedLabel { at },
-        FaultKind::StrictWord => EarlyFault::StrictWord { at },
+        EarlyErrorKind::EvalArguments => EarlyFault::EvalArguments { at },
+        EarlyErrorKind::RepeatedParameter => EarlyFault::RepeatedParameter { at },
+        EarlyErrorKind::RepeatedProperty => EarlyFault::RepeatedProperty { at },
+        EarlyErrorKind::DeleteName => EarlyFault::DeleteName { at },
+        EarlyErrorKind::Jump => EarlyFault::Jump { at },
+        EarlyErrorKind::RepeatedLabel => EarlyFault::RepeatedLabel { at },
+        EarlyErrorKind::StrictWord => EarlyFault::StrictWord { at },
     }
 }

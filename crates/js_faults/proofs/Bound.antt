@@ -7,15 +7,15 @@ use Rattle.js_ast.specs.Nodes.{nodes_of}
 use Rattle.js_ast.specs.Trees.{Ident, MaybeExpr}
 use Rattle.js_ast.specs.Views.{view_ident, view_idents, view_maybe_expr, view_declaration, view_declarations, view_other_declarations, declarations_from}
 use Rattle.js_ast.proofs.ViewLaws.{idents_append, parts_declaration, parts_declarations}
-use Rattle.js_faults.specs.declared.fault.Fault.{Fault}
-use Rattle.js_faults.specs.declared.fault.FaultKind.TheVariants as kind
+use Rattle.js_faults.specs.declared.fault.EarlyError.{EarlyError}
+use Rattle.js_faults.specs.declared.fault.EarlyErrorKind.TheVariants as kind
 use Rattle.js_faults.specs.Early.{fault_if, has_text, of_bound, of_declarations, of_parameters}
 use Rattle.js_faults.specs.Faults.{earlier, first_of}
 use Rattle.js_faults.proofs.Told.{first_of_append}
 use Rattle.js_faults.proofs.Loops.{last_none}
 
 -- a parameter behind others
-abbrev pub of_parameter : List Ident → Ident → List Fault
+abbrev pub of_parameter : List Ident → Ident → List EarlyError
 of_parameter earlier i = of_bound i ++ fault_if (has_text i.text earlier) i.at kind.RepeatedParameter
 
 pub parameters_step : (front : List held.Ident) (i : held.Ident) (is : List held.Ident) → first_of (of_parameters (view_idents front) (view_idents (i ∷ is)))
@@ -37,7 +37,7 @@ pub part_value : (d : Declaration) → (view_declaration d).1 ≡ view_maybe_exp
 part_value d = ap (λ d. d.1) (parts_declaration d)
 
 -- names that are bound
-abbrev pub bound_in : List (Ident × MaybeExpr) → List Fault
+abbrev pub bound_in : List (Ident × MaybeExpr) → List EarlyError
 bound_in [] = []
 bound_in (d ∷ ds) = of_bound d.0 ++ bound_in ds
 

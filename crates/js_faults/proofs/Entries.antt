@@ -9,8 +9,8 @@ use Rattle.js_ast.specs.declared.trees.Ident as held_ident
 use Rattle.js_ast.specs.declared.trees.Property as held
 use Rattle.js_ast.specs.Trees.{Ident, Property}
 use Rattle.js_ast.specs.Views.{view_ident, view_idents, view_property}
-use Rattle.js_faults.specs.declared.fault.Fault.{Fault}
-use Rattle.js_faults.specs.declared.fault.FaultKind.TheVariants as kind
+use Rattle.js_faults.specs.declared.fault.EarlyError.{EarlyError}
+use Rattle.js_faults.specs.declared.fault.EarlyErrorKind.TheVariants as kind
 use Rattle.js_faults.specs.Early.{fault_if, has_text, of_bound, of_parameters, same_key, is_pair, clashes, place_of_property, of_repeated, of_properties}
 use Rattle.js_faults.specs.Faults.{earlier, first_of}
 use Rattle.js_faults.specs.Ordered.{Entry, name_entry, property_entry, of_each, one_key, conflicts, of_repeats}
@@ -31,7 +31,7 @@ name_clashes all i (j ∷ js) = ap (λ b. b || list_any (conflicts all (name_ent
     ∙ ap (λ b. bytes_eq j.text i.text || b) (name_clashes all i js)
 
 -- of four in two pairs the middle ones change places
-crossed : (a b c d : Option Fault) → earlier (earlier a b) (earlier c d) ≡ earlier a (earlier c (earlier b d))
+crossed : (a b c d : Option EarlyError) → earlier (earlier a b) (earlier c d) ≡ earlier a (earlier c (earlier b d))
 crossed a b c d = sym (earlier_assoc a b (earlier c d)) ∙ ap (earlier a) (earlier_assoc b c d ∙ ap (λ x. earlier x d) (earlier_comm b c) ∙ sym (earlier_assoc c b d))
 
 names_apart : (all : List Entry) (front is : List Ident)

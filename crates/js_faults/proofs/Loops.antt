@@ -1,7 +1,7 @@
 -- Loops over the nodes of a list: what was told so far, and what the rest tells, give what the whole list tells.
 use Rattle.std.proofs.Common.{refl, sym, ap, ◌∙◌, ◌≡◌, ◌<◌, ◌≤◌, ◌+◌, ℕ, List, [], ◌∷◌, ◌++◌, length, take, drop, get_or, Option, Some, None}
 use Rattle.std.proofs.lemmas.List.{take_more, drop_more, at_drop_all}
-use Rattle.js_faults.specs.declared.fault.Fault.{Fault}
+use Rattle.js_faults.specs.declared.fault.EarlyError.{EarlyError}
 use Rattle.js_faults.specs.Faults.{Order, earlier_by, by_kind, earlier}
 use Rattle.js_faults.proofs.Told.{earlier_by_assoc}
 
@@ -33,19 +33,19 @@ module _ {T : Type 0} (order : Order T) where
 
 -- ---- early errors
 
-pub last_none : (f : Option Fault) → earlier f None ≡ f
+pub last_none : (f : Option EarlyError) → earlier f None ≡ f
 last_none f = none_behind by_kind f
 
-pub told_more_behind : {X : Type 0} (F : List X → List X → Option Fault) (f : List X → X → Option Fault) (xs : List X) (i : ℕ) (x : X) (first told next whole : Option Fault)
+pub told_more_behind : {X : Type 0} (F : List X → List X → Option EarlyError) (f : List X → X → Option EarlyError) (xs : List X) (i : ℕ) (x : X) (first told next whole : Option EarlyError)
     → ((front : List X) (x : X) (rest : List X) → F front (x ∷ rest) ≡ earlier (f front x) (F (front ++ x ∷ []) rest)) → i < length xs → x ≡ get_or xs i x
     → earlier first (F (take i xs) (drop i xs)) ≡ whole → told ≡ f (take i xs) x → next ≡ earlier first told → earlier next (F (take (i + 1) xs) (drop (i + 1) xs)) ≡ whole
 told_more_behind F f = goes_on_behind by_kind F f
 
-pub told_more : {X : Type 0} (F : List X → Option Fault) (f : X → Option Fault) (xs : List X) (i : ℕ) (x : X) (first told next whole : Option Fault)
+pub told_more : {X : Type 0} (F : List X → Option EarlyError) (f : X → Option EarlyError) (xs : List X) (i : ℕ) (x : X) (first told next whole : Option EarlyError)
     → ((x : X) (rest : List X) → F (x ∷ rest) ≡ earlier (f x) (F rest)) → i < length xs → x ≡ get_or xs i x
     → earlier first (F (drop i xs)) ≡ whole → told ≡ f x → next ≡ earlier first told → earlier next (F (drop (i + 1) xs)) ≡ whole
 told_more F f = goes_on by_kind F f
 
-pub told_all : {X : Type 0} (F : List X → Option Fault) (xs : List X) (i : ℕ) (first whole : Option Fault)
+pub told_all : {X : Type 0} (F : List X → Option EarlyError) (xs : List X) (i : ℕ) (first whole : Option EarlyError)
     → F [] ≡ None → length xs ≤ i → earlier first (F (drop i xs)) ≡ whole → first ≡ whole
 told_all F = ends by_kind F

@@ -7,8 +7,8 @@ use Rattle.std.proofs.lemmas.Bool.{cases_Bool, cases_eq, cases_lt, or_cases, or_
 use Rattle.std.proofs.lemmas.List.{get_or-take, length-take-le, append-nil}
 use Rattle.std.proofs.lemmas.List.Folds.{list_any_at}
 use Rattle.std.proofs.lemmas.Slice.Eq.{bytes_eq-Decides}
-use Rattle.js_faults.specs.declared.fault.Fault.{Fault}
-use Rattle.js_faults.specs.declared.fault.FaultKind.{FaultKind}
+use Rattle.js_faults.specs.declared.fault.EarlyError.{EarlyError}
+use Rattle.js_faults.specs.declared.fault.EarlyErrorKind.{EarlyErrorKind}
 use Rattle.js_faults.specs.Early.{fault_if}
 use Rattle.js_faults.specs.Faults.{first_of}
 use Rattle.js_faults.specs.Ordered.{Entry, no_entry, nth, one_key, are_parts, conflicts, of_repeats, IsOrder, same_at, has_third, clashes_at, told_in_order}
@@ -143,10 +143,10 @@ module _ (es : List Entry) (order : List ℕ) (is : IsOrder es order) where
 -- ---- all of them
 
 -- what is told at a place of the list
-abbrev pub told_in_list : FaultKind → List Entry → ℕ → List Fault
+abbrev pub told_in_list : EarlyErrorKind → List Entry → ℕ → List EarlyError
 told_in_list kind es i = fault_if (list_any (conflicts es (nth es i)) (take i es)) (nth es i).at kind
 
-repeats_behind : (kind : FaultKind) (all front rest : List Entry) → all ≡ front ++ rest → told (told_in_list kind all) (length front) ++ of_repeats kind all front rest ≡ told (told_in_list kind all) (length all)
+repeats_behind : (kind : EarlyErrorKind) (all front rest : List Entry) → all ≡ front ++ rest → told (told_in_list kind all) (length front) ++ of_repeats kind all front rest ≡ told (told_in_list kind all) (length all)
 unfolding of_repeats
 repeats_behind kind all front [] e = append-nil (told (told_in_list kind all) (length front)) ∙ ap (λ xs. told (told_in_list kind all) (length xs)) (sym (e ∙ append-nil front))
 repeats_behind kind all front (x ∷ xs) e =
@@ -169,7 +169,7 @@ repeats_behind kind all front (x ∷ xs) e =
     longer (y ∷ ys) = ap suc (longer ys)
 
 -- an order tells what the list does
-pub order_tells : (kind : FaultKind) (es : List Entry) (order : List ℕ) → IsOrder es order → first_of (told (told_in_order kind es order) (length order)) ≡ first_of (of_repeats kind es [] es)
+pub order_tells : (kind : EarlyErrorKind) (es : List Entry) (order : List ℕ) → IsOrder es order → first_of (told (told_in_order kind es order) (length order)) ≡ first_of (of_repeats kind es [] es)
 order_tells kind es order is =
     told_alike (told_in_order kind es order) (told_in_list kind es) (length order) (length es)
     (λ p lp. (get_or order p 0, is.within p lp, ap (λ b. fault_if b (nth es (get_or order p 0)).at kind) (clash_is es order is p lp)))

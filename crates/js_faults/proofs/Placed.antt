@@ -9,9 +9,9 @@ use Rattle.js_ast.specs.Words.{Word}
 use Rattle.js_ast.specs.Trees.{Ident, Key, name_key, string_key, number_key, Semi, written, elided, Expr, name, number, string, this, null, boolean, paren, array, object, function, member, index, new_with, new_bare, call, postfix, unary, binary, conditional, assign, comma, Exprs, no_exprs, more_exprs, MaybeExpr, absent, present, Items, no_items, hole, item, Property, value, getter, setter, Properties, no_properties, more_properties, Declarations, one_declaration, more_declarations, First, first_expr, first_var, Target, target_expr, target_var, Clauses, no_clauses, case, default, Block, block_of, Statement, block, var, empty, expression, if_then, if_else, do_while, while, for, for_in, continue, break, return, throw, switch, labelled, try_catch, try_finally, try_both, debugger, function_declaration, Statements, no_statements, more_statements, Function, function_of}
 use Rattle.js_ast.specs.Grammar.{Part, ◌⨾◌, nothing, place_of, At, OnLine, Takes, TakesName, ReadsIdent, MaybeIdent, MaybeLabel, ReadsIdents, ReadsKey, FinalComma, Ends, StartsExpression, last_initialiser, Reads, ReadsExprs, ReadsMaybe, ReadsItems, ReadsProperty, ReadsProperties, ReadsInitialiser, ReadsDeclarations, ReadsFirst, ReadsTarget, ReadsClauses, ReadsBlock, ReadsStatement, ReadsStatements, ReadsFunction}
 use Rattle.js_faults.specs.declared.directives.BadDirective.{BadDirective}
-use Rattle.js_faults.specs.declared.fault.Fault.{Fault}
-use Rattle.js_faults.specs.declared.fault.FaultKind.{FaultKind}
-use Rattle.js_faults.specs.declared.fault.FaultKind.TheVariants as kind
+use Rattle.js_faults.specs.declared.fault.EarlyError.{EarlyError}
+use Rattle.js_faults.specs.declared.fault.EarlyErrorKind.{EarlyErrorKind}
+use Rattle.js_faults.specs.declared.fault.EarlyErrorKind.TheVariants as kind
 use Rattle.js_faults.specs.Scopes.{Scope, in_body, looped, switched, labelled_by, outermost, names_statement}
 use Rattle.js_faults.specs.Directives.{has_form, directive_in, bad_if, of_directive, without_form, directives, by_place}
 use Rattle.js_faults.specs.Early.{fault_if, is_eval_or_arguments, is_strict_word, has_text, clashes, may_break, may_continue, label_text, directive_may_jump, of_bound, of_bound_maybe, of_parameters, of_assigned, of_deleted, property_list, place_of_property, of_repeated, of_properties, of_unary, of_expr, of_declarations, of_first, of_target, of_statement, of_function, early}
@@ -304,7 +304,7 @@ module _ {n : ℕ} where
 
   -- ---- early errors of nodes on their own
 
-  by_test : (b : Bool) (at : ℕ) (k : FaultKind) → at ≤ n → AreBy by_kind n (fault_if b at k)
+  by_test : (b : Bool) (at : ℕ) (k : EarlyErrorKind) → at ≤ n → AreBy by_kind n (fault_if b at k)
   by_test true at k le = by_one (record { at = at; kind = k }) le
   by_test false at k le = by_none
 
@@ -427,5 +427,5 @@ module _ (n : ℕ) (ts rest : List Token) (by : BeginBy n ts) where
   pub directive_in_statements : (ss : Statements) → ReadsStatements ss ts rest → (d : BadDirective) → first_by by_place (in_statements directives outermost ss) ≡ Some d → d.at ≤ n
   directive_in_statements ss h = all_by by_place n (in_statements directives outermost ss) ((statements_directives outermost ss).walked ts rest h by).0.all
 
-  pub early_in_statements : (ss : Statements) → ReadsStatements ss ts rest → (f : Fault) → first_of (in_statements early outermost ss) ≡ Some f → f.at ≤ n
+  pub early_in_statements : (ss : Statements) → ReadsStatements ss ts rest → (f : EarlyError) → first_of (in_statements early outermost ss) ≡ Some f → f.at ≤ n
   early_in_statements ss h = all_by by_kind n (in_statements early outermost ss) ((statements early by_kind n expr_alone function_alone statement_alone outermost ss).walked ts rest h by).0.all

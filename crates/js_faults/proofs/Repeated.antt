@@ -15,7 +15,7 @@ use Rattle.js_ast.specs.declared.trees.PropertyKind as held_kind
 use Rattle.js_ast.specs.Trees.{Property}
 use Rattle.js_ast.specs.Keys.{key_text}
 use Rattle.js_ast.specs.Views.{view_key, view_property_kind, view_property, view_properties}
-use Rattle.js_faults.specs.declared.fault.FaultKind.TheVariants as kind
+use Rattle.js_faults.specs.declared.fault.EarlyErrorKind.TheVariants as kind
 use Rattle.js_faults.specs.Early.{fault_if, key_of, clashes, place_of_property, property_list, of_repeated}
 use Rattle.js_faults.specs.Faults.{earlier, first_of}
 use Rattle.js_faults.proofs.Told.{first_of_append}

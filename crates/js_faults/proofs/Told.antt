@@ -1,6 +1,6 @@
 -- What is told first: of two lists, the earlier of what is told first of each.
 use Rattle.std.proofs.Common.{arith, refl, ap, ◌∙◌, ◌≡◌, ℕ, Bool, true, false, nat_lt, ◌==◌, ◌&&◌, ◌||◌, List, [], ◌∷◌, ◌++◌, Option, Some, None, cond}
-use Rattle.js_faults.specs.declared.fault.Fault.{Fault}
+use Rattle.js_faults.specs.declared.fault.EarlyError.{EarlyError}
 use Rattle.js_faults.specs.Faults.{Order, precedes, earlier_by, first_by, by_kind, earlier, first_of}
 
 -- of two pairs in turn the first numbers decide, and where they are equal the second: this is transitive, and so is its opposite
@@ -42,10 +42,10 @@ module _ {F : Type 0} (order : Order F) where
 
 -- ---- early errors
 
-pub earlier_assoc : (f g h : Option Fault) → earlier f (earlier g h) ≡ earlier (earlier f g) h
+pub earlier_assoc : (f g h : Option EarlyError) → earlier f (earlier g h) ≡ earlier (earlier f g) h
 earlier_assoc f g h = earlier_by_assoc by_kind f g h
 
-pub first_of_append : (fs gs : List Fault) → first_of (fs ++ gs) ≡ earlier (first_of fs) (first_of gs)
+pub first_of_append : (fs gs : List EarlyError) → first_of (fs ++ gs) ≡ earlier (first_of fs) (first_of gs)
 first_of_append fs gs = first_by_append by_kind fs gs
 
 -- ---- directives, of which one at most is told at a place

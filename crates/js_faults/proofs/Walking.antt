@@ -7,9 +7,9 @@ use Rattle.std.specs.declared.cmp.Ordering.TheVariants.{Less, Equal, Greater}
 use Rattle.std.proofs.lemmas.Bool.{cases_eq, or_cases, and_parts, false≢true, ltb-true, eqb-true}
 use Rattle.std.proofs.lemmas.List.{get_or-map, length-map}
 use Rattle.std.proofs.lemmas.Map.Text.{is_eq-slice_cmp}
-use Rattle.js_faults.specs.declared.fault.FaultKind.{FaultKind}
+use Rattle.js_faults.specs.declared.fault.EarlyErrorKind.{EarlyErrorKind}
 use Rattle.js_faults.specs.Faults.{earlier, first_of}
-use Rattle.js_faults.specs.declared.fault.Fault.{Fault}
+use Rattle.js_faults.specs.declared.fault.EarlyError.{EarlyError}
 use Rattle.js_faults.specs.Ordered.{Entry, no_entry, nth, one_key, of_repeats, rank, IsOrder, rises_at, told_in_order}
 use Rattle.js_faults.proofs.Alike.{told}
 use Rattle.js_faults.proofs.Neighbours.{order_tells}
@@ -69,10 +69,10 @@ rises_all shows xs order p all le so_far = record {
 }
 
 -- what is told so far, and at one place more
-pub told_next : (F : ℕ → List Fault) (p : ℕ) (first one next : Option Fault) → first ≡ first_of (told F p) → one ≡ first_of (F p) → next ≡ earlier first one → next ≡ first_of (told F (p + 1))
+pub told_next : (F : ℕ → List EarlyError) (p : ℕ) (first one next : Option EarlyError) → first ≡ first_of (told F p) → one ≡ first_of (F p) → next ≡ earlier first one → next ≡ first_of (told F (p + 1))
 told_next F p first one next so_far here now = now ∙ ap (λ f. earlier f one) so_far ∙ ap (earlier (first_of (told F p))) here ∙ sym (ap (λ n. first_of (told F n)) (add-one p) ∙ first_of_append (told F p) (F p))
 
 -- and at all of them
-pub told_everywhere : (kind : FaultKind) (es : List Entry) (order : List ℕ) (p : ℕ) (first : Option Fault) → IsOrder es order → p ≤ length order → length order ≤ p
+pub told_everywhere : (kind : EarlyErrorKind) (es : List Entry) (order : List ℕ) (p : ℕ) (first : Option EarlyError) → IsOrder es order → p ≤ length order → length order ≤ p
     → first ≡ first_of (told (told_in_order kind es order) p) → first ≡ first_of (of_repeats kind es [] es)
 told_everywhere kind es order p first is le ge so_far = let e : p ≡ length order = omega arith in so_far ∙ ap (λ n. first_of (told (told_in_order kind es order) n)) e ∙ order_tells kind es order is

@@ -6,15 +6,15 @@ use Rattle.js_ast.specs.declared.operators.UnaryOperator.{UnaryOperator}
 use Rattle.js_ast.specs.declared.operators.UnaryOperator.TheVariants as unary_operator
 use Rattle.js_ast.specs.Keys.{key_text}
 use Rattle.js_ast.specs.Trees.{Ident, Key, Expr, name, paren, object, function, postfix, unary, assign, Properties, no_properties, more_properties, Property, value, getter, setter, Declarations, one_declaration, more_declarations, First, first_expr, first_var, Target, target_expr, target_var, Statement, var, expression, for, for_in, continue, break, return, labelled, try_catch, try_both, function_declaration, Function, function_of}
-use Rattle.js_faults.specs.declared.fault.Fault.{Fault}
-use Rattle.js_faults.specs.declared.fault.FaultKind.{FaultKind}
-use Rattle.js_faults.specs.declared.fault.FaultKind.TheVariants as kind
+use Rattle.js_faults.specs.declared.fault.EarlyError.{EarlyError}
+use Rattle.js_faults.specs.declared.fault.EarlyErrorKind.{EarlyErrorKind}
+use Rattle.js_faults.specs.declared.fault.EarlyErrorKind.TheVariants as kind
 use Rattle.js_faults.specs.Scopes.{Scope, names_statement, names_loop}
 use Rattle.js_faults.specs.Directives.{parts_in, directive_of}
 use Rattle.js_faults.specs.Faults.{Own}
 
 -- a fault, where something holds
-abbrev pub fault_if : Bool → ℕ → FaultKind → List Fault
+abbrev pub fault_if : Bool → ℕ → EarlyErrorKind → List EarlyError
 fault_if true at k = record { at = at; kind = k } ∷ []
 fault_if false at k = []
 
@@ -33,15 +33,15 @@ unfoldable pub is_strict_word : List ℕ → Bool
 is_strict_word text = list_any (λ word. bytes_eq text word) strict_words
 
 -- a name that stands for a value, or a label
-abbrev pub of_name : ℕ → List ℕ → List Fault
+abbrev pub of_name : ℕ → List ℕ → List EarlyError
 of_name at text = fault_if (is_strict_word text) at kind.StrictWord
 
 -- a name that is bound: a variable, a function, a parameter, or what is caught
-unfoldable pub of_bound : Ident → List Fault
+unfoldable pub of_bound : Ident → List EarlyError
 of_bound i = fault_if (is_eval_or_arguments i.text) i.at kind.EvalArguments ++ of_name i.at i.text
 
 -- the same of a function's name, which may be missing
-unfoldable pub of_bound_maybe : Option Ident → List Fault
+unfoldable pub of_bound_maybe : Option Ident → List EarlyError
 of_bound_maybe None = []
 of_bound_maybe (Some i) = of_bound i
 
@@ -50,22 +50,22 @@ abbrev pub has_text : List ℕ → List Ident → Bool
 has_text text is = list_any (λ i. bytes_eq i.text text) is
 
 -- all parameters, behind earlier ones
-unfoldable pub of_parameters : List Ident → List Ident → List Fault
+unfoldable pub of_parameters : List Ident → List Ident → List EarlyError
 of_parameters earlier [] = []
 of_parameters earlier (i ∷ is) = of_bound i ++ (fault_if (has_text i.text earlier) i.at kind.RepeatedParameter ++ of_parameters (earlier ++ i ∷ []) is)
 
 -- a function, without its body: its name and its parameters
-unfoldable pub of_function : Function → List Fault
+unfoldable pub of_function : Function → List EarlyError
 of_function (function_of at ident params body) = of_bound_maybe ident ++ of_parameters [] params
 
 -- what is assigned to, also in parentheses
-unfoldable pub of_assigned : Expr → List Fault
+unfoldable pub of_assigned : Expr → List EarlyError
 of_assigned (name at text) = fault_if (is_eval_or_arguments text) at kind.EvalArguments
 of_assigned (paren at e) = of_assigned e
 of_assigned _ = []
 
 -- the operand of `delete` (ECMA-262 11.4.1), also in parentheses
-unfoldable pub of_deleted : Expr → List Fault
+unfoldable pub of_deleted : Expr → List EarlyError
 of_deleted (name at text) = record { at = at; kind = kind.DeleteName } ∷ []
 of_deleted (paren at e) = of_deleted e
 of_deleted _ = []
@@ -112,25 +112,25 @@ abbrev pub clashes : List Property → Property → Property → Bool
 clashes all p q = same_key p q && (not (is_pair p q) || not (length (filter (same_key p) all) == 2))
 
 -- properties behind earlier ones, of all that stand in the literal
-unfoldable pub of_repeated : List Property → List Property → List Property → List Fault
+unfoldable pub of_repeated : List Property → List Property → List Property → List EarlyError
 of_repeated all earlier [] = []
 of_repeated all earlier (p ∷ ps) = fault_if (list_any (clashes all p) earlier) (place_of_property p) kind.RepeatedProperty ++ of_repeated all (earlier ++ p ∷ []) ps
 
 -- the properties of a literal
-unfoldable pub of_properties : List Property → List Fault
+unfoldable pub of_properties : List Property → List EarlyError
 of_properties ps = of_repeated ps [] ps
 
 -- ---- expressions
 
 -- `delete`, `++` and `--`
-abbrev pub of_unary : UnaryOperator → Expr → List Fault
+abbrev pub of_unary : UnaryOperator → Expr → List EarlyError
 of_unary unary_operator.Delete e = of_deleted e
 of_unary unary_operator.Increment e = of_assigned e
 of_unary unary_operator.Decrement e = of_assigned e
 of_unary _ e = []
 
 -- an expression, without its parts
-unfoldable pub of_expr : Expr → List Fault
+unfoldable pub of_expr : Expr → List EarlyError
 of_expr (name at text) = of_name at text
 of_expr (object at props final) = of_properties (property_list props)
 of_expr (postfix at e o) = of_assigned e
@@ -185,22 +185,22 @@ directive_may_jump None s = true
 -- ---- statements
 
 -- the variables that are declared
-unfoldable pub of_declarations : Declarations → List Fault
+unfoldable pub of_declarations : Declarations → List EarlyError
 of_declarations (one_declaration ident init) = of_bound ident
 of_declarations (more_declarations ident init ds) = of_bound ident ++ of_declarations ds
 
 -- those of a `for` header
-abbrev pub of_first : First → List Fault
+abbrev pub of_first : First → List EarlyError
 of_first (first_expr e) = []
 of_first (first_var ds) = of_declarations ds
 
 -- what a `for` with `in` assigns to
-abbrev pub of_target : Target → List Fault
+abbrev pub of_target : Target → List EarlyError
 of_target (target_expr e) = of_assigned e
 of_target (target_var i) = of_bound i
 
 -- a statement, without its parts
-unfoldable pub of_statement : Scope → Statement → List Fault
+unfoldable pub of_statement : Scope → Statement → List EarlyError
 of_statement s (var at ds semi) = of_declarations ds
 of_statement s (for at first test step body) = of_first first
 of_statement s (for_in at target e body) = of_target target
@@ -215,5 +215,5 @@ of_statement s _ = []
 
 -- ---- all of it
 
-abbrev pub early : Own Fault
+abbrev pub early : Own EarlyError
 early = record { expr = of_expr; function = of_function; statement = of_statement }

@@ -2,9 +2,9 @@
 -- of several at one place the first in some order.
 use Rattle.std.specs.Prelude.{ℕ, List, [], ◌∷◌, ◌++◌, Bool, ◌==◌, ◌&&◌, ◌||◌, nat_lt, Option, Some, None, if◌then◌else◌}
 use Rattle.js_ast.specs.Trees.{Expr, name, number, string, this, null, boolean, paren, array, object, function, member, index, new_with, new_bare, call, postfix, unary, binary, conditional, assign, comma, Exprs, no_exprs, more_exprs, MaybeExpr, absent, present, Items, no_items, hole, item, Property, value, getter, setter, Properties, no_properties, more_properties, Declarations, one_declaration, more_declarations, First, first_expr, first_var, Target, target_expr, target_var, Clauses, no_clauses, case, default, Block, block_of, Statement, block, var, empty, expression, if_then, if_else, do_while, while, for, for_in, continue, break, return, throw, switch, labelled, try_catch, try_finally, try_both, debugger, function_declaration, Statements, no_statements, more_statements, Function, function_of}
-use Rattle.js_faults.specs.declared.fault.Fault.{Fault}
-use Rattle.js_faults.specs.declared.fault.FaultKind.{FaultKind}
-use Rattle.js_faults.specs.declared.fault.FaultKind.TheVariants as kind
+use Rattle.js_faults.specs.declared.fault.EarlyError.{EarlyError}
+use Rattle.js_faults.specs.declared.fault.EarlyErrorKind.{EarlyErrorKind}
+use Rattle.js_faults.specs.declared.fault.EarlyErrorKind.TheVariants as kind
 use Rattle.js_faults.specs.Scopes.{Scope, in_body, looped, switched, labelled_by}
 
 -- what is told of a node, without its parts
@@ -131,7 +131,7 @@ first_by order [] = None
 first_by order (f ∷ fs) = earlier_by order (Some f) (first_by order fs)
 
 -- the order of the kinds
-abbrev pub row : FaultKind → ℕ
+abbrev pub row : EarlyErrorKind → ℕ
 row kind.EvalArguments = 0
 row kind.RepeatedParameter = 1
 row kind.RepeatedProperty = 2
@@ -141,14 +141,14 @@ row kind.RepeatedLabel = 5
 row kind.StrictWord = 6
 
 -- early errors in their order
-abbrev pub by_kind : Order Fault
+abbrev pub by_kind : Order EarlyError
 by_kind = record { at = λ f. f.at; row = λ f. row f.kind }
 
-abbrev pub is_before : Fault → Fault → Bool
+abbrev pub is_before : EarlyError → EarlyError → Bool
 is_before f g = precedes by_kind f g
 
-abbrev pub earlier : Option Fault → Option Fault → Option Fault
+abbrev pub earlier : Option EarlyError → Option EarlyError → Option EarlyError
 earlier f g = earlier_by by_kind f g
 
-abbrev pub first_of : List Fault → Option Fault
+abbrev pub first_of : List EarlyError → Option EarlyError
 first_of fs = first_by by_kind fs

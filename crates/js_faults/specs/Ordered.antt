@@ -6,8 +6,8 @@ use Rattle.std.specs.Ordering.{ordering_then, nat_cmp, is_lt}
 use Rattle.std.specs.declared.cmp.Ordering.{Ordering}
 use Rattle.std.specs.declared.cmp.Ordering.TheVariants.{Less}
 use Rattle.std.specs.Cmp.Lexicographic.{slice_cmp}
-use Rattle.js_faults.specs.declared.fault.Fault.{Fault}
-use Rattle.js_faults.specs.declared.fault.FaultKind.{FaultKind}
+use Rattle.js_faults.specs.declared.fault.EarlyError.{EarlyError}
+use Rattle.js_faults.specs.declared.fault.EarlyErrorKind.{EarlyErrorKind}
 use Rattle.js_ast.specs.Keys.{key_text}
 use Rattle.js_ast.specs.Trees.{Ident, Property}
 use Rattle.js_faults.specs.Early.{fault_if, of_bound, key_of, place_of_property, is_getter, is_setter}
@@ -28,7 +28,7 @@ abbrev pub property_entry : Property → Entry
 property_entry p = record { at = place_of_property p; key = key_text (key_of p); getter = is_getter p; setter = is_setter p }
 
 -- names that are bound, each on its own
-abbrev pub of_each : List Ident → List Fault
+abbrev pub of_each : List Ident → List EarlyError
 of_each [] = []
 of_each (i ∷ is) = of_bound i ++ of_each is
 
@@ -53,7 +53,7 @@ abbrev pub conflicts : List Entry → Entry → Entry → Bool
 conflicts all e f = one_key e f && (not (are_parts e f) || not (length (filter (one_key e) all) == 2))
 
 -- what is told of those that stand behind earlier ones, of all
-unfoldable pub of_repeats : FaultKind → List Entry → List Entry → List Entry → List Fault
+unfoldable pub of_repeats : EarlyErrorKind → List Entry → List Entry → List Entry → List EarlyError
 of_repeats kind all earlier [] = []
 of_repeats kind all earlier (e ∷ es) = fault_if (list_any (conflicts all e) earlier) e.at kind ++ of_repeats kind all (earlier ++ e ∷ []) es
 
@@ -84,5 +84,5 @@ abbrev pub clashes_at : List Entry → List ℕ → ℕ → Bool
 clashes_at es order p = nat_lt 0 p && (same_at es order p (p - 1) && (not (are_parts (nth es (slice_index order p)) (nth es (slice_index order (p - 1)))) || has_third es order p))
 
 -- what is told at a place of an order
-abbrev pub told_in_order : FaultKind → List Entry → List ℕ → ℕ → List Fault
+abbrev pub told_in_order : EarlyErrorKind → List Entry → List ℕ → ℕ → List EarlyError
 told_in_order kind es order p = fault_if (clashes_at es order p) (nth es (slice_index order p)).at kind

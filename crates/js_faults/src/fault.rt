@@ -6,7 +6,7 @@ ghost use Rattle.js_faults.specs.Faults.{row, is_before, earlier, first_of};
 
 /// What an early error is.
 #[derive(Clone, Copy, Debug, PartialEq, Eq)]
-pub enum FaultKind {
+pub enum EarlyErrorKind {
     /// `eval` or `arguments` is assigned or bound.
     EvalArguments,
     /// A parameter has the name of an earlier one.
@@ -25,31 +25,31 @@ pub enum FaultKind {
 
 /// An early error, and where it is.
 #[derive(Clone, Copy, Debug, PartialEq, Eq)]
-pub struct Fault {
+pub struct EarlyError {
     pub at: usize,
-    pub kind: FaultKind,
+    pub kind: EarlyErrorKind,
 }
 
-impl FaultKind {
+impl EarlyErrorKind {
     /// Its place in the order of the kinds.
     fn row(self) -> u8
         ensures { result ≡ row self }
     {
         match self {
-            FaultKind::EvalArguments => 0,
-            FaultKind::RepeatedParameter => 1,
-            FaultKind::RepeatedProperty => 2,
-            FaultKind::DeleteName => 3,
-            FaultKind::Jump => 4,
-            FaultKind::RepeatedLabel => 5,
-            FaultKind::StrictWord => 6,
+            EarlyErrorKind::EvalArguments => 0,
+            EarlyErrorKind::RepeatedParameter => 1,
+            EarlyErrorKind::RepeatedProperty => 2,
+            EarlyErrorKind::DeleteName => 3,
+            EarlyErrorKind::Jump => 4,
+            EarlyErrorKind::RepeatedLabel => 5,
+            EarlyErrorKind::StrictWord => 6,
         }
     }
 }
 
-impl Fault {
+impl EarlyError {
     /// Whether it is told before another.
-    fn is_before(self, other: Fault) -> bool
+    fn is_before(self, other: EarlyError) -> bool
         ensures { result ≡ is_before self other }
     {
         self.at < other.at || self.at == other.at && self.kind.row() < other.kind.row()
@@ -57,7 +57,7 @@ impl Fault {
 }
 
 /// The one of two faults that is told.
-pub(crate) fn earlier(f: Option<Fault>, g: Option<Fault>) -> Option<Fault>
+pub(crate) fn earlier(f: Option<EarlyError>, g: Option<EarlyError>) -> Option<EarlyError>
     ensures { result ≡ earlier f g }
 {
     match (f, g) {
@@ -68,11 +68,11 @@ pub(crate) fn earlier(f: Option<Fault>, g: Option<Fault>) -> Option<Fault>
 }
 
 /// A fault, where something holds.
-pub(crate) fn fault_if(holds: bool, at: usize, kind: FaultKind) -> Option<Fault>
+pub(crate) fn fault_if(holds: bool, at: usize, kind: EarlyErrorKind) -> Option<EarlyError>
     ensures { result ≡ first_of (fault_if holds at kind) }
 {
     if holds {
-        Some(Fault { at, kind })
+        Some(EarlyError { at, kind })
     } else {
         None
     }

@@ -14,5 +14,5 @@ mod telling;
 mod walk;
 
 pub use directives::BadDirective;
-pub use fault::{Fault, FaultKind};
+pub use fault::{EarlyError, EarlyErrorKind};
 pub use walk::{bad_directive, bad_directive_in_expr, early_error};

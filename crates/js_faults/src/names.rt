@@ -6,11 +6,11 @@ ghost use Rattle.std.specs.Str.{bytes_eq};
 ghost use Rattle.js_ast.specs.Nodes.{nodes_of};
 ghost use Rattle.js_ast.specs.Views.{view_ident, view_name, view_idents, view_expr};
 ghost use Rattle.js_faults.specs.Early.{is_eval_or_arguments, is_strict_word, of_name, of_bound, of_bound_maybe, of_parameters, fault_if, has_text, of_assigned, of_deleted};
-ghost use Rattle.js_faults.specs.declared.fault.FaultKind.TheVariants as kind;
+ghost use Rattle.js_faults.specs.declared.fault.EarlyErrorKind.TheVariants as kind;
 ghost use Rattle.js_faults.specs.Faults.{first_of};
 ghost use Rattle.js_faults.specs.Ordered.{IsOrder, name_entry, of_each};
 
-use crate::fault::{Fault, FaultKind, earlier, fault_if};
+use crate::fault::{EarlyError, EarlyErrorKind, earlier, fault_if};
 use crate::ordered::{Keyed, is_order, of_ordered};
 use flow_text::Text;
 use js_ast::{Expr, ExprKind, Ident, IdentList};
@@ -44,22 +44,22 @@ fn is_strict_word(text: &Text) -> bool
 }
 
 /// A name that stands for a value, or a label.
-pub(crate) fn of_name(at: usize, text: &Text) -> Option<Fault>
+pub(crate) fn of_name(at: usize, text: &Text) -> Option<EarlyError>
     ensures { result ≡ first_of (of_name at text.now) }
 {
-    fault_if(is_strict_word(text), at, FaultKind::StrictWord)
+    fault_if(is_strict_word(text), at, EarlyErrorKind::StrictWord)
 }
 
 /// A name that is bound.
 #[tactic(auto, using(crate::proofs::Told::first_of_append), unfolding(crate::specs::Early::of_bound))]
-pub(crate) fn of_bound(name: &Ident) -> Option<Fault>
+pub(crate) fn of_bound(name: &Ident) -> Option<EarlyError>
     ensures { result ≡ first_of (of_bound (view_ident name.now)) }
 {
     earlier(
         fault_if(
             is_eval_or_arguments(&name.text),
             name.at,
-            FaultKind::EvalArguments,
+            EarlyErrorKind::EvalArguments,
         ),
         of_name(name.at, &name.text),
     )
@@ -67,7 +67,7 @@ pub(crate) fn of_bound(name: &Ident) -> Option<Fault>
 
 /// The name of a function, if it has one.
 #[tactic(auto, unfolding(crate::specs::Early::of_bound_maybe))]
-pub(crate) fn of_bound_maybe(name: &Option<Ident>) -> Option<Fault>
+pub(crate) fn of_bound_maybe(name: &Option<Ident>) -> Option<EarlyError>
     ensures { result ≡ first_of (of_bound_maybe (view_name name.now)) }
 {
     match name {
@@ -84,7 +84,7 @@ fn has_text(text: &Text, names: &[Ident]) -> bool
 
 /// A parameter behind others.
 #[tactic(auto, using(crate::proofs::Told::first_of_append, crate::proofs::Words::has_text_is))]
-fn of_parameter(earlier_ones: &[Ident], name: &Ident) -> Option<Fault>
+fn of_parameter(earlier_ones: &[Ident], name: &Ident) -> Option<EarlyError>
     ensures { result ≡ first_of (of_bound (view_ident name.now) ++ fault_if (has_text name.now.text (view_idents earlier_ones.now)) name.now.at kind.RepeatedParameter) }
 {
     earlier(
@@ -92,13 +92,13 @@ fn of_parameter(earlier_ones: &[Ident], name: &Ident) -> Option<Fault>
         fault_if(
             has_text(&name.text, earlier_ones),
             name.at,
-            FaultKind::RepeatedParameter,
+            EarlyErrorKind::RepeatedParameter,
         ),
     )
 }
 
 // Parameters, each against all earlier ones.
-fn by_pairs(names: &[Ident]) -> Option<Fault>
+fn by_pairs(names: &[Ident]) -> Option<EarlyError>
     ensures { result ≡ first_of (of_parameters [] (view_idents names.now)) }
 {
     let mut first = None;
@@ -109,7 +109,7 @@ fn by_pairs(names: &[Ident]) -> Option<Fault>
 }
 
 // Names that are bound, each on its own.
-fn of_each(names: &[Ident]) -> Option<Fault>
+fn of_each(names: &[Ident]) -> Option<EarlyError>
     ensures { result ≡ first_of (of_each (view_idents names.now)) }
 {
     let mut first = None;
@@ -121,18 +121,18 @@ fn of_each(names: &[Ident]) -> Option<Fault>
 
 // Parameters with an order by name, which has equal ones side by side.
 #[tactic(auto, using(crate::proofs::Entries::parameters_are))]
-fn by_order(names: &[Ident], order: &[usize]) -> Option<Fault>
+fn by_order(names: &[Ident], order: &[usize]) -> Option<EarlyError>
     requires { IsOrder (map (λ i. name_entry (view_ident i)) names.now) order.now }
     ensures { result ≡ first_of (of_parameters [] (view_idents names.now)) }
 {
     earlier(
         of_each(names),
-        of_ordered(names, order, FaultKind::RepeatedParameter),
+        of_ordered(names, order, EarlyErrorKind::RepeatedParameter),
     )
 }
 
 /// Parameters. Their order serves where it is one.
-pub(crate) fn of_parameters(params: &IdentList) -> Option<Fault>
+pub(crate) fn of_parameters(params: &IdentList) -> Option<EarlyError>
     ensures { result ≡ first_of (of_parameters [] (view_idents (nodes_of params.now))) }
 {
     let names = params.items();
@@ -162,12 +162,16 @@ impl Keyed for Ident {
 
 /// What is assigned to, also in parentheses.
 #[tactic(auto, unfolding(crate::specs::Early::of_assigned))]
-pub(crate) fn of_assigned(e: &Expr) -> Option<Fault>
+pub(crate) fn of_assigned(e: &Expr) -> Option<EarlyError>
     ensures { result ≡ first_of (of_assigned (view_expr e.now)) }
 {
     match &*e.kind {
         ExprKind::Name(text) => {
-            fault_if(is_eval_or_arguments(text), e.at, FaultKind::EvalArguments)
+            fault_if(
+                is_eval_or_arguments(text),
+                e.at,
+                EarlyErrorKind::EvalArguments,
+            )
         }
         ExprKind::Paren(inner) => of_assigned(inner),
         _ => None,
@@ -176,11 +180,11 @@ pub(crate) fn of_assigned(e: &Expr) -> Option<Fault>
 
 /// What is deleted, also in parentheses.
 #[tactic(auto, unfolding(crate::specs::Early::of_deleted))]
-pub(crate) fn of_deleted(e: &Expr) -> Option<Fault>
+pub(crate) fn of_deleted(e: &Expr) -> Option<EarlyError>
     ensures { result ≡ first_of (of_deleted (view_expr e.now)) }
 {
     match &*e.kind {
-        ExprKind::Name(_) => fault_if(true, e.at, FaultKind::DeleteName),
+        ExprKind::Name(_) => fault_if(true, e.at, EarlyErrorKind::DeleteName),
         ExprKind::Paren(inner) => of_deleted(inner),
         _ => None,
     }

@@ -6,7 +6,7 @@ ghost use Rattle.std.specs.Cmp.Lexicographic.{slice_cmp};
 ghost use Rattle.js_faults.specs.Faults.{first_of};
 ghost use Rattle.js_faults.specs.Ordered.{Entry, nth, are_parts, of_repeats, rank, IsOrder, rises_at, same_at, has_third, clashes_at, told_in_order};
 
-use crate::fault::{Fault, FaultKind, earlier, fault_if};
+use crate::fault::{EarlyError, EarlyErrorKind, earlier, fault_if};
 use std::cmp::Ordering;
 
 /// A node with a key.
@@ -108,7 +108,12 @@ fn clashes_at<T: Keyed>(nodes: &[T], order: &[usize], p: usize) -> bool
             || has_third(nodes, order, p))
 }
 
-fn told_at<T: Keyed>(nodes: &[T], order: &[usize], p: usize, kind: FaultKind) -> Option<Fault>
+fn told_at<T: Keyed>(
+    nodes: &[T],
+    order: &[usize],
+    p: usize,
+    kind: EarlyErrorKind,
+) -> Option<EarlyError>
     requires order { IsOrder (map T.entry nodes.now) order.now }
     requires place { p < length order.now }
     ensures { result ≡ first_of (told_in_order kind (map T.entry nodes.now) order.now p) }
@@ -118,7 +123,11 @@ fn told_at<T: Keyed>(nodes: &[T], order: &[usize], p: usize, kind: FaultKind) ->
 }
 
 /// What is told of the nodes that repeat an earlier one, by their neighbours in the order.
-pub(crate) fn of_ordered<T: Keyed>(nodes: &[T], order: &[usize], kind: FaultKind) -> Option<Fault>
+pub(crate) fn of_ordered<T: Keyed>(
+    nodes: &[T],
+    order: &[usize],
+    kind: EarlyErrorKind,
+) -> Option<EarlyError>
     requires { IsOrder (map T.entry nodes.now) order.now }
     ensures { result ≡ first_of (of_repeats kind (map T.entry nodes.now) [] (map T.entry nodes.now)) }
 {

@@ -8,7 +8,7 @@ ghost use Rattle.js_faults.specs.Faults.{first_of};
 ghost use Rattle.js_faults.specs.Directives.{directive_of};
 
 use crate::directives::directive_of;
-use crate::fault::{Fault, FaultKind, earlier, fault_if};
+use crate::fault::{EarlyError, EarlyErrorKind, earlier, fault_if};
 use crate::jumps::{directive_may_jump, label_of, may_break, may_continue};
 use crate::names::{of_assigned, of_bound, of_bound_maybe, of_deleted, of_name, of_parameters};
 use crate::properties;
@@ -19,7 +19,7 @@ use js_ast::{
 
 /// An expression, without its parts.
 #[tactic(auto, using(crate::proofs::Told::first_of_append, js_ast::proofs::ViewLaws::held_properties, js_ast::specs::declared::trees::ExprKind::TheViews::the_lemmas), unfolding(crate::specs::Early::of_expr))]
-pub(crate) fn of_expr(e: &Expr) -> Option<Fault>
+pub(crate) fn of_expr(e: &Expr) -> Option<EarlyError>
     ensures { result ≡ first_of (of_expr (view_expr e.now)) }
 {
     match &*e.kind {
@@ -32,7 +32,7 @@ pub(crate) fn of_expr(e: &Expr) -> Option<Fault>
     }
 }
 
-fn of_unary(operator: UnaryOperator, operand: &Expr) -> Option<Fault>
+fn of_unary(operator: UnaryOperator, operand: &Expr) -> Option<EarlyError>
     ensures { result ≡ first_of (of_unary operator (view_expr operand.now)) }
 {
     match operator {
@@ -44,7 +44,7 @@ fn of_unary(operator: UnaryOperator, operand: &Expr) -> Option<Fault>
 
 /// A function, without its body.
 #[tactic(auto, using(crate::proofs::Told::first_of_append, js_ast::proofs::ViewLaws::parts_function), unfolding(crate::specs::Early::of_function))]
-pub(crate) fn of_function(f: &Function) -> Option<Fault>
+pub(crate) fn of_function(f: &Function) -> Option<EarlyError>
     ensures { result ≡ first_of (of_function (view_function f.now)) }
 {
     earlier(of_bound_maybe(&f.name), of_parameters(&f.params))
@@ -52,7 +52,7 @@ pub(crate) fn of_function(f: &Function) -> Option<Fault>
 
 /// A statement, without its parts.
 #[tactic(auto, using(crate::proofs::Told::first_of_append), unfolding(crate::specs::Early::of_statement))]
-pub(crate) fn of_statement(scope: Scope<'_>, s: &Stmt) -> Option<Fault>
+pub(crate) fn of_statement(scope: Scope<'_>, s: &Stmt) -> Option<EarlyError>
     ensures { result ≡ first_of (of_statement (scope_of scope.entry) (view_stmt s.now)) }
 {
     match &*s.kind {
@@ -60,19 +60,23 @@ pub(crate) fn of_statement(scope: Scope<'_>, s: &Stmt) -> Option<Fault>
         StmtKind::For { first, .. } => of_first(first),
         StmtKind::ForIn { target, .. } => of_target(target),
         StmtKind::Continue { label, .. } => {
-            fault_if(!may_continue(label_of(label), scope), s.at, FaultKind::Jump)
+            fault_if(
+                !may_continue(label_of(label), scope),
+                s.at,
+                EarlyErrorKind::Jump,
+            )
         }
         StmtKind::Break { label, .. } => fault_if(
             !may_break(label_of(label), scope),
             s.at,
-            FaultKind::Jump,
+            EarlyErrorKind::Jump,
         ),
-        StmtKind::Return { .. } => fault_if(!scope.in_function, s.at, FaultKind::Jump),
+        StmtKind::Return { .. } => fault_if(!scope.in_function, s.at, EarlyErrorKind::Jump),
         StmtKind::Labelled { label, .. } => earlier(
             fault_if(
                 scope.labels.has(label.units()),
                 s.at,
-                FaultKind::RepeatedLabel,
+                EarlyErrorKind::RepeatedLabel,
             ),
             of_name(s.at, label),
         ),
@@ -80,13 +84,13 @@ pub(crate) fn of_statement(scope: Scope<'_>, s: &Stmt) -> Option<Fault>
         StmtKind::Expr { .. } => fault_if(
             !directive_may_jump(directive_of(s), scope),
             s.at,
-            FaultKind::Jump,
+            EarlyErrorKind::Jump,
         ),
         _ => None,
     }
 }
 
-fn of_declarations(declarations: &Declarations) -> Option<Fault>
+fn of_declarations(declarations: &Declarations) -> Option<EarlyError>
     ensures { result ≡ first_of (of_declarations (view_declarations declarations.now)) }
 {
     let mut first = of_bound(&declarations.first.name);
@@ -96,7 +100,7 @@ fn of_declarations(declarations: &Declarations) -> Option<Fault>
     first
 }
 
-fn of_first(first: &ForFirst) -> Option<Fault>
+fn of_first(first: &ForFirst) -> Option<EarlyError>
     ensures { result ≡ first_of (of_first (view_first first.now)) }
 {
     match first {
@@ -105,7 +109,7 @@ fn of_first(first: &ForFirst) -> Option<Fault>
     }
 }
 
-fn of_target(target: &ForTarget) -> Option<Fault>
+fn of_target(target: &ForTarget) -> Option<EarlyError>
     ensures { result ≡ first_of (of_target (view_target target.now)) }
 {
     match target {

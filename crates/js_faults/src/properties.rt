@@ -11,7 +11,7 @@ ghost use Rattle.js_faults.specs.Early.{same_key, is_pair, clashes, property_lis
 ghost use Rattle.js_faults.specs.Faults.{first_of};
 ghost use Rattle.js_faults.specs.Ordered.{property_entry};
 
-use crate::fault::{Fault, FaultKind, earlier, fault_if};
+use crate::fault::{EarlyError, EarlyErrorKind, earlier, fault_if};
 use crate::ordered::{Keyed, is_order, of_ordered};
 use flow_text::Text;
 use itoa::Buffer;
@@ -74,7 +74,7 @@ fn is_repeated(all: &[Property], others: &[Property], property: &Property) -> bo
 }
 
 // Properties, each against all earlier ones.
-fn by_pairs(all: &[Property]) -> Option<Fault>
+fn by_pairs(all: &[Property]) -> Option<EarlyError>
     ensures { result ≡ first_of (of_properties (property_list (view_properties all.now))) }
 {
     let mut first = None;
@@ -82,7 +82,7 @@ fn by_pairs(all: &[Property]) -> Option<Fault>
         let repeated = is_repeated(all, &all[..i], property);
         first = earlier(
             first,
-            fault_if(repeated, property.at, FaultKind::RepeatedProperty),
+            fault_if(repeated, property.at, EarlyErrorKind::RepeatedProperty),
         );
     }
     first
@@ -90,13 +90,13 @@ fn by_pairs(all: &[Property]) -> Option<Fault>
 
 /// The properties of an object. Their order serves where it is one.
 #[tactic(auto, using(crate::proofs::Entries::properties_are))]
-pub(crate) fn of_properties(properties: &PropertyList) -> Option<Fault>
+pub(crate) fn of_properties(properties: &PropertyList) -> Option<EarlyError>
     ensures { result ≡ first_of (of_properties (property_list (view_properties (nodes_of properties.now)))) }
 {
     let all = properties.items();
     let order = properties.order();
     if is_order(all, order) {
-        of_ordered(all, order, FaultKind::RepeatedProperty)
+        of_ordered(all, order, EarlyErrorKind::RepeatedProperty)
     } else {
         by_pairs(all)
     }

@@ -8,7 +8,7 @@ ghost use Rattle.js_faults.specs.Directives.{directives, by_place};
 ghost use Rattle.js_faults.specs.Early.{early};
 
 use crate::directives::{BadDirective, first_of_two, without_form};
-use crate::fault::{Fault, earlier};
+use crate::fault::{EarlyError, earlier};
 use crate::own::{of_expr, of_function, of_statement};
 use crate::scope::Scope;
 use js_ast::{Expr, Function, Stmt};
@@ -62,26 +62,26 @@ impl Told for BadDirective {
     }
 }
 
-impl Told for Fault {
+impl Told for EarlyError {
     ghost own = { early };
 
     ghost order = { by_kind };
 
-    fn earlier(f: Option<Fault>, g: Option<Fault>) -> Option<Fault>
+    fn earlier(f: Option<EarlyError>, g: Option<EarlyError>) -> Option<EarlyError>
         ensures { result ≡ earlier_by by_kind f g }
     {
         earlier(f, g)
     }
 
-    fn of_expr(e: &Expr) -> Option<Fault> {
+    fn of_expr(e: &Expr) -> Option<EarlyError> {
         of_expr(e)
     }
 
-    fn of_function(f: &Function) -> Option<Fault> {
+    fn of_function(f: &Function) -> Option<EarlyError> {
         of_function(f)
     }
 
-    fn of_statement(scope: Scope<'_>, s: &Stmt) -> Option<Fault> {
+    fn of_statement(scope: Scope<'_>, s: &Stmt) -> Option<EarlyError> {
         of_statement(scope, s)
     }
 }

@@ -11,7 +11,7 @@ ghost use Rattle.js_faults.specs.Directives.{directives, by_place};
 ghost use Rattle.js_faults.specs.Early.{early};
 
 use crate::directives::BadDirective;
-use crate::fault::Fault;
+use crate::fault::EarlyError;
 use crate::scope::{Labels, Scope, is_loop};
 use crate::telling::Told;
 use js_ast::{
@@ -334,7 +334,7 @@ pub fn bad_directive(statements: &StmtList) -> Option<BadDirective>
 }
 
 /// The early error of a program's statements that is told.
-pub fn early_error(statements: &StmtList) -> Option<Fault>
+pub fn early_error(statements: &StmtList) -> Option<EarlyError>
     ensures { result ≡ first_of (in_statements early outermost (view_stmts (nodes_of statements.now))) }
 {
     in_code(statements)

@@ -7,6 +7,3 @@ mod parsing;
 pub use exactness::one_program;
 pub use js_parse_expr::ParseFault;
 pub use parsing::parse;
-
-#[cfg(test)]
-mod tests;

@@ -8,6 +8,3 @@ mod parts;
 pub use exactness::{one_expression, one_list};
 pub use fault::{ParseFault, refused};
 pub use parts::{expression, statements};
-
-#[cfg(test)]
-mod tests;

@@ -9,7 +9,7 @@ use Rattle.js_scan.specs.declared.fault.ScanFault.{ScanFault}
 use Rattle.js_scan.specs.declared.fault.ScanFault.TheVariants as scan_fault
 use Rattle.js_scan.specs.Tokens.{IsTokens, IsFault, IsBad, fault_at}
 use Rattle.js_scan.proofs.Laws as scanned
-use Rattle.js_faults.specs.declared.fault.Fault.{Fault}
+use Rattle.js_faults.specs.declared.fault.EarlyError.{EarlyError}
 use Rattle.js_parse_expr.specs.declared.fault.ParseFault.{ParseFault}
 use Rattle.js_parse_expr.specs.declared.fault.ParseFault.TheVariants as parse_fault
 use Rattle.js_parse_expr.specs.Parsed.{fault_at as parse_fault_at}
@@ -93,11 +93,11 @@ module _ (bytes : List ℕ) where
         let same = same_parse_fault f g h j in
         fault_is x y k l p.text q.text (parse_fault_at f) (parse_fault_at g) e e' (some_is k l (parse_kind g) (ap parse_kind (sym same) ∙ called) named) (same_text ts us p q) (ap parse_fault_at same)
 
-    two_early_errors : (x y : SourceFault) (a b : Statements) (f g : Fault) → IsProgram ts a → IsProgram us b → early_error a ≡ Some f → early_error b ≡ Some g
+    two_early_errors : (x y : SourceFault) (a b : Statements) (f g : EarlyError) → IsProgram ts a → IsProgram us b → early_error a ≡ Some f → early_error b ≡ Some g
         → x ≡ bad_source (early_kind f.kind) (place_of p.text f.at) → y ≡ bad_source (early_kind g.kind) (place_of q.text g.at) → x ≡ y
     two_early_errors x y a b f g h j early early' e e' =
         let same : f ≡ g = some_is f g (early_error b) (ap early_error (sym (same_tree ts us p q a b h j)) ∙ early) early' in
-        fault_is x y (early_kind f.kind) (early_kind g.kind) p.text q.text f.at g.at e e' (ap (λ (z : Fault). early_kind z.kind) same) (same_text ts us p q) (ap (λ (z : Fault). z.at) same)
+        fault_is x y (early_kind f.kind) (early_kind g.kind) p.text q.text f.at g.at e e' (ap (λ (z : EarlyError). early_kind z.kind) same) (same_text ts us p q) (ap (λ (z : EarlyError). z.at) same)
 
   two_scan_faults : (x y : SourceFault) (text other : List ℕ) (f g : ScanFault) (k l : SourceKind) → source_text bytes ≡ Ok text → source_text bytes ≡ Ok other → IsFault text f → IsFault other g
       → scan_kind f ≡ Some k → scan_kind g ≡ Some l → x ≡ bad_source k (place_of text (fault_at f)) → y ≡ bad_source l (place_of other (fault_at g)) → x ≡ y
@@ -170,7 +170,7 @@ module _ (bytes : List ℕ) where
   ScriptOrFault = ((statements : List Statement) × IsScriptOf bytes statements) ⊎ ((x : SourceFault) × RefusesSource bytes x)
 
   module _ (tokens : List Token) (has : HasTokens bytes tokens) where
-    with_early : (program : Statements) → IsProgram tokens program → (o : Option Fault) → early_error program ≡ o → ProgramOrFault
+    with_early : (program : Statements) → IsProgram tokens program → (o : Option EarlyError) → early_error program ≡ o → ProgramOrFault
     with_early program tree None e = inl (program, record { tokens = tokens; has_tokens = has; parsed = tree; faultless = e })
     with_early program tree (Some f) e = inr (bad_source (early_kind f.kind) (place_of has.text f.at), has_early_error tokens has program f tree e refl)
 

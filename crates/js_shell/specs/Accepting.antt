@@ -11,7 +11,7 @@ use Rattle.js_ast.specs.Trees.{Statements}
 use Rattle.js_ast.specs.Views.{view_program}
 use Rattle.js_scan.specs.declared.fault.ScanFault.{ScanFault}
 use Rattle.js_scan.specs.Tokens.{IsTokens, IsFault, fault_at}
-use Rattle.js_faults.specs.declared.fault.Fault.{Fault}
+use Rattle.js_faults.specs.declared.fault.EarlyError.{EarlyError}
 use Rattle.js_parse_expr.specs.declared.fault.ParseFault.{ParseFault}
 use Rattle.js_parse_expr.specs.declared.fault.ParseFault.TheVariants as parse_fault
 use Rattle.js_parse_expr.specs.Parsed.{fault_at as parse_fault_at}
@@ -73,7 +73,7 @@ TakesTree text tokens (Err _) = ⊥
 
 -- the program of a text has an early error of this kind at this place
 abbrev pub IsBadProgram : List ℕ → Statements → SourceKind → Place → Type 0
-IsBadProgram text program kind place = (fault : Fault) × (early_error program ≡ Some fault) × (kind ≡ early_kind fault.kind) × (place ≡ place_of text fault.at)
+IsBadProgram text program kind place = (fault : EarlyError) × (early_error program ≡ Some fault) × (kind ≡ early_kind fault.kind) × (place ≡ place_of text fault.at)
 
 -- the program of a text has no early error, or is refused
 abbrev pub TakesEarly : List ℕ → Statements → Result (Unit {0}) Refusal → Type 0

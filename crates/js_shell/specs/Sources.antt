@@ -8,9 +8,9 @@ use Rattle.js_ast.specs.Trees.{Statements}
 use Rattle.js_scan.specs.declared.fault.ScanFault.{ScanFault}
 use Rattle.js_scan.specs.declared.fault.ScanFault.TheVariants as scan_fault
 use Rattle.js_scan.specs.Tokens.{IsTokens, IsFault, fault_at}
-use Rattle.js_faults.specs.declared.fault.Fault.{Fault}
-use Rattle.js_faults.specs.declared.fault.FaultKind.{FaultKind}
-use Rattle.js_faults.specs.declared.fault.FaultKind.TheVariants as fault_kind
+use Rattle.js_faults.specs.declared.fault.EarlyError.{EarlyError}
+use Rattle.js_faults.specs.declared.fault.EarlyErrorKind.{EarlyErrorKind}
+use Rattle.js_faults.specs.declared.fault.EarlyErrorKind.TheVariants as fault_kind
 use Rattle.js_parse_expr.specs.declared.fault.ParseFault.{ParseFault}
 use Rattle.js_parse_expr.specs.declared.fault.ParseFault.TheVariants as parse_fault
 use Rattle.js_parse_expr.specs.Parsed.{fault_at as parse_fault_at}
@@ -84,7 +84,7 @@ parse_kind (parse_fault.Directive at) = Some kind.Directive
 parse_kind parse_fault.OutOfMemory = None
 
 -- how an early error is called
-abbrev pub early_kind : FaultKind → SourceKind
+abbrev pub early_kind : EarlyErrorKind → SourceKind
 early_kind fault_kind.EvalArguments = kind.EvalArguments
 early_kind fault_kind.RepeatedParameter = kind.RepeatedParameter
 early_kind fault_kind.RepeatedProperty = kind.RepeatedProperty
@@ -101,7 +101,7 @@ pub data RefusesProgram (bytes : List ℕ) (fault : SourceFault) : Type 0 where
       → fault ≡ bad_source k (place_of text (fault_at f)) → RefusesProgram bytes fault
   is_no_program : (tokens : List Token) (has : HasTokens bytes tokens) (f : ParseFault) (k : SourceKind) → IsNoProgram tokens (length has.text) f → parse_kind f ≡ Some k
       → fault ≡ bad_source k (place_of has.text (parse_fault_at f)) → RefusesProgram bytes fault
-  has_early_error : (tokens : List Token) (has : HasTokens bytes tokens) (program : Statements) (f : Fault) → IsProgram tokens program → early_error program ≡ Some f
+  has_early_error : (tokens : List Token) (has : HasTokens bytes tokens) (program : Statements) (f : EarlyError) → IsProgram tokens program → early_error program ≡ Some f
       → fault ≡ bad_source (early_kind f.kind) (place_of has.text f.at) → RefusesProgram bytes fault
 
 -- the bytes are no script, for this fault: they are no program, or one that can't be run

@@ -19,6 +19,3 @@ mod values;
 pub use laws::{erasure, isolation, never_stops, one_script, replies_once};
 pub use program::shell;
 pub use status::Status;
-
-#[cfg(test)]
-mod tests;

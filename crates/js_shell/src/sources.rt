@@ -3,7 +3,7 @@
 ghost use Rattle.std.specs.Prelude.{◌≡◌, ◌≤◌, length, Some, Err};
 ghost use Rattle.flow_text.specs.Places.{place_of};
 ghost use Rattle.js_ast.specs.Views.{view_program};
-ghost use Rattle.js_faults.specs.declared.fault.Fault.{Fault};
+ghost use Rattle.js_faults.specs.declared.fault.EarlyError.{EarlyError};
 ghost use Rattle.js_scan.specs.Tokens.{fault_at, IsTokens, IsFaultOf};
 ghost use Rattle.js_early.specs.EarlyErrors.{early_error};
 ghost use Rattle.js_parse_expr.specs.Parsed.{fault_at as parse_fault_at};
@@ -138,7 +138,7 @@ fn no_program(text: &Text, tokens: &[Token], fault: ParseFault) -> Refusal
 
 /// Refuses a program that has an early error.
 fn refuse_early_error(text: &Text, program: &Program) -> Result<(), Refusal>
-    requires { (fault : Fault) → early_error (view_program program.now) ≡ Some fault → fault.at ≤ length text.now }
+    requires { (fault : EarlyError) → early_error (view_program program.now) ≡ Some fault → fault.at ≤ length text.now }
     ensures { TakesEarly text.now (view_program program.now) result }
 {
     let (kind, at) = match early(program) {

@@ -12,6 +12,3 @@ pub use inner::{ArgList, Class, Inner};
 pub use key::{Key, KeyRow};
 pub use property::{Body, Marks, Slot};
 pub use value::{Labelled, Value};
-
-#[cfg(test)]
-mod tests;

@@ -13,6 +13,3 @@ pub use heap::Heap;
 pub use js_values::Inner;
 pub use laws::{objects_belong, objects_read};
 pub use shape::Shape;
-
-#[cfg(test)]
-mod tests;

@@ -14,6 +14,3 @@ pub use key_list::KeyList;
 pub use plan::PutPlan;
 pub use put::can_put;
 pub use walk::find;
-
-#[cfg(test)]
-mod tests;

@@ -1,9 +1,31 @@
-//! Calls of the frames, of the numbers and of the early errors with their answers, worked out by hand. They stand here so that those crates are proved once.
+//! Calls of the crates below with their answers, worked out by hand. They stand here so that those crates are proved once.
 #![tactic(auto)]
 
+#[cfg(test)]
+mod branching;
+#[cfg(test)]
+mod channels;
 #[cfg(test)]
 mod early;
 #[cfg(test)]
 mod frames;
 #[cfg(test)]
+mod heap;
+#[cfg(test)]
+mod names;
+#[cfg(test)]
 mod numbers;
+#[cfg(test)]
+mod operators;
+#[cfg(test)]
+mod policies;
+#[cfg(test)]
+mod records;
+#[cfg(test)]
+mod trees;
+#[cfg(test)]
+mod values;
+#[cfg(test)]
+mod walks;
+#[cfg(test)]
+mod works;

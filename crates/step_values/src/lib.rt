@@ -12,6 +12,3 @@ mod refusal;
 
 pub use conversions::truth;
 pub use operators::{binary, binary_values, unary_value};
-
-#[cfg(test)]
-mod tests;

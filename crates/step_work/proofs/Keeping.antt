@@ -1,8 +1,17 @@
 -- What calls leave of a stack.
-use Rattle.std.proofs.Common.{sym, ap, ◌∙◌, ◌≡◌, List, [], ◌∷◌, ◌++◌, append-nil, append_assoc}
+use Rattle.std.proofs.Common.{sym, ap, ◌∙◌, ◌≡◌, ◌+◌, List, [], ◌∷◌, ◌++◌, take, length, Result, Ok, Err, IfOk, append-nil, append_assoc, arith}
+use Rattle.std.proofs.lemmas.List.{take_all}
+use Rattle.flow_text.specs.declared.memory.OutOfMemory.{OutOfMemory}
+use Rattle.flow_frames.specs.Held.{Held}
 use Rattle.step_work.specs.declared.work.Work.{Work}
 use Rattle.step_work.specs.Pending.{Task}
+use Rattle.step_work.specs.declared.work.Next.{Next}
 use Rattle.step_work.specs.Kept.{Kept, scope_of, scopes_of, kept_operands, operands_of}
+use Rattle.step_work.specs.Resuming.{Keeps, Opened}
+
+-- all of a list is a front of it
+whole_front : {X : Type 0} (xs ys : List X) → xs ≡ ys → xs ≡ take (length xs) ys
+whole_front xs ys e = e ∙ sym (take_all (length xs) ys (omega (arith, ap length e)))
 
 module _ {T : Type 0} where
   pub scopes_more : (tasks : List (Task T)) (w : Task T) → scopes_of (tasks ++ w ∷ []) ≡ scopes_of tasks ++ scope_of w.0
@@ -18,3 +27,27 @@ module _ {T : Type 0} where
 
   pub pushed_operands : (old new : Kept T) (w : Work) → new ≡ record { tasks = old.tasks ++ (w, old.loose) ∷ []; loose = [] } → operands_of new ≡ operands_of old
   pushed_operands old new w is = ap operands_of is ∙ append-nil (kept_operands (old.tasks ++ (w, old.loose) ∷ [])) ∙ kept_more old.tasks (w, old.loose)
+
+  -- a call that keeps what was left once a frame's work was pushed has opened the frame
+  pub opened_keeping : (old middle new : Kept T) (w : Work) (frames_old frames_new : List (Held T)) (result : Result Next OutOfMemory)
+      → scope_of w ≡ length frames_old ∷ [] → scopes_of middle.tasks ≡ scopes_of old.tasks ++ scope_of w → operands_of middle ≡ operands_of old → length frames_new ≡ length frames_old + 1
+      → IfOk result (Keeps middle new) → IfOk result (Opened old new frames_old frames_new)
+  opened_keeping old middle new w frames_old frames_new (Ok next) own scopes operands deeper keeps = record {
+    values = keeps.values;
+    scopes = keeps.scopes ∙ scopes ∙ ap (λ ds. scopes_of old.tasks ++ ds) own;
+    operands = whole_front (operands_of new) (operands_of old) (keeps.operands ∙ operands);
+    deeper = deeper;
+  }
+  opened_keeping old middle new w frames_old frames_new (Err fault) own scopes operands deeper keeps = tt
+
+  -- and one that opened a frame behind work without a frame
+  pub opened_behind : (old middle new : Kept T) (w : Work) (frames_old frames_new : List (Held T)) (result : Result Next OutOfMemory)
+      → scope_of w ≡ [] → scopes_of middle.tasks ≡ scopes_of old.tasks ++ scope_of w → operands_of middle ≡ operands_of old
+      → IfOk result (Opened middle new frames_old frames_new) → IfOk result (Opened old new frames_old frames_new)
+  opened_behind old middle new w frames_old frames_new (Ok next) own scopes operands opened = record {
+    values = opened.values;
+    scopes = opened.scopes ∙ ap (λ ds. ds ++ length frames_old ∷ []) (scopes ∙ ap (λ ds. scopes_of old.tasks ++ ds) own ∙ append-nil (scopes_of old.tasks));
+    operands = opened.operands ∙ ap (λ vs. take (length (operands_of new)) vs) operands;
+    deeper = opened.deeper;
+  }
+  opened_behind old middle new w frames_old frames_new (Err fault) own scopes operands opened = tt

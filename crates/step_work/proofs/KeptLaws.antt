@@ -1,10 +1,10 @@
 -- Pending work beside the list of operands.
-use Rattle.std.proofs.Common.{refl, sym, ap, ◌∙◌, ◌≡◌, ◌≤◌, ◌<◌, ◌+◌, ◌-◌, ℕ, List, [], ◌∷◌, ◌++◌, length, take, drop, length-drop, arith}
+use Rattle.std.proofs.Common.{refl, sym, ap, subst, ◌∙◌, ◌≡◌, ◌≤◌, ◌<◌, ◌+◌, ◌-◌, ℕ, List, [], ◌∷◌, ◌++◌, length, take, drop, length-drop, append-nil, Option, None, Some, IfSome, option_to_list, arith}
 use Rattle.std.proofs.lemmas.List.{take-append-le, drop-append-le, drop-drop, drop-take, take-take, drop_all, take_all, length-take-le}
 use Rattle.js_values.specs.declared.value.Labelled.{Labelled}
 use Rattle.step_work.specs.declared.work.Work.{Work}
 use Rattle.step_work.specs.Pending.{owns}
-use Rattle.step_work.specs.Kept.{owned, tasks_of, loose_of}
+use Rattle.step_work.specs.Kept.{Taken, owned, tasks_of, loose_of, kept}
 
 pub owned_more : (works : List Work) (w : Work) → owned (works ++ w ∷ []) ≡ owned works + owns w
 owned_more [] w = omega arith
@@ -58,5 +58,39 @@ module _ {T : Type 0} where
       let whole : owned works + n ≡ length operands - 1 = omega (arith, le, lt, size) in
       ap (λ k. drop (owned works) (take k operands)) (sym whole) ∙ drop-take (owned works) n operands
 
+  -- the uppermost value stands behind the others
+  pub loose_from_last : (works : List Work) (operands front : List (Labelled T)) (v : Labelled T) → operands ≡ front ++ v ∷ [] → owned works ≤ length front → loose_of works operands ≡ loose_of works front ++ v ∷ []
+  loose_from_last works operands front v e le = ap (loose_of works) e ∙ loose_more works front v le
+
+  -- the work that is done first, with its operands
+  pub tasks_last : (works : List Work) (operands : List (Labelled T)) (w : Work) → tasks_of (works ++ w ∷ []) operands ≡ tasks_of works operands ++ (w, take (owns w) (loose_of works operands)) ∷ []
+  tasks_last [] operands w = refl
+  tasks_last (v ∷ works) operands w = let same = drop-drop (owned works) (owns v) operands in
+      ap (λ tasks. (v, take (owns v) operands) ∷ tasks) (tasks_last works (drop (owns v) operands) w
+      ∙ ap (λ kept. tasks_of works (drop (owns v) operands) ++ (w, take (owns w) kept) ∷ []) same)
+
+  pub loose_last : (works : List Work) (operands : List (Labelled T)) (w : Work) → loose_of (works ++ w ∷ []) operands ≡ drop (owns w) (loose_of works operands)
+  loose_last works operands w = rw (owned_more works w) (sym (drop-drop (owns w) (owned works) operands))
+
   pub enough_without_last : (works : List Work) (operands : List (Labelled T)) → owned works ≤ length operands → 0 < length (loose_of works operands) → owned works ≤ length (take (length operands - 1) operands)
   enough_without_last works operands le lt = omega (arith, le, lt, length-drop (owned works) operands, length-take-le (length operands - 1) operands (omega arith))
+
+  -- the work that was done first leaves the others; its operands are then the first that lie loose
+  taken_last : (works others : List Work) (operands : List (Labelled T)) (w : Work) → works ≡ others ++ w ∷ [] → owned works ≤ length operands → Taken (kept works operands) (kept others operands) w
+  taken_last works others operands w e le =
+      let fits : owned (others ++ w ∷ []) ≤ length operands = subst (λ ws. owned ws ≤ length operands) e le in
+      record {
+        tasks = ap (λ ws. tasks_of ws operands) e ∙ tasks_last others operands w;
+        rest = sym (ap (λ ws. loose_of ws operands) e ∙ loose_last others operands w);
+        enough = omega (arith, fits, owned_more others w, length-drop (owned others) operands);
+      }
+
+  pub taken : (works others : List Work) (operands : List (Labelled T)) (result : Option Work) → works ≡ others ++ option_to_list result → owned works ≤ length operands → IfSome result (Taken (kept works operands) (kept others operands))
+  taken works others operands None e le = tt
+  taken works others operands (Some w) e le = taken_last works others operands w e le
+
+  pub enough_for_others : (works others : List Work) (operands : List (Labelled T)) (result : Option Work) → works ≡ others ++ option_to_list result → owned works ≤ length operands → owned others ≤ length operands
+  enough_for_others works others operands None e le = subst (λ ws. owned ws ≤ length operands) (e ∙ append-nil others) le
+  enough_for_others works others operands (Some w) e le =
+      let fits : owned (others ++ w ∷ []) ≤ length operands = subst (λ ws. owned ws ≤ length operands) e le in
+      omega (arith, fits, owned_more others w)

@@ -1,4 +1,6 @@
 pub mod Behind
+pub mod BranchLaws
+pub mod EndLaws
 pub mod Keeping
 pub mod KeptLaws
 pub mod Reading

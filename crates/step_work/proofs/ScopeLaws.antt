@@ -21,7 +21,7 @@ use Rattle.step_work.proofs.Behind.{behind_more, env_more}
 
 module _ {S T : Type 0} (made : S → T → Type 0) (meaning : S → T → Label) (store : S) where
   -- the plan of a part behind work that was pushed
-  in_scope : (tables : Tables) (inputs : Given) (reading : T → Label) (tasks : List (Task T)) (w : Task T) (e : Env ℕ) (plan : Env ℕ → Plan)
+  pub in_scope : (tables : Tables) (inputs : Given) (reading : T → Label) (tasks : List (Task T)) (w : Task T) (e : Env ℕ) (plan : Env ℕ → Plan)
       → behind tables inputs reading (tasks ++ w ∷ []) e (plan (env_above (tasks ++ w ∷ []) e)) ≡ behind tables inputs reading tasks e (and_plan (plan (inside w.0 (env_above tasks e))) (after_task tables inputs reading w (env_above tasks e)))
   in_scope tables inputs reading tasks w e plan = ap (λ f. behind tables inputs reading (tasks ++ w ∷ []) e (plan f)) (env_more tasks w e) ∙ behind_more tables inputs reading tasks w e (plan (inside w.0 (env_above tasks e)))
 

@@ -1,5 +1,5 @@
 -- Pending work with the operands that it keeps. The operands stand in one list, from those of the first work on.
-use Rattle.std.specs.Prelude.{ℕ, ◌+◌, ◌-◌, List, [], ◌∷◌, ◌++◌, length, take, drop}
+use Rattle.std.specs.Prelude.{◌≡◌, ◌≤◌, ℕ, ◌+◌, ◌-◌, List, [], ◌∷◌, ◌++◌, length, take, drop}
 use Rattle.js_values.specs.declared.value.Labelled.{Labelled}
 use Rattle.step_work.specs.declared.work.Work.{Work}
 use Rattle.step_work.specs.declared.work.Work.TheVariants as work
@@ -47,3 +47,9 @@ scope_of _ = []
 abbrev pub scopes_of : {T : Type 0} → List (Task T) → List ℕ
 scopes_of [] = []
 scopes_of (w ∷ tasks) = scope_of w.0 ++ scopes_of tasks
+
+-- the work that was done first is taken from the others. Its operands lie loose then, below the values that lay so
+pub record Taken {T : Type 0} (old new : Kept T) (w : Work) : Type 0 where
+  pub tasks : old.tasks ≡ new.tasks ++ (w, take (owns w) new.loose) ∷ []
+  pub rest : drop (owns w) new.loose ≡ old.loose
+  pub enough : owns w ≤ length new.loose

@@ -7,19 +7,20 @@ use Rattle.js_values.specs.declared.value.Labelled.{Labelled}
 use Rattle.js_values.specs.Readings.{read_value}
 use Rattle.js_number.specs.declared.primitive.Primitive.TheVariants as prims
 use Rattle.js_ast.specs.Views.{view_expr, view_exprs, view_stmt, view_stmts, view_declarations, view_other_declarations}
-use Rattle.es_meaning.specs.Outcomes.{left}
+use Rattle.es_meaning.specs.Outcomes.{left, throws}
 use Rattle.es_meaning.specs.Environments.{Env, with_around}
 use Rattle.es_meaning.specs.Operations.{One, Value, Ty}
 use Rattle.es_meaning.specs.Plain.{undefined, argument_or}
 use Rattle.es_meaning.specs.Evaluation.{discard, unary_value, binary_values, binary_right, and_right, or_right, choose_expr, comma_right, assign_to, compound_done, more_arguments, choose_stmt, choose_stmts, more_statements_behind, more_variables, looped_value, turn_test, updated, turned_round, read_name, declarations, loop, looped}
 use Rattle.flow_meaning.specs.Erased.{unlabelled}
 use Rattle.flow_meaning.specs.Scopes.{Val, State, as_plain}
-use Rattle.flow_meaning.specs.Planned.{an_expr, a_use, a_stmt, a_turn, gave, Plan, Give, Ask, End, Then, and_plan, with_result, end_branch, end_round, planned, asking}
+use Rattle.flow_meaning.specs.Planned.{an_expr, a_use, a_stmt, a_turn, gave, jumped, Plan, Give, Ask, End, Then, and_plan, with_result, end_branch, end_round, planned, asking}
 use Rattle.step_work.specs.declared.work.Work.{Work}
 use Rattle.step_work.specs.declared.work.Work.TheVariants as work
 use Rattle.step_work.specs.declared.work.Next.{Next}
 use Rattle.step_work.specs.declared.work.Next.TheVariants as next
-use Rattle.step_work.specs.Shapes.{reference_of, use_of, round_of, direct_of, leaving_name}
+use Rattle.step_world.specs.Names.{reference_of, leaving_name}
+use Rattle.step_work.specs.Shapes.{use_of, round_of, direct_of}
 
 -- how many operands it keeps
 abbrev pub owns : Work → ℕ
@@ -54,6 +55,7 @@ result_type Bool.false = One
 -- how many values the next move has, which no work keeps. Those of a call are its arguments, of any number
 abbrev pub values_of : Next → ℕ
 values_of next.Value = 1
+values_of next.Throws = 1
 values_of (next.Direct f count) = count
 values_of _ = 0
 
@@ -86,6 +88,7 @@ module _ (tables : Tables) (inputs : Given) where
   -- what a machine does next, with the values that no work keeps
   abbrev pub next_plan : Next → List Val → Env ℕ → State → Plan
   next_plan next.Value vs e s = Give (gave (first_or_undefined vs)) s
+  next_plan next.Throws vs e s = Give (jumped (record { exit = throws; to = 0; value = first_or_undefined vs })) s
   next_plan next.Done vs e s = Give (gave (unlabelled undefined)) s
   next_plan next.Null vs e s = Give (gave ((planned tables inputs).literal prims.Null)) s
   next_plan (next.Bool b) vs e s = Give (gave ((planned tables inputs).literal (prims.Bool b))) s

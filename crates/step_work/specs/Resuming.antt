@@ -1,5 +1,5 @@
 -- What it means that a call goes on as pending work says.
-use Rattle.std.specs.Prelude.{◌≡◌, ℕ, List, [], ◌∷◌, ◌++◌, length, map}
+use Rattle.std.specs.Prelude.{◌≡◌, ℕ, ◌+◌, Bool, List, [], ◌∷◌, ◌++◌, length, map, take}
 use Rattle.origin_labels.specs.Label.{Label}
 use Rattle.flow_policy.specs.Policies.{Tables}
 use Rattle.flow_policy.specs.Inputs.{Given}
@@ -7,14 +7,16 @@ use Rattle.js_values.specs.declared.value.Labelled.{Labelled}
 use Rattle.flow_frames.specs.Held.{Held, seen_frame}
 use Rattle.js_values.specs.Readings.{IsReading, read_value}
 use Rattle.es_meaning.specs.Environments.{Env}
-use Rattle.es_meaning.specs.Plain.{undefined}
+use Rattle.es_meaning.specs.Operators.{truth}
+use Rattle.es_meaning.specs.Plain.{undefined, choose}
 use Rattle.flow_meaning.specs.Erased.{unlabelled}
-use Rattle.flow_meaning.specs.Scopes.{Val, State}
-use Rattle.flow_meaning.specs.Planned.{gave, Plan}
+use Rattle.flow_frames.specs.declared.kind.Kind.TheVariants as Kind
+use Rattle.flow_meaning.specs.Scopes.{Val, State, pushed_on}
+use Rattle.flow_meaning.specs.Planned.{gave, Plan, and_plan, end_branch}
 use Rattle.step_work.specs.declared.work.Work.{Work}
 use Rattle.step_work.specs.declared.work.Next.{Next}
 use Rattle.step_work.specs.Kept.{Kept, scopes_of, operands_of}
-use Rattle.step_work.specs.Pending.{env_above, after, next_plan, behind, values_of}
+use Rattle.step_work.specs.Pending.{env_above, after, next_plan, behind, values_of, result_type}
 
 module _ {T : Type 0} where
   -- what is done next, and behind it the pending work
@@ -65,3 +67,31 @@ module _ {T : Type 0} where
   abbrev pub BeginsIn : {S : Type 0} → (S → T → Type 0) → (S → T → Label) → S → (Tables → Given → Env ℕ → State → Plan) → Kept T → Kept T → List (Held T) → List (Held T) → Next → Type 0
   BeginsIn made meaning store plan old new frames_old frames_new next = (tables : Tables) (inputs : Given) (reading : T → Label) (e : Env ℕ) (s : State) → IsReading made meaning store reading → old.loose ≡ []
       → coming tables inputs reading new next e (with_frames reading frames_new s) ≡ behind tables inputs reading old.tasks e (plan tables inputs (env_above old.tasks e) (with_frames reading frames_old s))
+
+  -- a call that changes frames comes to what work says that keeps no operand of the value that it waited for
+  abbrev pub ResumesIn : {S : Type 0} → (S → T → Type 0) → (S → T → Label) → S → Work → Kept T → Kept T → List (Held T) → List (Held T) → Next → Type 0
+  ResumesIn made meaning store w old new frames_old frames_new next = (tables : Tables) (inputs : Given) (reading : T → Label) (e : Env ℕ) (s : State) (value : Labelled T) → IsReading made meaning store reading → old.loose ≡ value ∷ []
+      → coming tables inputs reading new next e (with_frames reading frames_new s) ≡ behind tables inputs reading old.tasks e (after tables inputs w [] (env_above old.tasks e) (gave (read_value reading value)) (with_frames reading frames_old s))
+
+  -- and of the end of a part
+  abbrev pub ResumesDoneIn : {S : Type 0} → (S → T → Type 0) → (S → T → Label) → S → Work → Kept T → Kept T → List (Held T) → List (Held T) → Next → Type 0
+  ResumesDoneIn made meaning store w old new frames_old frames_new next = (tables : Tables) (inputs : Given) (reading : T → Label) (e : Env ℕ) (s : State) → IsReading made meaning store reading → old.loose ≡ []
+      → coming tables inputs reading new next e (with_frames reading frames_new s) ≡ behind tables inputs reading old.tasks e (after tables inputs w [] (env_above old.tasks e) (gave (unlabelled undefined)) (with_frames reading frames_old s))
+
+  -- a value chose one of two parts, which is done in a frame of its own; it is still there for a part that gives it
+  abbrev pub Forks : {S : Type 0} → (S → T → Type 0) → (S → T → Label) → S → Bool → (Tables → Given → Val → Env ℕ → State → Plan) → (Tables → Given → Val → Env ℕ → State → Plan) → Kept T → Kept T → List (Held T) → List (Held T) → Next → Type 0
+  Forks made meaning store gives then other old new frames_old frames_new next = (tables : Tables) (inputs : Given) (reading : T → Label) (e : Env ℕ) (s : State) (value : Labelled T) → IsReading made meaning store reading → old.loose ≡ value ∷ []
+      → coming tables inputs reading new next e (with_frames reading frames_new s) ≡ behind tables inputs reading old.tasks e (and_plan (choose (truth value.value) (then tables inputs (read_value reading value) (env_above old.tasks e)) (other tables inputs (read_value reading value) (env_above old.tasks e)) (pushed_on Kind.Branch (reading value.label) (with_frames reading frames_old s))) (end_branch (result_type gives) (length (map (seen_frame reading) frames_old))))
+
+  -- what a call leaves that opened a frame: the values that its next move has, one more pending scope, which is the frame's, and a front of the operands
+  pub record Opened (old new : Kept T) (frames_old frames_new : List (Held T)) (next : Next) : Type 0 where
+    pub values : length new.loose ≡ values_of next
+    pub scopes : scopes_of new.tasks ≡ scopes_of old.tasks ++ length frames_old ∷ []
+    pub deeper : length frames_new ≡ length frames_old + 1
+    pub operands : operands_of new ≡ take (length (operands_of new)) (operands_of old)
+
+  -- and one that closed a frame, whose pending scope was taken before
+  pub record Closed (old new : Kept T) (frames_old frames_new : List (Held T)) (next : Next) : Type 0 where
+    pub values : length new.loose ≡ values_of next
+    pub tasks : new.tasks ≡ old.tasks
+    pub shallower : length frames_new + 1 ≡ length frames_old

@@ -1,5 +1,5 @@
 -- The machine's words for parts of a script, as the meaning has them.
-use Rattle.std.specs.Prelude.{ℕ, List, [], ◌∷◌, Option, Some, None, option_map, codes, Bool, true, false}
+use Rattle.std.specs.Prelude.{ℕ, List, [], ◌∷◌, Option, Some, None, Bool, true, false}
 use Rattle.std.specs.Borrow.{Bor}
 use Rattle.js_ast.specs.declared.trees.Expr as code
 use Rattle.js_ast.specs.declared.operators.BinaryOperator.{BinaryOperator}
@@ -10,19 +10,11 @@ use Rattle.js_ast.specs.Trees.{MaybeExpr, absent, present}
 use Rattle.js_ast.specs.Views.{view_expr, view_stmt}
 use Rattle.es_meaning.specs.Operations as meaning
 use Rattle.es_meaning.specs.Operations.{assigned, updated_by, prefixed, postfixed, asked}
-use Rattle.es_meaning.specs.Plain as plain
-use Rattle.es_meaning.specs.Operators.{not_built}
-use Rattle.step_work.specs.declared.work.Reference.{Reference}
 use Rattle.step_work.specs.declared.work.Use.{Use}
 use Rattle.step_work.specs.declared.work.Use.TheVariants.{Assigned, Updated, Prefixed, Postfixed, Asked}
 use Rattle.step_work.specs.declared.work.Round.{Round}
 use Rattle.step_work.specs.declared.work.Direct.{Direct}
 use Rattle.step_work.specs.declared.work.Direct.TheVariants.{Read, Print, Lbl}
-use Rattle.step_work.specs.declared.work.Leaving.{Leaving}
-use Rattle.step_work.specs.declared.work.Leaving.TheVariants as leaving
-
-abbrev pub reference_of : Reference → plain.Reference
-reference_of r = record { name = r.name.now; place = option_map (λ e. e.0) r.record }
 
 abbrev pub use_of : Use → meaning.Use
 use_of (Assigned e) = assigned (view_expr e.now)
@@ -43,14 +35,6 @@ abbrev pub direct_of : Direct → meaning.Direct
 direct_of Read = meaning.read
 direct_of Print = meaning.print
 direct_of Lbl = meaning.lbl
-
--- the names by which a run leaves
-abbrev pub leaving_name : Leaving → List ℕ
-leaving_name leaving.Number = codes "number"
-leaving_name leaving.String = codes "string"
-leaving_name leaving.Channel = plain.leaves_channels
-leaving_name leaving.Origin = plain.leaves_origins
-leaving_name leaving.Unbuilt = not_built
 
 -- the operators that evaluate both operands
 abbrev pub evaluates_both : BinaryOperator → Bool

@@ -12,9 +12,10 @@ use crate::arguments::begin_arguments;
 use crate::operators::{assigned_by, begin_binary, begin_unary};
 use crate::stack::Stack;
 use crate::statements::begin_statements;
-use crate::work::{Direct, Leaving, Next, Round, Use, Work};
+use crate::work::{Direct, Next, Round, Use, Work};
 use flow_text::{OutOfMemory, Text};
 use js_ast::{BinaryOperator, Expr, ExprKind, ForFirst, PostfixOperator, Stmt, StmtKind};
+use step_world::Leaving;
 
 // `read`, `print` and `lbl`
 const READ: [u16; 4] = [0x72, 0x65, 0x61, 0x64];

@@ -1,8 +1,10 @@
-//! The work that waits in a machine, and what each kind of it does with the completion that it waited for: as far as that changes no
-//! frames or variables and joins no labels, and the frames that loops open.
+//! The work that waits in a machine, and what each kind of it does with the completion that it waited for, as far as that needs no
+//! variables, objects or operators on values: parts in their order, and the frames of branches, loops and turns.
 #![tactic(auto)]
 
 mod arguments;
+mod branches;
+mod ends;
 mod enter;
 mod operators;
 mod scopes;
@@ -11,6 +13,8 @@ mod statements;
 mod work;
 
 pub use arguments::{begin_arguments, more_arguments};
+pub use branches::{and_right, choose_expr, choose_stmt, choose_stmts, or_right};
+pub use ends::{end_branch, end_branch_value, end_round, tested};
 pub use enter::{begin_expression, begin_statement};
 pub use operators::{binary_right, comma_right};
 pub use scopes::{begin_do_loop, begin_loop, begin_turn};
@@ -18,7 +22,4 @@ pub use stack::Stack;
 pub use statements::{
     begin_statements, begin_test, declared, discard, looped, more_statements, turned, updated,
 };
-pub use work::{Direct, Leaving, Next, Reference, Round, Use, Work};
-
-#[cfg(test)]
-mod tests;
+pub use work::{Direct, Next, Round, Use, Work};

@@ -11,9 +11,10 @@ ghost use Rattle.step_work.specs.Resuming.{Begins, Keeps, Resumes};
 ghost use Rattle.step_work.specs.Shapes.{use_of, evaluates_both};
 
 use crate::stack::Stack;
-use crate::work::{Leaving, Next, Use, Work};
+use crate::work::{Next, Use, Work};
 use flow_text::OutOfMemory;
 use js_ast::{AssignOperator, BinaryOperator, Expr, ExprKind, UnaryOperator};
+use step_world::Leaving;
 
 /// An operator between two expressions: the left one is evaluated first.
 pub(crate) fn begin_binary<'p, T: Copy>(

@@ -9,7 +9,7 @@ ghost use Rattle.js_values.specs.Readings.{IsReading};
 ghost use Rattle.es_meaning.specs.Evaluation.{loop, turn_step};
 ghost use Rattle.js_ast.specs.Views.{view_stmt};
 ghost use Rattle.flow_meaning.specs.Planned.{planned, asking};
-ghost use Rattle.step_work.specs.Resuming.{BeginsIn};
+ghost use Rattle.step_work.specs.Resuming.{BeginsIn, Opened};
 ghost use Rattle.step_work.specs.Shapes.{round_of};
 
 use crate::stack::Stack;
@@ -20,7 +20,7 @@ use flow_text::OutOfMemory;
 use origin_labels::Labels;
 
 /// Enters a frame.
-fn enter<L: Labels>(
+pub(crate) fn enter<L: Labels>(
     labels: &mut L,
     frames: &mut Frames<L::Label>,
     kind: Kind,
@@ -47,6 +47,7 @@ pub fn begin_loop<'p, L: Labels>(
     requires loose { length stack.old.loose ≡ 0 }
     requires belongs { Belong L.made L.meaning labels.old frames.old.frames }
     ensures goes_on { IfOk result (BeginsIn L.made L.meaning labels.new (λ tables inputs e. loop (planned tables inputs) (asking tables inputs) (round_of round.entry) e) stack.old stack.new frames.old.frames frames.new.frames) }
+    ensures opened { IfOk result (Opened stack.old stack.new frames.old.frames frames.new.frames) }
     ensures belongs { Belong L.made L.meaning labels.new frames.new.frames }
     ensures kept { IsKept L.made L.meaning L.room L.firm labels.old labels.new }
 {
@@ -67,6 +68,7 @@ pub fn begin_do_loop<'p, L: Labels>(
     requires loose { length stack.old.loose ≡ 0 }
     requires belongs { Belong L.made L.meaning labels.old frames.old.frames }
     ensures goes_on { IfOk result (BeginsIn L.made L.meaning labels.new (λ tables inputs e. (planned tables inputs).round false (None ∷ []) e ((asking tables inputs).turn (round_of round.entry))) stack.old stack.new frames.old.frames frames.new.frames) }
+    ensures opened { IfOk result (Opened stack.old stack.new frames.old.frames frames.new.frames) }
     ensures belongs { Belong L.made L.meaning labels.new frames.new.frames }
     ensures kept { IsKept L.made L.meaning L.room L.firm labels.old labels.new }
 {
@@ -87,6 +89,7 @@ pub fn begin_turn<'p, L: Labels>(
     requires loose { length stack.old.loose ≡ 0 }
     requires belongs { Belong L.made L.meaning labels.old frames.old.frames }
     ensures goes_on { IfOk result (BeginsIn L.made L.meaning labels.new (λ tables inputs e. turn_step (planned tables inputs) (asking tables inputs) (round_of round.entry) e) stack.old stack.new frames.old.frames frames.new.frames) }
+    ensures opened { IfOk result (Opened stack.old stack.new frames.old.frames frames.new.frames) }
     ensures belongs { Belong L.made L.meaning labels.new frames.new.frames }
     ensures kept { IsKept L.made L.meaning L.room L.firm labels.old labels.new }
 {
@@ -104,6 +107,7 @@ fn begin_body<'p, L: Labels>(
     requires loose { length stack.old.loose ≡ 0 }
     requires belongs { Belong L.made L.meaning labels.old frames.old.frames }
     ensures goes_on { IfOk result (BeginsIn L.made L.meaning labels.new (λ tables inputs e. (planned tables inputs).round true (None ∷ []) e ((asking tables inputs).stmt (view_stmt round.entry.body.now))) stack.old stack.new frames.old.frames frames.new.frames) }
+    ensures opened { IfOk result (Opened stack.old stack.new frames.old.frames frames.new.frames) }
     ensures belongs { Belong L.made L.meaning labels.new frames.new.frames }
     ensures kept { IsKept L.made L.meaning L.room L.firm labels.old labels.new }
 {

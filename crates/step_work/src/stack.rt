@@ -1,8 +1,8 @@
 //! Pending work, and the operands that it keeps.
 
-ghost use Rattle.std.specs.Prelude.{◌≡◌, ◌<◌, [], ◌∷◌, ◌++◌, ◌-◌, length, take, OnOk, OnErr};
+ghost use Rattle.std.specs.Prelude.{◌≡◌, ◌<◌, [], ◌∷◌, ◌++◌, ◌-◌, length, take, OnOk, OnErr, IfNone, IfSome};
 ghost use Rattle.step_work.specs.Pending.{owns};
-ghost use Rattle.step_work.specs.Kept.{operands_of, scope_of, scopes_of};
+ghost use Rattle.step_work.specs.Kept.{Taken, operands_of, scope_of, scopes_of};
 
 use crate::work::Work;
 use flow_text::OutOfMemory;
@@ -78,6 +78,24 @@ impl<'p, T: Copy> Stack<'p, T> {
     {
         self.works.push(work)?;
         Ok(())
+    }
+
+    /// Takes the uppermost value.
+    #[tactic(auto, using(crate::proofs::KeptLaws::tasks_without_last, crate::proofs::KeptLaws::loose_from_last, crate::proofs::KeptLaws::enough_without_last))]
+    pub fn pop(&mut self) -> Labelled<T>
+        requires { 0 < length self.old.loose }
+        ensures tasks { self.new.tasks ≡ self.old.tasks }
+        ensures top { self.old.loose ≡ self.new.loose ++ result ∷ [] }
+    {
+        self.operands.pop().unwrap()
+    }
+
+    /// Takes the work that is done first. Its operands are no work's then.
+    pub fn next_work(&mut self) -> Option<Work<'p>>
+        ensures none { IfNone result (self.old.tasks ≡ []) }
+        ensures taken { IfSome result (Taken self.old self.new) }
+    {
+        self.works.pop()
     }
 
     /// Takes the uppermost value away.

@@ -6,14 +6,7 @@ ghost use Rattle.step_work.specs.Pending.{owns};
 use flow_text::Text;
 use js_ast::{BinaryOperator, Declaration, Declarations, Expr, Stmt, UnaryOperator};
 use js_number::Int;
-use js_values::EnvId;
-
-/// A name, and the record that has it, if one has (ECMA-262 8.7).
-#[derive(Clone, Copy)]
-pub struct Reference<'p> {
-    pub name: &'p Text,
-    pub record: Option<EnvId>,
-}
+use step_world::{Leaving, Reference};
 
 /// What is done with a reference.
 #[derive(Clone, Copy)]
@@ -108,26 +101,13 @@ impl<'p> Work<'p> {
     }
 }
 
-/// Why a run leaves the language.
-#[derive(Clone, Copy, Debug, PartialEq, Eq)]
-pub enum Leaving {
-    /// A number that the language doesn't have.
-    Number,
-    /// A text that is too long.
-    String,
-    /// A channel that the policy doesn't have.
-    Channel,
-    /// An origin that the policy doesn't have.
-    Origin,
-    /// A part of the language that isn't built yet.
-    Unbuilt,
-}
-
 /// What a machine does next.
 #[derive(Clone, Copy)]
 pub enum Next<'p> {
     /// The part has come to the value that lies uppermost among the operands.
     Value,
+    /// The value that lies uppermost among the operands is thrown.
+    Throws,
     /// The part has come to its end without a value.
     Done,
     /// The part has come to a value that stands in the script.

@@ -1,7 +1,7 @@
 use Rattle.std.proofs.Common.{refl, ap, take, ◌∙◌}
 use Rattle.std.specs.List.{list_any}
 use Rattle.js_ast.specs.Views.{view_property}
-use Rattle.js_faults.specs.declared.fault.FaultKind.TheVariants as kind
+use Rattle.js_faults.specs.declared.fault.EarlyErrorKind.TheVariants as kind
 use Rattle.js_faults.specs.Early.{fault_if, clashes, place_of_property, of_repeated, of_properties}
 use Rattle.js_faults.specs.Faults.{first_of}
 use Rattle.js_faults.proofs.Repeated.{seen, repeated_step, repeated_told, none_repeated}

@@ -1,4 +1,4 @@
-use Rattle.std.proofs.Common.{[], ◌∷◌, true, None}
+use Rattle.std.proofs.Common.{refl, [], ◌∷◌, true, None}
 use Rattle.std.proofs.lemmas.List.{nil_from_length}
 use Rattle.es_meaning.specs.Evaluation.{turn_step}
 use Rattle.flow_meaning.specs.Planned.{planned, asking}
@@ -6,6 +6,7 @@ use Rattle.step_work.specs.declared.work.Work.TheVariants as work
 use Rattle.step_work.specs.Shapes.{round_of}
 use Rattle.step_work.proofs.Steps.{turn_parts}
 use Rattle.step_work.proofs.ScopeLaws.{work_begins}
+use Rattle.step_work.proofs.Keeping.{opened_behind}
 use Rattle.step_work.proofs.scopes.begin_turn.Goals as goal
 
 pub returns-clause-goes_on : goal.returns-clause-goes_on
@@ -15,3 +16,8 @@ returns-clause-goes_on g c =
     (λ tables inputs e. (planned tables inputs).round true (None ∷ []) e ((asking tables inputs).stmt round.body)) (λ tables inputs e. turn_step (planned tables inputs) (asking tables inputs) round e) (work.Turned c.args.round)
     c.args.stack.now c.push.new.self c.begin_body.new.stack c.args.frames.now.frames c.begin_body.new.frames.frames c.begin_body.result
     (λ tables inputs f s. turn_parts tables inputs round f s) (nil_from_length c.args.stack.now.loose c.requires.loose) c.in_ok-push.ensures.ok c.begin_body.ensures.goes_on
+
+pub returns-clause-opened : goal.returns-clause-opened
+returns-clause-opened g c =
+    opened_behind c.args.stack.now c.push.new.self c.begin_body.new.stack (work.Turned c.args.round) c.args.frames.now.frames c.begin_body.new.frames.frames c.begin_body.result
+    refl c.in_ok-push.ensures.scopes c.in_ok-push.ensures.operands c.begin_body.ensures.opened

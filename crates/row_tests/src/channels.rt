@@ -1,0 +1,315 @@
+ghost use Rattle.std.specs.Prelude.{◌≡◌, ◌<◌, ◌≤◌, IfOk, length};
+ghost use Rattle.std.specs.List.{All};
+ghost use Rattle.flow_policy.specs.Inputs.{IsGivenTo};
+ghost use Rattle.js_values.specs.Readings.{HasHeap, HasValue};
+ghost use Rattle.origin_labels.specs.Stores.{IsKept};
+ghost use Rattle.flow_frames.specs.Held.{Belong};
+ghost use Rattle.step_world.specs.Worlds.{Belongs, CatchByTry};
+
+use env_records::Envs;
+use flow_frames::{FlowFault, Frames, Kind, Rule};
+use flow_policy::{Inputs, Policy, read_inputs, read_policy};
+use flow_text::{OutOfMemory, Text};
+use js_number::{Primitive, to_text};
+use js_values::{Class, Inner, Labelled, ObjId, Value};
+use object_heap::{Heap, objects_belong};
+use origin_labels::{Labels, Masks};
+use std::alloc::Global;
+use std::test::*;
+use step_channels::*;
+use step_world::{Came, Leaving, World};
+
+const POLICY: &[u8] = b"origin A\norigin B\nin pin A\nin note -\nout all A,B\nout pub -";
+
+const INPUT: &[u8] = b"pin 1\nnote x\npin 2";
+
+// What is answered to a call: of a value, whether it has the text that is wanted, and whether its label holds A and B.
+#[derive(Clone, Copy, Debug, PartialEq, Eq)]
+enum Answer {
+    Goes(bool, bool, bool),
+    Throws,
+    Leaves(Leaving),
+    Stops(Rule),
+    OutOfMemory,
+}
+
+fn refused<T: Copy>(fault: FlowFault<T>) -> Answer {
+    match fault {
+        FlowFault::Stop(stop) => Answer::Stops(stop.rule),
+        FlowFault::OutOfMemory => Answer::OutOfMemory,
+    }
+}
+
+// As many objects as a run begins with.
+const OBJECTS: usize = 9;
+
+fn first_objects<L: Labels>(alloc: Global, labels: &L) -> Result<Heap<L::Label>, OutOfMemory>
+    ensures there { IfOk result (λ heap. 9 ≤ length heap) }
+    ensures belongs { IfOk result (HasHeap (L.made labels.now)) }
+{
+    objects_belong::<L>();
+    let none = labels.bottom();
+    let mut heap = Heap::new(alloc);
+    for _ in 0..OBJECTS {
+        heap.new_object(Class::Object, None, none, none, Inner::Plain)?;
+    }
+    Ok(heap)
+}
+
+// The frames of a branch with a label.
+fn branch_frames<L: Labels>(
+    alloc: Global,
+    labels: &mut L,
+    label: L::Label,
+) -> Result<Frames<L::Label>, OutOfMemory>
+    requires { L.made labels.old label }
+    ensures belongs { IfOk result (λ f. Belong L.made L.meaning labels.new f.frames) }
+    ensures catch { IfOk result (λ f. CatchByTry f.frames) }
+    ensures kept { IsKept L.made L.meaning L.room L.firm labels.old labels.new }
+{
+    let mut frames = Frames::new(alloc, labels)?;
+    frames.push(labels, Kind::Branch, label)?;
+    Ok(frames)
+}
+
+// A world in which so many lines of each channel were read, in a branch with a label.
+fn world_in<L: Labels>(
+    alloc: Global,
+    labels: &mut L,
+    context: L::Label,
+    channels: usize,
+    position: usize,
+) -> Result<World<L::Label>, OutOfMemory>
+    requires { L.made labels.old context }
+    ensures belongs { IfOk result (Belongs L.made L.meaning labels.new) }
+    ensures positions { IfOk result (λ world. length world.positions.items ≡ channels) }
+    ensures kept { IsKept L.made L.meaning L.room L.firm labels.old labels.new }
+{
+    Ok(World {
+        frames: branch_frames(alloc, labels, context)?,
+        heap: first_objects(alloc, labels)?,
+        records: Envs::new(alloc),
+        positions: vec![in alloc; position; channels]?,
+    })
+}
+
+// Texts as arguments with one label; `{}` is an object.
+fn arguments<T: Copy + Drop>(
+    alloc: Global,
+    words: &[&str],
+    label: T,
+) -> Result<Vec<Labelled<T>>, OutOfMemory>
+    ensures { IfOk result (λ args. All (λ v. v.label ≡ label) args.items) }
+{
+    let mut args = Vec::new(alloc);
+    for word in words {
+        let value = value_of(alloc, word)?;
+        args.push(Labelled { value, label })?;
+    }
+    Ok(args)
+}
+
+fn value_of(alloc: Global, word: &str) -> Result<Value, OutOfMemory> {
+    if word == "{}" {
+        return Ok(Value::Object(ObjId(0)));
+    }
+    let text = Text::spelled(alloc, word)?;
+    Ok(Value::Primitive(Primitive::Str(text)))
+}
+
+// Whether a value's text is this.
+fn has_text(alloc: Global, value: &Value, want: &str) -> Result<bool, OutOfMemory> {
+    let want = Text::spelled(alloc, want)?;
+    match value {
+        Value::Primitive(v) => Ok(to_text(alloc, v)? == want),
+        Value::Object(_) => Ok(false),
+    }
+}
+
+// What `read` answers.
+fn reads<L: Labels>(
+    alloc: Global,
+    labels: &mut L,
+    policy: &Policy,
+    inputs: &Inputs,
+    context: L::Label,
+    position: usize,
+    words: &[&str],
+    want: &str,
+) -> Result<Answer, OutOfMemory>
+    requires context { L.made labels.old context }
+    requires room { length policy.now.origins ≤ L.room labels.old }
+    requires given { IsGivenTo policy.now inputs.now }
+{
+    let args = arguments(alloc, words, labels.bottom())?;
+    let channels = policy.inputs().len();
+    let mut world = world_in(alloc, labels, context, channels, position)?;
+    match read(alloc, labels, &mut world, policy, inputs, &args) {
+        Ok(Came::Goes(v)) => Ok(Answer::Goes(
+            has_text(alloc, &v.value, want)?,
+            labels.has(v.label, 0),
+            labels.has(v.label, 1),
+        )),
+        Ok(Came::Throws(_)) => Ok(Answer::Throws),
+        Ok(Came::Leaves(why)) => Ok(Answer::Leaves(why)),
+        Err(fault) => Ok(refused(fault)),
+    }
+}
+
+// What `print` answers, with the recorded label of the line.
+fn prints<L: Labels>(
+    alloc: Global,
+    labels: &mut L,
+    policy: &Policy,
+    context: L::Label,
+    words: &[&str],
+    want: &str,
+) -> Result<Answer, OutOfMemory>
+    requires context { L.made labels.old context }
+    requires room { length policy.now.origins ≤ L.room labels.old }
+{
+    let args = arguments(alloc, words, labels.bottom())?;
+    let world = world_in(alloc, labels, context, 0, 0)?;
+    let want = Text::spelled(alloc, want)?;
+    match print(alloc, labels, &world, policy, &args) {
+        Ok(Came::Goes(line)) => Ok(Answer::Goes(
+            line.text == want && line.channel == 0,
+            labels.has(line.need, 0),
+            labels.has(line.label, 0),
+        )),
+        Ok(Came::Throws(_)) => Ok(Answer::Throws),
+        Ok(Came::Leaves(why)) => Ok(Answer::Leaves(why)),
+        Err(fault) => Ok(refused(fault)),
+    }
+}
+
+// What `lbl` answers, where the arguments have a label.
+fn labels_by<L: Labels>(
+    alloc: Global,
+    labels: &mut L,
+    policy: &Policy,
+    label: L::Label,
+    words: &[&str],
+    want: &str,
+) -> Result<Answer, OutOfMemory>
+    requires label { L.made labels.old label }
+    requires room { length policy.now.origins ≤ L.room labels.old }
+{
+    let args = arguments(alloc, words, label)?;
+    let world = world_in(alloc, labels, label, 0, 0)?;
+    match lbl(alloc, labels, &world, policy, &args) {
+        Ok(Came::Goes(v)) => Ok(Answer::Goes(
+            has_text(alloc, &v.value, want)?,
+            labels.has(v.label, 0),
+            labels.has(v.label, 1),
+        )),
+        Ok(Came::Throws(_)) => Ok(Answer::Throws),
+        Ok(Came::Leaves(why)) => Ok(Answer::Leaves(why)),
+        Err(fault) => Ok(refused(fault)),
+    }
+}
+
+const READS: [(bool, usize, &[&str], &str, Answer); 7] = [
+    (false, 0, &["pin"], "1", Answer::Goes(true, true, false)),
+    (true, 1, &["pin"], "2", Answer::Goes(true, true, false)),
+    (
+        false,
+        2,
+        &["pin"],
+        "undefined",
+        Answer::Goes(true, true, false),
+    ),
+    (false, 0, &["note"], "x", Answer::Goes(true, false, false)),
+    (true, 0, &["note"], "x", Answer::Stops(Rule::W11)),
+    (false, 0, &["all"], "", Answer::Leaves(Leaving::Channel)),
+    (false, 0, &[], "", Answer::Leaves(Leaving::Channel)),
+];
+
+// A branch on origin A, or on none, and what `read` answers in it.
+#[test]
+fn lines_of_channels(rt: HostRuntime) -> Result<(), Fail> {
+    let a = Masks.single(0).ok().ok_or("memory")?;
+    let none = Masks.bottom();
+    let policy = read_policy(rt.alloc(), POLICY).ok().ok_or("policy")?;
+    let inputs = read_inputs(rt.alloc(), &policy, INPUT).ok().ok_or("input")?;
+    assert_eq!(rt; policy.origins().len(), 2);
+    for (branches, position, words, want, answer) in READS {
+        let context = if branches { a } else { none };
+        let told = reads(
+            rt.alloc(),
+            &mut Masks,
+            &policy,
+            &inputs,
+            context,
+            position,
+            words,
+            want,
+        );
+        assert_eq!(rt; told.ok(), Some(answer));
+    }
+    Ok(())
+}
+
+const PRINTS: [(bool, &[&str], &str, Answer); 7] = [
+    (false, &["all", "x"], "x", Answer::Goes(true, false, false)),
+    (true, &["all", "x"], "x", Answer::Goes(true, true, false)),
+    (
+        false,
+        &["all"],
+        "undefined",
+        Answer::Goes(true, false, false),
+    ),
+    (true, &["pub", "x"], "x", Answer::Stops(Rule::W12)),
+    (false, &["pub", "x"], "x", Answer::Goes(false, false, false)),
+    (false, &["pin", "x"], "", Answer::Leaves(Leaving::Channel)),
+    (false, &["all", "{}"], "", Answer::Leaves(Leaving::Unbuilt)),
+];
+
+// The same of `print`: whether the line is the one that is wanted, on the first channel, and whether need and label hold A.
+#[test]
+fn lines_on_channels(rt: HostRuntime) -> Result<(), Fail> {
+    let a = Masks.single(0).ok().ok_or("memory")?;
+    let none = Masks.bottom();
+    let policy = read_policy(rt.alloc(), POLICY).ok().ok_or("policy")?;
+    assert_eq!(rt; policy.origins().len(), 2);
+    for (branches, words, want, answer) in PRINTS {
+        let context = if branches { a } else { none };
+        let told = prints(rt.alloc(), &mut Masks, &policy, context, words, want);
+        assert_eq!(rt; told.ok(), Some(answer));
+    }
+    Ok(())
+}
+
+const LABELS: [(bool, &[&str], &str, Answer); 6] = [
+    (false, &["x"], "x", Answer::Goes(true, false, false)),
+    (
+        false,
+        &["x", "B", "A", "B"],
+        "x",
+        Answer::Goes(true, true, true),
+    ),
+    (true, &["x", "B"], "x", Answer::Goes(true, true, true)),
+    (false, &[], "undefined", Answer::Goes(true, false, false)),
+    (
+        false,
+        &["x", "A", "Z"],
+        "x",
+        Answer::Leaves(Leaving::Origin),
+    ),
+    (false, &["x", "{}"], "x", Answer::Leaves(Leaving::Origin)),
+];
+
+// Whether the arguments depend on A, and what `lbl` answers.
+#[test]
+fn origins_of_values(rt: HostRuntime) -> Result<(), Fail> {
+    let a = Masks.single(0).ok().ok_or("memory")?;
+    let none = Masks.bottom();
+    let policy = read_policy(rt.alloc(), POLICY).ok().ok_or("policy")?;
+    assert_eq!(rt; policy.origins().len(), 2);
+    for (depends, words, want, answer) in LABELS {
+        let label = if depends { a } else { none };
+        let told = labels_by(rt.alloc(), &mut Masks, &policy, label, words, want);
+        assert_eq!(rt; told.ok(), Some(answer));
+    }
+    Ok(())
+}

@@ -1,0 +1,119 @@
+//! Names that are given values.
+
+ghost use Rattle.std.specs.Prelude.{◌≡◌, ◌<◌, length, IfSome, IsSome, slice_get};
+ghost use Rattle.origin_labels.specs.Stores.{IsKept};
+ghost use Rattle.flow_policy.specs.Policies.{Tables};
+ghost use Rattle.flow_policy.specs.Inputs.{Given};
+ghost use Rattle.js_values.specs.Records.{bound_in};
+ghost use Rattle.js_values.specs.Readings.{HasValue, read_value};
+ghost use Rattle.es_meaning.specs.Evaluation.{assign_to, assign_giving};
+ghost use Rattle.flow_meaning.specs.Tracked.{labelled, put_at};
+ghost use Rattle.step_world.specs.Acts.{Acts, HasAnswer};
+ghost use Rattle.step_world.specs.Names.{reference_of};
+ghost use Rattle.step_world.specs.Worlds.{Belongs, Grows};
+
+use crate::throwing::{ErrorKind, throw_without_cause};
+use env_records::AssignFault;
+use flow_frames::FlowFault;
+use flow_text::Text;
+use js_values::{EnvId, Labelled};
+use origin_labels::Labels;
+use std::alloc::Global;
+use step_world::{Came, Reference, World};
+
+/// Gives a name a value (ECMA-262 8.7.2), by rule W1.
+pub fn put_name<T: Copy, L: Labels<Label = T>>(
+    labels: &mut L,
+    world: &mut World<T>,
+    reference: Reference<'_>,
+    value: Labelled<T>,
+) -> Result<Came<(), T>, FlowFault<T>>
+    requires there { IfSome reference.record (λ e. e.0 < length world.old.records) }
+    requires value { L.made labels.old value.label }
+    requires belongs { Belongs L.made L.meaning labels.old world.old }
+    ensures acts { let name = reference_of reference.entry in Acts L.made L.meaning labels.new (λ reading x. x) (λ reading. put_at name.place name.name (read_value reading value)) world.old world.new result }
+    ensures made { HasAnswer (λ x. Unit {0}) (L.made labels.new) result }
+    ensures belongs { Belongs L.made L.meaning labels.new world.new }
+    ensures grows { Grows world.old world.new }
+    ensures kept { IsKept L.made L.meaning L.room L.firm labels.old labels.new }
+{
+    let Some(at) = reference.record else {
+        return throw_without_cause(labels, world, ErrorKind::ReferenceError);
+    };
+    if world.records.own(at, reference.name).is_none() {
+        return throw_without_cause(labels, world, ErrorKind::ReferenceError);
+    }
+    assign(labels, world, at, reference.name, value)
+}
+
+/// Gives a name a value, which is also what the assignment gives (ECMA-262 11.13).
+pub fn assign_to<T: Copy, L: Labels<Label = T>>(
+    alloc: Global,
+    labels: &mut L,
+    world: &mut World<T>,
+    reference: Reference<'_>,
+    value: Labelled<T>,
+) -> Result<Came<Labelled<T>, T>, FlowFault<T>>
+    requires there { IfSome reference.record (λ e. e.0 < length world.old.records) }
+    requires value { L.made labels.old value.label }
+    requires belongs { Belongs L.made L.meaning labels.old world.old }
+    ensures acts { (tables : Tables) (inputs : Given) → Acts L.made L.meaning labels.new (λ reading. read_value reading) (λ reading. assign_to (labelled tables inputs) (reference_of reference.entry) (read_value reading value)) world.old world.new result }
+    ensures made { HasAnswer (HasValue (L.made labels.new)) (L.made labels.new) result }
+    ensures belongs { Belongs L.made L.meaning labels.new world.new }
+    ensures grows { Grows world.old world.new }
+    ensures kept { IsKept L.made L.meaning L.room L.firm labels.old labels.new }
+{
+    let result = value.copy(alloc)?;
+    assign_giving(labels, world, reference, result, value)
+}
+
+/// Gives a name a value, where the assignment gives another one.
+pub fn assign_giving<T: Copy, L: Labels<Label = T>>(
+    labels: &mut L,
+    world: &mut World<T>,
+    reference: Reference<'_>,
+    other: Labelled<T>,
+    value: Labelled<T>,
+) -> Result<Came<Labelled<T>, T>, FlowFault<T>>
+    requires there { IfSome reference.record (λ e. e.0 < length world.old.records) }
+    requires other { L.made labels.old other.label }
+    requires value { L.made labels.old value.label }
+    requires belongs { Belongs L.made L.meaning labels.old world.old }
+    ensures acts { (tables : Tables) (inputs : Given) → Acts L.made L.meaning labels.new (λ reading. read_value reading) (λ reading. assign_giving (labelled tables inputs) (reference_of reference.entry) (read_value reading other) (read_value reading value)) world.old world.new result }
+    ensures made { HasAnswer (HasValue (L.made labels.new)) (L.made labels.new) result }
+    ensures belongs { Belongs L.made L.meaning labels.new world.new }
+    ensures grows { Grows world.old world.new }
+    ensures kept { IsKept L.made L.meaning L.room L.firm labels.old labels.new }
+{
+    match put_name(labels, world, reference, value)? {
+        Came::Goes(()) => Ok(Came::Goes(other)),
+        Came::Throws(error) => Ok(Came::Throws(error)),
+        Came::Leaves(why) => Ok(Came::Leaves(why)),
+    }
+}
+
+/// Gives a name that is bound in the record a value.
+fn assign<T: Copy, L: Labels<Label = T>>(
+    labels: &mut L,
+    world: &mut World<T>,
+    at: EnvId,
+    name: &Text,
+    value: Labelled<T>,
+) -> Result<Came<(), T>, FlowFault<T>>
+    requires bound { IsSome (bound_in name.now (slice_get world.old.records at.0)) }
+    requires value { L.made labels.old value.label }
+    requires belongs { Belongs L.made L.meaning labels.old world.old }
+    ensures acts { Acts L.made L.meaning labels.new (λ reading x. x) (λ reading. put_at (Some at.0) name.now (read_value reading value)) world.old world.new result }
+    ensures made { HasAnswer (λ x. Unit {0}) (L.made labels.new) result }
+    ensures belongs { Belongs L.made L.meaning labels.new world.new }
+    ensures grows { Grows world.old world.new }
+    ensures kept { IsKept L.made L.meaning L.room L.firm labels.old labels.new }
+{
+    let context = world.frames.context(labels);
+    match world.records.assign(labels, at, name, context, value) {
+        Ok(()) => Ok(Came::Goes(())),
+        Err(AssignFault::Immutable) => throw_without_cause(labels, world, ErrorKind::TypeError),
+        Err(AssignFault::Stop(stop)) => Err(FlowFault::Stop(stop)),
+        Err(AssignFault::OutOfMemory) => Err(FlowFault::OutOfMemory),
+    }
+}

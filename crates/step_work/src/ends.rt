@@ -1,0 +1,131 @@
+//! The ends of frames, and what raises them: a condition of a loop, and the ends of branches, loops and turns.
+
+ghost use Rattle.std.specs.Prelude.{◌≡◌, ◌+◌, ◌<◌, true, false, length, map, take, IfOk};
+ghost use Rattle.std.specs.List.{All};
+ghost use Rattle.origin_labels.specs.Stores.{IsKept};
+ghost use Rattle.origin_labels.specs.Label.{Label};
+ghost use Rattle.flow_frames.specs.Held.{Belong, meant_at, seen_frame};
+ghost use Rattle.js_values.specs.Readings.{HasValue};
+ghost use Rattle.step_work.specs.declared.work.Work.TheVariants as work;
+ghost use Rattle.step_work.specs.Kept.{without_top};
+ghost use Rattle.step_work.specs.Resuming.{Closed, Keeps, ResumesDoneIn, ResumesIn};
+
+use crate::stack::Stack;
+use crate::work::{Next, Round};
+use flow_frames::{Frames, belonging_lasts};
+use flow_text::OutOfMemory;
+use js_values::Labelled;
+use origin_labels::Labels;
+use step_values::truth;
+
+/// Leaves the last frame, which stands at the depth, and gives its label.
+fn leave<L: Labels>(_labels: &L, frames: &mut Frames<L::Label>, depth: usize) -> L::Label
+    requires frame { length frames.old.frames ≡ depth + 1 }
+    requires inner { 0 < depth }
+    requires belongs { Belong L.made L.meaning _labels.now frames.old.frames }
+    ensures outside { (reading : L.Label → Label) → map (seen_frame reading) frames.new.frames ≡ take depth (map (seen_frame reading) frames.old.frames) }
+    ensures label { (reading : L.Label → Label) → meant_at (map (seen_frame reading) frames.old.frames) depth ≡ reading result }
+    ensures made { L.made _labels.now result }
+    ensures length { length frames.new.frames + 1 ≡ length frames.old.frames }
+    ensures belongs { Belong L.made L.meaning _labels.now frames.new.frames }
+{
+    belonging_lasts::<L>();
+    let _place = depth;
+    frames.pop()
+}
+
+/// A loop's condition (ECMA-262 12.6): its label raises the loop's frame, and its value decides on a further turn.
+pub fn tested<'p, L: Labels>(
+    labels: &mut L,
+    frames: &mut Frames<L::Label>,
+    stack: &mut Stack<'p, L::Label>,
+    round: Round<'p>,
+) -> Result<Next<'p>, OutOfMemory>
+    requires loose { length stack.old.loose ≡ 1 }
+    requires made { All (HasValue (L.made labels.old)) stack.old.loose }
+    requires belongs { Belong L.made L.meaning labels.old frames.old.frames }
+    ensures goes_on { IfOk result (ResumesIn L.made L.meaning labels.new (work.Tested round.entry) stack.old stack.new frames.old.frames frames.new.frames) }
+    ensures keeps { IfOk result (Keeps (without_top stack.old) stack.new) }
+    ensures length { length frames.new.frames ≡ length frames.old.frames }
+    ensures belongs { Belong L.made L.meaning labels.new frames.new.frames }
+    ensures kept { IsKept L.made L.meaning L.room L.firm labels.old labels.new }
+{
+    let value = stack.pop();
+    frames.raise_last(labels, value.label)?;
+    if truth(&value.value) {
+        Ok(Next::Turn(round))
+    } else {
+        Ok(Next::Done)
+    }
+}
+
+/// The end of a branch that gives a value, which depends on what chose the branch.
+pub fn end_branch_value<'p, L: Labels>(
+    labels: &mut L,
+    frames: &mut Frames<L::Label>,
+    stack: &mut Stack<'p, L::Label>,
+    depth: usize,
+) -> Result<Next<'p>, OutOfMemory>
+    requires loose { length stack.old.loose ≡ 1 }
+    requires made { All (HasValue (L.made labels.old)) stack.old.loose }
+    requires frame { length frames.old.frames ≡ depth + 1 }
+    requires inner { 0 < depth }
+    requires belongs { Belong L.made L.meaning labels.old frames.old.frames }
+    ensures goes_on { IfOk result (ResumesIn L.made L.meaning labels.new (work.EndBranch true depth) stack.old stack.new frames.old.frames frames.new.frames) }
+    ensures closed { IfOk result (Closed stack.old stack.new frames.old.frames frames.new.frames) }
+    ensures made { IfOk result (λ _. All (HasValue (L.made labels.new)) stack.new.loose) }
+    ensures belongs { Belong L.made L.meaning labels.new frames.new.frames }
+    ensures kept { IsKept L.made L.meaning L.room L.firm labels.old labels.new }
+{
+    belonging_lasts::<L>();
+    let value = stack.pop();
+    let chosen = leave(labels, frames, depth);
+    let label = labels.join(value.label, chosen)?;
+    let value = Labelled {
+        value: value.value,
+        label,
+    };
+    stack.lay(value)?;
+    Ok(Next::Value)
+}
+
+/// The end of a branch without a value.
+pub fn end_branch<'p, L: Labels>(
+    labels: &L,
+    frames: &mut Frames<L::Label>,
+    stack: &mut Stack<'p, L::Label>,
+    depth: usize,
+) -> Next<'p>
+    requires loose { length stack.old.loose ≡ 0 }
+    requires frame { length frames.old.frames ≡ depth + 1 }
+    requires inner { 0 < depth }
+    requires belongs { Belong L.made L.meaning labels.now frames.old.frames }
+    ensures goes_on { ResumesDoneIn L.made L.meaning labels.now (work.EndBranch false depth) stack.old stack.new frames.old.frames frames.new.frames result }
+    ensures closed { Closed stack.old stack.new frames.old.frames frames.new.frames result }
+    ensures belongs { Belong L.made L.meaning labels.now frames.new.frames }
+{
+    let _waiting = &*stack;
+    leave(labels, frames, depth);
+    Next::Done
+}
+
+/// The end of a loop or of a turn.
+pub fn end_round<'p, L: Labels>(
+    labels: &L,
+    frames: &mut Frames<L::Label>,
+    stack: &mut Stack<'p, L::Label>,
+    _turn: bool,
+    depth: usize,
+) -> Next<'p>
+    requires loose { length stack.old.loose ≡ 0 }
+    requires frame { length frames.old.frames ≡ depth + 1 }
+    requires inner { 0 < depth }
+    requires belongs { Belong L.made L.meaning labels.now frames.old.frames }
+    ensures goes_on { ResumesDoneIn L.made L.meaning labels.now (work.EndRound _turn depth) stack.old stack.new frames.old.frames frames.new.frames result }
+    ensures closed { Closed stack.old stack.new frames.old.frames frames.new.frames result }
+    ensures belongs { Belong L.made L.meaning labels.now frames.new.frames }
+{
+    let _waiting = &*stack;
+    leave(labels, frames, depth);
+    Next::Done
+}
