@@ -49,6 +49,13 @@ impl<T: Copy> Envs<T> {
         }
     }
 
+    /// How many records there are.
+    pub fn len(&self) -> u64
+        ensures { result ≡ length self.now }
+    {
+        self.records.len() as u64
+    }
+
     /// Makes a record without bindings inside another one.
     pub fn new_record(&mut self, outer: Option<EnvId>) -> Result<EnvId, OutOfMemory>
         requires { IfSome outer (λ o. o.0 < length self.old) }

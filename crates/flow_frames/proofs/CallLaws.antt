@@ -1,25 +1,26 @@
 -- What the calls on frames need of lists of frames.
-use Rattle.std.proofs.Common.{arith, refl, ap, ap₂, sym, ◌∙◌, subst, ◌≡◌, ◌<◌, ◌+◌, ◌-◌, ℕ, suc, zero, Bool, false, List, [], ◌∷◌, ◌++◌, length, take, drop, map, get_or, set, Some, Result, Ok, Err, OnErr}
+use Rattle.std.proofs.Common.{arith, refl, ap, ap₂, sym, ◌∙◌, subst, ◌≡◌, ◌<◌, ◌+◌, ◌-◌, ◌&&◌, ℕ, suc, zero, Bool, true, false, List, [], ◌∷◌, ◌++◌, length, take, drop, map, get_or, set, Some, Result, Ok, Err, OnErr}
 use Rattle.std.specs.List.{slice_get, All}
 use Rattle.std.specs.Option.{option_map}
 use Rattle.std.specs.Vec.{with_items}
 use Rattle.std.specs.declared.vec.Vec.{Vec}
 use borrow.Rule.Slice.PartMut.{put_mid, post_of}
 use Rattle.std.proofs.lemmas.List.{take_all, take_rest, drop_all, take-map, drop-map, map_push, map-append, append-nil, length-map, length-take, length-drop, length-append, with_items_is}
-use Rattle.std.proofs.lemmas.List.Elements.{All-take, All-drop}
+use Rattle.std.proofs.lemmas.List.Elements.{All-take, All-drop, All-cons, All-head, All-tail, All-map}
 use Rattle.std.proofs.lemmas.Option.{slice_get-map, slice_get_read, slice_get_within, none-some, get_or_from_slice_get}
 use Rattle.origin_labels.specs.Label.{Label, IsLabel, union}
 use Rattle.origin_labels.specs.Stores.{IsKept}
 use Rattle.flow_frames.specs.Frames.{Frame as SeenFrame, context, inside}
-use Rattle.flow_frames.specs.Held.{Held, Belong, BeginsWithRoot, kind_at, seen, seen_frame}
+use Rattle.flow_frames.specs.Held.{Held, Belong, BeginsWithRoot, AreFormed, kind_at, seen, seen_frame}
 use Rattle.flow_frames.specs.Changes.{changed_at, raised, quieted}
+use Rattle.flow_frames.specs.Kinds.{is_try}
 use Rattle.flow_frames.specs.Standing.{Stand}
 use Rattle.flow_frames.specs.Views.{held}
 use Rattle.flow_frames.specs.declared.kind.Kind.{Kind}
 use Rattle.flow_frames.specs.declared.frame.Frame.{Frame}
 use Rattle.flow_frames.proofs.ContextLaws.{bottom-union, seen-kept}
 use Rattle.flow_frames.proofs.StandingLaws.{Belong-from_Stand, Belong-kept, Belong-push, Belong-take, Belong-append, Stand-inside}
-use Rattle.flow_frames.proofs.RaiseLaws.{All-unheld}
+use Rattle.flow_frames.proofs.RaiseLaws.{All-unheld, All-unmap}
 
 -- a fact is one for an error too
 pub OnErr-from : {T E : Type 0} (r : Result T E) (P : Type 0) → P → OnErr r P
@@ -49,17 +50,31 @@ kind_within [] depth kind e = absurd (none-some kind e)
 kind_within (h ∷ frames) zero kind e = omega arith
 kind_within (h ∷ frames) (suc depth) kind e = let rest = kind_within frames depth kind e in omega arith
 
+-- a frame catches only if it is a Try frame
+abbrev Tries : {L : Type 0} → Held L → Type 0
+Tries h = (is_try h.kind && h.active) ≡ h.active
+
+abbrev SeenTries : SeenFrame → Type 0
+SeenTries f = (is_try f.kind && f.active) ≡ f.active
+
 -- the first kind is seen as it is
 kinds_seen : {L : Type 0} (meaning : L → Label) (frames : List (Held L)) → map (λ (h : Held L). h.kind) (take 1 frames) ≡ map (λ (f : SeenFrame). f.kind) (take 1 (map (seen_frame meaning) frames))
 kinds_seen meaning [] = refl
 kinds_seen meaning (h ∷ frames) = refl
 
--- the first kind stays where a label is raised
-kinds_changed : (frames : List SeenFrame) (depth : ℕ) (label : Label) → map (λ (f : SeenFrame). f.kind) (take 1 (raised frames depth label)) ≡ map (λ (f : SeenFrame). f.kind) (take 1 frames)
+-- a change at a place keeps the first kind, where it keeps kinds
+first_changed : {X Y : Type 0} (kind : X → Y) (change : X → X) → ((x : X) → kind (change x) ≡ kind x) → (xs : List X) (place : ℕ) → map kind (take 1 (changed_at change xs place)) ≡ map kind (take 1 xs)
 unfolding changed_at
-kinds_changed [] depth label = refl
-kinds_changed (f ∷ frames) zero label = refl
-kinds_changed (f ∷ frames) (suc depth) label = refl
+first_changed kind change same [] place = refl
+first_changed kind change same (x ∷ xs) zero = ap (λ k. k ∷ []) (same x)
+first_changed kind change same (x ∷ xs) (suc place) = refl
+
+-- a change at a place keeps what is so of each element, where it keeps it of one
+All-changed_at : {X : Type 0} (P : X → Type 0) (change : X → X) → ((x : X) → P x → P (change x)) → (xs : List X) (place : ℕ) → All P xs → All P (changed_at change xs place)
+unfolding changed_at
+All-changed_at P change keeps [] place all = all
+All-changed_at P change keeps (x ∷ xs) zero all = All-cons P (change x) xs (keeps x (All-head P x xs all)) (All-tail P x xs all)
+All-changed_at P change keeps (x ∷ xs) (suc place) all = All-cons P x (changed_at change xs place) (All-head P x xs all) (All-changed_at P change keeps xs place (All-tail P x xs all))
 
 -- a change at a place leaves what is before it
 pub changed_at-split : {X : Type 0} (change : X → X) (xs : List X) (n : ℕ) → changed_at change xs n ≡ take n xs ++ changed_at change (drop n xs) 0
@@ -75,9 +90,34 @@ quieted-set [] depth x lt read = absurd (omega arith)
 quieted-set (f ∷ frames) zero x lt read = ap (λ (y : Frame _). held (record y { active = false }) ∷ map held frames) read
 quieted-set (f ∷ frames) (suc depth) x lt read = ap (◌∷◌ (held f)) (quieted-set frames depth x (omega arith) read)
 
--- frames still begin with the Root where the label of one is raised
-pub root-raised : {S L : Type 0} (meaning : S → L → Label) (old new : S) (was now : List (Held L)) (depth : ℕ) (label : Label) → seen meaning new now ≡ raised (seen meaning old was) depth label → BeginsWithRoot was → BeginsWithRoot now
-root-raised meaning old new was now depth label e root = kinds_seen (meaning new) now ∙ ap (λ fs. map (λ (f : SeenFrame). f.kind) (take 1 fs)) e ∙ kinds_changed (seen meaning old was) depth label ∙ sym (kinds_seen (meaning old) was) ∙ root
+-- the outermost of formed frames, one at least, are formed
+pub AreFormed-taken : {L : Type 0} (frames items : List (Frame L)) (n : ℕ) → 0 < n → items ≡ take n frames → AreFormed (map held frames) → AreFormed (map held items)
+AreFormed-taken frames items n some taken formed =
+    subst AreFormed (sym (ap (map held) taken ∙ sym (take-map held n frames))) (first (map held frames) n some ∙ formed.0, All-take Tries n (map held frames) formed.1)
+  where
+    first : {L : Type 0} (hs : List (Held L)) (n : ℕ) → 0 < n → map (λ (h : Held L). h.kind) (take 1 (take n hs)) ≡ map (λ (h : Held L). h.kind) (take 1 hs)
+    first hs zero some = absurd (omega arith)
+    first [] (suc n) some = refl
+    first (h ∷ hs) (suc n) some = refl
+
+-- formed frames are formed whichever Try frames catch
+pub AreFormed-quieted : {L : Type 0} (frames : List (Held L)) (depth : ℕ) → AreFormed frames → AreFormed (quieted frames depth)
+AreFormed-quieted frames depth formed = (
+  first_changed (λ (h : Held _). h.kind) (λ h. record h { active = false }) (λ h. refl) frames depth ∙ formed.0,
+  All-changed_at Tries (λ h. record h { active = false }) (λ h tries. none (is_try h.kind)) frames depth formed.1,
+)
+  where
+    none : (b : Bool) → (b && false) ≡ false
+    none true = refl
+    none false = refl
+
+-- formed frames are formed where the label of one is raised
+pub AreFormed-raised : {S L : Type 0} (meaning : S → L → Label) (old new : S) (was now : List (Held L)) (depth : ℕ) (label : Label) → seen meaning new now ≡ raised (seen meaning old was) depth label → AreFormed was → AreFormed now
+AreFormed-raised meaning old new was now depth label e formed = (
+  kinds_seen (meaning new) now ∙ ap (λ fs. map (λ (f : SeenFrame). f.kind) (take 1 fs)) e ∙ first_changed (λ (f : SeenFrame). f.kind) (λ f. record f { label = union f.label label }) (λ f. refl) (seen meaning old was) depth ∙ sym (kinds_seen (meaning old) was) ∙ formed.0,
+  All-unmap (seen_frame (meaning new)) SeenTries now (subst (All SeenTries) (sym e)
+      (All-changed_at SeenTries (λ f. record f { label = union f.label label }) (λ f tries. tries) (seen meaning old was) depth (All-map SeenTries (seen_frame (meaning old)) was formed.1))),
+)
 
 -- the part of the frames inside a depth, as a slice gives it
 pub seen-inside : {S L : Type 0} (meaning : S → L → Label) (store : S) (frames : List (Frame L)) (depth : ℕ) → context (seen meaning store (map held (take (length frames - (depth + 1)) (drop (depth + 1) frames)))) ≡ inside (seen meaning store (map held frames)) depth

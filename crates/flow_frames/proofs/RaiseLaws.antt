@@ -32,9 +32,13 @@ All-held P xs ys same all k d lt =
     let within : k < length ys = omega (arith, length-map xs held, length-map ys held, ap length same) in
     subst P (sym (get_or-map held ys k d (held d) within) ∙ ap (λ (hs : List (Held _)). get_or hs k (held d)) (sym same) ∙ get_or-map held xs k d (held d) lt) (all k d within)
 
+-- what is so of each mapped element is so of the elements as they are mapped
+pub All-unmap : {X Y : Type 0} (f : X → Y) (P : Y → Type 0) (xs : List X) → All P (map f xs) → All (λ x. P (f x)) xs
+All-unmap f P xs all k d lt = subst P (get_or-map f xs k d (f d) lt) (all k (f d) (omega (arith, length-map xs f)))
+
 -- what is so of each held frame is so of the frames as they are held
 pub All-unheld : {L : Type 0} (P : Held L → Type 0) (frames : List (Frame L)) → All P (map held frames) → All (λ f. P (held f)) frames
-All-unheld P frames all k d lt = subst P (get_or-map held frames k d (held d) lt) (all k (held d) (omega (arith, length-map frames held)))
+All-unheld P frames all = All-unmap held P frames all
 
 module _ {S L : Type 0} (made : S → L → Type 0) (meaning : S → L → Label) where
   -- the context of the frames so far, with the next one

@@ -1,9 +1,10 @@
 -- Frames as a program holds them: with the labels of a store, and with the total of each.
-use Rattle.std.specs.Prelude.{◌≡◌, ℕ, ◌+◌, Bool, false, List, [], ◌∷◌, map, take, Option, Some}
+use Rattle.std.specs.Prelude.{◌≡◌, ℕ, ◌+◌, ◌&&◌, Bool, false, List, [], ◌∷◌, map, take, Option, Some}
 use Rattle.std.specs.List.{slice_get, slice_index_or, All}
 use Rattle.std.specs.Option.{option_map}
 use Rattle.origin_labels.specs.Label.{Label, bottom}
 use Rattle.flow_frames.specs.Frames.{Frame, context}
+use Rattle.flow_frames.specs.Kinds.{is_try}
 use Rattle.flow_frames.specs.declared.kind.Kind.{Kind}
 use Rattle.flow_frames.specs.declared.kind.Kind.TheVariants as kind
 
@@ -22,6 +23,14 @@ pub record Kept (L : Type 0) : Type 0 where
 -- the first frame is the Root
 abbrev pub BeginsWithRoot : {L : Type 0} → List (Held L) → Type 0
 BeginsWithRoot frames = map (λ h. h.kind) (take 1 frames) ≡ kind.Root ∷ []
+
+-- only Try frames catch
+abbrev pub CatchByTry : {L : Type 0} → List (Held L) → Type 0
+CatchByTry frames = All (λ h. (is_try h.kind && h.active) ≡ h.active) frames
+
+-- what is so of the frames of every run
+abbrev pub AreFormed : {L : Type 0} → List (Held L) → Type 0
+AreFormed frames = BeginsWithRoot frames × CatchByTry frames
 
 -- the kind and the label of the frame at a depth, if there is one
 abbrev pub kind_at : {L : Type 0} → List (Held L) → ℕ → Option Kind

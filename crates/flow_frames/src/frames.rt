@@ -5,7 +5,7 @@ ghost use Rattle.origin_labels.specs.Label.{Label, bottom};
 ghost use Rattle.origin_labels.specs.Stores.{IsKept};
 ghost use Rattle.flow_frames.specs.Frames.{context, inside, IsTarget};
 ghost use Rattle.flow_frames.specs.Rules.{jump_need, raise_need, is_broken};
-ghost use Rattle.flow_frames.specs.Held.{BeginsWithRoot, Belong, kind_at, label_at, meant_at, seen, seen_frame};
+ghost use Rattle.flow_frames.specs.Held.{BeginsWithRoot, CatchByTry, Belong, kind_at, label_at, meant_at, seen, seen_frame};
 ghost use Rattle.flow_frames.specs.Changes.{pushed, raised, quieted};
 ghost use Rattle.flow_frames.specs.Stops.{IfStop, IsStop, Breaks};
 
@@ -17,7 +17,7 @@ use origin_labels::Labels;
 use std::alloc::Global;
 use std::marker::Model;
 
-/// The frames of a run, outermost first. The first one is the Root.
+/// The frames of a run, outermost first. The first one is the Root, and only Try frames catch.
 #[derive(Drop)]
 pub struct Frames<T> {
     frames: Vec<Frame<T>>,
@@ -25,7 +25,7 @@ pub struct Frames<T> {
 
 impl<T> Model for Frames<T> {
     ghost use Rattle.std.specs.Prelude.{◌-◌, map, vec_len, vec_capacity};
-    ghost use Rattle.flow_frames.specs.Held.{Kept, BeginsWithRoot};
+    ghost use Rattle.flow_frames.specs.Held.{Kept, AreFormed};
 
     ghost Value = { Kept T };
 
@@ -33,7 +33,7 @@ impl<T> Model for Frames<T> {
 
     ghost view = { λ a. record { frames = map held a.frames.items; spare = vec_capacity a.frames - vec_len a.frames } };
 
-    ghost invariant = { λ a. BeginsWithRoot (map held a.frames.items) };
+    ghost invariant = { λ a. AreFormed (map held a.frames.items) };
 }
 
 impl<T: Copy> Frames<T> {
@@ -52,6 +52,7 @@ impl<T: Copy> Frames<T> {
     pub fn len(&self) -> usize
         ensures length { result ≡ length self.now.frames }
         ensures root { BeginsWithRoot self.now.frames }
+        ensures catch { CatchByTry self.now.frames }
     {
         self.frames.len()
     }

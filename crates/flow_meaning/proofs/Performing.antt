@@ -69,14 +69,14 @@ keeps_end t u f depth c s = keeps_as u s.turns (end_of t (Res Val u) f depth c s
 -- ---- performing
 
 -- two computations behind another
-and_go_twice : (o : Ran) (f g h : Completion → State → Ran) → ((c : Completion) (s : State) → f c s ≡ and_go (g c s) h) → and_go o f ≡ and_go (and_go o g) h
+pub and_go_twice : (o : Ran) (f g h : Completion → State → Ran) → ((c : Completion) (s : State) → f c s ≡ and_go (g c s) h) → and_go o f ≡ and_go (and_go o g) h
 unfolding and_go
 and_go_twice (Goes v s) f g h e = e (gave v) s
 and_go_twice (Jumps j s) f g h e = e (jumped j) s
 and_go_twice (Ends halt s) f g h e = refl
 
 -- a plan, and what follows it
-perform_and : (e : Evaluator) (p : Plan) (next : Then) → perform e (and_plan p next) ≡ and_go (perform e p) (λ c s. perform e (next c s))
+pub perform_and : (e : Evaluator) (p : Plan) (next : Then) → perform e (and_plan p next) ≡ and_go (perform e p) (λ c s. perform e (next c s))
 unfolding perform and_go completed
 perform_and e (Give (gave v) s) next = refl
 perform_and e (Give (jumped j) s) next = refl
@@ -91,14 +91,14 @@ perform_as e t (Jumps j s) = refl
 perform_as e t (Ends halt s) = refl
 
 -- nothing is done with a completion
-and_give : (e : Evaluator) (o : Ran) → and_go o (λ c s. perform e (Give c s)) ≡ o
+pub and_give : (e : Evaluator) (o : Ran) → and_go o (λ c s. perform e (Give c s)) ≡ o
 unfolding perform and_go completed
 and_give e (Goes v s) = refl
 and_give e (Jumps j s) = refl
 and_give e (Ends halt s) = refl
 
 -- a part that is asked for
-perform_asked : (e : Evaluator) (part : Part) (s : State) → perform e (Ask part s Give) ≡ e part s
+pub perform_asked : (e : Evaluator) (part : Part) (s : State) → perform e (Ask part s Give) ≡ e part s
 unfolding perform
 perform_asked e part s = and_give e (e part s)
 

@@ -6,9 +6,8 @@ use Rattle.js_shell.specs.declared.refusals.Refusal.{Refusal}
 use Rattle.js_shell.specs.declared.refusals.Refusal.TheVariants as refusal
 use Rattle.js_shell.specs.declared.status.Status.{Status}
 use Rattle.js_shell.specs.declared.status.Status.TheVariants as status
-use Rattle.js_shell.specs.declared.ending.Ending.{Ending}
-use Rattle.js_shell.specs.declared.ending.Ending.TheVariants.{Done, Left, Stopped}
-use Rattle.js_shell.specs.Written.{erased}
+use Rattle.es_meaning.specs.Outcomes.{Ending, done, threw, halted, left, out_of_turns}
+use Rattle.flow_meaning.specs.Scopes.{Halt, as_plain, stopped}
 use Rattle.js_shell.specs.Ran.{Ran}
 use Rattle.js_shell.specs.Sources.{long_source, source_utf8, bad_source}
 use Rattle.js_shell.specs.Replies.{Task, Reply, IsReply, runs, accepts_script, accepted_reply, run_reply, tracked_run, status_of, usage_reply, source_reply, policy_reply, input_reply, read_fault_report, too_long, bad_line}
@@ -24,10 +23,12 @@ abbrev read_fault_reply : Reply
 read_fault_reply = record { bytes = read_fault_report; status = status.ReadFault }
 
 module _ (words : List (List ℕ)) (contents : Option Files) (StoreFailed : Type 0) (old new : Option (List ℕ)) where
-  ending_replies : (ending : Ending) → is_reply_status (status_of ending) ≡ true
-  ending_replies Done = refl
-  ending_replies (Left name) = refl
-  ending_replies (Stopped rule need have) = refl
+  ending_replies : (ending : Ending Halt) → is_reply_status (status_of ending) ≡ true
+  ending_replies done = refl
+  ending_replies (threw shown) = refl
+  ending_replies (halted (as_plain (left name))) = refl
+  ending_replies (halted (as_plain out_of_turns)) = refl
+  ending_replies (halted (stopped rule need have)) = refl
 
   module _ (task : Task) (asked : Accepts words contents (Ok (a_run task))) where
     is_reply : OfFiles contents (λ files. IsReply words files (run_reply task))
@@ -36,15 +37,17 @@ module _ (words : List (List ℕ)) (contents : Option Files) (StoreFailed : Type
     whole : (result : Status) → (status_of (tracked_run task).ending ≡ result) × Appends old new (run_reply task).bytes → Answers words contents StoreFailed old new result
     whole result h = replies (run_reply task) is_reply (ending_replies (tracked_run task).ending) (sym h.0) h.1
 
-    pub ran_answers : (result : Status) → Ran result old new task.tables (erased (tracked_run task)) → Answers words contents StoreFailed old new result
+    pub ran_answers : (result : Status) → Ran result old new task.tables (tracked_run task) → Answers words contents StoreFailed old new result
     ran_answers status.WriteFault h = cuts_off (run_reply task) is_reply refl h
     ran_answers status.OutOfMemory h = cuts_off (run_reply task) is_reply refl h
     ran_answers status.Done h = whole status.Done h
+    ran_answers status.Threw h = whole status.Threw h
     ran_answers status.Usage h = whole status.Usage h
     ran_answers status.Source h = whole status.Source h
     ran_answers status.Policy h = whole status.Policy h
     ran_answers status.Stopped h = whole status.Stopped h
     ran_answers status.Left h = whole status.Left h
+    ran_answers status.OutOfTurns h = whole status.OutOfTurns h
     ran_answers status.ReadFault h = whole status.ReadFault h
 
   -- a script that is checked is accepted
@@ -57,11 +60,13 @@ module _ (words : List (List ℕ)) (contents : Option Files) (StoreFailed : Type
       by : (s : Status) → PutsAccepted s old new → Answers words contents StoreFailed old new s
       by status.Done p = replies accepted_reply is_accepted refl refl p
       by status.WriteFault p = cuts_off accepted_reply is_accepted refl p
+      by status.Threw p = absurd p
       by status.Usage p = absurd p
       by status.Source p = absurd p
       by status.Policy p = absurd p
       by status.Stopped p = absurd p
       by status.Left p = absurd p
+      by status.OutOfTurns p = absurd p
       by status.ReadFault p = absurd p
       by status.OutOfMemory p = absurd p
 

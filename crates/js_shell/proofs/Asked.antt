@@ -5,9 +5,9 @@ use Rattle.flow_policy.specs.declared.fault.PolicyKind.{PolicyKind}
 use Rattle.flow_policy.specs.declared.fault.InputKind.{InputKind}
 use Rattle.flow_policy.specs.Policies.{Tables}
 use Rattle.flow_policy.specs.Inputs.{Given}
+use Rattle.js_ast.specs.Trees.{Statements}
 use Rattle.js_shell.specs.declared.refusals.Refusal.{Refusal}
 use Rattle.js_shell.specs.declared.refusals.Refusal.TheVariants as refusal
-use Rattle.js_shell.specs.Scripts.{Statement}
 use Rattle.js_shell.specs.Sources.{SourceFault, long_source, source_utf8, bad_source, HasProgram, IsScriptOf, RefusesProgram, RefusesSource}
 use Rattle.js_shell.specs.Replies.{IsProgramAt, HasNoProgram, HasScript, HasNoScript, RefusesScript, source_reply, HasNoPolicy, HasNoInput, IsReply, FileFault, too_long, bad_line, policy_reply, input_reply, Paths, Command, run, check, script_path, Reaches, command_of, refuses_script, refuses_policy, refuses_input, reaches_script, reaches_policy, reaches_input}
 use Rattle.js_shell.specs.Accepting.{OfFiles, Takes, TakesProgram, TakesScript, AcceptsSource, AcceptsProgram, AcceptsScript, AcceptsPolicy, AcceptsInput, a_run, a_check, Accepts}
@@ -48,9 +48,9 @@ module _ (contents : Option Files) (path bytes : List ℕ) (there : OfFiles cont
       file_taken _ (RefusesProgram bytes) _ (λ fault files. HasNoProgram files path fault) contents path bytes there
       (λ files at x h. record { bytes = bytes; there = at; program = h.0; has_program = h.1 }) (λ files at fault h. record { bytes = bytes; there = at; refused = h }) result p
 
-  pub script_accepted : (result : Result (List Statement) Refusal) → TakesScript bytes result → AcceptsScript contents path result
+  pub script_accepted : (result : Result Statements Refusal) → TakesScript bytes result → AcceptsScript contents path result
   script_accepted result p =
-      file_taken (IsScriptOf bytes) (RefusesSource bytes) (λ statements files. HasScript files path statements) (λ fault files. HasNoScript files path fault) contents path bytes there
+      file_taken (IsScriptOf bytes) (RefusesSource bytes) (λ program files. HasScript files path program) (λ fault files. HasNoScript files path fault) contents path bytes there
       (λ files at x h. record { bytes = bytes; there = at; spelled = h }) (λ files at fault h. record { bytes = bytes; there = at; refused = h }) result p
 
 module _ (words : List (List ℕ)) (contents : Option Files) where
@@ -82,14 +82,14 @@ module _ (words : List (List ℕ)) (contents : Option Files) where
 
   module _ (paths : Paths) (stated : command_of words ≡ Some (run paths)) where
     pub script_refused : (r : Refusal) → AcceptsScript contents paths.script (Err r) → Accepts words contents (Err r)
-    script_refused r p = source_refused (run paths) stated (λ (statements : List Statement) files. HasScript files paths.script statements) r p
+    script_refused r p = source_refused (run paths) stated (λ (program : Statements) files. HasScript files paths.script program) r p
 
-    module _ (statements : List Statement) (script : AcceptsScript contents paths.script (Ok statements)) where
+    module _ (program : Statements) (script : AcceptsScript contents paths.script (Ok program)) where
       pub policy_reached : Reaches contents words paths.policy
-      policy_reached = reaches_policy paths stated refl (of_map contents _ _ (λ files h. (statements, h)) script)
+      policy_reached = reaches_policy paths stated refl (of_map contents _ _ (λ files h. (program, h)) script)
 
       for_policy : (fault : FileFault PolicyKind) → OfFiles contents (λ files. HasNoPolicy files paths.policy fault) → OfFiles contents (λ files. IsReply words files (policy_reply fault))
-      for_policy fault p = of_map contents _ _ (λ files h. refuses_policy paths statements fault stated h.0 h.1 refl) (of_both contents _ _ script p)
+      for_policy fault p = of_map contents _ _ (λ files h. refuses_policy paths program fault stated h.0 h.1 refl) (of_both contents _ _ script p)
 
       pub policy_refused : (r : Refusal) → AcceptsPolicy contents paths.policy (Err r) → Accepts words contents (Err r)
       policy_refused refusal.Usage p = absurd p
@@ -105,10 +105,10 @@ module _ (words : List (List ℕ)) (contents : Option Files) where
 
       module _ (tables : Tables) (policy : AcceptsPolicy contents paths.policy (Ok tables)) where
         pub input_reached : Reaches contents words paths.input
-        input_reached = reaches_input paths stated refl (of_map contents _ _ (λ files h. (statements, tables, h.0, h.1)) (of_both contents _ _ script policy))
+        input_reached = reaches_input paths stated refl (of_map contents _ _ (λ files h. (program, tables, h.0, h.1)) (of_both contents _ _ script policy))
 
         for_input : (fault : FileFault InputKind) → OfFiles contents (λ files. HasNoInput files paths.input tables fault) → OfFiles contents (λ files. IsReply words files (input_reply fault))
-        for_input fault p = of_map contents _ _ (λ files h. refuses_input paths statements tables fault stated h.0 h.1.0 h.1.1 refl) (of_both contents _ _ script (of_both contents _ _ policy p))
+        for_input fault p = of_map contents _ _ (λ files h. refuses_input paths program tables fault stated h.0 h.1.0 h.1.1 refl) (of_both contents _ _ script (of_both contents _ _ policy p))
 
         pub input_refused : (r : Refusal) → AcceptsInput contents paths.input tables (Err r) → Accepts words contents (Err r)
         input_refused refusal.Usage p = absurd p
@@ -122,5 +122,5 @@ module _ (words : List (List ℕ)) (contents : Option Files) where
         input_refused refusal.ReadFault p = tt
         input_refused refusal.OutOfMemory p = tt
 
-        pub input_taken : (given : Given) → AcceptsInput contents paths.input tables (Ok given) → Accepts words contents (Ok (a_run (record { statements = statements; tables = tables; given = given })))
+        pub input_taken : (given : Given) → AcceptsInput contents paths.input tables (Ok given) → Accepts words contents (Ok (a_run (record { program = program; tables = tables; given = given })))
         input_taken given p = of_map contents _ _ (λ files h. record { paths = paths; stated = stated; script = h.0; policy = h.1.0; input = h.1.1 }) (of_both contents _ _ script (of_both contents _ _ policy p))

@@ -1,116 +1,322 @@
--- What a labelled run keeps of its lines: each is on an output channel, and those printed stay.
-use Rattle.std.proofs.Common.{◌≡◌, ℕ, Bool, true, false, List, [], ◌∷◌, ◌++◌, Option, Some, None, Result, Ok, Err, refl, sym, ap, ◌∙◌}
+-- What a labelled run keeps of its lines: each is on an output channel. The operations, linked with themselves, keep it.
+use Rattle.std.proofs.Common.{◌≡◌, ℕ, zero, suc, ◌+◌, ◌<◌, Bool, true, false, nat_lt, List, [], ◌∷◌, ◌++◌, length, map, get_or, Option, Some, None, Result, Ok, Err, slice_get, refl, sym, ap, subst, ◌∙◌, inl, inr, arith}
 use Rattle.std.specs.Prelude.{is_some}
-use Rattle.std.specs.List.{list_all}
-use Rattle.std.proofs.lemmas.List.{append_assoc, append-nil}
+use Rattle.std.specs.List.{list_all, find, position}
 use Rattle.std.proofs.lemmas.Bool.{and_parts, and_from}
-use Rattle.origin_labels.specs.Label.{Label, union}
+use Rattle.std.proofs.lemmas.List.Quantifiers.{position-Some}
+use Rattle.std.proofs.lemmas.Option.{slice_get_cases}
+use Rattle.origin_labels.specs.Label.{Label, bottom, union}
 use Rattle.origin_labels.specs.Names.{same_name}
 use Rattle.flow_policy.specs.declared.policy.Channel.{Channel}
 use Rattle.flow_policy.specs.Policies.{Tables, channel_named}
 use Rattle.flow_policy.specs.Inputs.{Given}
-use Rattle.js_shell.specs.declared.script.Term.{Term}
-use Rattle.js_shell.specs.declared.script.Term.TheVariants.{Literal, Read}
-use Rattle.js_shell.specs.declared.ending.Value.{Value}
-use Rattle.js_shell.specs.declared.ending.Leaving.{Leaving}
-use Rattle.js_shell.specs.declared.ending.ChannelRule.{ChannelRule}
-use Rattle.js_shell.specs.declared.ending.ChannelRule.TheVariants.{W11, W12}
-use Rattle.js_shell.specs.Scripts.{Statement}
-use Rattle.js_shell.specs.Runs.{Outcome, Goes, Ends, From, and_then, ◌>>=◌, sum_of, number_of_channel}
-use Rattle.js_shell.specs.Tracked.{Labelled, LabelledLine, State, run_of, start, guard, channel_label, read_channel, term, plus, sum, print, statement, statements, tracked}
-use Rattle.js_shell.proofs.Isolating.{find_position}
+use Rattle.flow_policy.proofs.ViewLaws.{named_is}
+use Rattle.flow_frames.specs.declared.kind.Kind.{Kind}
+use Rattle.flow_frames.specs.declared.kind.Kind.TheVariants as kind
+use Rattle.flow_frames.specs.declared.faults.Rule.{Rule}
+use Rattle.flow_frames.specs.declared.faults.Rule.TheVariants.{W1, W9, W11, W12}
+use Rattle.js_number.specs.declared.primitive.Primitive.{Primitive}
+use Rattle.js_number.specs.declared.primitive.Primitive.TheVariants as prims
+use Rattle.js_values.specs.declared.value.Value.{Value}
+use Rattle.js_values.specs.declared.value.Value.TheVariants as value
+use Rattle.js_values.specs.Records.{Binding}
+use Rattle.js_ast.specs.Trees.{Statements}
+use Rattle.es_meaning.specs.Outcomes as es
+use Rattle.es_meaning.specs.Outcomes.{left, out_of_turns, Outcome, Goes, Jumps, Ends, ret, and_then, ◌>>=◌}
+use Rattle.es_meaning.specs.Environments.{Env, with_around}
+use Rattle.es_meaning.specs.Operations.{Ty, One, Res, Direct, read, print, lbl}
+use Rattle.es_meaning.specs.Operations.{Value as a_value}
+use Rattle.es_meaning.specs.Operators.{is_object, truth, converts_beside, unary_of, binary_of, not_built}
+use Rattle.es_meaning.specs.Evaluation.{program_step}
+use Rattle.es_meaning.specs.Start.{ErrorKind}
+use Rattle.es_meaning.specs.Plain.{others, choose, resolved, binding_at, outermost_env, channel_of, channel_name, name_at, number_of_channel, origins_of}
+use Rattle.es_meaning.proofs.Link.{Rel, Link, program_linked}
+use Rattle.flow_meaning.specs.Scopes.{Val, LabelledLine, Halt, as_plain, State, Jump, L, guard, under, raise, jump_to, jump, cut_to, pushed_on, caught, Left, popped, scope, settled, fork, round_kind, round, again}
+use Rattle.flow_meaning.specs.Tracked.{ends, with_error, throw_error, given, unless_object, seen, bound, bound_or_undefined, assigned, assigned_to, put_at, spend, argument, labels_of, read_channel, print_value, print_channel, label_by, direct, labelled, timed, start, run_of, tracked_run}
+use Rattle.low_equal.specs.Runs.{state_of}
+
+-- ---- names of output channels
 
 -- the name is that of an output channel
 abbrev pub is_output : Tables → List ℕ → Bool
 is_output tables name = is_some (channel_named name tables.outputs)
 
--- what a further line on an output channel keeps of the lines, a run keeps
-module _ (tables : Tables) (P : List LabelledLine → Type 0) (more : (lines : List LabelledLine) (line : LabelledLine) → P lines → is_output tables line.channel ≡ true → P (lines ++ line ∷ [])) where
-  abbrev Keeps : {X : Type 0} → Outcome X State → Type 0
-  Keeps (Goes x s) = P s.lines
-  Keeps (Ends ending s) = P s.lines
+-- the first element that passes
+find_first : {X : Type 0} (p : X → Bool) (xs : List X) (i : ℕ) (x : X) → slice_get xs i ≡ Some x → p x ≡ true → ((k : ℕ) → k < i → p (get_or xs k x) ≡ false) → find p xs ≡ Some x
+find_first p [] i x at passes before = absurd cc
+find_first p (y ∷ xs) zero x at passes before =
+    let same : y ≡ x = cc in
+    let yes : p y ≡ true = rw same passes in
+    rw yes (ap Some same)
+find_first p (y ∷ xs) (suc i) x at passes before =
+    let fails : p y ≡ false = before 0 (omega arith) in
+    rw fails (find_first p xs i x at passes (λ k lt. before (suc k) (omega arith)))
 
-  keeps_then : {X Y : Type 0} (m : Outcome X State) (f : X → From State Y) → Keeps m → ((x : X) (s : State) → P s.lines → Keeps (f x s)) → Keeps (and_then m f)
-  keeps_then (Goes x s) f p k = k x s p
-  keeps_then (Ends ending s) f p k = p
+-- a place that is found lies within the list
+position_within : {X : Type 0} (p : X → Bool) (xs : List X) (i : ℕ) → position p xs ≡ Some i → i < length xs
+position_within p [] i e = absurd cc
+position_within p (y ∷ xs) i e = (position-Some p (y ∷ xs) i y e).0
 
-  keeps_guarded : {X : Type 0} (b : Bool) (rule : ChannelRule) (need have : Label) (f : From State X) (s : State) → P s.lines → Keeps (f s) → Keeps (guard b rule need have f s)
-  unfolding guard
-  keeps_guarded true rule need have f s p q = q
-  keeps_guarded false rule need have f s p q = p
+-- the element at the first place that passes is the first that does
+find_position : {X : Type 0} (p : X → Bool) (xs : List X) (i : ℕ) → position p xs ≡ Some i → (x : X) × (slice_get xs i ≡ Some x) × (find p xs ≡ Some x) × (p x ≡ true)
+find_position p xs i e =
+    elim ((slice_get_cases xs i).1) [
+      | inl here ↦
+          let found = position-Some p xs i here.0 e in
+          let passes : p here.0 ≡ true = subst (λ y. p y ≡ true) here.3 found.1 in
+          (here.0, here.2, find_first p xs i here.0 here.2 passes found.2, passes)
+      | inr past ↦
+          let within_list : i < length xs = position_within p xs i e in
+          absurd (omega arith)
+    ]
 
-  module _ (given : Given) where
-    read_keeps : (o : Option ℕ) (s : State) → P s.lines → Keeps (read_channel tables given o s)
-    unfolding read_channel
-    read_keeps None s p = p
-    read_keeps (Some i) s p = keeps_guarded _ W11 _ (channel_label tables.inputs i) _ s p p
+-- a number that is found is that of an output channel
+number_there : (tables : Tables) (name : List ℕ) (i : ℕ) → number_of_channel name tables.outputs ≡ Some i → is_output tables (channel_name tables.outputs i) ≡ true
+unfolding channel_named
+number_there tables name i e =
+    let found = find_position (λ (c : Channel). same_name c.name name) tables.outputs i e in
+    let named : found.0.name ≡ name = (named_is name tables.outputs found.0 found.2).0 in
+    let called : channel_name tables.outputs i ≡ name = ap name_at found.1 ∙ named in
+    ap (is_output tables) called ∙ ap (λ (o : Option Channel). is_some o) found.2
 
-    term_keeps : (x : Term) (s : State) → P s.lines → Keeps (term tables given x s)
-    unfolding term
-    term_keeps (Literal text) s p = p
-    term_keeps (Read name) s p = read_keeps (number_of_channel name tables.inputs) s p
+channel_there : (tables : Tables) (v : Value) (i : ℕ) → channel_of tables.outputs v ≡ Some i → is_output tables (channel_name tables.outputs i) ≡ true
+channel_there tables (value.Object o) i e = absurd cc
+channel_there tables (value.Primitive prims.Undefined) i e = absurd cc
+channel_there tables (value.Primitive prims.Null) i e = absurd cc
+channel_there tables (value.Primitive (prims.Bool b)) i e = absurd cc
+channel_there tables (value.Primitive (prims.Num n)) i e = absurd cc
+channel_there tables (value.Primitive (prims.Str name)) i e = number_there tables name i e
 
-    plus_keeps : (l : Label) (r : Result Value Leaving) (s : State) → P s.lines → Keeps (plus tables given l r s)
-    unfolding plus
-    plus_keeps l (Ok value) s p = p
-    plus_keeps l (Err name) s p = p
-
-    sum_keeps : (terms : List Term) (v : Labelled) (s : State) → P s.lines → Keeps (sum tables given v terms s)
-    unfolding sum
-    sum_keeps [] v s p = p
-    sum_keeps (next ∷ terms) v s p =
-        keeps_then (term tables given next s) (λ other. plus tables given (union v.label other.label) (sum_of v.value other.value) >>= λ both. sum tables given both terms) (term_keeps next s p)
-        (λ other t q. keeps_then (plus tables given (union v.label other.label) (sum_of v.value other.value) t) (λ both. sum tables given both terms) (plus_keeps _ (sum_of v.value other.value) t q) (λ both u r. sum_keeps terms both u r))
-
-    print_keeps : (name : List ℕ) (o : Option ℕ) → ((i : ℕ) → o ≡ Some i → is_output tables name ≡ true) → (v : Labelled) (s : State) → P s.lines → Keeps (print tables given name o v s)
-    unfolding print
-    print_keeps name None there v s p = p
-    print_keeps name (Some i) there v s p = keeps_guarded _ W12 _ (channel_label tables.outputs i) _ s p (more s.lines _ p (there i refl))
-
-    is_there : (name : List ℕ) (i : ℕ) → number_of_channel name tables.outputs ≡ Some i → is_output tables name ≡ true
-    unfolding number_of_channel channel_named
-    is_there name i e = let found = find_position (λ (c : Channel). same_name c.name name) tables.outputs i e in ap (λ (o : Option Channel). is_some o) found.2
-
-    statement_keeps : (x : Statement) (s : State) → P s.lines → Keeps (statement tables given x s)
-    unfolding statement
-    statement_keeps x s p =
-        let channel = number_of_channel x.channel tables.outputs in
-        keeps_then (term tables given x.first s) (λ first. sum tables given first x.more >>= λ value. print tables given x.channel channel value) (term_keeps x.first s p)
-        (λ first t q. keeps_then (sum tables given first x.more t) (λ value. print tables given x.channel channel value) (sum_keeps x.more first t q)
-        (λ value u r. print_keeps x.channel channel (is_there x.channel) value u r))
-
-    statements_keep : (script : List Statement) (s : State) → P s.lines → Keeps (statements tables given script s)
-    unfolding statements
-    statements_keep [] s p = p
-    statements_keep (x ∷ more) s p = keeps_then (statement tables given x s) (λ _. statements tables given more) (statement_keeps x s p) (λ _ t q. statements_keep more t q)
-
-    run_named : (m : Outcome (Unit {0}) State) → Keeps m → P (run_of m).lines
-    run_named (Goes u s) p = p
-    run_named (Ends ending s) p = p
-
-    pub run_kept : (script : List Statement) (s : State) → P s.lines → P (run_of (statements tables given script s)).lines
-    run_kept script s p = run_named (statements tables given script s) (statements_keep script s p)
+-- ---- lines
 
 -- each line is on an output channel
 abbrev pub AreNamed : Tables → List LabelledLine → Type 0
-AreNamed tables lines = list_all (λ line. is_output tables line.channel) lines ≡ true
+AreNamed tables lines = list_all (λ l. is_output tables l.line.channel) lines ≡ true
 
-named_more : (tables : Tables) (lines : List LabelledLine) (line : LabelledLine) → AreNamed tables lines → is_output tables line.channel ≡ true → AreNamed tables (lines ++ line ∷ [])
-named_more tables [] line p q = rw q refl
-named_more tables (l ∷ lines) line p q = let both = and_parts (is_output tables l.channel) _ p in and_from (is_output tables l.channel) _ both.0 (named_more tables lines line both.1 q)
+named_more : (tables : Tables) (lines : List LabelledLine) (l : LabelledLine) → AreNamed tables lines → is_output tables l.line.channel ≡ true → AreNamed tables (lines ++ l ∷ [])
+named_more tables [] l p q = rw q refl
+named_more tables (k ∷ lines) l p q = let both = and_parts (is_output tables k.line.channel) _ p in and_from (is_output tables k.line.channel) _ both.0 (named_more tables lines l both.1 q)
+
+module _ (tables : Tables) (inputs : Given) where
+  abbrev Keeps : {X : Type 0} → Outcome Halt Jump X State → Type 0
+  Keeps o = AreNamed tables (state_of o).lines
+
+  -- from each state with such lines
+  record Keeping {X : Type 0} (m : L X) : Type 0 where
+    keeps : (s : State) → AreNamed tables s.lines → Keeps (m s)
+
+  -- what follows an outcome
+  keeps_then : {X Y : Type 0} (o : Outcome Halt Jump X State) (f : X → L Y) → Keeps o → ((a : X) → Keeping (f a)) → Keeps (and_then o f)
+  keeps_then (Goes a s) f h k = (k a).keeps s h
+  keeps_then (Jumps j s) f h k = h
+  keeps_then (Ends halt s) f h k = h
+
+  -- one computation, and then the next
+  bind_keeping : {X Y : Type 0} {m : L X} (f : X → L Y) → Keeping m → ((a : X) → Keeping (f a)) → Keeping (m >>= f)
+  bind_keeping {m = m} f l k = record { keeps = λ s h. keeps_then (m s) f (l.keeps s h) k }
+
+  -- a result
+  ret_keeping : {X : Type 0} (a : X) → Keeping {X = X} (ret a)
+  ret_keeping a = record { keeps = λ s h. h }
+
+  -- one of two
+  choose_keeping : {X : Type 0} (b : Bool) {m n : L X} → Keeping m → Keeping n → Keeping (choose b m n)
+  choose_keeping true h k = h
+  choose_keeping false h k = k
+
+  -- an end that is no stop
+  halts_keeping : {X : Type 0} (halt : es.Halt) → Keeping {X = X} (ends halt)
+  halts_keeping halt = record { keeps = λ s h. h }
+
+  -- where a rule is asked
+  guard_keeps : {X : Type 0} (b : Bool) (rule : Rule) (need have : Label) (m : L X) (s : State) → AreNamed tables s.lines → Keeps (m s) → Keeps (guard b rule need have m s)
+  unfolding guard
+  guard_keeps true rule need have m s h k = k
+  guard_keeps false rule need have m s h k = h
+
+  -- a jump
+  jump_keeps : (X : Type 0) (cause : Label) (j : Jump) (s : State) → AreNamed tables s.lines → Keeps (jump {X = X} cause j s)
+  unfolding jump jump_to
+  jump_keeps X cause j s h = guard_keeps _ W9 _ _ _ s h h
+
+  -- an exception of the engine
+  throw_keeps : (X : Type 0) (k : ErrorKind) (cause : Label) (s : State) → AreNamed tables s.lines → Keeps (throw_error {X = X} k cause s)
+  unfolding throw_error
+  throw_keeps X k cause s h = jump_keeps X cause _ (with_error k s) h
+
+  -- ---- scopes
+
+  -- a jump at the end of a frame
+  reached_keeps : {X : Type 0} (b : Bool) (l : Left X) (j : Jump) (s : State) → AreNamed tables s.lines → Keeps (choose b (Goes l s) (Jumps j s))
+  reached_keeps true l j s h = h
+  reached_keeps false l j s h = h
+
+  -- the frame at a depth is popped
+  popped_keeps : {X : Type 0} (depth : ℕ) (o : Outcome Halt Jump X State) → Keeps o → Keeps (popped depth o)
+  unfolding popped
+  popped_keeps depth (Goes a s) h = h
+  popped_keeps depth (Jumps j s) h = reached_keeps (nat_lt depth (length s.frames)) _ j (cut_to depth s) h
+  popped_keeps depth (Ends halt s) h = h
+
+  -- what is done in a frame of its own
+  scope_keeping : {X : Type 0} (k : Kind) (label : Label) (m : ℕ → L X) → ((depth : ℕ) → Keeping (m depth)) → Keeping (scope k label m)
+  scope_keeping k label m l = record { keeps = λ s h. popped_keeps (length s.frames) (m (length s.frames) (pushed_on k label s)) ((l (length s.frames)).keeps (pushed_on k label s) h) }
+
+  -- a branch
+  fork_keeping : (t : Ty) (v : Val) {m n : L (Res Val t)} → Keeping m → Keeping n → Keeping (fork t v m n)
+  fork_keeping t v {m} {n} h k = bind_keeping _ (scope_keeping kind.Branch v.label (λ depth. choose (truth v.value) m n) (λ depth. choose_keeping (truth v.value) h k)) (λ l. ret_keeping (settled t l))
+
+  -- a loop or a turn
+  round_keeping : (turn : Bool) (labels : List (Option (List ℕ))) (e : Env ℕ) (k : Env ℕ → L (Unit {0})) → ((d : Env ℕ) → Keeping (k d)) → Keeping (round turn labels e k)
+  round_keeping turn labels e k h = bind_keeping _ (scope_keeping (round_kind turn) bottom (λ depth. k (with_around turn labels depth e)) (λ depth. h (with_around turn labels depth e))) (λ l. ret_keeping tt)
+
+  -- the innermost frame is raised
+  raise_keeping : (label : Label) → Keeping (raise label)
+  unfolding raise
+  raise_keeping label = record { keeps = λ s h. h }
+
+  -- by a condition
+  again_keeping : (v : Val) {m n : L (Unit {0})} → Keeping m → Keeping n → Keeping (again v m n)
+  again_keeping v h k = bind_keeping _ (raise_keeping v.label) (λ u. choose_keeping (truth v.value) h k)
+
+  -- ---- acts
+
+  -- an operator's value
+  given_keeping : (label : Label) (r : Result Primitive (List ℕ)) → Keeping (given label r)
+  unfolding given
+  given_keeping label (Ok v) = record { keeps = λ s h. h }
+  given_keeping label (Err name) = record { keeps = λ s h. h }
+
+  -- a value that isn't to be converted
+  unless_keeping : (b : Bool) (v : Val) → Keeping (unless_object b v)
+  unfolding unless_object
+  unless_keeping true v = record { keeps = λ s h. h }
+  unless_keeping false v = record { keeps = λ s h. h }
+
+  -- the value of a binding
+  bound_keeps : (o : Option (Binding Val)) (s : State) → AreNamed tables s.lines → Keeps (bound o s)
+  unfolding bound
+  bound_keeps (Some b) s h = h
+  bound_keeps None s h = throw_keeps _ _ _ s h
+
+  -- or undefined
+  bound_or_undefined_keeps : (o : Option (Binding Val)) (s : State) → AreNamed tables s.lines → Keeps (bound_or_undefined o s)
+  unfolding bound_or_undefined
+  bound_or_undefined_keeps (Some b) s h = h
+  bound_or_undefined_keeps None s h = h
+
+  -- a value for a binding
+  assigned_keeps : (mutable : Bool) (have : Label) (name : List ℕ) (i : ℕ) (v : Val) (s : State) → AreNamed tables s.lines → Keeps (assigned mutable have name i v s)
+  unfolding assigned
+  assigned_keeps true have name i v s h = guard_keeps _ W1 _ have _ s h h
+  assigned_keeps false have name i v s h = throw_keeps _ _ _ s h
+
+  -- or for what may be one
+  assigned_to_keeps : (o : Option (Binding Val)) (name : List ℕ) (i : ℕ) (v : Val) (s : State) → AreNamed tables s.lines → Keeps (assigned_to o name i v s)
+  unfolding assigned_to
+  assigned_to_keeps (Some b) name i v s h = assigned_keeps b.mutable b.value.label name i v s h
+  assigned_to_keeps None name i v s h = throw_keeps _ _ _ s h
+
+  -- or for a name
+  put_keeping : (place : Option ℕ) (name : List ℕ) (v : Val) → Keeping (put_at place name v)
+  unfolding put_at
+  put_keeping None name v = record { keeps = λ s h. throw_keeps _ _ _ s h }
+  put_keeping (Some i) name v = record { keeps = λ s h. assigned_to_keeps (binding_at s.records (Some i) name) name i v s h }
+
+  -- a turn is spent
+  spend_keeps : (n : ℕ) (s : State) → AreNamed tables s.lines → Keeps (spend n s)
+  unfolding spend
+  spend_keeps zero s h = h
+  spend_keeps (suc n) s h = h
+
+  -- ---- the functions of the product
+
+  -- a line is read
+  read_keeping : (i : Option ℕ) (name : Label) → Keeping (read_channel tables inputs i name)
+  unfolding read_channel
+  read_keeping None name = halts_keeping _
+  read_keeping (Some i) name = record { keeps = λ s h. guard_keeps _ W11 _ _ _ s h h }
+
+  -- a line is printed
+  print_value_keeping : (i : ℕ) (label : Label) (v : Value) → is_output tables (channel_name tables.outputs i) ≡ true → Keeping (print_value tables inputs i label v)
+  unfolding print_value
+  print_value_keeping i label (value.Object o) there = record { keeps = λ s h. h }
+  print_value_keeping i label (value.Primitive v) there = record { keeps = λ s h. guard_keeps _ W12 _ _ _ s h (named_more tables s.lines _ h there) }
+
+  -- on a channel that there may be
+  print_keeping : (o : Option ℕ) (name : Label) (v : Val) → ((i : ℕ) → o ≡ Some i → is_output tables (channel_name tables.outputs i) ≡ true) → Keeping (print_channel tables inputs o name v)
+  unfolding print_channel
+  print_keeping None name v there = halts_keeping _
+  print_keeping (Some i) name v there = record { keeps = λ s h. (print_value_keeping i (union name v.label) v.value (there i refl)).keeps s h }
+
+  -- origins are joined
+  label_keeping : (os : Option (List ℕ)) (names : Label) (v : Val) → Keeping (label_by tables inputs os names v)
+  unfolding label_by
+  label_keeping None names v = halts_keeping _
+  label_keeping (Some os) names v = record { keeps = λ s h. h }
+
+  -- a function of the product
+  direct_keeping : (f : Direct) (vs : List Val) → Keeping (direct tables inputs f vs)
+  unfolding direct
+  direct_keeping read vs = read_keeping _ _
+  direct_keeping print vs = print_keeping _ _ _ (channel_there tables (argument 0 vs).value)
+  direct_keeping lbl vs = label_keeping _ _ _
+
+  -- ---- the operations
+
+  -- any result
+  any_result : (t : Ty) (a : Res Val t) → Rel (λ (w : Unit {0}) (v u : Val). Unit {0}) t tt a a
+  any_result One a = tt
+  any_result a_value a = tt
+
+  -- linked with themselves: what is said of the first of two alone
+  naming : Link (labelled tables inputs) (labelled tables inputs)
+  naming = record {
+    W = Unit {0};
+    Le = λ v w. Unit {0};
+    RV = λ w v u. Unit {0};
+    RN = λ w n m. Unit {0};
+    RP = λ w i j. Unit {0};
+    RE = λ w e d. Unit {0};
+    Lift = λ t w m n. Keeping m;
+    le_refl = λ w. tt;
+    le_trans = λ p q. tt;
+    more_v = λ p r. tt;
+    more_n = λ p r. tt;
+    more_p = λ p r. tt;
+    more_e = λ p r. tt;
+    place_of = λ r. tt;
+    ret_one = λ w. ret_keeping tt;
+    ret_value = λ {a = a} r. ret_keeping a;
+    bind = λ t u f g l h. bind_keeping f l (λ a. h tt tt a a (any_result t a));
+    literal = λ w v. tt;
+    unary = λ o {v = v} r. record { keeps = λ s h. (given_keeping v.label (unary_of o (seen s.heap v.value))).keeps s h };
+    binary = λ o {v = v} {u = u} r q. given_keeping (union v.label u.label) (binary_of o v.value u.value);
+    primitive = λ hint {v = v} r. unless_keeping (is_object v.value) v;
+    comparable = λ {v = v} {u = u} r q. unless_keeping (converts_beside v.value u.value) v;
+    direct = λ f {vs = vs} rs. direct_keeping f vs;
+    unbuilt = λ t w. halts_keeping (left not_built);
+    resolve = λ t {i = i} x f g p h. record { keeps = λ s k. (h tt tt (resolved s.records i x) (resolved s.records i x) tt).keeps s k };
+    get_name = λ {n = n} f g r h. record { keeps = λ s k. bound_keeps (binding_at s.records n.place n.name) s k };
+    typeof_name = λ {n = n} f g r h. record { keeps = λ s k. bound_or_undefined_keeps (binding_at s.records n.place n.name) s k };
+    put_name = λ {n = n} {v = v} f g r q h. put_keeping n.place n.name v;
+    fork = λ t {v = v} r h k. fork_keeping t v (h tt tt) (k tt tt);
+    round = λ turn labels {e = e} f g r h. round_keeping turn labels e f (λ d. h tt d d tt);
+    again = λ {v = v} r h k. again_keeping v h k;
+  }
+
+  -- a program
+  program_keeping : (n : ℕ) (program : Statements) → Keeping (program_step (timed tables inputs) n program (outermost_env 0))
+  unfolding naming
+  program_keeping n program = program_linked (timed tables inputs) (timed tables inputs) naming (λ w. record { keeps = λ s h. spend_keeps s.turns s h }) (λ t w. halts_keeping out_of_turns) n program {w = tt} {e = outermost_env 0} {d = outermost_env 0} tt
+
+run_lines : (o : Outcome Halt Jump (Unit {0}) State) → (run_of o).lines ≡ (state_of o).lines
+run_lines (Goes u s) = refl
+run_lines (Jumps j s) = refl
+run_lines (Ends halt s) = refl
 
 -- each line of a run is on an output channel
-pub named : (tables : Tables) (given : Given) (script : List Statement) → AreNamed tables (tracked script tables given).lines
-unfolding tracked
-named tables given script = run_kept tables (AreNamed tables) (named_more tables) given script (start tables) refl
-
--- the lines begin with the front
-abbrev pub BeginsWith : List LabelledLine → List LabelledLine → Type 0
-BeginsWith front lines = (rest : List LabelledLine) × (lines ≡ front ++ rest)
-
-begins_more : (front lines : List LabelledLine) (line : LabelledLine) → BeginsWith front lines → BeginsWith front (lines ++ line ∷ [])
-begins_more front lines line p = (p.0 ++ line ∷ [], ap (λ (w : List LabelledLine). w ++ line ∷ []) p.1 ∙ append_assoc front p.0 (line ∷ []))
-
--- a run goes on from the lines that were printed
-pub run_begins : (tables : Tables) (given : Given) (script : List Statement) (s : State) → BeginsWith s.lines (run_of (statements tables given script s)).lines
-run_begins tables given script s = run_kept tables (BeginsWith s.lines) (λ lines line p _. begins_more s.lines lines line p) given script s ([], sym (append-nil s.lines))
+pub named : (tables : Tables) (inputs : Given) (program : Statements) (turns : ℕ) → AreNamed tables (tracked_run tables inputs program turns).lines
+unfolding tracked_run
+named tables inputs program turns =
+    subst (AreNamed tables) (sym (run_lines (program_step (timed tables inputs) turns program (outermost_env 0) (start tables inputs program turns)))) ((program_keeping tables inputs turns program).keeps (start tables inputs program turns) refl)

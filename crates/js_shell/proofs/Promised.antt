@@ -6,22 +6,23 @@ use Rattle.origin_labels.specs.Label.{Label}
 use Rattle.flow_io.specs.Files.{Files}
 use Rattle.flow_io.specs.Sinks.{IsFrontOf, Appends, AppendsFront}
 use Rattle.flow_policy.specs.Observed.{view_of}
+use Rattle.es_meaning.specs.Outcomes as es
+use Rattle.es_meaning.specs.Outcomes.{Ending, done, threw, halted, left, out_of_turns}
+use Rattle.flow_frames.specs.declared.faults.Rule.{Rule}
+use Rattle.flow_meaning.specs.Scopes.{Halt, as_plain, stopped}
+use Rattle.flow_meaning.specs.Written.{written, lines_bytes, report}
+use Rattle.low_equal.specs.Erasure.{IsErasing, Erases, goes_on, stops, erased_line, monitored}
+use Rattle.low_equal.specs.Laws as low
+use Rattle.low_equal.specs.Laws.{IsFinishedBy}
 use Rattle.js_shell.specs.declared.status.Status.{Status}
 use Rattle.js_shell.specs.declared.status.Status.TheVariants as status
-use Rattle.js_shell.specs.declared.ending.Ending.{Ending}
-use Rattle.js_shell.specs.declared.ending.Ending.TheVariants.{Done, Left, Stopped}
-use Rattle.js_shell.specs.declared.ending.Leaving.{Leaving}
-use Rattle.js_shell.specs.declared.ending.ChannelRule.{ChannelRule}
-use Rattle.js_shell.specs.Plain as plain
-use Rattle.js_shell.specs.Written.{written, erased, erased_line, lines_bytes, report}
-use Rattle.js_shell.specs.Replies.{Task, IsAsked, IsChecked, Reply, IsReply, refuses_words, refuses_script, accepts_script, accepted_reply, refuses_policy, refuses_input, runs, run_reply, plain_run, tracked_run, status_of, usage_reply, source_reply, policy_reply, input_reply, read_fault_report, ReachesAbsent}
-use Rattle.js_shell.specs.Promises.{Erases, goes_on, stops, Told, UnlessEarly, IfEarly, Isolates, IsPlain, IsStop, Stops}
-use Rattle.js_shell.specs.Causes.{Exactly, IsSource, IsBadPolicy, IsDone, IsStopped, IsLeft, IsEarlyFront}
+use Rattle.js_shell.specs.Replies.{Task, IsAsked, IsChecked, Reply, IsReply, refuses_words, refuses_script, accepts_script, accepted_reply, refuses_policy, refuses_input, runs, run_reply, plain_run, tracked_run, default_turns, status_of, usage_reply, source_reply, policy_reply, input_reply, read_fault_report, ReachesAbsent}
+use Rattle.js_shell.specs.Promises.{Told, UnlessEarly, IfEarly, IsFinished, Isolates, IsPlain, IsStop, Stops}
+use Rattle.js_shell.specs.Causes.{Exactly, IsSource, IsBadPolicy, IsDone, IsThrew, IsStopped, IsLeft, IsOutOfTurns, IsEarlyFront}
 use Rattle.js_shell.specs.Accepting.{OfFiles, Answers, replies, cuts_off, unread, unread_cut, no_memory, is_reply_status, is_cut_status}
 use Rattle.js_shell.proofs.Appending.{front_whole, front_nothing}
-use Rattle.js_shell.proofs.Erasing.{erasure}
-use Rattle.js_shell.proofs.Meanings.{isolation, never_stops}
-use Rattle.js_shell.proofs.PolicyFormed.{policy_formed, given_formed}
+use Rattle.js_shell.proofs.Isolating.{isolation}
+use Rattle.js_shell.proofs.PolicyFormed.{policy_formed}
 use Rattle.js_shell.proofs.Replying.{replies_once, replies_or_absent}
 
 -- ---- statuses
@@ -31,11 +32,13 @@ unless status.ReadFault P p = tt
 unless status.WriteFault P p = tt
 unless status.OutOfMemory P p = tt
 unless status.Done P p = p
+unless status.Threw P p = p
 unless status.Usage P p = p
 unless status.Source P p = p
 unless status.Policy P p = p
 unless status.Stopped P p = p
 unless status.Left P p = p
+unless status.OutOfTurns P p = p
 
 -- of a call that was cut off nothing is said
 cut_unless : (s : Status) (P : Type 0) → is_cut_status s ≡ true → UnlessEarly s P
@@ -43,33 +46,39 @@ cut_unless status.WriteFault P e = tt
 cut_unless status.OutOfMemory P e = tt
 cut_unless status.ReadFault P e = tt
 cut_unless status.Done P e = absurd (false≢true e)
+cut_unless status.Threw P e = absurd (false≢true e)
 cut_unless status.Usage P e = absurd (false≢true e)
 cut_unless status.Source P e = absurd (false≢true e)
 cut_unless status.Policy P e = absurd (false≢true e)
 cut_unless status.Stopped P e = absurd (false≢true e)
 cut_unless status.Left P e = absurd (false≢true e)
+cut_unless status.OutOfTurns P e = absurd (false≢true e)
 
 reply_early : (s : Status) (P : Type 0) → is_reply_status s ≡ true → IfEarly s P
 reply_early status.ReadFault P e = absurd (false≢true e)
 reply_early status.WriteFault P e = absurd (false≢true e)
 reply_early status.OutOfMemory P e = absurd (false≢true e)
 reply_early status.Done P e = tt
+reply_early status.Threw P e = tt
 reply_early status.Usage P e = tt
 reply_early status.Source P e = tt
 reply_early status.Policy P e = tt
 reply_early status.Stopped P e = tt
 reply_early status.Left P e = tt
+reply_early status.OutOfTurns P e = tt
 
 if_early : (s : Status) (P : Type 0) → P → IfEarly s P
 if_early status.ReadFault P p = p
 if_early status.WriteFault P p = p
 if_early status.OutOfMemory P p = p
 if_early status.Done P p = tt
+if_early status.Threw P p = tt
 if_early status.Usage P p = tt
 if_early status.Source P p = tt
 if_early status.Policy P p = tt
 if_early status.Stopped P p = tt
 if_early status.Left P p = tt
+if_early status.OutOfTurns P p = tt
 
 cut_isnt : (s t : Status) → s ≡ t → is_cut_status s ≡ true → is_cut_status t ≡ false → ⊥
 cut_isnt s t e cut not_cut = false≢true (sym not_cut ∙ sym (ap is_cut_status e) ∙ cut)
@@ -140,7 +149,7 @@ module _ (words : List (List ℕ)) (StoreFailed : Type 0) (result : Status) wher
 
     -- a call that answers what a task's run ends with put what the run writes
     ran : (expected : Status) → is_cut_status expected ≡ false → is_reply_status expected ≡ true → Happens words files StoreFailed result out → result ≡ expected → (task : Task) → IsAsked words files task
-        → (out ≡ written task.tables (erased (tracked_run task))) × (status_of (tracked_run task).ending ≡ expected)
+        → (out ≡ written task.tables (tracked_run task)) × (status_of (tracked_run task).ending ≡ expected)
     ran expected no_cut replies_so (replied reply is r e p) f task asked =
         let same : reply ≡ run_reply task = replies_once words files reply (run_reply task) is (runs task asked refl) in
         (p ∙ ap (λ (x : Reply). x.bytes) same, sym (ap (λ (x : Reply). x.status) same) ∙ sym e ∙ f)
@@ -151,75 +160,154 @@ module _ (words : List (List ℕ)) (StoreFailed : Type 0) (result : Status) wher
 
 -- ---- endings
 
-is_done : (ending : Ending) → status_of ending ≡ status.Done → ending ≡ Done
-is_done Done e = refl
-is_done (Left name) e = cc
-is_done (Stopped rule need have) e = cc
+is_done : (e : Ending Halt) → status_of e ≡ status.Done → e ≡ done
+is_done done e = refl
+is_done (threw shown) e = cc
+is_done (halted (as_plain (left name))) e = cc
+is_done (halted (as_plain out_of_turns)) e = cc
+is_done (halted (stopped rule need have)) e = cc
 
-is_left : (ending : Ending) → status_of ending ≡ status.Left → (name : Leaving) × (ending ≡ Left name)
-is_left Done e = cc
-is_left (Left name) e = (name, refl)
-is_left (Stopped rule need have) e = cc
+is_threw : (e : Ending Halt) → status_of e ≡ status.Threw → (shown : List ℕ) × (e ≡ threw shown)
+is_threw done e = absurd cc
+is_threw (threw shown) e = (shown, refl)
+is_threw (halted (as_plain (left name))) e = absurd cc
+is_threw (halted (as_plain out_of_turns)) e = absurd cc
+is_threw (halted (stopped rule need have)) e = absurd cc
 
-is_stopped : (ending : Ending) → status_of ending ≡ status.Stopped → (rule : ChannelRule) × (need : Label) × (have : Label) × (ending ≡ Stopped rule need have)
-is_stopped Done e = cc
-is_stopped (Left name) e = cc
-is_stopped (Stopped rule need have) e = (rule, need, have, refl)
+is_left : (e : Ending Halt) → status_of e ≡ status.Left → (name : List ℕ) × (e ≡ halted (as_plain (left name)))
+is_left done e = absurd cc
+is_left (threw shown) e = absurd cc
+is_left (halted (as_plain (left name))) e = (name, refl)
+is_left (halted (as_plain out_of_turns)) e = absurd cc
+is_left (halted (stopped rule need have)) e = absurd cc
 
-done_isnt_stopped : (e : Ending) (rule : ChannelRule) (need have : Label) → e ≡ Done → e ≡ Stopped rule need have → ⊥
-done_isnt_stopped e rule need have p q = cc
+is_out_of_turns : (e : Ending Halt) → status_of e ≡ status.OutOfTurns → e ≡ halted (as_plain out_of_turns)
+is_out_of_turns done e = cc
+is_out_of_turns (threw shown) e = cc
+is_out_of_turns (halted (as_plain (left name))) e = cc
+is_out_of_turns (halted (as_plain out_of_turns)) e = refl
+is_out_of_turns (halted (stopped rule need have)) e = cc
 
-left_isnt_stopped : (e : Ending) (name : Leaving) (rule : ChannelRule) (need have : Label) → e ≡ Left name → e ≡ Stopped rule need have → ⊥
-left_isnt_stopped e name rule need have p q = cc
+is_stopped : (e : Ending Halt) → status_of e ≡ status.Stopped → (rule : Rule) × (need : Label) × (have : Label) × (e ≡ halted (stopped rule need have))
+is_stopped done e = absurd cc
+is_stopped (threw shown) e = absurd cc
+is_stopped (halted (as_plain (left name))) e = absurd cc
+is_stopped (halted (as_plain out_of_turns)) e = absurd cc
+is_stopped (halted (stopped rule need have)) e = (rule, need, have, refl)
 
-module _ (task : Task) where
-  -- a run that isn't stopped is the plain one
-  done_erased : Erases (tracked_run task) (plain_run task) → (tracked_run task).ending ≡ Done → erased (tracked_run task) ≡ plain_run task
-  done_erased (goes_on e) d = e
-  done_erased (stops rule need have rest e broken front) d = absurd (done_isnt_stopped _ rule need have d e)
+-- the statuses of finished runs are theirs alone
+finished_by : (e : Ending Halt) (s : Status) → status_of e ≡ s → IsFinished s → IsFinishedBy e
+finished_by done s is f = tt
+finished_by (threw shown) s is f = tt
+finished_by (halted (as_plain (left name))) s is f = subst IsFinished (sym is) f
+finished_by (halted (as_plain out_of_turns)) s is f = subst IsFinished (sym is) f
+finished_by (halted (stopped rule need have)) s is f = subst IsFinished (sym is) f
 
-  left_erased : (name : Leaving) → Erases (tracked_run task) (plain_run task) → (tracked_run task).ending ≡ Left name → (plain_run task).ending ≡ Left name
-  left_erased name (goes_on e) d = sym (ap (λ (r : plain.Run). r.ending) e) ∙ d
-  left_erased name (stops rule need have rest e broken front) d = absurd (left_isnt_stopped _ name rule need have d e)
+finished_uncut : (s : Status) → IsFinished s → (is_cut_status s ≡ false) × (is_reply_status s ≡ true)
+finished_uncut status.Done f = (refl, refl)
+finished_uncut status.Threw f = (refl, refl)
+finished_uncut status.Usage f = absurd f
+finished_uncut status.Source f = absurd f
+finished_uncut status.Policy f = absurd f
+finished_uncut status.Stopped f = absurd f
+finished_uncut status.Left f = absurd f
+finished_uncut status.OutOfTurns f = absurd f
+finished_uncut status.ReadFault f = absurd f
+finished_uncut status.WriteFault f = absurd f
+finished_uncut status.OutOfMemory f = absurd f
 
-  stop_of : (out : List ℕ) → out ≡ written task.tables (erased (tracked_run task)) → (rule : ChannelRule) (need have : Label) → (tracked_run task).ending ≡ Stopped rule need have
-      → Erases (tracked_run task) (plain_run task) → IsStop task out
+-- an unlabelled run isn't stopped by a rule, and ends as the monitored one ends where that isn't either
+never_stopped : (e : Ending es.Halt) (rule : Rule) (need have : Label) → monitored e ≡ halted (stopped rule need have) → ⊥
+never_stopped done rule need have p = cc
+never_stopped (threw shown) rule need have p = cc
+never_stopped (halted halt) rule need have p = cc
+
+plain_threw : (e : Ending es.Halt) (shown : List ℕ) → monitored e ≡ threw shown → e ≡ threw shown
+plain_threw done shown p = absurd cc
+plain_threw (threw other) shown p = let same : other ≡ shown = cc in ap threw same
+plain_threw (halted halt) shown p = absurd cc
+
+plain_halted : (e : Ending es.Halt) (halt : es.Halt) → monitored e ≡ halted (as_plain halt) → e ≡ halted halt
+plain_halted done halt p = absurd cc
+plain_halted (threw shown) halt p = absurd cc
+plain_halted (halted other) halt p = let same : other ≡ halt = cc in ap halted same
+
+threw_isnt_stopped : (e : Ending Halt) (shown : List ℕ) (rule : Rule) (need have : Label) → e ≡ threw shown → e ≡ halted (stopped rule need have) → ⊥
+threw_isnt_stopped e shown rule need have p q = cc
+
+plain_isnt_stopped : (e : Ending Halt) (halt : es.Halt) (rule : Rule) (need have : Label) → e ≡ halted (as_plain halt) → e ≡ halted (stopped rule need have) → ⊥
+plain_isnt_stopped e halt rule need have p q = cc
+
+module _ (erasing : IsErasing) (task : Task) where
+  erases : Erases (tracked_run task) (plain_run task)
+  erases = erasing task.tables task.given task.program default_turns
+
+  -- a run that isn't stopped ends as the plain one
+  threw_erased : (shown : List ℕ) → (tracked_run task).ending ≡ threw shown → (plain_run task).ending ≡ threw shown
+  threw_erased shown e = by erases
+    where
+      by : Erases (tracked_run task) (plain_run task) → (plain_run task).ending ≡ threw shown
+      by (goes_on same lines) = plain_threw (plain_run task).ending shown (sym same ∙ e)
+      by (stops rule need have rest ends broken front) = absurd (threw_isnt_stopped _ shown rule need have e ends)
+
+  halted_erased : (halt : es.Halt) → (tracked_run task).ending ≡ halted (as_plain halt) → (plain_run task).ending ≡ halted halt
+  halted_erased halt e = by erases
+    where
+      by : Erases (tracked_run task) (plain_run task) → (plain_run task).ending ≡ halted halt
+      by (goes_on same lines) = plain_halted (plain_run task).ending halt (sym same ∙ e)
+      by (stops rule need have rest ends broken front) = absurd (plain_isnt_stopped _ halt rule need have e ends)
+
+  -- what a finished run writes, the plain one writes
+  plain_of : (out : List ℕ) → out ≡ written task.tables (tracked_run task) → IsFinishedBy (tracked_run task).ending
+      → IsFinishedBy (monitored (plain_run task).ending) × (out ≡ lines_bytes (plain_run task).lines ++ report task.tables (monitored (plain_run task).ending))
   unfolding written
-  stop_of out is rule need have at (goes_on e) = absurd (never_stops task.statements task.tables task.given rule need have (sym (ap (λ (r : plain.Run). r.ending) e) ∙ at))
-  stop_of out is rule need have at (stops rule' need' have' rest ends broken front) = record {
-    rule = rule';
-    need = need';
-    have = have';
-    lines = map erased_line (tracked_run task).lines;
-    rest = rest;
-    ends = ends;
-    broken = broken;
-    told = is ∙ ap (λ (e : Ending). lines_bytes (map erased_line (tracked_run task).lines) ++ report task.tables e) ends;
-    front = front;
-  }
+  plain_of out is finished = by erases
+    where
+      by : Erases (tracked_run task) (plain_run task) → IsFinishedBy (monitored (plain_run task).ending) × (out ≡ lines_bytes (plain_run task).lines ++ report task.tables (monitored (plain_run task).ending))
+      by (goes_on same lines) = (subst IsFinishedBy same finished, is ∙ (λ i. lines_bytes (sym lines i) ++ report task.tables (same i)))
+      by (stops rule need have rest ends broken front) = absurd (subst IsFinishedBy ends finished)
+
+  stop_of : (out : List ℕ) → out ≡ written task.tables (tracked_run task) → (rule : Rule) (need have : Label) → (tracked_run task).ending ≡ halted (stopped rule need have) → IsStop task out
+  unfolding written
+  stop_of out is rule need have at = by erases
+    where
+      by : Erases (tracked_run task) (plain_run task) → IsStop task out
+      by (goes_on same lines) = absurd (never_stopped (plain_run task).ending rule need have (sym same ∙ at))
+      by (stops rule' need' have' rest ends broken front) = record {
+        rule = rule';
+        need = need';
+        have = have';
+        lines = map erased_line (tracked_run task).lines;
+        rest = rest;
+        ends = ends;
+        broken = broken;
+        told = is ∙ ap (λ (e : Ending Halt). lines_bytes (map erased_line (tracked_run task).lines) ++ report task.tables e) ends;
+        front = front;
+      }
 
 module _ (words : List (List ℕ)) (StoreFailed : Type 0) (result : Status) (files : Files) (out : List ℕ) where
-  isolates : Happens words files StoreFailed result out → Isolates words result files out
-  isolates h done task asked observer other given agree other_done =
-      let is = ran words StoreFailed result files out status.Done refl refl h done task asked in
+  -- a finished call put what its task's run writes
+  finished_ran : Happens words files StoreFailed result out → IsFinished result → (task : Task) → IsAsked words files task
+      → (out ≡ written task.tables (tracked_run task)) × IsFinishedBy (tracked_run task).ending
+  finished_ran h f task asked =
+      let uncut = finished_uncut result f in
+      let is = ran words StoreFailed result files out result uncut.0 uncut.1 h refl task asked in
+      (is.0, finished_by (tracked_run task).ending result is.1 f)
+
+  isolates : low.IsIsolating → Happens words files StoreFailed result out → Isolates words result files out
+  isolates two_runs h f task asked observer other others given agree other_done =
+      let is = finished_ran h f task asked in
       let policy = policy_formed asked.policy.bytes task.tables asked.policy.stated in
-      let input = given_formed task.tables asked.input.bytes task.given asked.input.gives in
-      ap (view_of observer task.tables) is.0 ∙ isolation task.statements task.tables observer task.given other policy input given agree (is_done (tracked_run task).ending is.1) other_done
+      ap (view_of observer task.tables) is.0 ∙ isolation two_runs task.program task.tables observer task.given other default_turns others policy agree is.1 other_done
 
-  is_plain : Happens words files StoreFailed result out → IsPlain words result files out
-  unfolding written
-  is_plain h done task asked =
-      let is = ran words StoreFailed result files out status.Done refl refl h done task asked in
-      let ends = is_done (tracked_run task).ending is.1 in
-      let same = done_erased task (erasure task.statements task.tables task.given) ends in
-      let plain_ends : (plain_run task).ending ≡ Done = sym (ap (λ (r : plain.Run). r.ending) same) ∙ ends in
-      (plain_ends, is.0 ∙ ap (written task.tables) same ∙ ap (λ (e : Ending). lines_bytes (plain_run task).lines ++ report task.tables e) plain_ends)
+  is_plain : IsErasing → Happens words files StoreFailed result out → IsPlain words result files out
+  is_plain erasing h f task asked = let is = finished_ran h f task asked in plain_of erasing task out is.0 is.1
 
-  stops_so : Happens words files StoreFailed result out → Stops words result files out
-  stops_so h stopped task asked =
-      let is = ran words StoreFailed result files out status.Stopped refl refl h stopped task asked in
+  stops_so : IsErasing → Happens words files StoreFailed result out → Stops words result files out
+  stops_so erasing h s task asked =
+      let is = ran words StoreFailed result files out status.Stopped refl refl h s task asked in
       let ends = is_stopped (tracked_run task).ending is.1 in
-      stop_of task out is.0 ends.0 ends.1 ends.2 ends.3 (erasure task.statements task.tables task.given)
+      stop_of erasing task out is.0 ends.0 ends.1 ends.2 ends.3
 
 -- ---- causes
 
@@ -242,13 +330,17 @@ module _ (words : List (List ℕ)) (contents : Option Files) (StoreFailed : Type
         by (Some files) (unread_cut failed c p) = early _ _ c
         by (Some files) (no_memory e p) = early _ _ (ap is_cut_status e)
 
-no_refusal : (ending : Ending) (s : Status) → status_of ending ≡ s → s ≡ status.Source ⊎ s ≡ status.Policy → ⊥
-no_refusal Done s e (inl f) = cc
-no_refusal Done s e (inr f) = cc
-no_refusal (Left name) s e (inl f) = cc
-no_refusal (Left name) s e (inr f) = cc
-no_refusal (Stopped rule need have) s e (inl f) = cc
-no_refusal (Stopped rule need have) s e (inr f) = cc
+no_refusal : (e : Ending Halt) (s : Status) → status_of e ≡ s → s ≡ status.Source ⊎ s ≡ status.Policy → ⊥
+no_refusal done s e (inl f) = cc
+no_refusal done s e (inr f) = cc
+no_refusal (threw shown) s e (inl f) = cc
+no_refusal (threw shown) s e (inr f) = cc
+no_refusal (halted (as_plain (left name))) s e (inl f) = cc
+no_refusal (halted (as_plain (left name))) s e (inr f) = cc
+no_refusal (halted (as_plain out_of_turns)) s e (inl f) = cc
+no_refusal (halted (as_plain out_of_turns)) s e (inr f) = cc
+no_refusal (halted (stopped rule need have)) s e (inl f) = cc
+no_refusal (halted (stopped rule need have)) s e (inr f) = cc
 
 -- the status of a reply that is this one
 status_is : (reply other : Reply) (s : Status) → reply ≡ other → reply.status ≡ s → other.status ≡ s
@@ -307,21 +399,40 @@ module _ (words : List (List ℕ)) (files : Files) where
   of_run_alone reply s (inl run) d = run
   of_run_alone reply s (inr checked) d = absurd (d checked.1)
 
-  to_left : (reply : Reply) → IsReply words files reply → reply.status ≡ status.Left → IsLeft words files
-  to_left reply h e =
-      let run = of_run_alone reply status.Left (of_run reply status.Left h e (λ f. cc) (λ f. cc) (λ f. cc)) (λ f. cc) in
-      let left = is_left (tracked_run run.0).ending (status_is reply (run_reply run.0) _ run.2 e) in
-      (run.0, left.0, run.1, left.1, left_erased run.0 left.0 (erasure run.0.statements run.0.tables run.0.given) left.1)
+  module _ (erasing : IsErasing) where
+    to_threw : (reply : Reply) → IsReply words files reply → reply.status ≡ status.Threw → IsThrew words files
+    to_threw reply h e =
+        let run = of_run_alone reply status.Threw (of_run reply status.Threw h e (λ f. cc) (λ f. cc) (λ f. cc)) (λ f. cc) in
+        let ends = is_threw (tracked_run run.0).ending (status_is reply (run_reply run.0) _ run.2 e) in
+        (run.0, ends.0, run.1, ends.1, threw_erased erasing run.0 ends.0 ends.1)
+
+    to_left : (reply : Reply) → IsReply words files reply → reply.status ≡ status.Left → IsLeft words files
+    to_left reply h e =
+        let run = of_run_alone reply status.Left (of_run reply status.Left h e (λ f. cc) (λ f. cc) (λ f. cc)) (λ f. cc) in
+        let ends = is_left (tracked_run run.0).ending (status_is reply (run_reply run.0) _ run.2 e) in
+        (run.0, ends.0, run.1, ends.1, halted_erased erasing run.0 (left ends.0) ends.1)
+
+    to_out_of_turns : (reply : Reply) → IsReply words files reply → reply.status ≡ status.OutOfTurns → IsOutOfTurns words files
+    to_out_of_turns reply h e =
+        let run = of_run_alone reply status.OutOfTurns (of_run reply status.OutOfTurns h e (λ f. cc) (λ f. cc) (λ f. cc)) (λ f. cc) in
+        let ends = is_out_of_turns (tracked_run run.0).ending (status_is reply (run_reply run.0) _ run.2 e) in
+        (run.0, run.1, ends, halted_erased erasing run.0 out_of_turns ends)
+
+    to_stopped : (reply : Reply) → IsReply words files reply → reply.status ≡ status.Stopped → IsStopped words files
+    to_stopped reply h e =
+        let run = of_run_alone reply status.Stopped (of_run reply status.Stopped h e (λ f. cc) (λ f. cc) (λ f. cc)) (λ f. cc) in
+        let ends = is_stopped (tracked_run run.0).ending (status_is reply (run_reply run.0) _ run.2 e) in
+        let stop = stop_of erasing run.0 (run_reply run.0).bytes refl ends.0 ends.1 ends.2 ends.3 in
+        (run.0, stop.rule, stop.need, stop.have, run.1, stop.ends, stop.broken)
+
+  from_threw : IsThrew words files → (reply : Reply) × IsReply words files reply × (reply.status ≡ status.Threw)
+  from_threw h = (run_reply h.0, runs h.0 h.2 refl, ap status_of h.3)
 
   from_left : IsLeft words files → (reply : Reply) × IsReply words files reply × (reply.status ≡ status.Left)
   from_left h = (run_reply h.0, runs h.0 h.2 refl, ap status_of h.3)
 
-  to_stopped : (reply : Reply) → IsReply words files reply → reply.status ≡ status.Stopped → IsStopped words files
-  to_stopped reply h e =
-      let run = of_run_alone reply status.Stopped (of_run reply status.Stopped h e (λ f. cc) (λ f. cc) (λ f. cc)) (λ f. cc) in
-      let ends = is_stopped (tracked_run run.0).ending (status_is reply (run_reply run.0) _ run.2 e) in
-      let stop = stop_of run.0 (run_reply run.0).bytes refl ends.0 ends.1 ends.2 ends.3 (erasure run.0.statements run.0.tables run.0.given) in
-      (run.0, stop.rule, stop.need, stop.have, run.1, stop.ends, stop.broken)
+  from_out_of_turns : IsOutOfTurns words files → (reply : Reply) × IsReply words files reply × (reply.status ≡ status.OutOfTurns)
+  from_out_of_turns h = (run_reply h.0, runs h.0 h.1 refl, ap status_of h.2)
 
   from_stopped : IsStopped words files → (reply : Reply) × IsReply words files reply × (reply.status ≡ status.Stopped)
   from_stopped h = (run_reply h.0, runs h.0 h.4 refl, ap status_of h.5)
@@ -335,14 +446,14 @@ module _ (words : List (List ℕ)) (contents : Option Files) (StoreFailed : Type
   pub early_told : Told contents old new (λ files out. IfEarly result (IsEarlyFront words StoreFailed files out))
   early_told = tells words StoreFailed result contents old new _ (is_front words StoreFailed result) answers
 
-  pub isolation_told : Told contents old new (Isolates words result)
-  isolation_told = tells words StoreFailed result contents old new _ (isolates words StoreFailed result) answers
+  pub isolation_told : low.IsIsolating → Told contents old new (Isolates words result)
+  isolation_told two_runs = tells words StoreFailed result contents old new _ (λ files out. isolates words StoreFailed result files out two_runs) answers
 
-  pub plain_told : Told contents old new (IsPlain words result)
-  plain_told = tells words StoreFailed result contents old new _ (is_plain words StoreFailed result) answers
+  pub plain_told : IsErasing → Told contents old new (IsPlain words result)
+  plain_told erasing = tells words StoreFailed result contents old new _ (λ files out. is_plain words StoreFailed result files out erasing) answers
 
-  pub stops_told : Told contents old new (Stops words result)
-  stops_told = tells words StoreFailed result contents old new _ (stops_so words StoreFailed result) answers
+  pub stops_told : IsErasing → Told contents old new (Stops words result)
+  stops_told erasing = tells words StoreFailed result contents old new _ (λ files out. stops_so words StoreFailed result files out erasing) answers
 
   pub read_fault_told : Told contents old new (λ files out. result ≡ status.ReadFault → out ≡ read_fault_report)
   read_fault_told = tells words StoreFailed result contents old new _ (is_read_fault words StoreFailed result) answers
@@ -366,8 +477,14 @@ module _ (words : List (List ℕ)) (contents : Option Files) (StoreFailed : Type
   pub policy_exactly : OfFiles contents (λ files. Exactly result status.Policy (IsBadPolicy words files))
   policy_exactly = exactly words contents StoreFailed old new result status.Policy refl refl (IsBadPolicy words) (to_policy words) (from_policy words) answers
 
-  pub stopped_exactly : OfFiles contents (λ files. Exactly result status.Stopped (IsStopped words files))
-  stopped_exactly = exactly words contents StoreFailed old new result status.Stopped refl refl (IsStopped words) (to_stopped words) (from_stopped words) answers
+  pub threw_exactly : IsErasing → OfFiles contents (λ files. Exactly result status.Threw (IsThrew words files))
+  threw_exactly erasing = exactly words contents StoreFailed old new result status.Threw refl refl (IsThrew words) (λ files. to_threw words files erasing) (from_threw words) answers
 
-  pub left_exactly : OfFiles contents (λ files. Exactly result status.Left (IsLeft words files))
-  left_exactly = exactly words contents StoreFailed old new result status.Left refl refl (IsLeft words) (to_left words) (from_left words) answers
+  pub stopped_exactly : IsErasing → OfFiles contents (λ files. Exactly result status.Stopped (IsStopped words files))
+  stopped_exactly erasing = exactly words contents StoreFailed old new result status.Stopped refl refl (IsStopped words) (λ files. to_stopped words files erasing) (from_stopped words) answers
+
+  pub left_exactly : IsErasing → OfFiles contents (λ files. Exactly result status.Left (IsLeft words files))
+  left_exactly erasing = exactly words contents StoreFailed old new result status.Left refl refl (IsLeft words) (λ files. to_left words files erasing) (from_left words) answers
+
+  pub out_of_turns_exactly : IsErasing → OfFiles contents (λ files. Exactly result status.OutOfTurns (IsOutOfTurns words files))
+  out_of_turns_exactly erasing = exactly words contents StoreFailed old new result status.OutOfTurns refl refl (IsOutOfTurns words) (λ files. to_out_of_turns words files erasing) (from_out_of_turns words) answers

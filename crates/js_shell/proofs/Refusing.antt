@@ -1,20 +1,20 @@
 -- From what a part refuses to what is refused of the bytes of a source.
-use Rattle.std.proofs.Common.{◌≡◌, ℕ, ◌≤◌, ◌<◌, Bool, true, false, List, length, Result, Ok, Err, refl, sym, ap, arith}
-use Rattle.std.proofs.lemmas.Bool.Decides.{nat_tests}
-use Rattle.std.specs.Prelude.{nat_lt, if◌then◌else◌}
+use Rattle.std.proofs.Common.{◌≡◌, ℕ, ◌≤◌, List, [], length, Some, Result, Ok, Err, sym, ap, subst}
 use Rattle.flow_text.specs.declared.places.Place.{Place}
 use Rattle.flow_text.specs.Places.{place_of}
 use Rattle.js_ast.specs.declared.token.Token.{Token}
 use Rattle.js_ast.specs.Trees.{Statements}
+use Rattle.js_scan.proofs.Beginnings.{tokens_within}
 use Rattle.js_parse.specs.Programs.{IsProgram}
+use Rattle.js_unbuilt.specs.Unbuilt.{first_unbuilt}
+use Rattle.js_unbuilt.proofs.Placed.{unbuilt_in_statements}
 use Rattle.js_shell.specs.declared.refusals.SourceKind.{SourceKind}
 use Rattle.js_shell.specs.declared.refusals.SourceKind.TheVariants as kind
 use Rattle.js_shell.specs.declared.refusals.Refusal.{Refusal}
 use Rattle.js_shell.specs.declared.refusals.Refusal.TheVariants as refusal
 use Rattle.js_ast.specs.Views.{view_program}
 use Rattle.js_shell.specs.declared.sources.Source.{Source}
-use Rattle.js_shell.specs.Scripts.{Statement, script_of}
-use Rattle.js_shell.specs.Sources.{SourceFault, source_utf8, bad_source, source_text, script_limit, HasTokens, runnable, RefusesProgram, has_no_text, has_no_tokens, is_no_program, has_early_error, RefusesSource, refuses_program, unbuilt}
+use Rattle.js_shell.specs.Sources.{SourceFault, source_utf8, bad_source, source_text, HasTokens, RefusesProgram, has_no_text, has_no_tokens, is_no_program, has_early_error, RefusesSource, refuses_program, unbuilt}
 use Rattle.js_shell.specs.Accepting.{IsBadText, AreBadTokens, IsBadProgram, TakesText, TakesTokens, TakesTree, TakesEarly, IsSourceOf, Takes}
 
 module _ {X : Type 0} (bytes : List ℕ) (Is : X → Type 0) where
@@ -92,24 +92,15 @@ module _ {X Y : Type 0} (Is : X → Type 0) (Wanted : Y → Type 0) (Refuses Oth
   refused_too refusal.ReadFault p = absurd p
   refused_too refusal.OutOfMemory p = tt
 
--- ---- what can be run of a program
+-- ---- what isn't built of a program
 
-too_long_by : (b : Bool) (r : Result (List Statement) ℕ) → b ≡ true → (if b then Err 0 else r) ≡ Err 0
-too_long_by true r e = refl
-too_long_by false r e = absurd cc
+-- the place lies in the text
+pub unbuilt_within : (bytes : List ℕ) (source : Source) (is : IsSourceOf bytes source) (at : ℕ) → first_unbuilt (view_program source.program) ≡ Some at → at ≤ length source.text
+unbuilt_within bytes source is at e =
+    let has = is.0 in
+    subst (λ (t : List ℕ). at ≤ length t) is.1
+    (unbuilt_in_statements (length has.has_tokens.text) has.tokens [] (tokens_within has.has_tokens.text has.tokens has.has_tokens.scanned) (view_program source.program) has.parsed.tree.spelled at e)
 
-pub too_long : (bytes : List ℕ) (program : Statements) → script_limit < length bytes → runnable bytes program ≡ Err 0
-unfolding runnable
-too_long bytes program lt = too_long_by (nat_lt script_limit (length bytes)) (script_of program) (grind (arith, nat_tests))
-
-short_by : (b : Bool) (r : Result (List Statement) ℕ) → b ≡ false → (if b then Err 0 else r) ≡ r
-short_by true r e = absurd cc
-short_by false r e = refl
-
-pub short_enough : (bytes : List ℕ) (program : Statements) → length bytes ≤ script_limit → runnable bytes program ≡ script_of program
-unfolding runnable
-short_enough bytes program le = short_by (nat_lt script_limit (length bytes)) (script_of program) (grind (arith, nat_tests))
-
-pub refused_unbuilt : {X : Type 0} (bytes : List ℕ) (Is : X → Type 0) (source : Source) → IsSourceOf bytes source → (at : ℕ) → runnable bytes (view_program source.program) ≡ Err at
+pub refused_unbuilt : {X : Type 0} (bytes : List ℕ) (Is : X → Type 0) (source : Source) → IsSourceOf bytes source → (at : ℕ) → first_unbuilt (view_program source.program) ≡ Some at
     → (r : Refusal) → r ≡ refusal.BadSource kind.Unbuilt (place_of source.text at) → Takes Is (RefusesSource bytes) (Err r)
 refused_unbuilt bytes Is source is at e r h = rw h (unbuilt (view_program source.program) is.0 at e (ap (λ (t : List ℕ). bad_source kind.Unbuilt (place_of t at)) (sym is.1)))

@@ -5,7 +5,7 @@ use Rattle.flow_policy.specs.Policies.{Tables}
 use Rattle.flow_policy.specs.Inputs.{Given}
 use Rattle.flow_policy.specs.declared.fault.PolicyKind.{PolicyKind}
 use Rattle.flow_policy.specs.declared.fault.InputKind.{InputKind}
-use Rattle.js_shell.specs.Scripts.{Statement}
+use Rattle.js_ast.specs.Trees.{Statements}
 use Rattle.js_shell.specs.Sources.{SourceFault, HasProgram, IsScriptOf, RefusesProgram, RefusesSource}
 use Rattle.js_shell.specs.Replies.{Paths, Command, run, check, command_of, Task, IsProgramAt, HasNoProgram, HasScript, HasNoScript, RefusesScript, HasPolicy, HasNoPolicy, HasInput, HasNoInput, Reply, IsReply, refuses_words, refuses_script, accepts_script, refuses_policy, refuses_input, runs, run_reply, usage_reply, source_reply, accepted_reply, policy_reply, input_reply, FileFault, policy_in, input_in, ReachesAbsent, reaches_script, reaches_policy, reaches_input}
 use Rattle.js_shell.specs.Promises.{RepliesOnce}
@@ -19,10 +19,10 @@ module _ (files : Files) (path : List ℕ) where
   same_file : (P : List ℕ → Type 0) (p q : List ℕ) → file_at files path ≡ Some p → file_at files path ≡ Some q → P p → P q
   same_file P p q at at' h = subst P (some_is p q (file_at files path) at at') h
 
-  script_is : (s t : List Statement) → HasScript files path s → HasScript files path t → s ≡ t
+  script_is : (s t : Statements) → HasScript files path s → HasScript files path t → s ≡ t
   script_is s t p q = sourced.script_is q.bytes s t (same_file (λ b. IsScriptOf b s) p.bytes q.bytes p.there q.there p.spelled) q.spelled
 
-  script_or_not : (s : List Statement) (fault : SourceFault) → HasScript files path s → HasNoScript files path fault → ⊥
+  script_or_not : (s : Statements) (fault : SourceFault) → HasScript files path s → HasNoScript files path fault → ⊥
   script_or_not s fault p q = sourced.script_or_fault q.bytes s fault (same_file (λ b. IsScriptOf b s) p.bytes q.bytes p.there q.there p.spelled) q.refused
 
   source_fault : (s t : SourceFault) → HasNoScript files path s → HasNoScript files path t → s ≡ t
@@ -80,11 +80,11 @@ module _ (words : List (List ℕ)) (files : Files) where
   -- how far the work of a run goes, without the reply
   pub data Goes (reply : Reply) (paths : Paths) : Type 0 where
     to_script : (fault : SourceFault) → HasNoScript files paths.script fault → reply ≡ source_reply fault → Goes reply paths
-    to_policy : (statements : List Statement) (fault : FileFault PolicyKind) → HasScript files paths.script statements → HasNoPolicy files paths.policy fault
+    to_policy : (program : Statements) (fault : FileFault PolicyKind) → HasScript files paths.script program → HasNoPolicy files paths.policy fault
         → reply ≡ policy_reply fault → Goes reply paths
-    to_input : (statements : List Statement) (tables : Tables) (fault : FileFault InputKind) → HasScript files paths.script statements → HasPolicy files paths.policy tables
+    to_input : (program : Statements) (tables : Tables) (fault : FileFault InputKind) → HasScript files paths.script program → HasPolicy files paths.policy tables
         → HasNoInput files paths.input tables fault → reply ≡ input_reply fault → Goes reply paths
-    to_run : (task : Task) → HasScript files paths.script task.statements → HasPolicy files paths.policy task.tables
+    to_run : (task : Task) → HasScript files paths.script task.program → HasPolicy files paths.policy task.tables
         → HasInput files paths.input task.tables task.given → reply ≡ run_reply task → Goes reply paths
 
   goes_with : (reply : Reply) (paths : Paths) → command_of words ≡ Some (run paths) → IsReply words files reply → Goes reply paths
@@ -95,13 +95,13 @@ module _ (words : List (List ℕ)) (files : Files) where
   goes_with reply paths stated (refuses_input p s t f at script policy none is) = subst (Goes reply) (same_paths p paths at stated) (to_input s t f script policy none is)
   goes_with reply paths stated (runs task asked is) = subst (Goes reply) (same_paths asked.paths paths asked.stated stated) (to_run task asked.script asked.policy asked.input is)
 
-  task_is : (paths : Paths) (a b : Task) → HasScript files paths.script a.statements → HasPolicy files paths.policy a.tables → HasInput files paths.input a.tables a.given
-      → HasScript files paths.script b.statements → HasPolicy files paths.policy b.tables → HasInput files paths.input b.tables b.given → a ≡ b
+  task_is : (paths : Paths) (a b : Task) → HasScript files paths.script a.program → HasPolicy files paths.policy a.tables → HasInput files paths.input a.tables a.given
+      → HasScript files paths.script b.program → HasPolicy files paths.policy b.tables → HasInput files paths.input b.tables b.given → a ≡ b
   task_is paths a b s p i s' p' i' =
-      let same_s : a.statements ≡ b.statements = script_is files paths.script a.statements b.statements s s' in
+      let same_s : a.program ≡ b.program = script_is files paths.script a.program b.program s s' in
       let same_t : a.tables ≡ b.tables = policy_same files paths.policy a.tables b.tables p p' in
       let same_g : a.given ≡ b.given = input_same files paths.input b.tables a.given b.given (subst (λ (t : Tables). HasInput files paths.input t a.given) same_t i) i' in
-      ap (λ (x : List Statement). record a { statements = x }) same_s ∙ ap (λ (x : Tables). record a { statements = b.statements; tables = x }) same_t ∙ ap (λ (x : Given). record b { given = x }) same_g
+      ap (λ (x : Statements). record a { program = x }) same_s ∙ ap (λ (x : Tables). record a { program = b.program; tables = x }) same_t ∙ ap (λ (x : Given). record b { given = x }) same_g
 
   -- an input of one table isn't refused by the other, which is the same
   taken_or_not : (c : Paths) (t : Tables) (f : FileFault InputKind) (k : Task) → HasPolicy files c.policy t → HasNoInput files c.input t f → HasPolicy files c.policy k.tables → HasInput files c.input k.tables k.given → ⊥
@@ -111,7 +111,7 @@ module _ (words : List (List ℕ)) (files : Files) where
   goes_once c a b (to_script x n e) (to_script y m f) = e ∙ ap source_reply (source_fault files c.script x y n m) ∙ sym f
   goes_once c a b (to_script y n e) (to_policy s x p m f) = absurd (script_or_not files c.script s y p n)
   goes_once c a b (to_script y n e) (to_input s t x p q m f) = absurd (script_or_not files c.script s y p n)
-  goes_once c a b (to_script y n e) (to_run t p q r f) = absurd (script_or_not files c.script t.statements y p n)
+  goes_once c a b (to_script y n e) (to_run t p q r f) = absurd (script_or_not files c.script t.program y p n)
   goes_once c a b (to_policy s x p n e) (to_script y m f) = absurd (script_or_not files c.script s y p m)
   goes_once c a b (to_policy s x p n e) (to_policy s' x' p' m f) = e ∙ ap policy_reply (policy_fault files c.policy x x' n m) ∙ sym f
   goes_once c a b (to_policy s x p n e) (to_input s' t x' p' q m f) = absurd (policy_or_not files c.policy t x q n)
@@ -121,7 +121,7 @@ module _ (words : List (List ℕ)) (files : Files) where
   goes_once c a b (to_input s t x p q n e) (to_input s' t' x' p' q' m f) =
       e ∙ ap input_reply (input_fault files c.input t' x x' (subst (λ (k : Tables). HasNoInput files c.input k x) (policy_same files c.policy t t' q q') n) m) ∙ sym f
   goes_once c a b (to_input s t x p q n e) (to_run k p' q' r f) = absurd (taken_or_not c t x k q n q' r)
-  goes_once c a b (to_run k p q r e) (to_script y m f) = absurd (script_or_not files c.script k.statements y p m)
+  goes_once c a b (to_run k p q r e) (to_script y m f) = absurd (script_or_not files c.script k.program y p m)
   goes_once c a b (to_run k p q r e) (to_policy s' x p' m f) = absurd (policy_or_not files c.policy k.tables x q m)
   goes_once c a b (to_run k p q r e) (to_input s' t x p' q' m f) = absurd (taken_or_not c t x k q' m q r)
   goes_once c a b (to_run k p q r e) (to_run k' p' q' r' f) = e ∙ ap run_reply (task_is c k k' p q r p' q' r') ∙ sym f
@@ -168,25 +168,25 @@ module _ (words : List (List ℕ)) (files : Files) where
   Answered = ((reply : Reply) × IsReply words files reply) ⊎ ReachesAbsent words files
 
   module _ (paths : Paths) (stated : command_of words ≡ Some (run paths)) where
-    module _ (statements : List Statement) (script : HasScript files paths.script statements) where
+    module _ (program : Statements) (script : HasScript files paths.script program) where
       module _ (tables : Tables) (policy : HasPolicy files paths.policy tables) where
         with_input : (bytes : List ℕ) → file_at files paths.input ≡ Some bytes → (r : Result Given (FileFault InputKind)) → input_in tables bytes ≡ r → Answered
         with_input bytes at (Ok given) e =
-            let task : Task = record { statements = statements; tables = tables; given = given } in
+            let task : Task = record { program = program; tables = tables; given = given } in
             inl (run_reply task, runs task (record { paths = paths; stated = stated; script = script; policy = policy; input = record { bytes = bytes; there = at; gives = e } }) refl)
-        with_input bytes at (Err fault) e = inl (input_reply fault, refuses_input paths statements tables fault stated script policy (record { bytes = bytes; there = at; refused = e }) refl)
+        with_input bytes at (Err fault) e = inl (input_reply fault, refuses_input paths program tables fault stated script policy (record { bytes = bytes; there = at; refused = e }) refl)
 
         from_input : (o : Option (List ℕ)) → file_at files paths.input ≡ o → Answered
         from_input (Some bytes) at = with_input bytes at (input_in tables bytes) refl
-        from_input None at = inr (paths.input, reaches_input paths stated refl (statements, tables, script, policy), at)
+        from_input None at = inr (paths.input, reaches_input paths stated refl (program, tables, script, policy), at)
 
       with_policy : (bytes : List ℕ) → file_at files paths.policy ≡ Some bytes → (r : Result Tables (FileFault PolicyKind)) → policy_in bytes ≡ r → Answered
       with_policy bytes at (Ok tables) e = from_input tables (record { bytes = bytes; there = at; stated = e }) (file_at files paths.input) refl
-      with_policy bytes at (Err fault) e = inl (policy_reply fault, refuses_policy paths statements fault stated script (record { bytes = bytes; there = at; refused = e }) refl)
+      with_policy bytes at (Err fault) e = inl (policy_reply fault, refuses_policy paths program fault stated script (record { bytes = bytes; there = at; refused = e }) refl)
 
       from_policy : (o : Option (List ℕ)) → file_at files paths.policy ≡ o → Answered
       from_policy (Some bytes) at = with_policy bytes at (policy_in bytes) refl
-      from_policy None at = inr (paths.policy, reaches_policy paths stated refl (statements, script), at)
+      from_policy None at = inr (paths.policy, reaches_policy paths stated refl (program, script), at)
 
     with_script : (bytes : List ℕ) → file_at files paths.script ≡ Some bytes → ScriptOrFault bytes → Answered
     with_script bytes at (inl h) = from_policy h.0 (record { bytes = bytes; there = at; spelled = h.1 }) (file_at files paths.policy) refl

@@ -1,4 +1,4 @@
--- The loops of a report: lists of origins and their names.
+-- The loop of a report over the names of origins.
 use Rattle.std.proofs.Common.{◌≡◌, ℕ, zero, suc, ◌+◌, ◌<◌, ◌≤◌, Bool, true, false, List, [], ◌∷◌, ◌++◌, length, map, take, get_or, Some, slice_get, slice_index_or, refl, sym, ap, ap₂, subst, ◌∙◌, arith, append_assoc, append-nil, length-take}
 use Rattle.std.specs.List.{All, filter, join_with_byte, range_with_len}
 use Rattle.std.proofs.lemmas.List.{take_more, map_push, map-id, get_or-take, get_or_default, length-map}
@@ -42,41 +42,3 @@ names_begin origins label zero bytes name none lt so_far there =
     let named : f (get_or label 0 0) ≡ utf8_of name = ap utf8_of (get_or_from_slice_get origins (get_or label 0 0) name [] there) in
     sym (ap (join_with_byte 44) (names_more f label 0 lt) ∙ ap₂ (λ (a b : List ℕ). a ++ b) (sym so_far) named)
 names_begin origins label (suc i) bytes name none lt so_far there = absurd (omega arith)
-
--- ---- the numbers that a set holds
-
--- the numbers below n are below n
-pub range_below : (n : ℕ) → All (λ k. k < n) (range_with_len 0 n)
-range_below n i d lt = let small : i < n = omega (arith, length-range_with_len 0 n) in rw (get_or-range_with_len 0 n i d small) (omega arith)
-
--- what a filter keeps of them is too
-pub kept_below : (p : ℕ → Bool) (list : List ℕ) (n : ℕ) → list ≡ filter p (range_with_len 0 n) → All (λ k. k < n) list
-kept_below p list n e = subst (All (λ k. k < n)) (sym e) (All-filter p (λ k. k < n) (range_with_len 0 n) (range_below n))
-
--- one more number
-range_more : (n : ℕ) → range_with_len 0 (n + 1) ≡ range_with_len 0 n ++ n ∷ []
-range_more n = sym (map-id (range_with_len 0 (n + 1))) ∙ map-range_with_len_more (λ k. k) 0 n n (omega arith) ∙ ap (λ (l : List ℕ). l ++ n ∷ []) (map-id (range_with_len 0 n))
-
--- a filter keeps it
-pub keeps_more : (p : ℕ → Bool) (list : List ℕ) (n : ℕ) → list ≡ filter p (range_with_len 0 n) → p n ≡ true → list ++ n ∷ [] ≡ filter p (range_with_len 0 (n + 1))
-keeps_more p list n e yes_here =
-    sym (ap (filter p) (range_more n) ∙ filter-append p (range_with_len 0 n) (n ∷ []) ∙ ap₂ (λ (a b : List ℕ). a ++ b) (sym e) (rw yes_here refl))
-
--- a filter leaves it out
-pub leaves_out : (p : ℕ → Bool) (list : List ℕ) (n : ℕ) → list ≡ filter p (range_with_len 0 n) → p n ≡ false → list ≡ filter p (range_with_len 0 (n + 1))
-leaves_out p list n e not_here =
-    sym (ap (filter p) (range_more n) ∙ filter-append p (range_with_len 0 n) (n ∷ []) ∙ ap₂ (λ (a b : List ℕ). a ++ b) (sym e) (rw not_here refl) ∙ append-nil list)
-
--- ---- a copy
-
--- of a label a number before another is below it
-front_number : (label : Label) (k i d : ℕ) → IsLabel label → k < i → i < length label → get_or label k d < get_or label i 0
-front_number label k i d rising before lt = subst (λ (x : ℕ). get_or label k d < x) (get_or_default label i d 0 lt) (AllPairs-from_increasing label rising k i d before lt)
-
--- of a label the numbers before a place are below the number there
-pub front_below : (label copy : Label) (i : ℕ) → IsLabel label → i < length label → copy ≡ take i label → All (λ k. k < get_or label i 0) copy
-front_below label copy i rising lt so_far =
-    let below : All (λ k. k < get_or label i 0) (take i label) = λ k d inside.
-    let before : k < i = omega (arith, length-take i label) in
-    rw (get_or-take i label k d before) (front_number label k i d rising before lt) in
-    subst (All (λ k. k < get_or label i 0)) (sym so_far) below

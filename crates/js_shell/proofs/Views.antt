@@ -14,16 +14,24 @@ use Rattle.flow_lists.specs.Names.{is_name}
 use Rattle.flow_policy.specs.Policies.{Tables, IsPolicy, channel_named}
 use Rattle.flow_policy.specs.Observed.{view_of, sees_line, sees_channel}
 use Rattle.flow_policy.proofs.ViewLaws.{view_of-append, view_of-nil, first_word-append, name_parts, named_is, IsPlain}
-use Rattle.js_shell.specs.declared.ending.Ending.TheVariants.{Done}
-use Rattle.js_shell.specs.Runs.{Line}
-use Rattle.js_shell.specs.Tracked.{LabelledLine, Run}
-use Rattle.js_shell.specs.Written.{line_bytes, lines_bytes, report, written, erased, erased_line}
+use Rattle.es_meaning.specs.Outcomes.{Ending, done, threw, halted}
+use Rattle.es_meaning.specs.Plain.{Line}
+use Rattle.flow_meaning.specs.Scopes.{LabelledLine, Halt}
+use Rattle.flow_meaning.specs.Tracked.{Run}
+use Rattle.flow_meaning.specs.Written.{line_bytes, lines_bytes, ending_bytes, report, written}
+use Rattle.low_equal.specs.Laws.{IsFinishedBy}
+use Rattle.low_equal.specs.Observed.{on_seen_channel, seen_lines}
+use Rattle.low_equal.specs.Erasure.{erased_line}
 use Rattle.js_shell.proofs.Kept.{is_output, AreNamed}
-use Rattle.js_shell.proofs.ReportLaws.{all_behind}
+use Rattle.js_shell.proofs.Shown.{on_line, line_behind}
 
 -- a printed line without its LF
 abbrev pub line_body : Line → List ℕ
 line_body line = line.channel ++ 32 ∷ utf8_of (escaped line.text)
+
+-- those of labelled lines
+abbrev pub bodies : List LabelledLine → List (List ℕ)
+bodies lines = map (λ l. line_body l.line) lines
 
 module _ (tables : Tables) (formed : IsPolicy tables) where
   -- an output channel's name is one by the rule
@@ -49,7 +57,7 @@ module _ (tables : Tables) (formed : IsPolicy tables) where
       ∙ sym (append_assoc line.channel (32 ∷ text) (10 ∷ rest))
 
   body_on_line : (line : Line) → IsPlain line.channel → list_all (λ b. not (b == 10)) (line_body line) ≡ true
-  body_on_line line plain = all_behind (λ b. not (b == 10)) line.channel (32 ∷ utf8_of (escaped line.text)) plain.no_line_end (no_line_end line.text)
+  body_on_line line plain = line_behind line.channel (32 ∷ utf8_of (escaped line.text)) plain.no_line_end (no_line_end line.text)
 
   module _ (observer : Label) where
     sees : List ℕ → Bool
@@ -60,27 +68,25 @@ module _ (tables : Tables) (formed : IsPolicy tables) where
     body_seen line plain = ap (λ (w : List ℕ). sees_channel observer (channel_named w tables.outputs)) (first_word-append line.channel (utf8_of (escaped line.text)) plain.no_space)
 
     -- the view of lines, and of what is behind them
-    view_lines : (lines : List LabelledLine) (rest : List ℕ) → AreNamed tables lines → view_of observer tables (lines_bytes (map erased_line lines) ++ rest)
-        ≡ map line_body (filter (λ line. sees_channel observer (channel_named line.channel tables.outputs)) (map erased_line lines)) ++ view_of observer tables rest
+    view_lines : (lines : List LabelledLine) (rest : List ℕ) → AreNamed tables lines
+        → view_of observer tables (lines_bytes (map erased_line lines) ++ rest) ≡ bodies (seen_lines observer tables lines) ++ view_of observer tables rest
     unfolding lines_bytes sees
     view_lines [] rest named = refl
     view_lines (l ∷ lines) rest named =
-        let both = and_parts (is_output tables l.channel) (list_all (λ line. is_output tables line.channel) lines) named in
-        let line : Line = erased_line l in
-        let plain : IsPlain line.channel = output_plain l.channel both.0 in
+        let both = and_parts (is_output tables l.line.channel) (list_all (λ l. is_output tables l.line.channel) lines) named in
+        let line : Line = l.line in
+        let plain : IsPlain line.channel = output_plain line.channel both.0 in
         let more : List ℕ = lines_bytes (map erased_line lines) ++ rest in
-        let seen_rest : List (List ℕ) = map line_body (filter (λ line. sees_channel observer (channel_named line.channel tables.outputs)) (map erased_line lines)) in
         ap (view_of observer tables) (append_assoc (line_bytes line) (lines_bytes (map erased_line lines)) rest ∙ line_parts line more plain)
         ∙ view_of-append observer tables (line_body line) more (body_on_line line plain)
         ∙ ap (λ (b : Bool). cond b (line_body line ∷ view_of observer tables more) (view_of observer tables more)) (body_seen line plain)
         ∙ ap (λ (v : List (List ℕ)). cond (sees line.channel) (line_body line ∷ v) v) (view_lines lines rest both.1)
-        ∙ shown (sees line.channel) line (map erased_line lines) (view_of observer tables rest) refl
+        ∙ shown (sees line.channel) l lines (view_of observer tables rest) refl
       where
-        shown : (b : Bool) (line : Line) (lines : List Line) (rest : List (List ℕ)) → sees_channel observer (channel_named line.channel tables.outputs) ≡ b
-            → cond b (line_body line ∷ (map line_body (filter (λ line. sees_channel observer (channel_named line.channel tables.outputs)) lines) ++ rest)) (map line_body (filter (λ line. sees_channel observer (channel_named line.channel tables.outputs)) lines) ++ rest)
-            ≡ map line_body (filter (λ line. sees_channel observer (channel_named line.channel tables.outputs)) (line ∷ lines)) ++ rest
-        shown true line lines rest e = rw e refl
-        shown false line lines rest e = rw e refl
+        shown : (b : Bool) (l : LabelledLine) (lines : List LabelledLine) (rest : List (List ℕ)) → on_seen_channel observer tables l ≡ b
+            → cond b (line_body l.line ∷ (bodies (seen_lines observer tables lines) ++ rest)) (bodies (seen_lines observer tables lines) ++ rest) ≡ bodies (seen_lines observer tables (l ∷ lines)) ++ rest
+        shown true l lines rest e = rw e refl
+        shown false l lines rest e = rw e refl
 
     -- no channel is named as a report begins
     mark_unseen : (front : List ℕ) (o : Option Channel) → channel_named (33 ∷ front) tables.outputs ≡ o → sees_channel observer o ≡ false
@@ -91,20 +97,28 @@ module _ (tables : Tables) (formed : IsPolicy tables) where
         marked : IsPlain (33 ∷ front) → false ≡ true
         marked plain = plain.no_mark
 
-    done_unseen : view_of observer tables (report tables Done) ≡ []
-    unfolding report sees_line
-    done_unseen =
-        let seen : sees_line observer tables (codes "! done") ≡ false = mark_unseen [] (channel_named (codes "!") tables.outputs) refl in
-        view_of-append observer tables (codes "! done") [] refl
-        ∙ ap (λ (b : Bool). cond b (codes "! done" ∷ view_of observer tables []) (view_of observer tables [])) seen
+    -- a line that begins with an exclamation mark and a space isn't seen
+    report_unseen : (text : List ℕ) → on_line text ≡ true → view_of observer tables ((33 ∷ 32 ∷ text) ++ 10 ∷ []) ≡ []
+    unfolding sees_line
+    report_unseen text line =
+        let seen : sees_line observer tables (33 ∷ 32 ∷ text) ≡ false =
+        ap (λ (w : List ℕ). sees_channel observer (channel_named w tables.outputs)) (first_word-append (33 ∷ []) text refl) ∙ mark_unseen [] (channel_named (33 ∷ []) tables.outputs) refl in
+        view_of-append observer tables (33 ∷ 32 ∷ text) [] line
+        ∙ ap (λ (b : Bool). cond b ((33 ∷ 32 ∷ text) ∷ view_of observer tables []) (view_of observer tables [])) seen
         ∙ view_of-nil observer tables
 
+    -- nor is the report of a finished run
+    finished_unseen : (ending : Ending Halt) → IsFinishedBy ending → ((text : List ℕ) → ending ≡ threw text → on_line (utf8_of text) ≡ true) → view_of observer tables (report tables ending) ≡ []
+    unfolding report ending_bytes
+    finished_unseen done finished shown = report_unseen (codes "done") refl
+    finished_unseen (threw text) finished shown = report_unseen (codes "threw " ++ utf8_of text) (shown text refl)
+    finished_unseen (halted halt) finished shown = absurd finished
+
     -- the view of what a finished run writes
-    pub view_done : (run : Run) → AreNamed tables run.lines → run.ending ≡ Done
-        → view_of observer tables (written tables (erased run)) ≡ map line_body (filter (λ line. sees_channel observer (channel_named line.channel tables.outputs)) (map erased_line run.lines))
+    pub view_finished : (run : Run) → AreNamed tables run.lines → IsFinishedBy run.ending → ((text : List ℕ) → run.ending ≡ threw text → on_line (utf8_of text) ≡ true)
+        → view_of observer tables (written tables run) ≡ bodies (seen_lines observer tables run.lines)
     unfolding written
-    view_done run named done =
-        ap (λ e. view_of observer tables (lines_bytes (map erased_line run.lines) ++ report tables e)) done
-        ∙ view_lines run.lines (report tables Done) named
-        ∙ ap (λ (v : List (List ℕ)). map line_body (filter (λ line. sees_channel observer (channel_named line.channel tables.outputs)) (map erased_line run.lines)) ++ v) done_unseen
+    view_finished run named finished shown =
+        view_lines run.lines (report tables run.ending) named
+        ∙ ap (λ (v : List (List ℕ)). bodies (seen_lines observer tables run.lines) ++ v) (finished_unseen run.ending finished shown)
         ∙ append-nil _

@@ -27,7 +27,6 @@ use Rattle.js_shell.specs.declared.sources.Source.{Source}
 use Rattle.js_shell.specs.declared.refusals.SourceKind.{SourceKind}
 use Rattle.js_shell.specs.declared.refusals.Refusal.{Refusal}
 use Rattle.js_shell.specs.declared.refusals.Refusal.TheVariants as refusal
-use Rattle.js_shell.specs.Scripts.{Statement}
 use Rattle.js_shell.specs.Sources.{SourceFault, long_source, source_utf8, bad_source, source_limit, source_text, HasTokens, HasProgram, IsScriptOf, RefusesProgram, RefusesSource, scan_kind, parse_kind, early_kind}
 use Rattle.js_shell.specs.Replies.{Task, IsAsked, IsChecked, IsProgramAt, HasNoProgram, HasScript, HasNoScript, HasPolicy, HasNoPolicy, HasInput, HasNoInput, too_long, bad_line, Reply, IsReply, read_fault_report, accepted_report, usage_reply, source_reply, policy_reply, input_reply}
 
@@ -99,7 +98,7 @@ TakesSource bytes result = Takes (IsSourceOf bytes) (RefusesProgram bytes) resul
 abbrev pub TakesProgram : List ℕ → Result (Unit {0}) Refusal → Type 0
 TakesProgram bytes result = Takes (λ _. (program : Statements) × HasProgram bytes program) (RefusesProgram bytes) result
 
-abbrev pub TakesScript : List ℕ → Result (List Statement) Refusal → Type 0
+abbrev pub TakesScript : List ℕ → Result Statements Refusal → Type 0
 TakesScript bytes result = Takes (IsScriptOf bytes) (RefusesSource bytes) result
 
 -- ---- files
@@ -125,8 +124,8 @@ AcceptsSource Is Refuses contents (Err _) = ⊥
 abbrev pub AcceptsProgram : Option Files → List ℕ → Result (Unit {0}) Refusal → Type 0
 AcceptsProgram contents path result = AcceptsSource (λ _ files. IsProgramAt files path) (λ fault files. HasNoProgram files path fault) contents result
 
-abbrev pub AcceptsScript : Option Files → List ℕ → Result (List Statement) Refusal → Type 0
-AcceptsScript contents path result = AcceptsSource (λ statements files. HasScript files path statements) (λ fault files. HasNoScript files path fault) contents result
+abbrev pub AcceptsScript : Option Files → List ℕ → Result Statements Refusal → Type 0
+AcceptsScript contents path result = AcceptsSource (λ program files. HasScript files path program) (λ fault files. HasNoScript files path fault) contents result
 
 abbrev pub AcceptsPolicy : Option Files → List ℕ → Result Tables Refusal → Type 0
 AcceptsPolicy contents path (Ok tables) = OfFiles contents (λ files. HasPolicy files path tables)

@@ -7,10 +7,10 @@ use Rattle.flow_policy.specs.declared.fault.PolicyKind.{PolicyKind}
 use Rattle.flow_policy.specs.declared.fault.InputKind.{InputKind}
 use Rattle.flow_policy.specs.Policies.{Tables}
 use Rattle.js_shell.specs.declared.status.Status.{Status}
-use Rattle.js_shell.specs.declared.ending.Leaving.{Leaving}
-use Rattle.js_shell.specs.declared.ending.ChannelRule.{ChannelRule}
-use Rattle.js_shell.specs.declared.ending.Ending.TheVariants.{Done, Left, Stopped}
-use Rattle.js_shell.specs.Scripts.{Statement}
+use Rattle.flow_frames.specs.declared.faults.Rule.{Rule}
+use Rattle.js_ast.specs.Trees.{Statements}
+use Rattle.es_meaning.specs.Outcomes.{done, threw, halted, left, out_of_turns}
+use Rattle.flow_meaning.specs.Scopes.{as_plain, stopped}
 use Rattle.js_shell.specs.Sources.{SourceFault}
 use Rattle.js_shell.specs.Replies.{Paths, Command, run, command_of, HasScript, RefusesScript, HasPolicy, HasNoPolicy, HasNoInput, FileFault, Task, IsAsked, IsChecked, plain_run, tracked_run, Reply, IsReply, ReachesAbsent, read_fault_report}
 use Rattle.js_shell.specs.Promises.{UnlessEarly}
@@ -29,21 +29,29 @@ IsSource words files = (command : Command) × (fault : SourceFault) × (command_
 
 -- the script is accepted, and the policy breaks its rules, or it is accepted too and the input breaks its rules
 abbrev pub IsBadPolicy : List (List ℕ) → Files → Type 0
-IsBadPolicy words files = (paths : Paths) × (statements : List Statement) × (command_of words ≡ Some (run paths)) × HasScript files paths.script statements
+IsBadPolicy words files = (paths : Paths) × (program : Statements) × (command_of words ≡ Some (run paths)) × HasScript files paths.script program
     × (((fault : FileFault PolicyKind) × HasNoPolicy files paths.policy fault) ⊎ ((tables : Tables) × (fault : FileFault InputKind) × HasPolicy files paths.policy tables × HasNoInput files paths.input tables fault))
 
--- the labelled run finishes, or the script that is checked is accepted
+-- the labelled run reaches its end, or the script that is checked is accepted
 abbrev pub IsDone : List (List ℕ) → Files → Type 0
-IsDone words files = ((task : Task) × IsAsked words files task × ((tracked_run task).ending ≡ Done)) ⊎ IsChecked words files
+IsDone words files = ((task : Task) × IsAsked words files task × ((tracked_run task).ending ≡ done)) ⊎ IsChecked words files
+
+-- an exception leaves the script, with one thing shown of its value, in both meanings
+abbrev pub IsThrew : List (List ℕ) → Files → Type 0
+IsThrew words files = (task : Task) × (shown : List ℕ) × IsAsked words files task × ((tracked_run task).ending ≡ threw shown) × ((plain_run task).ending ≡ threw shown)
 
 -- a rule that is broken stops the labelled run
 abbrev pub IsStopped : List (List ℕ) → Files → Type 0
-IsStopped words files = (task : Task) × (rule : ChannelRule) × (need : Label) × (have : Label) × IsAsked words files task
-    × ((tracked_run task).ending ≡ Stopped rule need have) × (within need have ≡ false)
+IsStopped words files = (task : Task) × (rule : Rule) × (need : Label) × (have : Label) × IsAsked words files task
+    × ((tracked_run task).ending ≡ halted (stopped rule need have)) × (within need have ≡ false)
 
 -- both meanings leave by one name
 abbrev pub IsLeft : List (List ℕ) → Files → Type 0
-IsLeft words files = (task : Task) × (name : Leaving) × IsAsked words files task × ((tracked_run task).ending ≡ Left name) × ((plain_run task).ending ≡ Left name)
+IsLeft words files = (task : Task) × (name : List ℕ) × IsAsked words files task × ((tracked_run task).ending ≡ halted (as_plain (left name))) × ((plain_run task).ending ≡ halted (left name))
+
+-- both meanings want more turns
+abbrev pub IsOutOfTurns : List (List ℕ) → Files → Type 0
+IsOutOfTurns words files = (task : Task) × IsAsked words files task × ((tracked_run task).ending ≡ halted (as_plain out_of_turns)) × ((plain_run task).ending ≡ halted out_of_turns)
 
 -- what stands after a call that ended early: a front of the reply, or a front of the report of a read fault where the store's
 -- count rose or an absent file is reached

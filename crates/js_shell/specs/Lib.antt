@@ -1,17 +1,8 @@
 pub mod Accepting
-pub mod Answers
 pub mod Causes
-pub mod Evaluated
-pub mod Plain
 pub mod Promises
 pub mod Ran
 pub mod Replies
-pub mod Reports
-pub mod Runs
-pub mod Scripts
 pub mod Seen
 pub mod Sources
 pub mod Statuses
-pub mod Sums
-pub mod Tracked
-pub mod Written

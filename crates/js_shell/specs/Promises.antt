@@ -1,53 +1,35 @@
 -- The promises of the program, and the laws of the two meanings that they rest on.
-use Rattle.std.specs.Prelude.{◌≡◌, ℕ, ◌⊎◌, false, List, ◌++◌, Option, Some, map}
+use Rattle.std.specs.Prelude.{◌≡◌, ℕ, ◌⊎◌, false, List, ◌++◌, Option, Some}
 use Rattle.origin_labels.specs.Label.{Label, within}
 use Rattle.flow_io.specs.Files.{Files}
 use Rattle.flow_policy.specs.Policies.{Tables, IsPolicy}
 use Rattle.flow_policy.specs.Inputs.{Given, IsGivenTo}
 use Rattle.flow_policy.specs.Observed.{Agree, view_of}
+use Rattle.flow_frames.specs.declared.faults.Rule.{Rule}
+use Rattle.js_ast.specs.Trees.{Statements}
+use Rattle.es_meaning.specs.Outcomes.{halted}
+use Rattle.es_meaning.specs.Plain.{Line}
+use Rattle.flow_meaning.specs.Scopes.{stopped}
+use Rattle.flow_meaning.specs.Tracked as tracked
+use Rattle.low_equal.specs.Erasure.{monitored}
+use Rattle.low_equal.specs.Laws.{IsFinishedBy}
 use Rattle.js_shell.specs.declared.status.Status.{Status}
 use Rattle.js_shell.specs.declared.status.Status.TheVariants as status
-use Rattle.js_shell.specs.declared.ending.ChannelRule.{ChannelRule}
-use Rattle.js_shell.specs.declared.ending.Ending.TheVariants.{Done, Stopped}
-use Rattle.js_ast.specs.Trees.{Statements}
-use Rattle.js_shell.specs.Scripts.{Statement}
-use Rattle.js_shell.specs.Sources.{SourceFault, HasProgram, IsScriptOf, RefusesProgram}
-use Rattle.js_shell.specs.Runs.{Line}
-use Rattle.js_shell.specs.Plain as plain
-use Rattle.js_shell.specs.Tracked as tracked
-use Rattle.js_shell.specs.Written.{written, erased, erased_line, lines_bytes, report}
+use Rattle.js_shell.specs.Sources.{SourceFault, HasProgram, RefusesProgram}
+use Rattle.flow_meaning.specs.Written.{lines_bytes, written, report}
 use Rattle.js_shell.specs.Replies.{Task, IsAsked, plain_run, tracked_run, Reply, IsReply}
 
 -- ---- laws of the meanings
 
--- isolation: of two runs on inputs that agree for an observer, where both finish, the views are equal
+-- isolation: of two runs on inputs that agree for an observer, where both finish within their turns, the views are equal
 abbrev pub IsIsolating : Type 0
-IsIsolating = (statements : List Statement) (tables : Tables) (observer : Label) (first second : Given) → IsPolicy tables
-    → IsGivenTo tables first → IsGivenTo tables second → Agree observer tables first second
-    → (tracked.tracked statements tables first).ending ≡ Done → (tracked.tracked statements tables second).ending ≡ Done
-    → view_of observer tables (written tables (erased (tracked.tracked statements tables first))) ≡ view_of observer tables (written tables (erased (tracked.tracked statements tables second)))
+IsIsolating = (program : Statements) (tables : Tables) (observer : Label) (first second : Given) (turns others : ℕ) → IsPolicy tables → Agree observer tables first second
+    → IsFinishedBy (tracked.tracked_run tables first program turns).ending → IsFinishedBy (tracked.tracked_run tables second program others).ending
+    → view_of observer tables (written tables (tracked.tracked_run tables first program turns)) ≡ view_of observer tables (written tables (tracked.tracked_run tables second program others))
 
--- how the labelled run stands to the plain one: the same, or stopped by a rule that is broken, with a front of its lines
-pub data Erases (labelled : tracked.Run) (unlabelled : plain.Run) : Type 0 where
-  goes_on : erased labelled ≡ unlabelled → Erases labelled unlabelled
-  stops : (rule : ChannelRule) (need have : Label) (rest : List Line) → labelled.ending ≡ Stopped rule need have → within need have ≡ false
-      → unlabelled.lines ≡ map erased_line labelled.lines ++ rest → Erases labelled unlabelled
-
--- erasure: without its labels a labelled run is the plain one, up to a stop
-abbrev pub IsErasing : Type 0
-IsErasing = (statements : List Statement) (tables : Tables) (given : Given) → Erases (tracked.tracked statements tables given) (plain.plain statements tables given)
-
--- the plain meaning knows no stops
-abbrev pub NeverStops : Type 0
-NeverStops = (statements : List Statement) (tables : Tables) (given : Given) (rule : ChannelRule) (need have : Label)
-    → (plain.plain statements tables given).ending ≡ Stopped rule need have → ⊥
-
--- bytes are one program at most and one script at most
+-- bytes are one program at most
 abbrev pub IsProgramOnce : Type 0
 IsProgramOnce = (first second : Statements) (bytes : List ℕ) → HasProgram bytes first → HasProgram bytes second → first ≡ second
-
-abbrev pub IsScriptOnce : Type 0
-IsScriptOnce = (first second : List Statement) (bytes : List ℕ) → IsScriptOf bytes first → IsScriptOf bytes second → first ≡ second
 
 -- bytes are a program or are refused for one fault, and not both
 abbrev pub IsProgramOrRefused : Type 0
@@ -80,28 +62,34 @@ IfEarly status.WriteFault P = P
 IfEarly status.OutOfMemory P = P
 IfEarly _ P = Unit {0}
 
--- The views of every observer depend on what it may read alone: for every other input that agrees with this one for the observer,
--- if the monitored run on it finishes too, it writes the same view.
+-- the statuses of finished runs
+abbrev pub IsFinished : Status → Type 0
+IsFinished status.Done = Unit {0}
+IsFinished status.Threw = Unit {0}
+IsFinished _ = ⊥
+
+-- The views of every observer depend on what it may read alone: for every other input that agrees with this one for the observer, and any number
+-- of turns, if the monitored run on it finishes too, it writes the same view.
 abbrev pub Isolates : List (List ℕ) → Status → Files → List ℕ → Type 0
-Isolates words result files out = result ≡ status.Done → (task : Task) → IsAsked words files task → (observer : Label) (other : Given)
-    → IsGivenTo task.tables other → Agree observer task.tables task.given other → (tracked.tracked task.statements task.tables other).ending ≡ Done
-    → view_of observer task.tables out ≡ view_of observer task.tables (written task.tables (erased (tracked.tracked task.statements task.tables other)))
+Isolates words result files out = IsFinished result → (task : Task) → IsAsked words files task → (observer : Label) (other : Given) (others : ℕ)
+    → IsGivenTo task.tables other → Agree observer task.tables task.given other → IsFinishedBy (tracked.tracked_run task.tables other task.program others).ending
+    → view_of observer task.tables out ≡ view_of observer task.tables (written task.tables (tracked.tracked_run task.tables other task.program others))
 
 -- a finished run wrote exactly what unlabelled ECMAScript writes
 abbrev pub IsPlain : List (List ℕ) → Status → Files → List ℕ → Type 0
-IsPlain words result files out = result ≡ status.Done → (task : Task) → IsAsked words files task
-    → ((plain_run task).ending ≡ Done) × (out ≡ lines_bytes (plain_run task).lines ++ report task.tables Done)
+IsPlain words result files out = IsFinished result → (task : Task) → IsAsked words files task
+    → IsFinishedBy (monitored (plain_run task).ending) × (out ≡ lines_bytes (plain_run task).lines ++ report task.tables (monitored (plain_run task).ending))
 
 -- a stopped run: the rule that it names is broken, and its lines are a front of those of unlabelled ECMAScript
 pub record IsStop (task : Task) (out : List ℕ) : Type 0 where
-  pub rule : ChannelRule
+  pub rule : Rule
   pub need : Label
   pub have : Label
   pub lines : List Line
   pub rest : List Line
-  pub ends : (tracked_run task).ending ≡ Stopped rule need have
+  pub ends : (tracked_run task).ending ≡ halted (stopped rule need have)
   pub broken : within need have ≡ false
-  pub told : out ≡ lines_bytes lines ++ report task.tables (Stopped rule need have)
+  pub told : out ≡ lines_bytes lines ++ report task.tables (halted (stopped rule need have))
   pub front : (plain_run task).lines ≡ lines ++ rest
 
 abbrev pub Stops : List (List ℕ) → Status → Files → List ℕ → Type 0

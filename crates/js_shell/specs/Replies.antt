@@ -12,15 +12,14 @@ use Rattle.flow_policy.specs.Policies.{Tables, BadLine, policy_of}
 use Rattle.flow_policy.specs.Inputs.{Given, inputs_of}
 use Rattle.js_shell.specs.declared.status.Status.{Status}
 use Rattle.js_shell.specs.declared.status.Status.TheVariants as status
-use Rattle.js_shell.specs.declared.ending.Ending.{Ending}
-use Rattle.js_shell.specs.declared.ending.Ending.TheVariants.{Done, Left, Stopped}
+use Rattle.es_meaning.specs.Outcomes.{Ending, done, threw, halted, left, out_of_turns}
+use Rattle.es_meaning.specs.Plain as plain
+use Rattle.flow_meaning.specs.Scopes.{Halt, as_plain, stopped}
+use Rattle.flow_meaning.specs.Tracked as tracked
 use Rattle.js_shell.specs.declared.refusals.SourceKind.{SourceKind}
 use Rattle.js_shell.specs.declared.refusals.SourceKind.TheVariants as source_kind
-use Rattle.js_shell.specs.Scripts.{Statement}
 use Rattle.js_shell.specs.Sources.{SourceFault, long_source, source_utf8, bad_source, HasProgram, IsScriptOf, RefusesProgram, RefusesSource}
-use Rattle.js_shell.specs.Plain as plain
-use Rattle.js_shell.specs.Tracked as tracked
-use Rattle.js_shell.specs.Written.{written, erased}
+use Rattle.flow_meaning.specs.Written.{written}
 
 -- the files of a run
 pub record Paths : Type 0 where
@@ -64,11 +63,11 @@ pub record HasNoProgram (files : Files) (path : List ℕ) (fault : SourceFault) 
   pub there : file_at files path ≡ Some bytes
   pub refused : RefusesProgram bytes fault
 
--- a script is there at a path, and is these statements
-pub record HasScript (files : Files) (path : List ℕ) (statements : List Statement) : Type 0 where
+-- a script is there at a path, and is this program
+pub record HasScript (files : Files) (path : List ℕ) (program : Statements) : Type 0 where
   pub bytes : List ℕ
   pub there : file_at files path ≡ Some bytes
-  pub spelled : IsScriptOf bytes statements
+  pub spelled : IsScriptOf bytes program
 
 -- a file is there, and is no script for this fault
 pub record HasNoScript (files : Files) (path : List ℕ) (fault : SourceFault) : Type 0 where
@@ -124,7 +123,7 @@ pub record HasNoInput (files : Files) (path : List ℕ) (tables : Tables) (fault
 
 -- a script under a policy with an input
 pub record Task : Type 0 where
-  pub statements : List Statement
+  pub program : Statements
   pub tables : Tables
   pub given : Given
 
@@ -132,7 +131,7 @@ pub record Task : Type 0 where
 pub record IsAsked (words : List (List ℕ)) (files : Files) (task : Task) : Type 0 where
   pub paths : Paths
   pub stated : command_of words ≡ Some (run paths)
-  pub script : HasScript files paths.script task.statements
+  pub script : HasScript files paths.script task.program
   pub policy : HasPolicy files paths.policy task.tables
   pub input : HasInput files paths.input task.tables task.given
 
@@ -142,25 +141,31 @@ pub record IsChecked (words : List (List ℕ)) (files : Files) : Type 0 where
   pub stated : command_of words ≡ Some (check path)
   pub accepted : IsProgramAt files path
 
+-- how many parts of a script a run may enter
+abbrev pub default_turns : ℕ
+default_turns = 1000000
+
 -- the two meanings of a task
 abbrev pub plain_run : Task → plain.Run
-plain_run task = plain.plain task.statements task.tables task.given
+plain_run task = plain.plain_run task.tables task.given task.program default_turns
 
 abbrev pub tracked_run : Task → tracked.Run
-tracked_run task = tracked.tracked task.statements task.tables task.given
+tracked_run task = tracked.tracked_run task.tables task.given task.program default_turns
 
 pub record Reply : Type 0 where
   pub bytes : List ℕ
   pub status : Status
 
-abbrev pub status_of : Ending → Status
-status_of Done = status.Done
-status_of (Left name) = status.Left
-status_of (Stopped rule need have) = status.Stopped
+abbrev pub status_of : Ending Halt → Status
+status_of done = status.Done
+status_of (threw shown) = status.Threw
+status_of (halted (stopped rule need have)) = status.Stopped
+status_of (halted (as_plain (left name))) = status.Left
+status_of (halted (as_plain out_of_turns)) = status.OutOfTurns
 
 -- a run writes what the labelled meaning says
 abbrev pub run_reply : Task → Reply
-run_reply task = record { bytes = written task.tables (erased (tracked_run task)); status = status_of (tracked_run task).ending }
+run_reply task = record { bytes = written task.tables (tracked_run task); status = status_of (tracked_run task).ending }
 
 abbrev pub usage_reply : Reply
 usage_reply = record { bytes = codes "! usage\n"; status = status.Usage }
@@ -237,9 +242,9 @@ pub data IsReply (words : List (List ℕ)) (files : Files) (reply : Reply) : Typ
   refuses_words : command_of words ≡ None → reply ≡ usage_reply → IsReply words files reply
   refuses_script : (command : Command) (fault : SourceFault) → command_of words ≡ Some command → RefusesScript files command fault → reply ≡ source_reply fault → IsReply words files reply
   accepts_script : IsChecked words files → reply ≡ accepted_reply → IsReply words files reply
-  refuses_policy : (paths : Paths) (statements : List Statement) (fault : FileFault PolicyKind) → command_of words ≡ Some (run paths) → HasScript files paths.script statements
+  refuses_policy : (paths : Paths) (program : Statements) (fault : FileFault PolicyKind) → command_of words ≡ Some (run paths) → HasScript files paths.script program
       → HasNoPolicy files paths.policy fault → reply ≡ policy_reply fault → IsReply words files reply
-  refuses_input : (paths : Paths) (statements : List Statement) (tables : Tables) (fault : FileFault InputKind) → command_of words ≡ Some (run paths) → HasScript files paths.script statements
+  refuses_input : (paths : Paths) (program : Statements) (tables : Tables) (fault : FileFault InputKind) → command_of words ≡ Some (run paths) → HasScript files paths.script program
       → HasPolicy files paths.policy tables → HasNoInput files paths.input tables fault → reply ≡ input_reply fault → IsReply words files reply
   runs : (task : Task) → IsAsked words files task → reply ≡ run_reply task → IsReply words files reply
 
@@ -247,9 +252,9 @@ pub data IsReply (words : List (List ℕ)) (files : Files) (reply : Reply) : Typ
 pub data Reaches (contents : Option Files) (words : List (List ℕ)) (path : List ℕ) : Type 0 where
   reaches_script : (command : Command) → command_of words ≡ Some command → path ≡ script_path command → Reaches contents words path
   reaches_policy : (paths : Paths) → command_of words ≡ Some (run paths) → path ≡ paths.policy
-      → IfSome contents (λ files. (statements : List Statement) × HasScript files paths.script statements) → Reaches contents words path
+      → IfSome contents (λ files. (program : Statements) × HasScript files paths.script program) → Reaches contents words path
   reaches_input : (paths : Paths) → command_of words ≡ Some (run paths) → path ≡ paths.input
-      → IfSome contents (λ files. (statements : List Statement) × (tables : Tables) × HasScript files paths.script statements × HasPolicy files paths.policy tables) → Reaches contents words path
+      → IfSome contents (λ files. (program : Statements) × (tables : Tables) × HasScript files paths.script program × HasPolicy files paths.policy tables) → Reaches contents words path
 
 -- it reaches a file that is absent
 abbrev pub ReachesAbsent : List (List ℕ) → Files → Type 0

@@ -3,14 +3,15 @@ use Rattle.std.specs.Prelude.{ℕ, List, map, Option, Some, None, Result, Ok, Er
 use Rattle.std.specs.Global.{Global}
 use Rattle.std.specs.String.{string_bytes}
 use Rattle.std.specs.declared.string.String.{String}
-use Rattle.js_shell.specs.declared.script.Print.{Print}
+use Rattle.js_ast.specs.declared.trees.Program.{Program}
+use Rattle.js_ast.specs.Trees.{Statements}
+use Rattle.js_ast.specs.Views.{view_program}
 use Rattle.js_shell.specs.declared.accepting.Command as commands
 use Rattle.js_shell.specs.declared.accepting.Command.TheVariants as command
 use Rattle.js_shell.specs.declared.accepting.Task as tasks
 use Rattle.js_shell.specs.declared.accepting.Accepted.{Accepted}
 use Rattle.js_shell.specs.declared.accepting.Accepted.TheVariants as accepted
 use Rattle.js_shell.specs.declared.refusals.Refusal.{Refusal}
-use Rattle.js_shell.specs.Scripts.{Statement, statements_of}
 use Rattle.js_shell.specs.Replies.{Command, run, check, Task}
 use Rattle.js_shell.specs.Accepting.{Work, a_run, a_check}
 
@@ -26,12 +27,12 @@ abbrev pub seen_commands : Option commands.Command → Option Command
 seen_commands None = None
 seen_commands (Some c) = Some (seen_command c)
 
-abbrev pub seen_script : Result (Vec Print Global) Refusal → Result (List Statement) Refusal
-seen_script (Ok prints) = Ok (statements_of prints.items)
+abbrev pub seen_script : Result Program Refusal → Result Statements Refusal
+seen_script (Ok program) = Ok (view_program program)
 seen_script (Err r) = Err r
 
 abbrev pub seen_task : tasks.Task → Task
-seen_task task = record { statements = statements_of task.script.items; tables = task.policy; given = task.inputs }
+seen_task task = record { program = view_program task.script; tables = task.policy; given = task.inputs }
 
 abbrev pub seen_work : Result Accepted Refusal → Result Work Refusal
 seen_work (Ok (accepted.Run task)) = Ok (a_run (seen_task task))

@@ -18,17 +18,13 @@ use Rattle.js_parse.specs.Programs.{IsProgram, IsFault as IsNoProgram}
 use Rattle.js_early.specs.EarlyErrors.{early_error}
 use Rattle.js_shell.specs.declared.refusals.SourceKind.{SourceKind}
 use Rattle.js_shell.specs.declared.refusals.SourceKind.TheVariants as kind
-use Rattle.js_shell.specs.Scripts.{Statement, script_of}
+use Rattle.js_unbuilt.specs.Unbuilt.{first_unbuilt}
 
 -- the most bytes of a source
 abbrev pub source_limit : ℕ
 source_limit = 1048576
 
--- the most bytes of a script that can be run so far
-abbrev pub script_limit : ℕ
-script_limit = 65536
-
--- why a file is no program, or none that can be run: it is too long; it isn't UTF-8 behind so many bytes; or it has a fault of this kind at
+-- why a file is no program, or none that can be run yet: it is too long; it isn't UTF-8 behind so many bytes; or it has a fault of this kind at
 -- this place
 pub data SourceFault : Type 0 where
   long_source : SourceFault
@@ -56,16 +52,10 @@ pub record HasProgram (bytes : List ℕ) (program : Statements) : Type 0 where
   pub parsed : IsProgram tokens program
   pub faultless : early_error program ≡ None
 
--- the statements of a program that can be run, or the unit where its first node stands that can't; of a program that is too long to be run it
--- is the first unit
-unfoldable pub runnable : List ℕ → Statements → Result (List Statement) ℕ
-runnable bytes program = if nat_lt script_limit (length bytes) then Err 0 else script_of program
-
--- the bytes are the script of these statements
-pub record IsScriptOf (bytes : List ℕ) (statements : List Statement) : Type 0 where
-  pub program : Statements
+-- the bytes are this program, all of whose nodes are built
+pub record IsScriptOf (bytes : List ℕ) (program : Statements) : Type 0 where
   pub has_program : HasProgram bytes program
-  pub runs : runnable bytes program ≡ Ok statements
+  pub built : first_unbuilt program ≡ None
 
 -- how a fault of the scanner is called
 abbrev pub scan_kind : ScanFault → Option SourceKind
@@ -104,8 +94,8 @@ pub data RefusesProgram (bytes : List ℕ) (fault : SourceFault) : Type 0 where
   has_early_error : (tokens : List Token) (has : HasTokens bytes tokens) (program : Statements) (f : EarlyError) → IsProgram tokens program → early_error program ≡ Some f
       → fault ≡ bad_source (early_kind f.kind) (place_of has.text f.at) → RefusesProgram bytes fault
 
--- the bytes are no script, for this fault: they are no program, or one that can't be run
+-- the bytes are no script, for this fault: they are no program, or one with a node that isn't built yet
 pub data RefusesSource (bytes : List ℕ) (fault : SourceFault) : Type 0 where
   refuses_program : RefusesProgram bytes fault → RefusesSource bytes fault
-  unbuilt : (program : Statements) (has : HasProgram bytes program) (at : ℕ) → runnable bytes program ≡ Err at → fault ≡ bad_source kind.Unbuilt (place_of has.has_tokens.text at)
+  unbuilt : (program : Statements) (has : HasProgram bytes program) (at : ℕ) → first_unbuilt program ≡ Some at → fault ≡ bad_source kind.Unbuilt (place_of has.has_tokens.text at)
       → RefusesSource bytes fault

@@ -8,10 +8,10 @@ ghost use Rattle.js_shell.specs.Accepting.{ReadsSource, AcceptsProgram, AcceptsS
 ghost use Rattle.js_shell.specs.Seen.{seen_commands, seen_script, seen_work, texts_of};
 
 use crate::refusals::Refusal;
-use crate::script::Print;
 use crate::sources::{check_program, script_of};
 use flow_io::{LoadFault, Store, load};
 use flow_policy::{InputFault, Inputs, Policy, PolicyFault, read_inputs, read_policy};
+use js_ast::Program;
 use std::alloc::Global;
 
 /// The most bytes of a source.
@@ -39,7 +39,7 @@ pub(crate) enum Command<'a> {
 /// A script under a policy with an input.
 #[derive(Drop)]
 pub(crate) struct Task {
-    pub(crate) script: Vec<Print>,
+    pub(crate) script: Program,
     pub(crate) policy: Policy,
     pub(crate) inputs: Inputs,
 }
@@ -136,7 +136,7 @@ fn accept_program<F: Store>(alloc: Global, store: &mut F, path: &str) -> Result<
 }
 
 /// Reads a script.
-fn accept_script<F: Store>(alloc: Global, store: &mut F, path: &str) -> Result<Vec<Print>, Refusal>
+fn accept_script<F: Store>(alloc: Global, store: &mut F, path: &str) -> Result<Program, Refusal>
     requires { F.may_ask store.old path.now ≡ true }
     ensures kept { IsStoreKept F.contents F.may_ask F.faults store.old store.new }
     ensures accepts { AcceptsScript (F.contents store.old) path.now (seen_script result) }

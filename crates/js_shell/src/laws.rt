@@ -1,28 +1,19 @@
-//! The laws of the two meanings of a script, and of replies.
+//! The laws of runs on bytes, and of replies.
 
-ghost use Rattle.js_shell.specs.Promises.{IsIsolating, IsErasing, NeverStops, IsProgramOnce, IsScriptOnce, IsProgramOrRefused, RepliesOnce};
+ghost use Rattle.js_shell.specs.Promises.{IsIsolating, IsProgramOnce, IsProgramOrRefused, RepliesOnce};
 
-/// Isolation: two labelled runs that finish, on inputs that agree for an observer, write the same view.
-#[tactic(auto, using(crate::proofs::Meanings::isolation))]
+use low_equal::two_runs;
+
+/// Isolation: two monitored runs that finish, on inputs that agree for an observer, write the same view.
 pub fn isolation()
     ensures { IsIsolating }
-{}
+{
+    two_runs();
+}
 
-/// Erasure: a labelled run is the unlabelled one, or it was stopped where a flow rule is broken.
-pub fn erasure()
-    ensures { IsErasing }
-{}
-
-/// Unlabelled ECMAScript knows no stops.
-#[tactic(auto, using(crate::proofs::Meanings::never_stops))]
-pub fn never_stops()
-    ensures { NeverStops }
-{}
-
-/// The bytes of a source are one program at most and one script at most, and where they are no program they are refused for one fault.
-pub fn one_script()
+/// The bytes of a source are one program at most, and where they are none they are refused for one fault.
+pub fn one_program()
     ensures program { IsProgramOnce }
-    ensures script { IsScriptOnce }
     ensures refused { IsProgramOrRefused }
 {}
 

@@ -6,7 +6,7 @@ ghost use Rattle.js_shell.specs.Ran.{is_write_fault};
 ghost use Rattle.js_shell.specs.Replies.{Reaches, IsReply, read_fault_report};
 ghost use Rattle.js_shell.specs.Promises.{Told, UnlessEarly, IfEarly, Isolates, IsPlain, Stops};
 ghost use Rattle.js_shell.specs.Accepting.{Answers, PutsAccepted, Refuses};
-ghost use Rattle.js_shell.specs.Causes.{Exactly, IsUsage, IsSource, IsBadPolicy, IsDone, IsStopped, IsLeft, IsEarlyFront};
+ghost use Rattle.js_shell.specs.Causes.{Exactly, IsUsage, IsSource, IsBadPolicy, IsDone, IsThrew, IsStopped, IsLeft, IsOutOfTurns, IsEarlyFront};
 ghost use Rattle.js_shell.specs.Seen.{texts_of};
 
 use crate::accepting::{Accepted, accept};
@@ -14,7 +14,7 @@ use crate::refusals::{Refusal, refusal_bytes};
 use crate::running::run;
 use crate::status::Status;
 use flow_io::{Failed, Sink, Store};
-use origin_labels::Masks;
+use low_equal::{erasure, two_runs};
 use std::alloc::Global;
 
 /// Does all of `jsflow`: reads what the words name, runs the script under the policy with the input or checks it alone, and puts its lines
@@ -32,11 +32,13 @@ pub fn shell<F: Store, K: Sink>(
     ensures plain { Told (F.contents store.old) (K.taken sink.old) (K.taken sink.new) (IsPlain (texts_of words.now) result) }
     ensures stops { Told (F.contents store.old) (K.taken sink.old) (K.taken sink.new) (Stops (texts_of words.now) result) }
     ensures done { IfSome (F.contents store.old) (λ files. Exactly result Status.Done (IsDone (texts_of words.now) files)) }
+    ensures threw { IfSome (F.contents store.old) (λ files. Exactly result Status.Threw (IsThrew (texts_of words.now) files)) }
     ensures usage { Exactly result Status.Usage (IsUsage (texts_of words.now)) }
     ensures source { IfSome (F.contents store.old) (λ files. Exactly result Status.Source (IsSource (texts_of words.now) files)) }
     ensures policy { IfSome (F.contents store.old) (λ files. Exactly result Status.Policy (IsBadPolicy (texts_of words.now) files)) }
     ensures stopped { IfSome (F.contents store.old) (λ files. Exactly result Status.Stopped (IsStopped (texts_of words.now) files)) }
     ensures left { IfSome (F.contents store.old) (λ files. Exactly result Status.Left (IsLeft (texts_of words.now) files)) }
+    ensures out_of_turns { IfSome (F.contents store.old) (λ files. Exactly result Status.OutOfTurns (IsOutOfTurns (texts_of words.now) files)) }
     ensures read_fault { result ≡ Status.ReadFault → Rose (F.faults store.old) (F.faults store.new) }
     ensures read_report { Told (F.contents store.old) (K.taken sink.old) (K.taken sink.new) (λ files out. result ≡ Status.ReadFault → out ≡ read_fault_report) }
     ensures write_fault { (result ≡ Status.WriteFault) ↔ (K.shut sink.new ≡ true) }
@@ -45,6 +47,8 @@ pub fn shell<F: Store, K: Sink>(
     ensures kept { IsStoreKept F.contents F.may_ask F.faults store.old store.new }
     ensures faults_stay { K.faults sink.old ≤ K.faults sink.new }
 {
+    erasure();
+    two_runs();
     answer(alloc, words, store, sink)
 }
 
@@ -64,15 +68,7 @@ fn answer<F: Store, K: Sink>(alloc: Global, words: &[String], store: &mut F, sin
         Ok(Accepted::Program) => return put_accepted(sink),
         Err(refusal) => return refuse(alloc, refusal, sink),
     };
-    let mut labels = Masks;
-    run(
-        alloc,
-        &task.script,
-        &task.policy,
-        &task.inputs,
-        &mut labels,
-        sink,
-    )
+    run(alloc, &task.script, &task.policy, &task.inputs, sink)
 }
 
 /// Puts that a script is accepted, and answers the status.

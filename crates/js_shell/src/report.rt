@@ -1,104 +1,126 @@
-//! The bytes of a run's lines and of its report, and the lists of origins in it.
+//! The bytes of a run's report.
 
-ghost use Rattle.std.specs.Prelude.{◌≡◌, ◌<◌, [], ◌++◌, map, length, codes, IfOk, true};
-ghost use Rattle.std.specs.List.{All, join_with_byte, range_with_len, slice_index_or};
+ghost use Rattle.std.specs.Prelude.{◌≡◌, ◌<◌, [], ◌++◌, map, length, codes, IfOk, IfSome};
+ghost use Rattle.std.specs.List.{All, join_with_byte, slice_index_or};
 ghost use Rattle.flow_text.specs.Utf8.{utf8_of};
-ghost use Rattle.origin_labels.specs.Label.{within};
-ghost use Rattle.js_shell.specs.declared.ending.Ending.TheVariants.{Stopped};
-ghost use Rattle.js_shell.specs.Written.{line_bytes, leaving_name, rule_name, list_bytes, report};
-ghost use Rattle.js_shell.specs.Reports.{AreDeclared, HasDeclared};
+ghost use Rattle.flow_meaning.specs.Scopes.{stopped};
+ghost use Rattle.flow_meaning.specs.Written.{rule_name, list_bytes, halt_bytes, ending_bytes, report};
+ghost use Rattle.step_world.specs.Names.{leaving_name};
+ghost use Rattle.step_run.specs.Ran.{HasDeclared, told_by};
 
-use crate::ending::{ChannelRule, Ending, Leaving};
+use flow_frames::Rule;
 use flow_policy::Policy;
 use flow_text::{OutOfMemory, Text};
-use origin_labels::{Labels, OriginList, Origins};
+use origin_labels::{OriginList, Origins};
 use std::alloc::Global;
+use step_run::Ending;
+use step_world::Leaving;
 
-/// A printed line.
-#[tactic(auto, unfolding(crate::specs::Written::line_bytes))]
-pub(crate) fn line_bytes(alloc: Global, channel: &Text, text: &Text) -> Result<Vec<u8>, OutOfMemory>
-    ensures { IfOk result (λ bytes. bytes.items ≡ line_bytes (record { channel = channel.now; text = text.now })) }
-{
-    let mut bytes = channel.to_utf8(alloc)?;
-    bytes.push(b' ')?;
-    bytes.extend_from_slice(&text.escaped(alloc)?.to_utf8(alloc)?)?;
-    bytes.push(b'\n')?;
-    Ok(bytes)
-}
-
-/// The report of a run's ending.
-#[tactic(auto, unfolding(crate::specs::Written::report))]
+/// The report of how a run ended. There is none of a write fault or of want of memory.
+#[tactic(auto, unfolding(flow_meaning::specs::Written::report))]
 pub(crate) fn report_bytes(
     alloc: Global,
     policy: &Policy,
     ending: &Ending,
 ) -> Result<Vec<u8>, OutOfMemory>
-    requires { HasDeclared policy.now ending.now }
-    ensures { IfOk result (λ bytes. bytes.items ≡ report policy.now ending.now) }
+    requires { HasDeclared (length policy.now.origins) ending.now }
+    ensures { IfOk result (λ bytes. IfSome (told_by ending.now) (λ told. bytes.items ≡ report policy.now told)) }
 {
-    match ending {
-        Ending::Done => Ok(Vec::from_slice(alloc, b"! done\n")?),
-        Ending::Left(name) => left_bytes(alloc, *name),
-        Ending::Stopped { rule, need, have } => stopped_bytes(alloc, policy, *rule, need, have),
-    }
-}
-
-/// The report of a run that left by a name.
-fn left_bytes(alloc: Global, name: Leaving) -> Result<Vec<u8>, OutOfMemory>
-    ensures { IfOk result (λ bytes. bytes.items ≡ codes "! left " ++ (leaving_name name ++ codes "\n")) }
-{
-    let mut bytes = Vec::from_slice(alloc, b"! left ")?;
-    bytes.extend_from_slice(leaving_name(name))?;
+    let mut bytes = Vec::from_slice(alloc, b"! ")?;
+    bytes.extend_from_slice(&ending_bytes(alloc, policy, ending)?)?;
     bytes.push(b'\n')?;
     Ok(bytes)
 }
 
-/// The report of a run that a rule stopped.
-#[tactic(auto, unfolding(crate::specs::Written::report))]
+/// What stands in the report between its first two characters and its line's end.
+#[tactic(auto, unfolding(flow_meaning::specs::Written::ending_bytes, flow_meaning::specs::Written::halt_bytes))]
+fn ending_bytes(alloc: Global, policy: &Policy, ending: &Ending) -> Result<Vec<u8>, OutOfMemory>
+    requires { HasDeclared (length policy.now.origins) ending.now }
+    ensures { IfOk result (λ bytes. IfSome (told_by ending.now) (λ told. bytes.items ≡ ending_bytes policy.now told)) }
+{
+    match ending {
+        Ending::Done => Ok(Vec::from_slice(alloc, b"done")?),
+        Ending::Threw { shown } => threw_bytes(alloc, shown),
+        Ending::Stopped { rule, need, have } => stopped_bytes(alloc, policy, *rule, need, have),
+        Ending::Left(why) => left_bytes(alloc, *why),
+        Ending::OutOfTurns => Ok(Vec::from_slice(alloc, b"out of turns")?),
+        Ending::WriteFault | Ending::OutOfMemory => Err(OutOfMemory),
+    }
+}
+
+fn threw_bytes(alloc: Global, shown: &Text) -> Result<Vec<u8>, OutOfMemory>
+    ensures { IfOk result (λ bytes. bytes.items ≡ codes "threw " ++ utf8_of shown.now) }
+{
+    let mut bytes = Vec::from_slice(alloc, b"threw ")?;
+    bytes.extend_from_slice(&shown.to_utf8(alloc)?)?;
+    Ok(bytes)
+}
+
+fn left_bytes(alloc: Global, why: Leaving) -> Result<Vec<u8>, OutOfMemory>
+    ensures { IfOk result (λ bytes. bytes.items ≡ codes "left " ++ utf8_of (leaving_name why)) }
+{
+    let mut bytes = Vec::from_slice(alloc, b"left ")?;
+    bytes.extend_from_slice(leaving_name(why))?;
+    Ok(bytes)
+}
+
+#[tactic(auto, unfolding(flow_meaning::specs::Written::halt_bytes))]
 fn stopped_bytes(
     alloc: Global,
     policy: &Policy,
-    rule: ChannelRule,
+    rule: Rule,
     need: &OriginList,
     have: &OriginList,
 ) -> Result<Vec<u8>, OutOfMemory>
-    requires need { AreDeclared policy.now need.now }
-    requires have { AreDeclared policy.now have.now }
-    ensures { IfOk result (λ bytes. bytes.items ≡ report policy.now (Stopped rule need.now have.now)) }
+    requires need { All (λ k. k < length policy.now.origins) need.now }
+    requires have { All (λ k. k < length policy.now.origins) have.now }
+    ensures { IfOk result (λ bytes. bytes.items ≡ halt_bytes policy.now (stopped rule need.now have.now)) }
 {
-    let mut bytes = Vec::from_slice(alloc, b"! stopped ")?;
+    let mut bytes = Vec::from_slice(alloc, b"stopped ")?;
     bytes.extend_from_slice(rule_name(rule))?;
     bytes.extend_from_slice(b" need ")?;
     bytes.extend_from_slice(&list_bytes(alloc, policy, need)?)?;
     bytes.extend_from_slice(b" have ")?;
     bytes.extend_from_slice(&list_bytes(alloc, policy, have)?)?;
-    bytes.push(b'\n')?;
     Ok(bytes)
 }
 
-fn leaving_name(name: Leaving) -> &'static [u8]
-    ensures { result.now ≡ leaving_name name }
+#[tactic(auto, using(crate::proofs::Spelled::leaving_spelled))]
+fn leaving_name(why: Leaving) -> &'static [u8]
+    ensures { result.now ≡ utf8_of (leaving_name why) }
 {
-    match name {
+    match why {
         Leaving::Number => b"number",
         Leaving::String => b"string",
         Leaving::Channel => b"channel",
+        Leaving::Origin => b"origin",
+        Leaving::Unbuilt => b"unbuilt",
     }
 }
 
-fn rule_name(rule: ChannelRule) -> &'static [u8]
+fn rule_name(rule: Rule) -> &'static [u8]
     ensures { result.now ≡ rule_name rule }
 {
     match rule {
-        ChannelRule::W11 => b"W11",
-        ChannelRule::W12 => b"W12",
+        Rule::W1 => b"W1",
+        Rule::W2 => b"W2",
+        Rule::W3 => b"W3",
+        Rule::W4 => b"W4",
+        Rule::W5 => b"W5",
+        Rule::W6 => b"W6",
+        Rule::W7 => b"W7",
+        Rule::W8 => b"W8",
+        Rule::W9 => b"W9",
+        Rule::W10 => b"W10",
+        Rule::W11 => b"W11",
+        Rule::W12 => b"W12",
     }
 }
 
 /// A label as a list.
-#[tactic(auto, unfolding(crate::specs::Written::list_bytes))]
+#[tactic(auto, unfolding(flow_meaning::specs::Written::list_bytes))]
 fn list_bytes(alloc: Global, policy: &Policy, label: &OriginList) -> Result<Vec<u8>, OutOfMemory>
-    requires { AreDeclared policy.now label.now }
+    requires { All (λ k. k < length policy.now.origins) label.now }
     ensures { IfOk result (λ bytes. bytes.items ≡ list_bytes policy.now label.now) }
 {
     let items = label.items();
@@ -121,35 +143,4 @@ fn joined_names(alloc: Global, origins: &Origins, label: &[u32]) -> Result<Vec<u
         bytes.extend_from_slice(&origins.name(*origin).to_utf8(alloc)?)?;
     }
     Ok(bytes)
-}
-
-/// The set of origins that a label of the store means, of which all are below a number.
-pub(crate) fn origins_in<L: Labels>(
-    alloc: Global,
-    labels: &L,
-    label: L::Label,
-    origins: u32,
-) -> Result<OriginList, OutOfMemory>
-    requires made { L.made labels.now label }
-    requires declared { within (L.meaning labels.now label) (range_with_len 0 origins) ≡ true }
-    ensures { IfOk result (λ list. list ≡ L.meaning labels.now label) }
-{
-    let mut list = OriginList::new(alloc);
-    for origin in 0..origins {
-        if labels.has(label, origin) {
-            list.push(origin)?;
-        }
-    }
-    Ok(list)
-}
-
-/// A list of the same origins.
-pub(crate) fn copied(alloc: Global, list: &OriginList) -> Result<OriginList, OutOfMemory>
-    ensures { IfOk result (λ copy. copy ≡ list.now) }
-{
-    let mut copy = OriginList::new(alloc);
-    for origin in list.items() {
-        copy.push(*origin)?;
-    }
-    Ok(copy)
 }

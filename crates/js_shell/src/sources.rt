@@ -1,4 +1,4 @@
-//! Sources: the program that bytes are, and the script that this is, or why they are none.
+//! Sources: the program that bytes are, or why they are none, or none that can be run yet.
 
 ghost use Rattle.std.specs.Prelude.{◌≡◌, ◌≤◌, length, Some, Err};
 ghost use Rattle.flow_text.specs.Places.{place_of};
@@ -11,18 +11,14 @@ ghost use Rattle.js_shell.specs.Sources.{source_limit};
 ghost use Rattle.js_shell.specs.Accepting.{TakesText, TakesTokens, TakesTree, TakesEarly, TakesSource, TakesProgram, TakesScript, IsParseFault};
 ghost use Rattle.js_shell.specs.Seen.{seen_script};
 
-use crate::reader::{ScriptFault, read_script};
 use crate::refusals::{Refusal, SourceKind};
-use crate::script::Print;
 use flow_text::{Text, TextFault};
 use js_ast::{Program, Token};
 use js_early::{EarlyFault, early};
 use js_parse::{ParseFault, parse};
 use js_scan::{ScanFault, scan};
+use js_unbuilt::first_unbuilt;
 use std::alloc::Global;
-
-/// The most bytes of a script that can be run so far.
-const SCRIPT_LIMIT: usize = 65_536;
 
 /// A text and the program that it is.
 #[derive(Drop)]
@@ -40,21 +36,15 @@ pub(crate) fn check_program(alloc: Global, bytes: &[u8]) -> Result<(), Refusal>
     Ok(())
 }
 
-/// The script that the bytes of a source are.
-pub(crate) fn script_of(alloc: Global, bytes: &[u8]) -> Result<Vec<Print>, Refusal>
+/// The program that the bytes of a source are, all of whose nodes are built.
+pub(crate) fn script_of(alloc: Global, bytes: &[u8]) -> Result<Program, Refusal>
     requires { length bytes.now ≤ source_limit }
     ensures { TakesScript bytes.now (seen_script result) }
 {
     let source = source_of(alloc, bytes)?;
-    if bytes.len() > SCRIPT_LIMIT {
-        return Err(bad_source(&source.text, SourceKind::Unbuilt, 0));
-    }
-    match read_script(alloc, &source.program) {
-        Ok(script) => Ok(script),
-        Err(ScriptFault::Unbuilt { at }) => {
-            Err(bad_source(&source.text, SourceKind::Unbuilt, at))
-        }
-        Err(ScriptFault::OutOfMemory) => Err(Refusal::OutOfMemory),
+    match first_unbuilt(&source.program) {
+        None => Ok(source.program),
+        Some(at) => Err(bad_source(&source.text, SourceKind::Unbuilt, at)),
     }
 }
 

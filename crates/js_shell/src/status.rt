@@ -8,6 +8,8 @@ ghost use Rattle.js_shell.specs.Statuses.{number_of};
 pub enum Status {
     /// The script ran to its end, or it was checked and is accepted.
     Done,
+    /// An exception left the script.
+    Threw,
     /// The words are no command.
     Usage,
     /// The script was refused.
@@ -18,6 +20,8 @@ pub enum Status {
     Stopped,
     /// The run left the language's profile.
     Left,
+    /// The run needs more turns than it had.
+    OutOfTurns,
     /// A file could not be read.
     ReadFault,
     /// Output could not be written.
@@ -33,11 +37,13 @@ impl Status {
     {
         match self {
             Status::Done => 0,
+            Status::Threw => 1,
             Status::Usage => 2,
             Status::Source => 3,
             Status::Policy => 4,
             Status::Stopped => 5,
             Status::Left => 6,
+            Status::OutOfTurns => 7,
             Status::ReadFault => 8,
             Status::WriteFault => 9,
             Status::OutOfMemory => 10,

@@ -1,4 +1,5 @@
 mod Acts
+pub mod Adding
 mod Agreement
 mod Channels
 mod DeclaredRuns
@@ -8,7 +9,7 @@ mod ErasedActs
 mod ErasedRuns
 mod Heaps
 mod Labels
-mod Lines
+pub mod Lines
 mod Observing
 mod Runs
 mod Scopes

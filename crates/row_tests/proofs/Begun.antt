@@ -5,9 +5,8 @@ use Rattle.origin_labels.specs.Label.{Label}
 use Rattle.flow_frames.specs.declared.kind.Kind.TheVariants as kind
 use Rattle.flow_frames.specs.Changes.{pushed}
 use Rattle.flow_frames.specs.Frames.{Frame}
-use Rattle.flow_frames.specs.Held.{Held, seen_frame}
+use Rattle.flow_frames.specs.Held.{Held, CatchByTry, seen_frame}
 use Rattle.flow_frames.specs.Kinds.{is_try}
-use Rattle.step_world.specs.Worlds.{CatchByTry}
 
 abbrev Catch : List Frame → Type 0
 Catch frames = All (λ f. (is_try f.kind && f.active) ≡ f.active) frames

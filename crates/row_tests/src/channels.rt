@@ -3,8 +3,8 @@ ghost use Rattle.std.specs.List.{All};
 ghost use Rattle.flow_policy.specs.Inputs.{IsGivenTo};
 ghost use Rattle.js_values.specs.Readings.{HasHeap, HasValue};
 ghost use Rattle.origin_labels.specs.Stores.{IsKept};
-ghost use Rattle.flow_frames.specs.Held.{Belong};
-ghost use Rattle.step_world.specs.Worlds.{Belongs, CatchByTry};
+ghost use Rattle.flow_frames.specs.Held.{Belong, CatchByTry};
+ghost use Rattle.step_world.specs.Worlds.{Belongs};
 
 use env_records::Envs;
 use flow_frames::{FlowFault, Frames, Kind, Rule};

@@ -1,4 +1,4 @@
-ghost use Rattle.std.specs.Prelude.{◌≡◌, ◌≤◌, IfOk, length};
+ghost use Rattle.std.specs.Prelude.{◌≡◌, ◌<◌, ◌≤◌, IfOk, length};
 ghost use Rattle.flow_frames.specs.Held.{Belong};
 
 use flow_frames::*;
@@ -73,6 +73,20 @@ fn leave<L: Labels>(labels: &L, frames: &mut Frames<L::Label>) -> L::Label
     frames.pop()
 }
 
+// What the label of the frames strictly inside a depth has.
+fn inside<L: Labels>(
+    labels: &mut L,
+    frames: &Frames<L::Label>,
+    depth: usize,
+) -> Result<[bool; 2], OutOfMemory>
+    requires depth { depth < length frames.now.frames }
+    requires belongs { Belong L.made L.meaning labels.old frames.now.frames }
+    ensures belongs { Belong L.made L.meaning labels.new frames.now.frames }
+{
+    let label = frames.inside(labels, depth)?;
+    Ok(origins(labels, label))
+}
+
 #[test]
 fn begins_with_a_root(rt: HostRuntime) -> Result<(), Fail> {
     let store = Masks;
@@ -85,24 +99,58 @@ fn begins_with_a_root(rt: HostRuntime) -> Result<(), Fail> {
     Ok(())
 }
 
+// What the labels inside the Root and inside the Branch have.
+fn inside_of_both<L: Labels>(
+    alloc: Global,
+    labels: &mut L,
+    a: L::Label,
+) -> Result<([bool; 2], [bool; 2]), OutOfMemory>
+    requires { L.made labels.old a }
+{
+    let frames = branched(alloc, labels, a)?;
+    let in_root = inside(labels, &frames, 0)?;
+    let in_branch = inside(labels, &frames, 1)?;
+    Ok((in_root, in_branch))
+}
+
+// Raises the last of two frames: what the context has then, what the frame's label has, and what the context has behind it.
+fn raised<L: Labels>(
+    labels: &mut L,
+    frames: &mut Frames<L::Label>,
+    b: L::Label,
+) -> Option<([bool; 2], [bool; 2], [bool; 2])>
+    requires two { length frames.old.frames ≡ 2 }
+    requires belongs { Belong L.made L.meaning labels.old frames.old.frames }
+    requires label { L.made labels.old b }
+{
+    frames.raise(labels, 1, b).ok()?;
+    let before = context(&*labels, &*frames);
+    let label = leave(&*labels, frames);
+    let left = origins(&*labels, label);
+    Some((before, left, context(&*labels, &*frames)))
+}
+
 #[test]
 fn labels_of_what_is_inside(rt: HostRuntime) -> Result<(), Fail> {
+    let mut store = Masks;
+    let a = store.single(0).ok().ok_or("memory")?;
+    let both = inside_of_both(rt.alloc(), &mut store, a)
+        .ok()
+        .ok_or("memory")?;
+    assert_eq!(rt; both, ([true, false], [false, false]));
+    Ok(())
+}
+
+#[test]
+fn labels_of_a_raised_frame(rt: HostRuntime) -> Result<(), Fail> {
     let mut store = Masks;
     let a = store.single(0).ok().ok_or("memory")?;
     let b = store.single(1).ok().ok_or("memory")?;
     let mut frames = branched(rt.alloc(), &mut store, a).ok().ok_or("memory")?;
     assert_eq!(rt; frames.len(), 2);
     assert_eq!(rt; context(&store, &frames), [true, false]);
-    let inside = frames.inside(&mut store, 0).ok().ok_or("memory")?;
-    assert_eq!(rt; origins(&store, inside), [true, false]);
-    let inside = frames.inside(&mut store, 1).ok().ok_or("memory")?;
-    assert_eq!(rt; origins(&store, inside), [false, false]);
-    assert!(rt; frames.raise(&mut store, 1, b).is_ok());
-    assert_eq!(rt; origins(&store, frames.label(1)), [true, true]);
-    assert_eq!(rt; context(&store, &frames), [true, true]);
-    let label = leave(&store, &mut frames);
-    assert_eq!(rt; origins(&store, label), [true, true]);
-    assert_eq!(rt; context(&store, &frames), [false, false]);
+    let told = raised(&mut store, &mut frames, b).ok_or("memory")?;
+    assert_eq!(rt; told, ([true, true], [true, true], [false, false]));
     Ok(())
 }
 

@@ -6,4 +6,8 @@ mod expressions;
 #[cfg(test)]
 mod programs;
 #[cfg(test)]
+mod running;
+#[cfg(test)]
 mod shell;
+#[cfg(test)]
+mod unbuilt;

@@ -11,12 +11,12 @@ use std::test::*;
 
 /// Why a source has no program.
 #[derive(Drop)]
-enum Refused {
+pub(crate) enum Refused {
     NoTokens,
     NoProgram(ParseFault),
 }
 
-fn parsed(alloc: Global, source: &str) -> Result<Program, Refused>
+pub(crate) fn parsed(alloc: Global, source: &str) -> Result<Program, Refused>
     ensures { IfOk result IsMarked }
 {
     let text = Text::spelled(alloc, source).map_err(|_| Refused::NoTokens)?;

@@ -149,34 +149,169 @@ const REFUSED: [(&str, &str); 24] = [
 ];
 
 // A program, and where its first node stands that can't be run so far.
-const UNBUILT: [(&str, &str); 27] = [
-    ("var x;", "1:1"),
-    (";", "1:1"),
-    ("{ print(\"pub\", \"hi\"); }", "1:1"),
-    ("print(\"pub\", \"a\"); debugger;", "1:20"),
-    ("x\n++\ny", "1:1"),
-    ("\"use strict\"; print(\"pub\", \"a\");", "1:1"),
+const UNBUILT: [(&str, &str); 24] = [
     ("print", "1:1"),
     ("Print(\"pub\", \"hi\");", "1:1"),
     ("'print'(\"pub\", \"hi\");", "1:1"),
     ("print[\"pub\", \"hi\"];", "1:1"),
     ("print.x(\"pub\", \"hi\");", "1:1"),
-    ("read(\"pin\");", "1:1"),
-    ("print();", "1:1"),
-    ("print(1);", "1:1"),
-    ("print(pub, \"hi\");", "1:7"),
-    ("print(\"pub\", 1);", "1:14"),
-    ("print(\"pub\", \"a\", \"b\");", "1:19"),
-    ("print(\"pub\", 1, \"b\");", "1:14"),
-    ("print(\"pub\", (\"a\"));", "1:14"),
-    ("print(\"pub\", \"a\" - \"b\");", "1:14"),
-    ("print(\"pub\", \"a\" + 1 + \"b\");", "1:20"),
-    ("print(\"pub\", \"a\" + (\"b\" + \"c\"));", "1:20"),
-    ("print(\"pub\",\n\"a\" + read());", "2:7"),
-    ("print(\"pub\", read(x));", "1:19"),
-    ("print(\"pub\", read(\"a\", \"b\"));", "1:24"),
     ("print(\"pub\", write(\"a\"));", "1:14"),
-    ("print(\"pub\", \"a\");\nprint(\"pub\", \"b\" + c);", "2:20"),
+    ("print(\"pub\", [1]);", "1:14"),
+    ("print(\"pub\", 1 in 2);", "1:14"),
+    ("var x = 1, read;", "1:12"),
+    ("while (1) break;", "1:11"),
+    ("throw 1;", "1:1"),
+    ("try { } finally { }", "1:1"),
+    ("function f() {}", "1:1"),
+    ("({});", "1:2"),
+    ("for (var k in 1) ;", "1:1"),
+    ("switch (1) {}", "1:1"),
+    ("a: ;", "1:1"),
+    ("x.y = 1;", "1:1"),
+    ("x = y.z;", "1:5"),
+    ("this;", "1:1"),
+    ("new x;", "1:1"),
+    ("delete 1;", "1:1"),
+    ("print(\"pub\", \"a\");\nx.y;", "2:1"),
+    ("if (1) ; else {\n  x(1);\n}", "2:3"),
+];
+
+// The same as of the first rows, of scripts with variables, branches and loops.
+const SCRIPTS: [(&str, &str, &str, Status); 24] = [
+    (
+        "var x = 0; if (read(\"pin\") == \"1\") x = 1; print(\"pub\", x);",
+        "pin 1\n",
+        "! stopped W1 need A have -\n",
+        Status::Stopped,
+    ),
+    (
+        "var x = 0; if (read(\"pin\") == \"1\") x = 1; print(\"pub\", x);",
+        "pin 2\n",
+        "pub 0\n! done\n",
+        Status::Done,
+    ),
+    (
+        "var x = lbl(0, \"A\"); if (read(\"pin\") == \"1\") x = 1; print(\"all\", x);",
+        "pin 1\n",
+        "all 1\n! done\n",
+        Status::Done,
+    ),
+    (
+        "print(\"pub\", 9007199254740990 + 1); print(\"pub\", 9007199254740991 + 1);",
+        "",
+        "pub 9007199254740991\n! left number\n",
+        Status::Left,
+    ),
+    (
+        "print(\"pub\", (-7 % 3) + \",\" + (1 << 31) + \",\" + (-1 >>> 0) + \",\" + \"5\" * \"4\" + \",\" + (\"5\" + 4));",
+        "",
+        "pub -1,-2147483648,4294967295,20,54\n! done\n",
+        Status::Done,
+    ),
+    ("lbl(1, \"Z\");", "", "! left origin\n", Status::Left),
+    (
+        "print(\"pub\", print(\"pub\", \"a\"));",
+        "",
+        "pub a\npub undefined\n! done\n",
+        Status::Done,
+    ),
+    ("print();", "", "! left channel\n", Status::Left),
+    (
+        "if (read(\"pin\")) read(\"note\");",
+        "pin 1\nnote x\n",
+        "! stopped W11 need A have -\n",
+        Status::Stopped,
+    ),
+    (
+        "print(\"pub\", typeof y); print(\"pub\", y);",
+        "",
+        "pub undefined\n! threw object Error ReferenceError\n",
+        Status::Threw,
+    ),
+    (
+        "undefined = 1;",
+        "",
+        "! threw object Error TypeError\n",
+        Status::Threw,
+    ),
+    (
+        "if (read(\"pin\")) y;",
+        "pin 1\n",
+        "! stopped W9 need A have -\n",
+        Status::Stopped,
+    ),
+    (
+        "var a = \"1\"; print(\"pub\", a++); print(\"pub\", ++a); a -= 1; print(\"pub\", a--); print(\"pub\", a);",
+        "",
+        "pub 1\npub 3\npub 2\npub 1\n! done\n",
+        Status::Done,
+    ),
+    (
+        "var x = 1; x += x = 10; print(\"pub\", x);",
+        "",
+        "pub 11\n! done\n",
+        Status::Done,
+    ),
+    (
+        "print(\"pub\", 0 && print(\"pub\", \"no\")); print(\"pub\", 1 || print(\"pub\", \"no\"));",
+        "",
+        "pub 0\npub 1\n! done\n",
+        Status::Done,
+    ),
+    (
+        "print(\"pub\", 0 ? print(\"pub\", \"no\") : \"other\");",
+        "",
+        "pub other\n! done\n",
+        Status::Done,
+    ),
+    (
+        "var i = 0; while (i < 3) i++; do i++; while (i < 5); print(\"pub\", i);",
+        "",
+        "pub 5\n! done\n",
+        Status::Done,
+    ),
+    (
+        "for (var i = 0, s = \"\"; i < 3; i++) { s = s + i; } print(\"pub\", s);",
+        "",
+        "pub 012\n! done\n",
+        Status::Done,
+    ),
+    (
+        "var i = 0; while (read(\"pin\") !== undefined) i++;",
+        "pin 1\n",
+        "! stopped W1 need A have -\n",
+        Status::Stopped,
+    ),
+    (
+        "var i = lbl(0, \"A\"); while (read(\"pin\") !== undefined) i++; print(\"all\", i);",
+        "pin 1\npin 2\n",
+        "all 2\n! done\n",
+        Status::Done,
+    ),
+    (
+        "var x; { var y = (x, null); } debugger; print(\"pub\", y + 1);",
+        "",
+        "pub 1\n! done\n",
+        Status::Done,
+    ),
+    (
+        "print(\"pub\", !0); print(\"pub\", -\"2\"); print(\"pub\", ~1); print(\"pub\", void 0); print(\"pub\", +true);",
+        "",
+        "pub true\npub -2\npub -2\npub undefined\npub 1\n! done\n",
+        Status::Done,
+    ),
+    (
+        "if (1 < \"2\") print(\"pub\", \"then\"); else print(\"pub\", \"else\");",
+        "",
+        "pub then\n! done\n",
+        Status::Done,
+    ),
+    (
+        "print(\"pub\", 1 === 1); print(\"pub\", \"1\" != 1);",
+        "",
+        "pub true\npub false\n! done\n",
+        Status::Done,
+    ),
 ];
 
 // A policy, and what a run of the empty script under it writes.
@@ -263,6 +398,23 @@ fn always_out_of_memory(rt: HostRuntime) -> Result<(), Fail> {
     let alloc = rt.alloc();
     let words = words_of(alloc, &["run", "s", "p", "i"])?;
     for (script, input, bytes, status) in RUNS {
+        let mut store = files(alloc, script, POLICY, input)?;
+        let mut sink = MemorySink::new(alloc);
+        assert_eq!(rt;
+            shell(alloc, &words, &mut store, &mut sink),
+            status,
+            "{script}"
+        );
+        assert_eq!(rt; sink.taken(), bytes.as_bytes(), "{script}");
+    }
+    Ok(())
+}
+
+#[test]
+fn scripts(rt: HostRuntime) -> Result<(), Fail> {
+    let alloc = rt.alloc();
+    let words = words_of(alloc, &["run", "s", "p", "i"])?;
+    for (script, input, bytes, status) in SCRIPTS {
         let mut store = files(alloc, script, POLICY, input)?;
         let mut sink = MemorySink::new(alloc);
         assert_eq!(rt;
@@ -364,8 +516,8 @@ fn the_deepest_program(rt: HostRuntime) -> Result<(), Fail> {
         (
             ["run", "s", "p", "i"].as_slice(),
             200,
-            "! source Unbuilt at 1:1\n",
-            Status::Source,
+            "! done\n",
+            Status::Done,
         ),
         (
             ["run", "s", "p", "i"].as_slice(),
@@ -537,12 +689,7 @@ fn limits_of_files(rt: HostRuntime) -> Result<(), Fail> {
             Status::Source,
         ),
         ("s", script, "! done\n", Status::Done),
-        (
-            "s",
-            longer_script,
-            "! source Unbuilt at 1:1\n",
-            Status::Source,
-        ),
+        ("s", longer_script, "! done\n", Status::Done),
         (
             "s",
             bad_token,
@@ -568,11 +715,13 @@ fn limits_of_files(rt: HostRuntime) -> Result<(), Fail> {
 fn numbers_of_statuses(rt: HostRuntime) {
     for (status, number) in [
         (Status::Done, 0),
+        (Status::Threw, 1),
         (Status::Usage, 2),
         (Status::Source, 3),
         (Status::Policy, 4),
         (Status::Stopped, 5),
         (Status::Left, 6),
+        (Status::OutOfTurns, 7),
         (Status::ReadFault, 8),
         (Status::WriteFault, 9),
         (Status::OutOfMemory, 10),
@@ -584,8 +733,6 @@ fn numbers_of_statuses(rt: HostRuntime) {
 #[test]
 fn laws() {
     isolation();
-    erasure();
-    never_stops();
-    one_script();
+    one_program();
     replies_once();
 }

@@ -7,11 +7,10 @@ use Rattle.origin_labels.specs.Label.{Label}
 use Rattle.flow_frames.specs.declared.kind.Kind.{Kind}
 use Rattle.flow_frames.specs.declared.kind.Kind.TheVariants as kind
 use Rattle.flow_frames.specs.Frames.{Frame, Catches, IsTarget, catching, root}
-use Rattle.flow_frames.specs.Held.{Held, seen_frame}
+use Rattle.flow_frames.specs.Held.{Held, CatchByTry, seen_frame}
 use Rattle.flow_frames.specs.Kinds.{is_try}
 use Rattle.flow_meaning.specs.Scopes as scopes
 use Rattle.flow_meaning.specs.Scopes.{reached}
-use Rattle.step_world.specs.Worlds.{CatchByTry}
 
 -- ---- the depth that is counted to
 

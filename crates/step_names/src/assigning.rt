@@ -1,6 +1,6 @@
 //! Names that are given values.
 
-ghost use Rattle.std.specs.Prelude.{◌≡◌, ◌<◌, length, IfSome, IsSome, slice_get};
+ghost use Rattle.std.specs.Prelude.{◌≡◌, IsSome, slice_get};
 ghost use Rattle.origin_labels.specs.Stores.{IsKept};
 ghost use Rattle.flow_policy.specs.Policies.{Tables};
 ghost use Rattle.flow_policy.specs.Inputs.{Given};
@@ -12,6 +12,7 @@ ghost use Rattle.step_world.specs.Acts.{Acts, HasAnswer};
 ghost use Rattle.step_world.specs.Names.{reference_of};
 ghost use Rattle.step_world.specs.Worlds.{Belongs, Grows};
 
+use crate::naming::own;
 use crate::throwing::{ErrorKind, throw_without_cause};
 use env_records::AssignFault;
 use flow_frames::FlowFault;
@@ -28,7 +29,6 @@ pub fn put_name<T: Copy, L: Labels<Label = T>>(
     reference: Reference<'_>,
     value: Labelled<T>,
 ) -> Result<Came<(), T>, FlowFault<T>>
-    requires there { IfSome reference.record (λ e. e.0 < length world.old.records) }
     requires value { L.made labels.old value.label }
     requires belongs { Belongs L.made L.meaning labels.old world.old }
     ensures acts { let name = reference_of reference.entry in Acts L.made L.meaning labels.new (λ reading x. x) (λ reading. put_at name.place name.name (read_value reading value)) world.old world.new result }
@@ -40,7 +40,7 @@ pub fn put_name<T: Copy, L: Labels<Label = T>>(
     let Some(at) = reference.record else {
         return throw_without_cause(labels, world, ErrorKind::ReferenceError);
     };
-    if world.records.own(at, reference.name).is_none() {
+    if own(world, reference).is_none() {
         return throw_without_cause(labels, world, ErrorKind::ReferenceError);
     }
     assign(labels, world, at, reference.name, value)
@@ -54,7 +54,6 @@ pub fn assign_to<T: Copy, L: Labels<Label = T>>(
     reference: Reference<'_>,
     value: Labelled<T>,
 ) -> Result<Came<Labelled<T>, T>, FlowFault<T>>
-    requires there { IfSome reference.record (λ e. e.0 < length world.old.records) }
     requires value { L.made labels.old value.label }
     requires belongs { Belongs L.made L.meaning labels.old world.old }
     ensures acts { (tables : Tables) (inputs : Given) → Acts L.made L.meaning labels.new (λ reading. read_value reading) (λ reading. assign_to (labelled tables inputs) (reference_of reference.entry) (read_value reading value)) world.old world.new result }
@@ -75,7 +74,6 @@ pub fn assign_giving<T: Copy, L: Labels<Label = T>>(
     other: Labelled<T>,
     value: Labelled<T>,
 ) -> Result<Came<Labelled<T>, T>, FlowFault<T>>
-    requires there { IfSome reference.record (λ e. e.0 < length world.old.records) }
     requires other { L.made labels.old other.label }
     requires value { L.made labels.old value.label }
     requires belongs { Belongs L.made L.meaning labels.old world.old }

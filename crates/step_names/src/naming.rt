@@ -40,7 +40,6 @@ pub fn get_name<T: Copy, L: Labels<Label = T>>(
     world: &mut World<T>,
     reference: Reference<'_>,
 ) -> Result<Came<Labelled<T>, T>, FlowFault<T>>
-    requires there { IfSome reference.record (λ e. e.0 < length world.old.records) }
     requires belongs { Belongs L.made L.meaning labels.old world.old }
     ensures acts { (tables : Tables) (inputs : Given) → Acts L.made L.meaning labels.new (λ reading. read_value reading) (λ reading. (labelled tables inputs).get_name (reference_of reference.entry) (enters (labelled tables inputs))) world.old world.new result }
     ensures made { HasAnswer (HasValue (L.made labels.new)) (L.made labels.new) result }
@@ -61,7 +60,6 @@ pub fn typeof_name<T: Copy, L: Labels<Label = T>>(
     world: &World<T>,
     reference: Reference<'_>,
 ) -> Result<Came<Labelled<T>, T>, FlowFault<T>>
-    requires there { IfSome reference.record (λ e. e.0 < length world.now.records) }
     requires belongs { Belongs L.made L.meaning labels.now world.now }
     ensures acts { (tables : Tables) (inputs : Given) → Acts L.made L.meaning labels.now (λ reading. read_value reading) (λ reading. (labelled tables inputs).typeof_name (reference_of reference.entry) (enters (labelled tables inputs))) world.now world.now result }
     ensures made { HasAnswer (HasValue (L.made labels.now)) (L.made labels.now) result }
@@ -81,14 +79,27 @@ fn value_of<T: Copy>(
     world: &World<T>,
     reference: Reference<'_>,
 ) -> Result<Option<Labelled<T>>, OutOfMemory>
-    requires { IfSome reference.record (λ e. e.0 < length world.now.records) }
     ensures { let name = reference_of reference.entry in IfOk result (λ value. value ≡ option_map (λ b. b.value) (binding_at world.now.records name.place name.name)) }
 {
-    let Some(at) = reference.record else {
-        return Ok(None);
-    };
-    match world.records.own(at, reference.name) {
+    match own(world, reference) {
         Some(value) => Ok(Some(value.copy(alloc)?)),
         None => Ok(None),
+    }
+}
+
+/// The value of a name, if it has a binding: in a record that isn't there it has none.
+pub(crate) fn own<'w, T: Copy>(
+    world: &'w World<T>,
+    reference: Reference<'_>,
+) -> Option<&'w Labelled<T>>
+    ensures { let name = reference_of reference.entry in option_map (λ v. v.now) result ≡ option_map (λ b. b.value) (binding_at world.now.records name.place name.name) }
+{
+    let Some(at) = reference.record else {
+        return None;
+    };
+    if at.0 < world.records.len() {
+        world.records.own(at, reference.name)
+    } else {
+        None
     }
 }

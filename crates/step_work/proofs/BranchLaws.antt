@@ -1,6 +1,5 @@
 -- A part in the frame of a branch.
-use Rattle.std.proofs.Common.{refl, sym, ap, ap₂, ◌∙◌, ◌≡◌, ◌+◌, ℕ, Bool, List, [], ◌∷◌, ◌++◌, map, take, length, Result, Ok, Err, IfOk, OnOk, append-nil, arith}
-use Rattle.std.specs.List.{All}
+use Rattle.std.proofs.Common.{refl, sym, ap, ap₂, ◌∙◌, ◌≡◌, ◌+◌, ℕ, Bool, List, [], ◌∷◌, ◌++◌, map, take, length, Result, Ok, Err, IfOk, append-nil, arith}
 use Rattle.std.proofs.lemmas.List.{length-map, length-append}
 use Rattle.origin_labels.specs.Label.{Label}
 use Rattle.flow_policy.specs.Policies.{Tables}

@@ -1,17 +1,15 @@
 -- The ends of frames, and frames that are raised.
-use Rattle.std.proofs.Common.{refl, sym, ap, ap₂, ◌∙◌, ◌≡◌, ◌+◌, ◌-◌, ◌<◌, ◌≤◌, ℕ, zero, suc, Bool, List, [], ◌∷◌, ◌++◌, map, take, length, Option, Some, None, Result, Ok, Err, IfOk, subst, arith}
-use Rattle.std.specs.List.{All, slice_get, slice_index_or}
-use Rattle.std.specs.Option.{option_map}
+use Rattle.std.proofs.Common.{refl, sym, ap, ap₂, ◌∙◌, ◌≡◌, ◌+◌, ◌-◌, ℕ, zero, suc, Bool, List, [], ◌∷◌, ◌++◌, map, take, length, Some, subst, arith}
+use Rattle.std.specs.List.{All}
 use Rattle.std.proofs.lemmas.List.{length-map, take-map}
 use Rattle.std.proofs.lemmas.List.Elements.{All-head, All-rest}
-use Rattle.origin_labels.specs.Label.{Label, union}
+use Rattle.origin_labels.specs.Label.{Label}
 use Rattle.origin_labels.specs.Stores.{IsKept}
-use Rattle.flow_frames.specs.Changes.{raised, changed_at}
-use Rattle.flow_frames.specs.Frames.{Frame}
+use Rattle.flow_frames.specs.Changes.{raised}
 use Rattle.flow_frames.specs.Held.{Held, Belong, label_at, meant_at, seen, seen_frame}
 use Rattle.js_values.specs.Readings.{IsReading}
 use Rattle.js_values.proofs.ReadingLaws.{IsReading-earlier}
-use Rattle.flow_meaning.specs.Scopes.{State, raised_in, innermost}
+use Rattle.flow_meaning.specs.Scopes.{State, raised_in}
 use Rattle.step_work.specs.Resuming.{with_frames}
 use Rattle.step_work.proofs.Reading.{read_frames}
 

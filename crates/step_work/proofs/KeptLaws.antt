@@ -1,5 +1,6 @@
 -- Pending work beside the list of operands.
-use Rattle.std.proofs.Common.{refl, sym, ap, subst, ◌∙◌, ◌≡◌, ◌≤◌, ◌<◌, ◌+◌, ◌-◌, ℕ, List, [], ◌∷◌, ◌++◌, length, take, drop, length-drop, append-nil, Option, None, Some, IfSome, option_to_list, arith}
+use Rattle.std.proofs.Common.{refl, sym, ap, ◌∙◌, ◌≡◌, ◌≤◌, ◌<◌, ◌+◌, ◌-◌, ℕ, List, [], ◌∷◌, ◌++◌, length, take, drop, length-drop, append-nil, Option, Some, None, IfSome, arith}
+use Rattle.std.specs.Option.{option_to_list}
 use Rattle.std.proofs.lemmas.List.{take-append-le, drop-append-le, drop-drop, drop-take, take-take, drop_all, take_all, length-take-le}
 use Rattle.js_values.specs.declared.value.Labelled.{Labelled}
 use Rattle.step_work.specs.declared.work.Work.{Work}
@@ -9,6 +10,11 @@ use Rattle.step_work.specs.Kept.{Taken, owned, tasks_of, loose_of, kept}
 pub owned_more : (works : List Work) (w : Work) → owned (works ++ w ∷ []) ≡ owned works + owns w
 owned_more [] w = omega arith
 owned_more (v ∷ works) w = omega (arith, owned_more works w)
+
+-- without the last
+pub owned_front : (before behind : List Work) (result : Option Work) (n : ℕ) → before ≡ behind ++ option_to_list result → owned before ≤ n → owned behind ≤ n
+owned_front before behind None n e le = omega (arith, ap owned (e ∙ append-nil behind), le)
+owned_front before behind (Some w) n e le = omega (arith, ap owned e, owned_more behind w, le)
 
 module _ {T : Type 0} where
   -- a further value is kept by no work
@@ -75,22 +81,30 @@ module _ {T : Type 0} where
   pub enough_without_last : (works : List Work) (operands : List (Labelled T)) → owned works ≤ length operands → 0 < length (loose_of works operands) → owned works ≤ length (take (length operands - 1) operands)
   enough_without_last works operands le lt = omega (arith, le, lt, length-drop (owned works) operands, length-take-le (length operands - 1) operands (omega arith))
 
-  -- the work that was done first leaves the others; its operands are then the first that lie loose
-  taken_last : (works others : List Work) (operands : List (Labelled T)) (w : Work) → works ≡ others ++ w ∷ [] → owned works ≤ length operands → Taken (kept works operands) (kept others operands) w
-  taken_last works others operands w e le =
-      let fits : owned (others ++ w ∷ []) ≤ length operands = subst (λ ws. owned ws ≤ length operands) e le in
-      record {
-        tasks = ap (λ ws. tasks_of ws operands) e ∙ tasks_last others operands w;
-        rest = sym (ap (λ ws. loose_of ws operands) e ∙ loose_last others operands w);
-        enough = omega (arith, fits, owned_more others w, length-drop (owned others) operands);
-      }
+  -- the work that is done first is taken
+  pub taken_last : (before behind : List Work) (operands : List (Labelled T)) (result : Option Work) → before ≡ behind ++ option_to_list result → owned before ≤ length operands → IfSome result (Taken (kept before operands) (kept behind operands))
+  taken_last before behind operands None e le = tt
+  taken_last before behind operands (Some w) e le = record {
+    tasks = ap (λ ws. tasks_of ws operands) e ∙ tasks_last behind operands w;
+    rest = sym (ap (λ ws. loose_of ws operands) e ∙ loose_last behind operands w);
+    enough = omega (arith, ap owned e, owned_more behind w, le, length-drop (owned behind) operands);
+  }
 
-  pub taken : (works others : List Work) (operands : List (Labelled T)) (result : Option Work) → works ≡ others ++ option_to_list result → owned works ≤ length operands → IfSome result (Taken (kept works operands) (kept others operands))
-  taken works others operands None e le = tt
-  taken works others operands (Some w) e le = taken_last works others operands w e le
+  -- all values may be taken away that no work keeps
+  pub loose_fit : (works : List Work) (operands : List (Labelled T)) (count : ℕ) → count ≡ length (loose_of works operands) → count ≤ length operands
+  loose_fit works operands count e = omega (arith, e, length-drop (owned works) operands)
 
-  pub enough_for_others : (works others : List Work) (operands : List (Labelled T)) (result : Option Work) → works ≡ others ++ option_to_list result → owned works ≤ length operands → owned others ≤ length operands
-  enough_for_others works others operands None e le = subst (λ ws. owned ws ≤ length operands) (e ∙ append-nil others) le
-  enough_for_others works others operands (Some w) e le =
-      let fits : owned (others ++ w ∷ []) ≤ length operands = subst (λ ws. owned ws ≤ length operands) e le in
-      omega (arith, fits, owned_more others w)
+  behind_loose : (works : List Work) (operands : List (Labelled T)) (count : ℕ) → owned works ≤ length operands → count ≡ length (loose_of works operands) → length operands - count ≡ owned works
+  behind_loose works operands count le e = omega (arith, le, e, length-drop (owned works) operands)
+
+  pub tasks_alone : (works : List Work) (operands : List (Labelled T)) (count : ℕ) → owned works ≤ length operands → count ≡ length (loose_of works operands) → tasks_of works (take (length operands - count) operands) ≡ tasks_of works operands
+  tasks_alone works operands count le e = let place = behind_loose works operands count le e in tasks_in_front works operands (length operands - count) (omega (arith, place))
+
+  pub enough_alone : (works : List Work) (operands : List (Labelled T)) (count : ℕ) → owned works ≤ length operands → count ≡ length (loose_of works operands) → owned works ≤ length (take (length operands - count) operands)
+  enough_alone works operands count le e = let place = behind_loose works operands count le e in omega (arith, place, length-take-le (length operands - count) operands (omega arith))
+
+  pub none_left : (works : List Work) (operands : List (Labelled T)) (count : ℕ) → owned works ≤ length operands → count ≡ length (loose_of works operands) → loose_of works (take (length operands - count) operands) ≡ []
+  none_left works operands count le e = let place = behind_loose works operands count le e in drop_all (owned works) (take (length operands - count) operands) (omega (arith, place, length-take-le (length operands - count) operands (omega arith)))
+
+  pub loose_alone : (works : List Work) (operands : List (Labelled T)) (count : ℕ) → owned works ≤ length operands → count ≡ length (loose_of works operands) → drop (length operands - count) operands ≡ loose_of works operands
+  loose_alone works operands count le e = ap (λ n. drop n operands) (behind_loose works operands count le e)

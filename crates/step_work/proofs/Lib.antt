@@ -1,8 +1,11 @@
+pub mod Loads
 pub mod Behind
 pub mod BranchLaws
 pub mod EndLaws
+pub mod Handed
 pub mod Keeping
 pub mod KeptLaws
+pub mod PassLaws
 pub mod Reading
 pub mod ScopeLaws
 pub mod Steps

@@ -2,3 +2,5 @@ pub mod Kept
 pub mod Pending
 pub mod Resuming
 pub mod Shapes
+pub mod Loads
+pub mod Stops

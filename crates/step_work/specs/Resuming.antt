@@ -1,5 +1,5 @@
 -- What it means that a call goes on as pending work says.
-use Rattle.std.specs.Prelude.{◌≡◌, ℕ, ◌+◌, Bool, List, [], ◌∷◌, ◌++◌, length, map, take}
+use Rattle.std.specs.Prelude.{◌≡◌, ℕ, ◌+◌, ◌-◌, ◌≤◌, Bool, List, [], ◌∷◌, ◌++◌, length, map, take, drop}
 use Rattle.origin_labels.specs.Label.{Label}
 use Rattle.flow_policy.specs.Policies.{Tables}
 use Rattle.flow_policy.specs.Inputs.{Given}
@@ -12,10 +12,12 @@ use Rattle.es_meaning.specs.Plain.{undefined, choose}
 use Rattle.flow_meaning.specs.Erased.{unlabelled}
 use Rattle.flow_frames.specs.declared.kind.Kind.TheVariants as Kind
 use Rattle.flow_meaning.specs.Scopes.{Val, State, pushed_on}
-use Rattle.flow_meaning.specs.Planned.{gave, Plan, and_plan, end_branch}
+use Rattle.flow_meaning.specs.Planned.{gave, jumped, Plan, and_plan, end_branch}
+use Rattle.step_world.specs.Acts.{thrown}
 use Rattle.step_work.specs.declared.work.Work.{Work}
 use Rattle.step_work.specs.declared.work.Next.{Next}
-use Rattle.step_work.specs.Kept.{Kept, scopes_of, operands_of}
+use Rattle.step_work.specs.declared.work.Next.TheVariants as moves
+use Rattle.step_work.specs.Kept.{Kept, scopes_of, kept_operands, operands_of}
 use Rattle.step_work.specs.Pending.{env_above, after, next_plan, behind, values_of, result_type}
 
 module _ {T : Type 0} where
@@ -95,3 +97,32 @@ module _ {T : Type 0} where
     pub values : length new.loose ≡ values_of next
     pub tasks : new.tasks ≡ old.tasks
     pub shallower : length frames_new + 1 ≡ length frames_old
+
+  -- what is thrown comes to what work says of it, with the operands that it keeps
+  abbrev pub Passes : Work → Kept T → Kept T → Next → Type 0
+  Passes w old new next = (tables : Tables) (inputs : Given) (reading : T → Label) (e : Env ℕ) (s : State) (kept : List (Labelled T)) (value : Labelled T) → old.loose ≡ kept ++ value ∷ []
+      → coming tables inputs reading new next e s ≡ behind tables inputs reading old.tasks e (after tables inputs w (map (read_value reading) kept) (env_above old.tasks e) (jumped (thrown reading value)) s)
+
+  -- and what the end of a scope says of it, which keeps no operand, under each reading that agrees with the store
+  abbrev pub PassesIn : {S : Type 0} → (S → T → Type 0) → (S → T → Label) → S → Work → Kept T → Kept T → List (Held T) → List (Held T) → Next → Type 0
+  PassesIn made meaning store w old new frames_old frames_new next = (tables : Tables) (inputs : Given) (reading : T → Label) (e : Env ℕ) (s : State) (value : Labelled T) → IsReading made meaning store reading → old.loose ≡ value ∷ []
+      → coming tables inputs reading new next e (with_frames reading frames_new s) ≡ behind tables inputs reading old.tasks e (after tables inputs w [] (env_above old.tasks e) (jumped (thrown reading value)) (with_frames reading frames_old s))
+
+  -- what a throw leaves that passed work: the uppermost value is thrown on, above the operands of the work that still waits
+  pub record Passed (old new : Kept T) (next : Next) : Type 0 where
+    pub throws : next ≡ moves.Throws
+    pub values : length new.loose ≡ values_of next
+    pub tasks : new.tasks ≡ old.tasks
+    pub operands : operands_of new ≡ kept_operands old.tasks ++ drop (length old.loose - 1) old.loose
+
+  -- as many frames stand, or fewer, if a throw goes on that left some
+  abbrev pub StandsAt : ℕ → List (Held T) → Next → Type 0
+  StandsAt depth frames moves.Throws = length frames ≤ depth
+  StandsAt depth frames _ = length frames ≡ depth
+
+  -- what a throw leaves at the end of the scope that stands in the frame at a depth, whose pending scope was taken before
+  pub record LeavesAt (depth : ℕ) (old new : Kept T) (frames_old frames_new : List (Held T)) (next : Next) : Type 0 where
+    pub values : length new.loose ≡ values_of next
+    pub tasks : new.tasks ≡ old.tasks
+    pub fewer : length frames_new ≤ length frames_old
+    pub stands : StandsAt depth frames_new next

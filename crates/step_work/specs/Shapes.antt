@@ -1,5 +1,5 @@
 -- The machine's words for parts of a script, as the meaning has them.
-use Rattle.std.specs.Prelude.{ℕ, List, [], ◌∷◌, Option, Some, None, Bool, true, false}
+use Rattle.std.specs.Prelude.{[], ◌∷◌, Option, Some, None, Bool, true, false}
 use Rattle.std.specs.Borrow.{Bor}
 use Rattle.js_ast.specs.declared.trees.Expr as code
 use Rattle.js_ast.specs.declared.operators.BinaryOperator.{BinaryOperator}

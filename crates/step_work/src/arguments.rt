@@ -5,6 +5,7 @@ ghost use Rattle.js_ast.specs.Views.{view_exprs};
 ghost use Rattle.es_meaning.specs.Evaluation.{arguments};
 ghost use Rattle.flow_meaning.specs.Planned.{planned, asking};
 ghost use Rattle.step_work.specs.declared.work.Work.TheVariants as work;
+ghost use Rattle.step_work.specs.Loads.{Adds};
 ghost use Rattle.step_work.specs.Resuming.{BeginsBehind, Keeps, ResumesBehind};
 ghost use Rattle.step_work.specs.Shapes.{direct_of};
 
@@ -24,6 +25,7 @@ pub fn begin_arguments<'p, T: Copy>(
     requires { length stack.old.loose ≡ count }
     ensures goes_on { IfOk result (BeginsBehind (λ tables inputs vs e. arguments (planned tables inputs) (asking tables inputs) (direct_of function) vs (view_exprs list.entry.now) e.place) stack.old stack.new) }
     ensures keeps { IfOk result (Keeps stack.old stack.new) }
+    ensures adds { IfOk result (Adds 2 stack.old stack.new) }
 {
     match list.split_first() {
         None => Ok(Next::Direct(function, count)),
@@ -45,6 +47,7 @@ pub fn more_arguments<'p, T: Copy>(
     requires { length stack.old.loose ≡ count + 1 }
     ensures goes_on { IfOk result (ResumesBehind (work.Argument function count rest.entry) stack.old stack.new) }
     ensures keeps { IfOk result (Keeps stack.old stack.new) }
+    ensures adds { IfOk result (Adds 2 stack.old stack.new) }
 {
     match count.checked_add(1) {
         Some(count) => begin_arguments(stack, function, count, rest),

@@ -1,6 +1,6 @@
 //! Branches: a value chooses what is done next, in a frame with the value's label (ECMA-262 11.11, 11.12, 12.5).
 
-ghost use Rattle.std.specs.Prelude.{◌≡◌, [], ◌∷◌, ◌++◌, ◌+◌, true, length, map, IfOk, OnOk};
+ghost use Rattle.std.specs.Prelude.{◌≡◌, [], ◌∷◌, ◌++◌, ◌+◌, ◌≤◌, true, length, map, IfOk, OnOk};
 ghost use Rattle.std.specs.List.{All};
 ghost use Rattle.origin_labels.specs.Label.{Label};
 ghost use Rattle.origin_labels.specs.Stores.{IsKept};
@@ -9,6 +9,7 @@ ghost use Rattle.flow_frames.specs.Held.{Belong, seen_frame};
 ghost use Rattle.js_values.specs.Readings.{HasValue, IsReading};
 ghost use Rattle.step_work.specs.declared.work.Work.TheVariants as work;
 ghost use Rattle.step_work.specs.Pending.{next_plan, values_of};
+ghost use Rattle.step_work.specs.Loads.{Adds, lift, load};
 ghost use Rattle.step_work.specs.Resuming.{Forks, Opened, ResumesIn};
 
 use crate::scopes::enter;
@@ -34,6 +35,7 @@ fn open_branch<'p, L: Labels>(
     ensures frames { OnOk result ((reading : L.Label → Label) → IsReading L.made L.meaning labels.new reading → map (seen_frame reading) frames.new.frames ≡ map (seen_frame reading) frames.old.frames ++ pushed Kind.Branch (reading label) ∷ []) }
     ensures length { OnOk result (length frames.new.frames ≡ length frames.old.frames + 1) }
     ensures pushed { OnOk result (stack.new ≡ record { tasks = stack.old.tasks ++ (work.EndBranch gives (length frames.old.frames), stack.old.loose) ∷ []; loose = [] }) }
+    ensures load { OnOk result (load stack.new.tasks ≡ load stack.old.tasks + 1) }
     ensures belongs { Belong L.made L.meaning labels.new frames.new.frames }
     ensures kept { IsKept L.made L.meaning L.room L.firm labels.old labels.new }
 {
@@ -57,8 +59,11 @@ fn branch<'p, L: Labels>(
     requires belongs { Belong L.made L.meaning labels.old frames.old.frames }
     requires then { values_of then ≡ 0 }
     requires other { values_of other ≡ 0 }
+    requires little { lift then ≤ 1 }
+    requires other_little { lift other ≤ 1 }
     ensures forks { IfOk result (Forks L.made L.meaning labels.new gives (λ tables inputs v e. next_plan tables inputs then.entry [] e) (λ tables inputs v e. next_plan tables inputs other.entry [] e) stack.old stack.new frames.old.frames frames.new.frames) }
     ensures opened { IfOk result (Opened stack.old stack.new frames.old.frames frames.new.frames) }
+    ensures adds { IfOk result (Adds 2 stack.old stack.new) }
     ensures belongs { Belong L.made L.meaning labels.new frames.new.frames }
     ensures kept { IsKept L.made L.meaning L.room L.firm labels.old labels.new }
 {
@@ -83,6 +88,7 @@ pub fn and_right<'p, L: Labels>(
     requires belongs { Belong L.made L.meaning labels.old frames.old.frames }
     ensures goes_on { IfOk result (ResumesIn L.made L.meaning labels.new (work.AndRight right.entry) stack.old stack.new frames.old.frames frames.new.frames) }
     ensures opened { IfOk result (Opened stack.old stack.new frames.old.frames frames.new.frames) }
+    ensures adds { IfOk result (Adds 2 stack.old stack.new) }
     ensures belongs { Belong L.made L.meaning labels.new frames.new.frames }
     ensures kept { IsKept L.made L.meaning L.room L.firm labels.old labels.new }
 {
@@ -108,6 +114,7 @@ pub fn or_right<'p, L: Labels>(
     requires belongs { Belong L.made L.meaning labels.old frames.old.frames }
     ensures goes_on { IfOk result (ResumesIn L.made L.meaning labels.new (work.OrRight right.entry) stack.old stack.new frames.old.frames frames.new.frames) }
     ensures opened { IfOk result (Opened stack.old stack.new frames.old.frames frames.new.frames) }
+    ensures adds { IfOk result (Adds 2 stack.old stack.new) }
     ensures belongs { Belong L.made L.meaning labels.new frames.new.frames }
     ensures kept { IsKept L.made L.meaning L.room L.firm labels.old labels.new }
 {
@@ -135,6 +142,7 @@ pub fn choose_expr<'p, L: Labels>(
     requires belongs { Belong L.made L.meaning labels.old frames.old.frames }
     ensures goes_on { IfOk result (ResumesIn L.made L.meaning labels.new (work.Choose then.entry other.entry) stack.old stack.new frames.old.frames frames.new.frames) }
     ensures opened { IfOk result (Opened stack.old stack.new frames.old.frames frames.new.frames) }
+    ensures adds { IfOk result (Adds 2 stack.old stack.new) }
     ensures belongs { Belong L.made L.meaning labels.new frames.new.frames }
     ensures kept { IsKept L.made L.meaning L.room L.firm labels.old labels.new }
 {
@@ -161,6 +169,7 @@ pub fn choose_stmt<'p, L: Labels>(
     requires belongs { Belong L.made L.meaning labels.old frames.old.frames }
     ensures goes_on { IfOk result (ResumesIn L.made L.meaning labels.new (work.ChooseStmt then.entry) stack.old stack.new frames.old.frames frames.new.frames) }
     ensures opened { IfOk result (Opened stack.old stack.new frames.old.frames frames.new.frames) }
+    ensures adds { IfOk result (Adds 2 stack.old stack.new) }
     ensures belongs { Belong L.made L.meaning labels.new frames.new.frames }
     ensures kept { IsKept L.made L.meaning L.room L.firm labels.old labels.new }
 {
@@ -181,6 +190,7 @@ pub fn choose_stmts<'p, L: Labels>(
     requires belongs { Belong L.made L.meaning labels.old frames.old.frames }
     ensures goes_on { IfOk result (ResumesIn L.made L.meaning labels.new (work.ChooseStmts then.entry other.entry) stack.old stack.new frames.old.frames frames.new.frames) }
     ensures opened { IfOk result (Opened stack.old stack.new frames.old.frames frames.new.frames) }
+    ensures adds { IfOk result (Adds 2 stack.old stack.new) }
     ensures belongs { Belong L.made L.meaning labels.new frames.new.frames }
     ensures kept { IsKept L.made L.meaning L.room L.firm labels.old labels.new }
 {

@@ -1,6 +1,6 @@
 //! The ends of frames, and what raises them: a condition of a loop, and the ends of branches, loops and turns.
 
-ghost use Rattle.std.specs.Prelude.{◌≡◌, ◌+◌, ◌<◌, true, false, length, map, take, IfOk};
+ghost use Rattle.std.specs.Prelude.{◌≡◌, ◌+◌, ◌<◌, true, false, [], length, map, take, IfOk};
 ghost use Rattle.std.specs.List.{All};
 ghost use Rattle.origin_labels.specs.Stores.{IsKept};
 ghost use Rattle.origin_labels.specs.Label.{Label};
@@ -8,6 +8,7 @@ ghost use Rattle.flow_frames.specs.Held.{Belong, meant_at, seen_frame};
 ghost use Rattle.js_values.specs.Readings.{HasValue};
 ghost use Rattle.step_work.specs.declared.work.Work.TheVariants as work;
 ghost use Rattle.step_work.specs.Kept.{without_top};
+ghost use Rattle.step_work.specs.Loads.{Adds};
 ghost use Rattle.step_work.specs.Resuming.{Closed, Keeps, ResumesDoneIn, ResumesIn};
 
 use crate::stack::Stack;
@@ -19,7 +20,7 @@ use origin_labels::Labels;
 use step_values::truth;
 
 /// Leaves the last frame, which stands at the depth, and gives its label.
-fn leave<L: Labels>(_labels: &L, frames: &mut Frames<L::Label>, depth: usize) -> L::Label
+pub(crate) fn leave<L: Labels>(_labels: &L, frames: &mut Frames<L::Label>, depth: usize) -> L::Label
     requires frame { length frames.old.frames ≡ depth + 1 }
     requires inner { 0 < depth }
     requires belongs { Belong L.made L.meaning _labels.now frames.old.frames }
@@ -46,6 +47,7 @@ pub fn tested<'p, L: Labels>(
     requires belongs { Belong L.made L.meaning labels.old frames.old.frames }
     ensures goes_on { IfOk result (ResumesIn L.made L.meaning labels.new (work.Tested round.entry) stack.old stack.new frames.old.frames frames.new.frames) }
     ensures keeps { IfOk result (Keeps (without_top stack.old) stack.new) }
+    ensures adds { IfOk result (Adds 1 stack.old stack.new) }
     ensures length { length frames.new.frames ≡ length frames.old.frames }
     ensures belongs { Belong L.made L.meaning labels.new frames.new.frames }
     ensures kept { IsKept L.made L.meaning L.room L.firm labels.old labels.new }
@@ -73,6 +75,7 @@ pub fn end_branch_value<'p, L: Labels>(
     requires belongs { Belong L.made L.meaning labels.old frames.old.frames }
     ensures goes_on { IfOk result (ResumesIn L.made L.meaning labels.new (work.EndBranch true depth) stack.old stack.new frames.old.frames frames.new.frames) }
     ensures closed { IfOk result (Closed stack.old stack.new frames.old.frames frames.new.frames) }
+    ensures adds { IfOk result (Adds 1 stack.old stack.new) }
     ensures made { IfOk result (λ _. All (HasValue (L.made labels.new)) stack.new.loose) }
     ensures belongs { Belong L.made L.meaning labels.new frames.new.frames }
     ensures kept { IsKept L.made L.meaning L.room L.firm labels.old labels.new }
@@ -102,6 +105,8 @@ pub fn end_branch<'p, L: Labels>(
     requires belongs { Belong L.made L.meaning labels.now frames.old.frames }
     ensures goes_on { ResumesDoneIn L.made L.meaning labels.now (work.EndBranch false depth) stack.old stack.new frames.old.frames frames.new.frames result }
     ensures closed { Closed stack.old stack.new frames.old.frames frames.new.frames result }
+    ensures none { stack.new.loose ≡ [] }
+    ensures adds { Adds 1 stack.old stack.new result }
     ensures belongs { Belong L.made L.meaning labels.now frames.new.frames }
 {
     let _waiting = &*stack;
@@ -123,6 +128,8 @@ pub fn end_round<'p, L: Labels>(
     requires belongs { Belong L.made L.meaning labels.now frames.old.frames }
     ensures goes_on { ResumesDoneIn L.made L.meaning labels.now (work.EndRound _turn depth) stack.old stack.new frames.old.frames frames.new.frames result }
     ensures closed { Closed stack.old stack.new frames.old.frames frames.new.frames result }
+    ensures none { stack.new.loose ≡ [] }
+    ensures adds { Adds 1 stack.old stack.new result }
     ensures belongs { Belong L.made L.meaning labels.now frames.new.frames }
 {
     let _waiting = &*stack;

@@ -5,6 +5,7 @@ ghost use Rattle.js_ast.specs.Views.{view_expr, view_exprs, view_stmt, view_firs
 ghost use Rattle.es_meaning.specs.Operations.{One, Value, postfixed};
 ghost use Rattle.es_meaning.specs.Evaluation.{expr_step, call_step, direct_of, choose_expr, comma_right, stmt_step, first_step, discard, choose_stmt, choose_stmts};
 ghost use Rattle.flow_meaning.specs.Planned.{planned, asking};
+ghost use Rattle.step_work.specs.Loads.{Adds};
 ghost use Rattle.step_work.specs.Resuming.{Begins, Keeps};
 ghost use Rattle.step_work.specs.Shapes.{direct_of as meant, round_of, step_of, use_of};
 
@@ -50,6 +51,7 @@ fn begin_call<'p, T: Copy>(
     requires { length stack.old.loose ≡ 0 }
     ensures goes_on { IfOk result (Begins (λ tables inputs e. call_step (planned tables inputs) (asking tables inputs) (direct_of name.entry.now) (view_exprs list.entry.now) e.place) stack.old stack.new) }
     ensures keeps { IfOk result (Keeps stack.old stack.new) }
+    ensures adds { IfOk result (Adds 2 stack.old stack.new) }
 {
     match direct_of(name) {
         Some(function) => begin_arguments(stack, function, 0, list),
@@ -78,6 +80,7 @@ fn begin_choice<'p, T: Copy>(
     requires { length stack.old.loose ≡ 0 }
     ensures goes_on { IfOk result (Begins (λ tables inputs e. (planned tables inputs).bind Value Value ((asking tables inputs).expr (view_expr test.entry.now) e.place) (choose_expr (planned tables inputs) (asking tables inputs) (view_expr then.entry.now) (view_expr other.entry.now) e.place)) stack.old stack.new) }
     ensures keeps { IfOk result (Keeps stack.old stack.new) }
+    ensures adds { IfOk result (Adds 2 stack.old stack.new) }
 {
     stack.push(Work::Choose(then, other))?;
     Ok(Next::Expr(test))
@@ -93,6 +96,7 @@ fn begin_comma<'p, T: Copy>(
     requires { length stack.old.loose ≡ 0 }
     ensures goes_on { IfOk result (Begins (λ tables inputs e. (planned tables inputs).bind Value Value ((asking tables inputs).expr (view_expr left.entry.now) e.place) (comma_right (planned tables inputs) (asking tables inputs) (view_expr right.entry.now) e.place)) stack.old stack.new) }
     ensures keeps { IfOk result (Keeps stack.old stack.new) }
+    ensures adds { IfOk result (Adds 2 stack.old stack.new) }
 {
     stack.push(Work::CommaRight(right))?;
     Ok(Next::Expr(left))
@@ -107,6 +111,7 @@ pub fn begin_expression<'p, T: Copy>(
     requires { length stack.old.loose ≡ 0 }
     ensures goes_on { IfOk result (Begins (λ tables inputs env. expr_step (planned tables inputs) (asking tables inputs) (view_expr e.entry.now) env.place) stack.old stack.new) }
     ensures keeps { IfOk result (Keeps stack.old stack.new) }
+    ensures adds { IfOk result (Adds 2 stack.old stack.new) }
 {
     match &*e.kind {
         ExprKind::Name(name) => Ok(Next::Name(name)),
@@ -153,6 +158,7 @@ fn begin_for<'p, T: Copy>(
     requires { length stack.old.loose ≡ 0 }
     ensures goes_on { IfOk result (Begins (λ tables inputs e. first_step (planned tables inputs) (asking tables inputs) (view_first first.entry.now) (round_of round.entry) e) stack.old stack.new) }
     ensures keeps { IfOk result (Keeps stack.old stack.new) }
+    ensures adds { IfOk result (Adds 5 stack.old stack.new) }
 {
     match first {
         ForFirst::Expr(None) => Ok(Next::Loop(round)),
@@ -176,6 +182,7 @@ fn begin_discard<'p, T: Copy>(
     requires { length stack.old.loose ≡ 0 }
     ensures goes_on { IfOk result (Begins (λ tables inputs env. (planned tables inputs).bind Value One ((asking tables inputs).expr (view_expr e.entry.now) env.place) (discard (planned tables inputs))) stack.old stack.new) }
     ensures keeps { IfOk result (Keeps stack.old stack.new) }
+    ensures adds { IfOk result (Adds 1 stack.old stack.new) }
 {
     stack.push(Work::Discard)?;
     Ok(Next::Expr(e))
@@ -191,6 +198,7 @@ fn begin_if<'p, T: Copy>(
     requires { length stack.old.loose ≡ 0 }
     ensures goes_on { IfOk result (Begins (λ tables inputs env. (planned tables inputs).bind Value One ((asking tables inputs).expr (view_expr test.entry.now) env.place) (choose_stmt (planned tables inputs) (asking tables inputs) (view_stmt then.entry.now) env)) stack.old stack.new) }
     ensures keeps { IfOk result (Keeps stack.old stack.new) }
+    ensures adds { IfOk result (Adds 2 stack.old stack.new) }
 {
     stack.push(Work::ChooseStmt(then))?;
     Ok(Next::Expr(test))
@@ -207,6 +215,7 @@ fn begin_if_else<'p, T: Copy>(
     requires { length stack.old.loose ≡ 0 }
     ensures goes_on { IfOk result (Begins (λ tables inputs env. (planned tables inputs).bind Value One ((asking tables inputs).expr (view_expr test.entry.now) env.place) (choose_stmts (planned tables inputs) (asking tables inputs) (view_stmt then.entry.now) (view_stmt other.entry.now) env)) stack.old stack.new) }
     ensures keeps { IfOk result (Keeps stack.old stack.new) }
+    ensures adds { IfOk result (Adds 2 stack.old stack.new) }
 {
     stack.push(Work::ChooseStmts(then, other))?;
     Ok(Next::Expr(test))
@@ -221,6 +230,7 @@ pub fn begin_statement<'p, T: Copy>(
     requires { length stack.old.loose ≡ 0 }
     ensures goes_on { IfOk result (Begins (λ tables inputs env. stmt_step (planned tables inputs) (asking tables inputs) (view_stmt s.entry.now) env) stack.old stack.new) }
     ensures keeps { IfOk result (Keeps stack.old stack.new) }
+    ensures adds { IfOk result (Adds 5 stack.old stack.new) }
 {
     match &*s.kind {
         StmtKind::Block(list) => begin_statements(stack, list.items()),

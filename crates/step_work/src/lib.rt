@@ -7,6 +7,7 @@ mod branches;
 mod ends;
 mod enter;
 mod operators;
+mod passing;
 mod scopes;
 mod stack;
 mod statements;
@@ -17,6 +18,7 @@ pub use branches::{and_right, choose_expr, choose_stmt, choose_stmts, or_right};
 pub use ends::{end_branch, end_branch_value, end_round, tested};
 pub use enter::{begin_expression, begin_statement};
 pub use operators::{binary_right, comma_right};
+pub use passing::{pass, pass_branch, pass_round};
 pub use scopes::{begin_do_loop, begin_loop, begin_turn};
 pub use stack::Stack;
 pub use statements::{

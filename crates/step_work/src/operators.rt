@@ -7,6 +7,7 @@ ghost use Rattle.es_meaning.specs.Evaluation.{unary_value, binary_step, unary_st
 ghost use Rattle.flow_meaning.specs.Planned.{planned, asking};
 ghost use Rattle.step_work.specs.declared.work.Work.TheVariants as work;
 ghost use Rattle.step_work.specs.Kept.{without_top};
+ghost use Rattle.step_work.specs.Loads.{Adds};
 ghost use Rattle.step_work.specs.Resuming.{Begins, Keeps, Resumes};
 ghost use Rattle.step_work.specs.Shapes.{use_of, evaluates_both};
 
@@ -26,6 +27,7 @@ pub(crate) fn begin_binary<'p, T: Copy>(
     requires { length stack.old.loose ≡ 0 }
     ensures goes_on { IfOk result (Begins (λ tables inputs e. binary_step (planned tables inputs) (asking tables inputs) (view_expr left.entry.now) operator (view_expr right.entry.now) e.place) stack.old stack.new) }
     ensures keeps { IfOk result (Keeps stack.old stack.new) }
+    ensures adds { IfOk result (Adds 2 stack.old stack.new) }
 {
     if evaluates_both(operator) {
         begin_both(stack, left, operator, right)
@@ -56,6 +58,7 @@ fn begin_both<'p, T: Copy>(
     requires both { evaluates_both operator ≡ true }
     ensures goes_on { IfOk result (Begins (λ tables inputs e. binary_step (planned tables inputs) (asking tables inputs) (view_expr left.entry.now) operator (view_expr right.entry.now) e.place) stack.old stack.new) }
     ensures keeps { IfOk result (Keeps stack.old stack.new) }
+    ensures adds { IfOk result (Adds 2 stack.old stack.new) }
 {
     stack.push(Work::BinaryRight(operator, right))?;
     Ok(Next::Expr(left))
@@ -73,6 +76,7 @@ fn begin_logical<'p, T: Copy>(
     requires one { evaluates_both operator ≡ false }
     ensures goes_on { IfOk result (Begins (λ tables inputs e. binary_step (planned tables inputs) (asking tables inputs) (view_expr left.entry.now) operator (view_expr right.entry.now) e.place) stack.old stack.new) }
     ensures keeps { IfOk result (Keeps stack.old stack.new) }
+    ensures adds { IfOk result (Adds 2 stack.old stack.new) }
 {
     match operator {
         BinaryOperator::And => {
@@ -97,6 +101,7 @@ pub(crate) fn begin_unary<'p, T: Copy>(
     requires { length stack.old.loose ≡ 0 }
     ensures goes_on { IfOk result (Begins (λ tables inputs e. unary_step (planned tables inputs) (asking tables inputs) operator (view_expr operand.entry.now) e.place) stack.old stack.new) }
     ensures keeps { IfOk result (Keeps stack.old stack.new) }
+    ensures adds { IfOk result (Adds 2 stack.old stack.new) }
 {
     match operator {
         UnaryOperator::Delete => Ok(Next::Leave(Leaving::Unbuilt)),
@@ -123,6 +128,7 @@ fn begin_value<'p, T: Copy>(
     requires { length stack.old.loose ≡ 0 }
     ensures goes_on { IfOk result (Begins (λ tables inputs e. (planned tables inputs).bind Value Value ((asking tables inputs).expr (view_expr operand.entry.now) e.place) (unary_value (planned tables inputs) operator)) stack.old stack.new) }
     ensures keeps { IfOk result (Keeps stack.old stack.new) }
+    ensures adds { IfOk result (Adds 2 stack.old stack.new) }
 {
     stack.push(Work::Unary(operator))?;
     Ok(Next::Expr(operand))
@@ -137,6 +143,7 @@ fn begin_typeof<'p, T: Copy>(
     requires { length stack.old.loose ≡ 0 }
     ensures goes_on { IfOk result (Begins (λ tables inputs e. typeof_step (planned tables inputs) (asking tables inputs) (is_name (view_expr operand.entry.now)) (view_expr operand.entry.now) e.place) stack.old stack.new) }
     ensures keeps { IfOk result (Keeps stack.old stack.new) }
+    ensures adds { IfOk result (Adds 2 stack.old stack.new) }
 {
     if is_name(operand) {
         Ok(Next::Use(Use::Asked, operand))
@@ -188,6 +195,7 @@ pub fn binary_right<'p, T: Copy>(
     requires { length stack.old.loose ≡ 1 }
     ensures goes_on { IfOk result (Resumes (work.BinaryRight operator right.entry) stack.old stack.new) }
     ensures keeps { IfOk result (Keeps stack.old stack.new) }
+    ensures adds { IfOk result (Adds 1 stack.old stack.new) }
 {
     stack.push(Work::BinaryDone(operator))?;
     Ok(Next::Expr(right))
@@ -199,6 +207,7 @@ pub fn comma_right<'p, T: Copy>(stack: &mut Stack<'p, T>, right: &'p Expr) -> Ne
     requires { length stack.old.loose ≡ 1 }
     ensures goes_on { Resumes (work.CommaRight right.entry) stack.old stack.new result }
     ensures keeps { Keeps (without_top stack.old) stack.new result }
+    ensures adds { Adds 1 stack.old stack.new result }
 {
     stack.forget();
     Next::Expr(right)

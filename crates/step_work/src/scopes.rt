@@ -9,6 +9,7 @@ ghost use Rattle.js_values.specs.Readings.{IsReading};
 ghost use Rattle.es_meaning.specs.Evaluation.{loop, turn_step};
 ghost use Rattle.js_ast.specs.Views.{view_stmt};
 ghost use Rattle.flow_meaning.specs.Planned.{planned, asking};
+ghost use Rattle.step_work.specs.Loads.{Adds};
 ghost use Rattle.step_work.specs.Resuming.{BeginsIn, Opened};
 ghost use Rattle.step_work.specs.Shapes.{round_of};
 
@@ -48,6 +49,7 @@ pub fn begin_loop<'p, L: Labels>(
     requires belongs { Belong L.made L.meaning labels.old frames.old.frames }
     ensures goes_on { IfOk result (BeginsIn L.made L.meaning labels.new (λ tables inputs e. loop (planned tables inputs) (asking tables inputs) (round_of round.entry) e) stack.old stack.new frames.old.frames frames.new.frames) }
     ensures opened { IfOk result (Opened stack.old stack.new frames.old.frames frames.new.frames) }
+    ensures adds { IfOk result (Adds 2 stack.old stack.new) }
     ensures belongs { Belong L.made L.meaning labels.new frames.new.frames }
     ensures kept { IsKept L.made L.meaning L.room L.firm labels.old labels.new }
 {
@@ -69,6 +71,7 @@ pub fn begin_do_loop<'p, L: Labels>(
     requires belongs { Belong L.made L.meaning labels.old frames.old.frames }
     ensures goes_on { IfOk result (BeginsIn L.made L.meaning labels.new (λ tables inputs e. (planned tables inputs).round false (None ∷ []) e ((asking tables inputs).turn (round_of round.entry))) stack.old stack.new frames.old.frames frames.new.frames) }
     ensures opened { IfOk result (Opened stack.old stack.new frames.old.frames frames.new.frames) }
+    ensures adds { IfOk result (Adds 2 stack.old stack.new) }
     ensures belongs { Belong L.made L.meaning labels.new frames.new.frames }
     ensures kept { IsKept L.made L.meaning L.room L.firm labels.old labels.new }
 {
@@ -90,6 +93,7 @@ pub fn begin_turn<'p, L: Labels>(
     requires belongs { Belong L.made L.meaning labels.old frames.old.frames }
     ensures goes_on { IfOk result (BeginsIn L.made L.meaning labels.new (λ tables inputs e. turn_step (planned tables inputs) (asking tables inputs) (round_of round.entry) e) stack.old stack.new frames.old.frames frames.new.frames) }
     ensures opened { IfOk result (Opened stack.old stack.new frames.old.frames frames.new.frames) }
+    ensures adds { IfOk result (Adds 2 stack.old stack.new) }
     ensures belongs { Belong L.made L.meaning labels.new frames.new.frames }
     ensures kept { IsKept L.made L.meaning L.room L.firm labels.old labels.new }
 {
@@ -108,6 +112,7 @@ fn begin_body<'p, L: Labels>(
     requires belongs { Belong L.made L.meaning labels.old frames.old.frames }
     ensures goes_on { IfOk result (BeginsIn L.made L.meaning labels.new (λ tables inputs e. (planned tables inputs).round true (None ∷ []) e ((asking tables inputs).stmt (view_stmt round.entry.body.now))) stack.old stack.new frames.old.frames frames.new.frames) }
     ensures opened { IfOk result (Opened stack.old stack.new frames.old.frames frames.new.frames) }
+    ensures adds { IfOk result (Adds 1 stack.old stack.new) }
     ensures belongs { Belong L.made L.meaning labels.new frames.new.frames }
     ensures kept { IsKept L.made L.meaning L.room L.firm labels.old labels.new }
 {

@@ -1,7 +1,8 @@
 //! Pending work, and the operands that it keeps.
 
-ghost use Rattle.std.specs.Prelude.{◌≡◌, ◌<◌, [], ◌∷◌, ◌++◌, ◌-◌, length, take, OnOk, OnErr, IfNone, IfSome};
+ghost use Rattle.std.specs.Prelude.{◌≡◌, ◌<◌, [], ◌∷◌, ◌++◌, ◌+◌, ◌-◌, length, take, OnOk, OnErr, IfNone, IfSome};
 ghost use Rattle.step_work.specs.Pending.{owns};
+ghost use Rattle.step_work.specs.Loads.{weight, load};
 ghost use Rattle.step_work.specs.Kept.{Taken, operands_of, scope_of, scopes_of};
 
 use crate::work::Work;
@@ -58,12 +59,13 @@ impl<'p, T: Copy> Stack<'p, T> {
     }
 
     /// Adds work, which keeps the values that no work kept.
-    #[tactic(auto, using(crate::proofs::Keeping::pushed_scopes, crate::proofs::Keeping::pushed_operands))]
+    #[tactic(auto, using(crate::proofs::Keeping::pushed_scopes, crate::proofs::Keeping::pushed_operands, crate::proofs::Loads::pushed_load))]
     pub fn push(&mut self, work: Work<'p>) -> Result<(), OutOfMemory>
         requires { owns work ≡ length self.old.loose }
         ensures ok { OnOk result (self.new ≡ record { tasks = self.old.tasks ++ (work.entry, self.old.loose) ∷ []; loose = [] }) }
         ensures scopes { OnOk result (scopes_of self.new.tasks ≡ scopes_of self.old.tasks ++ scope_of work.entry) }
         ensures operands { OnOk result (operands_of self.new ≡ operands_of self.old) }
+        ensures load { OnOk result (load self.new.tasks ≡ load self.old.tasks + weight work.entry) }
         ensures unchanged { OnErr result (self.new ≡ self.old) }
     {
         self.add(work)?;
@@ -94,6 +96,7 @@ impl<'p, T: Copy> Stack<'p, T> {
     pub fn next_work(&mut self) -> Option<Work<'p>>
         ensures none { IfNone result (self.old.tasks ≡ []) }
         ensures taken { IfSome result (Taken self.old self.new) }
+        ensures unchanged { IfNone result (self.new ≡ self.old) }
     {
         self.works.pop()
     }
@@ -106,5 +109,24 @@ impl<'p, T: Copy> Stack<'p, T> {
         ensures rest { self.new.loose ≡ take (length self.old.loose - 1) self.old.loose }
     {
         self.operands.truncate(self.operands.len() - 1);
+    }
+
+    /// Takes all values away that no work keeps.
+    #[tactic(auto, using(crate::proofs::KeptLaws::loose_fit, crate::proofs::KeptLaws::tasks_alone, crate::proofs::KeptLaws::none_left, crate::proofs::KeptLaws::enough_alone))]
+    pub fn clear(&mut self, count: usize)
+        requires { count ≡ length self.old.loose }
+        ensures tasks { self.new.tasks ≡ self.old.tasks }
+        ensures none { self.new.loose ≡ [] }
+    {
+        self.operands.truncate(self.operands.len() - count);
+    }
+
+    /// The values that no work keeps.
+    #[tactic(auto, using(crate::proofs::KeptLaws::loose_fit, crate::proofs::KeptLaws::loose_alone))]
+    pub fn loose(&self, count: usize) -> &[Labelled<T>]
+        requires { count ≡ length self.now.loose }
+        ensures { result.now ≡ self.now.loose }
+    {
+        &self.operands[self.operands.len() - count..]
     }
 }

@@ -6,6 +6,7 @@ ghost use Rattle.es_meaning.specs.Evaluation.{statements, tested};
 ghost use Rattle.flow_meaning.specs.Planned.{planned, asking};
 ghost use Rattle.step_work.specs.declared.work.Work.TheVariants as work;
 ghost use Rattle.step_work.specs.Kept.{without_top};
+ghost use Rattle.step_work.specs.Loads.{Adds};
 ghost use Rattle.step_work.specs.Resuming.{Begins, Keeps, Resumes, ResumesDone};
 ghost use Rattle.step_work.specs.Shapes.{round_of};
 
@@ -23,6 +24,7 @@ pub fn begin_statements<'p, T: Copy>(
     requires { length stack.old.loose ≡ 0 }
     ensures goes_on { IfOk result (Begins (λ tables inputs e. statements (planned tables inputs) (asking tables inputs) (view_stmts list.entry.now) e) stack.old stack.new) }
     ensures keeps { IfOk result (Keeps stack.old stack.new) }
+    ensures adds { IfOk result (Adds 1 stack.old stack.new) }
 {
     match list.split_first() {
         None => Ok(Next::Done),
@@ -42,6 +44,7 @@ pub fn more_statements<'p, T: Copy>(
     requires { length stack.old.loose ≡ 0 }
     ensures goes_on { IfOk result (ResumesDone (work.Statements rest.entry) stack.old stack.new) }
     ensures keeps { IfOk result (Keeps stack.old stack.new) }
+    ensures adds { IfOk result (Adds 1 stack.old stack.new) }
 {
     begin_statements(stack, rest)
 }
@@ -52,6 +55,7 @@ pub fn discard<'p, T: Copy>(stack: &mut Stack<'p, T>) -> Next<'p>
     requires { length stack.old.loose ≡ 1 }
     ensures goes_on { Resumes work.Discard stack.old stack.new result }
     ensures keeps { Keeps (without_top stack.old) stack.new result }
+    ensures adds { Adds 1 stack.old stack.new result }
 {
     stack.forget();
     Next::Done
@@ -66,6 +70,7 @@ pub fn begin_test<'p, T: Copy>(
     requires { length stack.old.loose ≡ 0 }
     ensures goes_on { IfOk result (Begins (λ tables inputs e. tested (planned tables inputs) (asking tables inputs) (round_of round.entry) e) stack.old stack.new) }
     ensures keeps { IfOk result (Keeps stack.old stack.new) }
+    ensures adds { IfOk result (Adds 1 stack.old stack.new) }
 {
     match round.test {
         None => Ok(Next::Turn(round)),
@@ -85,6 +90,7 @@ pub fn updated<'p, T: Copy>(
     requires { length stack.old.loose ≡ 1 }
     ensures goes_on { IfOk result (Resumes (work.Updated round.entry) stack.old stack.new) }
     ensures keeps { IfOk result (Keeps (without_top stack.old) stack.new) }
+    ensures adds { IfOk result (Adds 1 stack.old stack.new) }
 {
     stack.forget();
     begin_test(stack, round)
@@ -99,6 +105,7 @@ pub fn turned<'p, T: Copy>(
     requires { length stack.old.loose ≡ 0 }
     ensures goes_on { IfOk result (ResumesDone (work.Turned round.entry) stack.old stack.new) }
     ensures keeps { IfOk result (Keeps stack.old stack.new) }
+    ensures adds { IfOk result (Adds 1 stack.old stack.new) }
 {
     match round.update {
         None => begin_test(stack, round),
@@ -115,6 +122,7 @@ pub fn looped<'p, T: Copy>(stack: &mut Stack<'p, T>, round: Round<'p>) -> Next<'
     requires { length stack.old.loose ≡ 1 }
     ensures goes_on { Resumes (work.Looped round.entry) stack.old stack.new result }
     ensures keeps { Keeps (without_top stack.old) stack.new result }
+    ensures adds { Adds 3 stack.old stack.new result }
 {
     stack.forget();
     Next::Loop(round)
@@ -126,6 +134,7 @@ pub fn declared<'p, T: Copy>(stack: &mut Stack<'p, T>, round: Round<'p>) -> Next
     requires { length stack.old.loose ≡ 0 }
     ensures goes_on { ResumesDone (work.Declared round.entry) stack.old stack.new result }
     ensures keeps { Keeps stack.old stack.new result }
+    ensures adds { Adds 3 stack.old stack.new result }
 {
     let _waiting = &*stack;
     Next::Loop(round)

@@ -10,7 +10,7 @@ use Rattle.flow_frames.specs.declared.faults.FlowFault.TheVariants as fault
 use Rattle.flow_frames.specs.declared.kind.Kind.{Kind}
 use Rattle.flow_frames.specs.Changes.{pushed}
 use Rattle.flow_frames.specs.Frames.{Frame}
-use Rattle.flow_frames.specs.Held.{Held, seen_frame}
+use Rattle.flow_frames.specs.Held.{Held, CatchByTry, seen_frame}
 use Rattle.flow_frames.specs.Kinds.{is_try}
 use Rattle.flow_frames.proofs.StandingLaws.{Belong-kept}
 use Rattle.js_values.specs.declared.value.Labelled.{Labelled}
@@ -24,7 +24,7 @@ use Rattle.step_world.specs.declared.came.Came.TheVariants as came
 use Rattle.step_world.specs.declared.came.Leaving.{Leaving}
 use Rattle.step_world.specs.declared.world.World.{World}
 use Rattle.step_world.specs.Acts.{Says, Acts, Computes, HasAnswer}
-use Rattle.step_world.specs.Worlds.{state_of, CatchByTry, Belongs, Grows}
+use Rattle.step_world.specs.Worlds.{state_of, Belongs, Grows}
 
 -- ---- one act
 

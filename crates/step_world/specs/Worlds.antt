@@ -1,9 +1,7 @@
 -- What a run holds, as the state of the labelled meaning.
-use Rattle.std.specs.Prelude.{◌≡◌, ◌≤◌, ℕ, ◌&&◌, List, map, length}
-use Rattle.std.specs.List.{All}
+use Rattle.std.specs.Prelude.{◌≡◌, ◌≤◌, ℕ, List, map, length}
 use Rattle.origin_labels.specs.Label.{Label}
-use Rattle.flow_frames.specs.Held.{Held, Belong, seen_frame}
-use Rattle.flow_frames.specs.Kinds.{is_try}
+use Rattle.flow_frames.specs.Held.{Belong, CatchByTry, seen_frame}
 use Rattle.js_values.specs.Readings.{HasHeap, HasRecords, read_heap, read_records}
 use Rattle.flow_meaning.specs.Scopes.{LabelledLine, State}
 use Rattle.step_world.specs.declared.world.World.{World}
@@ -18,10 +16,6 @@ state_of reading w told turns = record {
   lines = told;
   turns = turns;
 }
-
--- only Try frames catch
-abbrev pub CatchByTry : {T : Type 0} → List (Held T) → Type 0
-CatchByTry frames = All (λ h. (is_try h.kind && h.active) ≡ h.active) frames
 
 -- its labels are those of a store, and the objects are there that a run starts with
 pub record Belongs {S T : Type 0} (made : S → T → Type 0) (meaning : S → T → Label) (store : S) (w : World T) : Type 0 where

@@ -17,4 +17,4 @@ returns-in-Err-clause-answers g c =
 pub returns-clause-answers : goal.returns-clause-answers
 returns-clause-answers g c =
     ran_answers (texts_of c.args.words.now) (g.F.Store.contents c.args.store.now) (Rose (g.F.Store.faults c.args.store.now) (g.F.Store.faults c.accept.new.store)) (g.K.Sink.taken c.args.sink.now) (g.K.Sink.taken c.run.new.sink)
-    (seen_task c.in-Ok-Run.task) (rw c.in-Ok-Run.field-0-is at c.in-Ok-Run.ensures.accepts) c.run.result (rw c.deref.ensures.value at c.run.ensures.ran)
+    (seen_task c.in-Ok-Run.task) (rw c.in-Ok-Run.field-0-is at c.in-Ok-Run.ensures.accepts) c.run.result c.run.ensures.ran

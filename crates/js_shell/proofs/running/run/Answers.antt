@@ -1,19 +1,25 @@
-use Rattle.std.proofs.Common.{refl}
-use Rattle.js_shell.specs.Scripts.{statements_of}
-use Rattle.js_shell.specs.Tracked.{tracked}
-use Rattle.js_shell.proofs.Runs.{ran_whole, ran_cut, ran_unreported}
+use Rattle.std.proofs.Common.{sym, ◌∙◌}
+use Rattle.js_ast.specs.Views.{view_program}
+use Rattle.flow_meaning.specs.Tracked.{Run, tracked_run}
+use Rattle.js_shell.specs.Replies.{default_turns}
+use Rattle.js_shell.proofs.Reported.{over_open, ended_shut, ended_failed, ran_reported, ran_cut}
 use Rattle.js_shell.proofs.running.run.Goals as goal
 
-pub returns-in_default-clause-ran : goal.returns-in_default-clause-ran
-returns-in_default-clause-ran g c =
-    ran_unreported c.args.policy.now (tracked (statements_of c.args.script.now) c.args.policy.now c.args.inputs.now) (g.K.Sink.taken c.args.sink.now) (g.K.Sink.taken c.put_lines.new.sink) (g.K.Sink.taken c.put_lines.new.sink) c.in-Ok.ending c.in-Ok.ensures.puts refl
+pub returns-then-not-is_over-clause-ran : goal.returns-then-not-is_over-clause-ran
+returns-then-not-is_over-clause-ran g c =
+    let run : Run = tracked_run c.args.policy.now c.args.inputs.now (view_program c.args.program.now) default_turns in
+    rw c.status_of.ensures (ran_cut c.args.policy.now run (g.K.Sink.taken c.args.sink.now) (g.K.Sink.taken c.run-ending.new.sink) c.run-ending.result (sym c.if-not-is_over.ensures) c.run-ending.ensures.ran)
 
-pub returns-in-Ok-put-clause-ran : goal.returns-in-Ok-put-clause-ran
-returns-in-Ok-put-clause-ran g c =
-    let reported = rw (c.deref.ensures.value, c.in-Ok-report_bytes.ensures) at c.in-Ok-put.ensures.ok in
-    rw c.status_of.ensures (ran_whole c.args.policy.now (tracked (statements_of c.args.script.now) c.args.policy.now c.args.inputs.now) (g.K.Sink.taken c.args.sink.now) (g.K.Sink.taken c.put_lines.new.sink) (g.K.Sink.taken c.put.new.self) c.in-Ok.ending c.in-Ok.ensures.puts reported)
+pub returns-then-not-is_over-clause-shut : goal.returns-then-not-is_over-clause-shut
+returns-then-not-is_over-clause-shut g c = rw c.status_of.ensures (c.run-ending.ensures.shut ∙ sym (ended_shut c.run-ending.result))
+
+pub returns-then-not-is_over-clause-failed : goal.returns-then-not-is_over-clause-failed
+returns-then-not-is_over-clause-failed g c = λ e. c.run-ending.ensures.failed (ended_failed c.run-ending.result (sym c.status_of.ensures ∙ e))
+
+pub put_report-requires-clause-open : goal.put_report-requires-clause-open
+put_report-requires-clause-open g c = c.run-ending.ensures.shut ∙ over_open c.run-ending.result (sym c.if-not-is_over.ensures)
 
 pub returns-clause-ran : goal.returns-clause-ran
 returns-clause-ran g c =
-    let reported = rw (c.deref.ensures.value, c.in-Ok-report_bytes.ensures) at c.in-Err.ensures.err in
-    ran_cut c.args.policy.now (tracked (statements_of c.args.script.now) c.args.policy.now c.args.inputs.now) (g.K.Sink.taken c.args.sink.now) (g.K.Sink.taken c.put_lines.new.sink) (g.K.Sink.taken c.put.new.self) c.in-Ok.ending c.in-Ok.ensures.puts reported
+    let run : Run = tracked_run c.args.policy.now c.args.inputs.now (view_program c.args.program.now) default_turns in
+    ran_reported c.args.policy.now run (g.K.Sink.taken c.args.sink.now) (g.K.Sink.taken c.run-ending.new.sink) (g.K.Sink.taken c.put_report.new.sink) c.put_report.result c.run-ending.result (sym c.if-not-is_over.ensures) c.run-ending.ensures.ran c.put_report.ensures.reports

@@ -15,7 +15,7 @@ pub returns-then-is_none-clause-acts : goal.returns-then-is_none-clause-acts
 returns-then-is_none-clause-acts g c =
     put_absent g.L.Labels.made g.L.Labels.meaning c.throw_without_cause-then-is_none.new.labels c.args.world.now c.throw_without_cause-then-is_none.new.world c.args.reference.record c.args.reference.name.now c.args.value c.throw_without_cause-then-is_none.result
     (c.throw_without_cause-then-is_none.ensures.acts One (λ reading x. x)) c.in-Some.at c.in-Some.is
-    (unbound_there (λ v. v.now) (λ b. b.value) c.own.result (bound_in c.args.reference.name.now (slice_get c.args.world.now.records c.in-Some.at.0)) c.own.ensures (c.is_none.ensures ∙ ap not c.if-is_none.true))
+    (unbound_there (λ v. v.now) (λ b. b.value) c.own.result (bound_in c.args.reference.name.now (slice_get c.args.world.now.records c.in-Some.at.0)) (rw c.in-Some.is at c.own.ensures) (c.is_none.ensures ∙ ap not c.if-is_none.true))
 
 pub returns-clause-acts : goal.returns-clause-acts
 returns-clause-acts g c = put_there g.L.Labels.made g.L.Labels.meaning c.assign.new.labels c.args.world.now c.assign.new.world c.args.reference.record c.args.reference.name.now c.args.value c.assign.result c.in-Some.at c.in-Some.is c.assign.ensures.acts

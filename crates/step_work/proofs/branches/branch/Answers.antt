@@ -1,4 +1,4 @@
-use Rattle.std.proofs.Common.{refl, sym, ap, ◌∙◌, ◌≡◌, [], ◌∷◌, map, append-nil}
+use Rattle.std.proofs.Common.{refl, sym, ap, ◌∙◌, [], map, append-nil}
 use Rattle.es_meaning.specs.Plain.{choose}
 use Rattle.js_values.specs.Readings.{read_value}
 use Rattle.step_work.specs.Pending.{next_plan}

@@ -1,5 +1,5 @@
-use Rattle.std.proofs.Common.{sym, ap, ◌∙◌, ◌≡◌, ◌-◌, length, Some, arith}
-use Rattle.flow_frames.specs.Held.{Held, label_at}
+use Rattle.std.proofs.Common.{sym, ap, ◌∙◌, ◌≡◌, ◌-◌, length, arith}
+use Rattle.flow_frames.specs.Held.{label_at}
 use Rattle.step_work.proofs.EndLaws.{label_has, read_label, read_outside}
 use Rattle.step_work.proofs.ends.leave.Goals as goal
 

@@ -1,4 +1,4 @@
-use Rattle.std.proofs.Common.{ap, ap₂, ◌∙◌, sym, subst, ◌+◌, List, map, take}
+use Rattle.std.proofs.Common.{arith, ap, ap₂, ◌∙◌, sym, subst, ◌+◌, List, map, take}
 use Rattle.std.proofs.lemmas.List.{take-map}
 use Rattle.origin_labels.specs.Label.{Label, union}
 use Rattle.origin_labels.proofs.StoreLaws.{IsKept-trans}
@@ -6,6 +6,7 @@ use Rattle.flow_frames.specs.Frames.{Frame}
 use Rattle.flow_frames.specs.Rules.{is_broken}
 use Rattle.flow_frames.specs.Held.{Kept, Belong, meant_at, seen, seen_frame}
 use Rattle.flow_frames.specs.Views.{held}
+use Rattle.flow_frames.proofs.CallLaws.{AreFormed-taken}
 use Rattle.flow_frames.proofs.ContextLaws.{seen-kept}
 use Rattle.flow_frames.proofs.StandingLaws.{Belong-kept, Belong-take}
 use Rattle.flow_frames.proofs.frames.Frames.jump.Goals as goal
@@ -18,6 +19,9 @@ check-requires-clause-belongs g c = Belong-kept g.L.Labels.made g.L.Labels.meani
 
 pub returns-in_err-check-clause-belongs : goal.returns-in_err-check-clause-belongs
 returns-in_err-check-clause-belongs g c = Belong-kept g.L.Labels.made g.L.Labels.meaning g.met.L.Labels.rising g.L.Labels.room g.L.Labels.firm c.inside.new.labels c.join.new.self c.args.self.now.frames c.join.ensures.kept c.inside.ensures.belongs
+
+pub invariant_of-self : goal.invariant_of-self
+invariant_of-self g c = AreFormed-taken c.self.inside.frames.items _ (c.args.depth + 1) (omega arith) c.truncate.ensures.items c.self.invariant
 
 pub returns-clause-frames : goal.returns-clause-frames
 returns-clause-frames g c = ap (map held) c.truncate.ensures.items ∙ sym (take-map held (c.args.depth + 1) c.self.inside.frames.items) ∙ ap (λ (v : Kept g.row.T.Denot). take (c.args.depth + 1) v.frames) c.self.view_is

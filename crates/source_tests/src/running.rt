@@ -1,0 +1,98 @@
+use crate::programs::parsed;
+use flow_io::MemorySink;
+use flow_policy::{read_inputs, read_policy};
+use origin_labels::{Masks, OriginList};
+use std::alloc::Global;
+use std::test::*;
+use step_run::{Ending, Show, run};
+
+const POLICY: &[u8] = b"origin A\nin pin A\nin note -\nout all A\nout pub -\n";
+
+// How a run ended.
+#[derive(Clone, Copy, Debug, PartialEq, Eq)]
+enum End {
+    Done,
+    Threw,
+    Stopped,
+    Left,
+    OutOfTurns,
+    Cut,
+}
+
+fn end_of(ending: &Ending) -> End {
+    match ending {
+        Ending::Done => End::Done,
+        Ending::Threw { .. } => End::Threw,
+        Ending::Stopped { .. } => End::Stopped,
+        Ending::Left(_) => End::Left,
+        Ending::OutOfTurns => End::OutOfTurns,
+        Ending::WriteFault | Ending::OutOfMemory => End::Cut,
+    }
+}
+
+// A script, the turns of its run, how it ends and what it writes: a part of the script that is entered costs one turn.
+const TURNS: [(&str, u64, End, &str); 9] = [
+    ("", 0, End::Done, ""),
+    (";", 0, End::OutOfTurns, ""),
+    (";", 1, End::Done, ""),
+    ("print('pub', 1);", 3, End::OutOfTurns, ""),
+    ("print('pub', 1);", 4, End::Done, "pub 1\n"),
+    (
+        "print('pub', 'a'); while (true) {}",
+        1000,
+        End::OutOfTurns,
+        "pub a\n",
+    ),
+    ("for (;;) ;", 1000, End::OutOfTurns, ""),
+    (
+        "print('pub', 1 + 1); print('all', read('pin')); print('pub', read('pin'));",
+        1000,
+        End::Stopped,
+        "pub 2\nall 7\n",
+    ),
+    ("print('pub', 'a'); x;", 1000, End::Threw, "pub a\n"),
+];
+
+// What a run writes for an observer without origins: the lines on channels that it sees.
+const SEEN: [(&str, &str); 2] = [
+    (
+        "print('pub', 'a'); print('all', read('pin')); print('pub', 'b');",
+        "pub a\npub b\n",
+    ),
+    ("print('all', 'a');", ""),
+];
+
+fn ran(alloc: Global, script: &str, turns: u64, show: &Show) -> Option<(Ending, MemorySink)> {
+    let program = parsed(alloc, script).ok()?;
+    let policy = read_policy(alloc, POLICY).ok()?;
+    let inputs = read_inputs(alloc, &policy, b"pin 7\n").ok()?;
+    let _formed = policy.origins();
+    let mut sink = MemorySink::new(alloc);
+    let ending = run(
+        alloc, &program, &policy, &inputs, turns, show, &mut Masks, &mut sink,
+    );
+    Some((ending, sink))
+}
+
+#[test]
+fn turns_are_spent(rt: HostRuntime) -> Result<(), Fail> {
+    let alloc = rt.alloc();
+    for (script, turns, end, bytes) in TURNS {
+        let (ending, sink) = ran(alloc, script, turns, &Show::All).ok_or("refused")?;
+        assert_eq!(rt; end_of(&ending), end, "{script}");
+        assert_eq!(rt; sink.taken(), bytes.as_bytes(), "{script}");
+    }
+    Ok(())
+}
+
+#[test]
+fn lines_that_an_observer_sees(rt: HostRuntime) -> Result<(), Fail> {
+    let alloc = rt.alloc();
+    let show = Show::Only(OriginList::new(alloc));
+    for (script, bytes) in SEEN {
+        let (ending, sink) = ran(alloc, script, 1000, &show).ok_or("refused")?;
+        assert_eq!(rt; end_of(&ending), End::Done, "{script}");
+        assert_eq!(rt; sink.taken(), bytes.as_bytes(), "{script}");
+    }
+    Ok(())
+}

@@ -1,0 +1,93 @@
+-- Calls that come to a machine's plan.
+use Rattle.std.proofs.Common.{sym, ap, subst, ◌∙◌, ◌≡◌, ◌≤◌, ◌<◌, ◌+◌, ℕ, List, [], ◌∷◌, ◌++◌, length, take, drop, Option, Some, Result, Ok, Err, IfOk, arith}
+use Rattle.std.proofs.lemmas.List.{nil_from_length, take-append-drop}
+use Rattle.origin_labels.specs.Label.{Label}
+use Rattle.flow_policy.specs.Policies.{Tables}
+use Rattle.flow_policy.specs.Inputs.{Given}
+use Rattle.flow_frames.specs.Held as held
+use Rattle.flow_frames.specs.declared.faults.FlowFault.{FlowFault}
+use Rattle.js_values.specs.declared.value.Labelled.{Labelled}
+use Rattle.js_values.specs.Readings.{read_value}
+use Rattle.es_meaning.specs.Environments.{Env}
+use Rattle.flow_meaning.specs.Scopes.{State}
+use Rattle.flow_meaning.specs.Planned.{Part, Plan, jumped}
+use Rattle.step_world.specs.declared.world.World.{World}
+use Rattle.step_world.specs.Acts.{thrown}
+use Rattle.step_world.specs.Worlds.{state_of}
+use Rattle.step_work.specs.declared.work.Work.{Work}
+use Rattle.step_work.specs.declared.work.Next.{Next}
+use Rattle.step_work.specs.Kept.{Kept}
+use Rattle.step_work.specs.Loads.{Adds, lift, load}
+use Rattle.step_work.specs.Pending.{owns, env_above, after, behind}
+use Rattle.step_work.specs.Resuming.{Begins, BeginsIn, Passes, PassesIn}
+use Rattle.step_moves.specs.Moving.{BeginsAnywhere, BeginsAt, Moves}
+use Rattle.step_core.specs.Going.{ComesTo, Lowers, part_in}
+use Rattle.step_core.specs.Going as going
+use Rattle.step_core.specs.Outlook.{here}
+use Rattle.step_core.proofs.Taking.{env_place}
+
+-- ---- moves
+
+-- what is said of the part that a move enters
+pub entered_part : (P : Part → Type 0) (e : Env ℕ) (move : Next) (entered : Part) → part_in e move ≡ Some entered → P entered → (part : Part) → part_in e move ≡ Some part → P part
+entered_part P e move entered enters p part h =
+    let same : Some entered ≡ Some part = sym enters ∙ h in
+    let part_same : entered ≡ part = cc in
+    subst P part_same p
+
+module _ {T : Type 0} where
+  -- a call that adds less than the move counted
+  pub lowers : (old new : Kept T) (move : Next) (n : ℕ) (result : Result Next (FlowFault T)) → n < lift move → IfOk result (Adds n old new) → IfOk result (Lowers old move new)
+  lowers old new move n (Ok behind) less adds = omega (arith, less, adds)
+  lowers old new move n (Err f) less adds = tt
+
+  pub adds_more : (old new : Kept T) (m n : ℕ) (result : Result Next (FlowFault T)) → m ≤ n → IfOk result (Adds m old new) → IfOk result (Adds n old new)
+  adds_more old new m n (Ok behind) less adds = omega (arith, less, adds)
+  adds_more old new m n (Err f) less adds = tt
+
+-- ---- a call comes to what a plan says of the state before it
+
+module _ {S T : Type 0} (made : S → T → Type 0) (meaning : S → T → Label) (store : S) (tables : Tables) (inputs : Given) where
+  -- by a clause without the run's state
+  pub comes_begun : (begins : Tables → Given → Env ℕ → State → Plan) (plan : (T → Label) → State → Plan) (old new : Kept T) (world : World T) (move : Next)
+      → ((reading : T → Label) (s : State) → begins tables inputs (env_above old.tasks here) s ≡ plan reading s)
+      → length old.loose ≡ 0 → Begins begins old new move
+      → ComesTo made meaning store tables inputs (λ reading told turns. behind tables inputs reading old.tasks here (plan reading (state_of reading world told turns))) new world (Ok move)
+  comes_begun begins plan old new world move same none goes reading told turns read =
+      goes tables inputs reading here (state_of reading world told turns) (nil_from_length old.loose none) ∙ ap (behind tables inputs reading old.tasks here) (same reading (state_of reading world told turns))
+
+  pub comes_anywhere : (begins : Tables → Given → Env ℕ → State → Plan) (plan : (T → Label) → State → Plan) (old new : Kept T) (world : World T) (move : Next)
+      → ((reading : T → Label) (s : State) → begins tables inputs (env_above old.tasks here) s ≡ plan reading s)
+      → BeginsAnywhere made meaning store begins old new move
+      → ComesTo made meaning store tables inputs (λ reading told turns. behind tables inputs reading old.tasks here (plan reading (state_of reading world told turns))) new world (Ok move)
+  comes_anywhere begins plan old new world move same goes reading told turns read =
+      goes tables inputs reading here (state_of reading world told turns) read ∙ ap (behind tables inputs reading old.tasks here) (same reading (state_of reading world told turns))
+
+  -- by one on the frames
+  pub comes_in : (begins : Tables → Given → Env ℕ → State → Plan) (plan : (T → Label) → State → Plan) (old new : Kept T) (world : World T) (frames : held.Kept T) (move : Next)
+      → ((reading : T → Label) (s : State) → begins tables inputs (env_above old.tasks here) s ≡ plan reading s)
+      → length old.loose ≡ 0 → BeginsIn made meaning store begins old new world.frames.frames frames.frames move
+      → ComesTo made meaning store tables inputs (λ reading told turns. behind tables inputs reading old.tasks here (plan reading (state_of reading world told turns))) new (record world { frames = frames }) (Ok move)
+  comes_in begins plan old new world frames move same none goes reading told turns read =
+      goes tables inputs reading here (state_of reading world told turns) read (nil_from_length old.loose none) ∙ ap (behind tables inputs reading old.tasks here) (same reading (state_of reading world told turns))
+
+  -- by one in the record of the outermost code
+  pub comes_at : (begins : Tables → Given → Env ℕ → State → Plan) (plan : (T → Label) → State → Plan) (old new : Kept T) (world_old world_new : World T) (result : Result Next (FlowFault T))
+      → ((reading : T → Label) (s : State) → begins tables inputs (env_above old.tasks here) s ≡ plan reading s)
+      → BeginsAt made meaning store 0 begins old new world_old world_new result
+      → ComesTo made meaning store tables inputs (λ reading told turns. behind tables inputs reading old.tasks here (plan reading (state_of reading world_old told turns))) new world_new result
+  comes_at begins plan old new world_old world_new result same goes reading told turns read =
+      subst (λ p. Moves tables inputs reading new here (state_of reading world_new told turns) p result)
+      (ap (behind tables inputs reading old.tasks here) (same reading (state_of reading world_old told turns)))
+      (goes tables inputs reading here told turns read (env_place old.tasks here))
+
+  -- what is thrown passes work
+  pub comes_passed : (w : Work) (value : Labelled T) (old new : Kept T) (world : World T) (move : Next) → Passes w old new move → drop (owns w) old.loose ≡ value ∷ []
+      → going.Passes made meaning store tables inputs w value old new world world (Ok move)
+  comes_passed w value old new world move goes alone reading told turns read =
+      goes tables inputs reading here (state_of reading world told turns) (take (owns w) old.loose) value (sym (take-append-drop (owns w) old.loose) ∙ ap (λ vs. take (owns w) old.loose ++ vs) alone)
+
+  -- or comes to the end of its scope
+  pub comes_passed_in : (w : Work) (value : Labelled T) (old new : Kept T) (world : World T) (frames : held.Kept T) (move : Next) → PassesIn made meaning store w old new world.frames.frames frames.frames move → old.loose ≡ value ∷ []
+      → ComesTo made meaning store tables inputs (λ reading told turns. behind tables inputs reading old.tasks here (after tables inputs w [] (env_above old.tasks here) (jumped (thrown reading value)) (state_of reading world told turns))) new (record world { frames = frames }) (Ok move)
+  comes_passed_in w value old new world frames move goes alone reading told turns read = goes tables inputs reading here (state_of reading world told turns) value read alone

@@ -1,0 +1,92 @@
+-- Calls of the functions of the product, as steps.
+use Rattle.std.proofs.Common.{sym, ap, subst, ◌∙◌, ◌≡◌, ◌<◌, ℕ, suc, Bool, List, [], ◌∷◌, ◌++◌, length, Option, Some, None, Result, Ok, Err, arith}
+use Rattle.std.specs.List.{All}
+use Rattle.std.proofs.lemmas.List.Elements.{All-append, All-weaker}
+use Rattle.origin_labels.specs.Label.{Label}
+use Rattle.origin_labels.specs.Stores.{IsKept}
+use Rattle.flow_policy.specs.Policies.{Tables}
+use Rattle.flow_policy.specs.Inputs.{Given}
+use Rattle.flow_frames.specs.declared.faults.FlowStop.{FlowStop}
+use Rattle.flow_frames.specs.declared.faults.FlowFault.TheVariants as fault
+use Rattle.js_values.specs.declared.value.Labelled.{Labelled}
+use Rattle.js_values.specs.Readings.{HasValue, IsReading}
+use Rattle.flow_meaning.specs.Laws.{performed_run}
+use Rattle.flow_meaning.specs.Planned.{perform, meaning}
+use Rattle.step_world.specs.declared.world.World.{World}
+use Rattle.step_world.specs.Worlds.{Belongs, Grows}
+use Rattle.step_channels.specs.declared.printing.Printed.{Printed}
+use Rattle.step_channels.specs.Answers.{line_of}
+use Rattle.step_calls.specs.Calling.{Calls, IsPrinted, Rests}
+use Rattle.step_work.specs.Stops.{HasStop}
+use Rattle.step_work.specs.declared.work.Direct.{Direct}
+use Rattle.step_work.specs.declared.work.Next.{Next}
+use Rattle.step_work.specs.declared.work.Next.TheVariants as next
+use Rattle.step_work.specs.Kept.{Kept, scopes_of, kept_operands, operands_of}
+use Rattle.step_work.specs.Pending.{values_of}
+use Rattle.step_core.specs.declared.machine.Machine.{Machine}
+use Rattle.step_core.specs.declared.steps.Step.TheVariants as step
+use Rattle.step_core.specs.declared.steps.Ending.TheVariants as ending
+use Rattle.step_core.specs.Outlook.{ahead, here, outlook}
+use Rattle.step_core.specs.Standing.{Standing, depths, Framed}
+use Rattle.step_core.specs.Stepping.{Stepped}
+use Rattle.step_core.proofs.Depths.{framed}
+use Rattle.step_core.proofs.Parts.{front_all}
+
+module _ {S T : Type 0} (made : S → T → Type 0) (meaning_of : S → T → Label) (store : S) (tables : Tables) (inputs : Given) (f : Direct) (count : ℕ) (old new : Machine T) (same : new.turns ≡ old.turns) where
+  -- the value that a function gives, or what it throws, comes next
+  pub called_goes : (n : Next) (most : ℕ) → Calls made meaning_of store tables inputs f old.stack new.stack old.world new.world (Ok (n, None))
+      → Standing made meaning_of store new.stack new.world (values_of n) (scopes_of new.stack.tasks) n → ahead new n < most
+      → Stepped made meaning_of store tables inputs (λ reading told. outlook tables inputs reading old (next.Direct f count) told) most new (step.Goes n)
+  called_goes n most calls standing lowers = record {
+    comes = λ reading told read. ap (perform (meaning tables inputs)) (sym (calls reading here told old.turns read)) ∙ ap (λ turns. outlook tables inputs reading (record new { turns = turns }) n told) (sym same);
+    standing = standing;
+    lowers = lowers;
+    printed = tt;
+    stopped = tt;
+  }
+
+  -- behind the line that it printed
+  pub called_line : (n : Next) (p : Printed T) (most : ℕ) → Calls made meaning_of store tables inputs f old.stack new.stack old.world new.world (Ok (n, Some p))
+      → Standing made meaning_of store new.stack new.world (values_of n) (scopes_of new.stack.tasks) n → ahead new n < most → IsPrinted (made store) (length tables.outputs) p
+      → Stepped made meaning_of store tables inputs (λ reading told. outlook tables inputs reading old (next.Direct f count) told) most new (step.Line p n)
+  called_line n p most calls standing lowers printed = record {
+    comes = λ reading told read. ap (perform (meaning tables inputs)) (sym (calls reading here told old.turns read)) ∙ ap (λ turns. outlook tables inputs reading (record new { turns = turns }) n (told ++ line_of tables reading p ∷ [])) (sym same);
+    standing = standing;
+    lowers = lowers;
+    printed = printed;
+    stopped = tt;
+  }
+
+  -- or a rule stops it
+  pub called_stop : (stop : FlowStop T) (most : ℕ) → Calls made meaning_of store tables inputs f old.stack new.stack old.world new.world (Err (fault.Stop stop)) → HasStop (made store) stop
+      → Stepped made meaning_of store tables inputs (λ reading told. outlook tables inputs reading old (next.Direct f count) told) most new (step.Ends (ending.Stopped stop))
+  unfolding perform
+  called_stop stop most calls has = record {
+    comes = λ reading told read. ap (λ q. performed_run (perform (meaning tables inputs) q)) (sym (calls reading here told old.turns read));
+    standing = tt;
+    lowers = tt;
+    printed = tt;
+    stopped = has;
+  }
+
+module _ {S T : Type 0} (made : S → T → Type 0) (meaning_of : S → T → Label) (room : S → ℕ) (firm : S → Bool) (earlier later : S) (kept : IsKept made meaning_of room firm earlier later) where
+  -- values with labels of a store have those of a later one
+  pub values_later : (vs : List (Labelled T)) → All (HasValue (made earlier)) vs → All (HasValue (made later)) vs
+  values_later vs has = All-weaker (HasValue (made earlier)) (HasValue (made later)) (λ v m. (kept.labels v.label m).0) vs has
+
+  -- a machine stands behind a call
+  pub standing_called : (old new : Kept T) (world_old world_new : World T) (n : ℕ) (before move : Next) → Framed before (length world_old.frames.frames) (length (scopes_of old.tasks)) ≡ (length world_old.frames.frames ≡ suc (length (scopes_of old.tasks)))
+      → Standing made meaning_of earlier old world_old n (scopes_of old.tasks) before → Rests (made later) old new move → length world_new.frames.frames ≡ length world_old.frames.frames → Belongs made meaning_of later world_new → Grows world_old world_new
+      → Standing made meaning_of later new world_new (values_of move) (scopes_of new.tasks) move
+  standing_called old new world_old world_new n before move exact stands rests frames belongs grows =
+      let scopes = ap scopes_of (sym rests.tasks) in
+      let count : length world_old.frames.frames ≡ suc (length (scopes_of old.tasks)) = subst (λ (X : Type 0). X) exact stands.frames in
+      record {
+        belongs = belongs;
+        operands = All-append (HasValue (made later)) (kept_operands new.tasks) new.loose
+            (subst (λ ts. All (HasValue (made later)) (kept_operands ts)) (sym rests.tasks) (values_later (kept_operands old.tasks) (front_all (HasValue (made earlier)) (kept_operands old.tasks) old.loose stands.operands))) rests.labels;
+        values = rests.values;
+        scopes = subst (λ ds. ds ≡ depths (length ds)) scopes stands.scopes;
+        frames = framed move (length world_new.frames.frames) (length (scopes_of new.tasks)) (frames ∙ count ∙ ap (λ ds. suc (length ds)) scopes);
+        records = omega (arith, stands.records, grows.records);
+      }

@@ -1,0 +1,12 @@
+pub mod Performed
+pub mod Taking
+pub mod Adding
+pub mod Depths
+pub mod Parts
+pub mod Continued
+pub mod Resumed
+pub mod Begun
+pub mod Stood
+pub mod StepLaws
+pub mod StartLaws
+pub mod CallLaws

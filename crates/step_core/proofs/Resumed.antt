@@ -1,0 +1,188 @@
+-- What holds of a machine behind work that went on.
+use Rattle.std.proofs.Common.{refl, sym, ap, subst, ◌∙◌, ◌≡◌, ◌≤◌, ◌<◌, ◌+◌, ◌-◌, ℕ, suc, Bool, true, false, List, [], ◌∷◌, ◌++◌, take, length, append-nil, length-append, arith, Result, Ok, Err, IfOk}
+use Rattle.std.specs.List.{All}
+use Rattle.std.proofs.lemmas.List.{take_at, drop_at}
+use Rattle.std.proofs.lemmas.List.Elements.{All-append, All-nil, All-push, All-take, All-drop, All-weaker}
+use Rattle.origin_labels.specs.Label.{Label}
+use Rattle.origin_labels.specs.Stores.{IsKept}
+use Rattle.flow_frames.specs.declared.faults.FlowFault.{FlowFault}
+use Rattle.js_values.specs.declared.value.Labelled.{Labelled}
+use Rattle.js_values.specs.Readings.{HasValue}
+use Rattle.step_world.specs.declared.world.World.{World}
+use Rattle.step_world.specs.Worlds.{Belongs}
+use Rattle.step_work.specs.declared.work.Work.{Work}
+use Rattle.step_work.specs.declared.work.Work.TheVariants as work
+use Rattle.step_work.specs.declared.work.Next.{Next}
+use Rattle.step_work.specs.declared.work.Next.TheVariants as next
+use Rattle.step_work.specs.Kept.{Kept, scope_of, scopes_of, kept_operands, operands_of, without_top}
+use Rattle.step_work.specs.Pending.{values_of}
+use Rattle.step_work.specs.Resuming.{Keeps, Opened, Closed}
+use Rattle.step_moves.specs.Moving.{Rests, Stands}
+use Rattle.step_core.specs.Standing.{Standing, depths, Framed}
+use Rattle.step_core.specs.Continuing.{acts, scoped, used_of, LeavesIn, StillIn, MadeIn}
+use Rattle.step_core.proofs.Depths.{depths_more, depths_outside, inner_depth, last_depth, framed}
+
+unscoped : (w : Work) → scoped w ≡ false → scope_of w ≡ []
+unscoped (work.EndBranch gives depth) never = absurd cc
+unscoped (work.EndRound turn depth) never = absurd cc
+unscoped _ never = refl
+
+acting_unscoped : (w : Work) → acts w ≡ true → scope_of w ≡ []
+acting_unscoped (work.EndBranch gives depth) acting = absurd cc
+acting_unscoped (work.EndRound turn depth) acting = absurd cc
+acting_unscoped _ acting = refl
+
+module _ {X : Type 0} (P : X → Type 0) (front behind : List X) (all : All P (front ++ behind)) where
+  front_all : All P front
+  front_all = subst (All P) (take_at front behind (length front) refl) (All-take P (length front) (front ++ behind) all)
+
+  pub behind_all : All P behind
+  behind_all = subst (All P) (drop_at front behind (length front) refl) (All-drop P (length front) (front ++ behind) all)
+
+module _ {T : Type 0} (P : T → Type 0) (stack : Kept T) where
+  -- with other values loose
+  pub operands_with : (new : Kept T) → new.tasks ≡ stack.tasks → All (HasValue P) new.loose → All (HasValue P) (operands_of stack) → All (HasValue P) (operands_of new)
+  operands_with new tasks loose all =
+      All-append (HasValue P) (kept_operands new.tasks) new.loose (subst (λ ts. All (HasValue P) (kept_operands ts)) (sym tasks) (front_all (HasValue P) (kept_operands stack.tasks) stack.loose all)) loose
+
+  -- with one more
+  pub operands_laid : (new : Kept T) (v : Labelled T) → new.tasks ≡ stack.tasks → new.loose ≡ stack.loose ++ v ∷ [] → P v.label → All (HasValue P) (operands_of stack) → All (HasValue P) (operands_of new)
+  operands_laid new v tasks loose has all =
+      operands_with new tasks (subst (All (HasValue P)) (sym loose) (All-push (HasValue P) stack.loose v (behind_all (HasValue P) (kept_operands stack.tasks) stack.loose all) has)) all
+
+  -- with fewer
+  pub operands_below : (new : Kept T) (n : ℕ) → new.tasks ≡ stack.tasks → new.loose ≡ take n stack.loose → All (HasValue P) (operands_of stack) → All (HasValue P) (operands_of new)
+  operands_below new n tasks loose all =
+      operands_with new tasks (subst (All (HasValue P)) (sym loose) (All-take (HasValue P) n stack.loose (behind_all (HasValue P) (kept_operands stack.tasks) stack.loose all))) all
+
+  used_all : (w : Work) → All (HasValue P) (operands_of stack) → All (HasValue P) (operands_of (used_of w stack))
+  used_all (work.BinaryRight o r) all = all
+  used_all (work.Argument f count rest) all = all
+  used_all (work.Statements ss) all = all
+  used_all (work.Declared r) all = all
+  used_all (work.Turned r) all = all
+  used_all _ all = operands_below (without_top stack) (length stack.loose - 1) refl refl all
+
+used_tasks : {T : Type 0} → (w : Work) (stack : Kept T) → (used_of w stack).tasks ≡ stack.tasks
+used_tasks (work.BinaryRight o r) stack = refl
+used_tasks (work.Argument f count rest) stack = refl
+used_tasks (work.Statements ss) stack = refl
+used_tasks (work.Declared r) stack = refl
+used_tasks (work.Turned r) stack = refl
+used_tasks _ stack = refl
+
+acted_frames : {T : Type 0} → (old new : World T) (move : Next) (scopes : ℕ) → length old.frames.frames ≡ suc scopes → Stands old new move → Framed move (length new.frames.frames) scopes
+acted_frames old new next.Throws scopes size stands = omega (arith, size, stands)
+acted_frames old new _ scopes size stands = stands ∙ size
+
+module _ {S T : Type 0} (made : S → T → Type 0) (meaning : S → T → Label) where
+  -- ---- the frame of the scope that ends
+
+  module _ (store : S) (w : Work) (old : Kept T) (world : World T) (count : ℕ) (stands : Standing made meaning store old world count (scopes_of old.tasks ++ scope_of w) next.Value) (depth : ℕ) (is : scope_of w ≡ depth ∷ []) where
+    here_scopes : scopes_of old.tasks ++ depth ∷ [] ≡ depths (length (scopes_of old.tasks ++ depth ∷ []))
+    here_scopes = subst (λ ds. scopes_of old.tasks ++ ds ≡ depths (length (scopes_of old.tasks ++ ds))) is stands.scopes
+
+    pub at_depth : length world.frames.frames ≡ depth + 1
+    at_depth = last_depth (scopes_of old.tasks) depth (length world.frames.frames) here_scopes (subst (λ ds. length world.frames.frames ≡ suc (length (scopes_of old.tasks ++ ds))) is stands.frames)
+
+    pub at_inner : 0 < depth
+    at_inner = inner_depth (scopes_of old.tasks) depth here_scopes
+
+  module _ (room : S → ℕ) (firm : S → Bool) (before store : S) (kept : IsKept made meaning room firm before store) where
+    none_have : (xs : List (Labelled T)) → xs ≡ [] → All (HasValue (made store)) xs
+    none_have xs none = subst (All (HasValue (made store))) (sym none) (All-nil (HasValue (made store)))
+
+    later_all : (xs : List (Labelled T)) → All (HasValue (made before)) xs → All (HasValue (made store)) xs
+    later_all xs all = All-weaker (HasValue (made before)) (HasValue (made store)) (λ v m. (kept.labels v.label m).0) xs all
+
+    module _ (w : Work) (old new : Kept T) (world_old world_new : World T) (count : ℕ) (move : Next)
+        (stands : Standing made meaning before old world_old count (scopes_of old.tasks ++ scope_of w) next.Value) (belongs : Belongs made meaning store world_new) (records : length world_old.records ≤ length world_new.records) where
+      some_record : 0 < length world_new.records
+      some_record = let some = stands.records in omega (arith, some, records)
+
+      module _ (none : scope_of w ≡ []) where
+        same_scopes : scopes_of old.tasks ≡ depths (length (scopes_of old.tasks))
+        same_scopes = subst (λ ds. ds ≡ depths (length ds)) (ap (λ ds. scopes_of old.tasks ++ ds) none ∙ append-nil (scopes_of old.tasks)) stands.scopes
+
+        same_frames : length world_old.frames.frames ≡ suc (length (scopes_of old.tasks))
+        same_frames = stands.frames ∙ ap (λ ds. suc (length ds)) (ap (λ ds. scopes_of old.tasks ++ ds) none ∙ append-nil (scopes_of old.tasks))
+
+        -- no scope begins or ends
+        stands_keeping : length new.loose ≡ values_of move → scopes_of new.tasks ≡ scopes_of old.tasks → All (HasValue (made store)) (operands_of new) → Framed move (length world_new.frames.frames) (length (scopes_of old.tasks))
+            → Standing made meaning store new world_new (values_of move) (scopes_of new.tasks) move
+        stands_keeping values scopes operands frames = record {
+          belongs = belongs;
+          operands = operands;
+          values = values;
+          scopes = subst (λ ds. ds ≡ depths (length ds)) (sym scopes) same_scopes;
+          frames = subst (λ ds. Framed move (length world_new.frames.frames) (length ds)) (sym scopes) frames;
+          records = some_record;
+        }
+
+        -- the frames stay
+        stands_still : length world_new.frames.frames ≡ length world_old.frames.frames → Keeps (used_of w old) new move → Standing made meaning store new world_new (values_of move) (scopes_of new.tasks) move
+        stands_still still keeps =
+            stands_keeping keeps.values (keeps.scopes ∙ ap scopes_of (used_tasks w old))
+            (subst (All (HasValue (made store))) (sym keeps.operands) (later_all (operands_of (used_of w old)) (used_all (made before) old w stands.operands)))
+            (framed move (length world_new.frames.frames) (length (scopes_of old.tasks)) (still ∙ same_frames))
+
+        stands_opened : Opened old new world_old.frames.frames world_new.frames.frames move → Standing made meaning store new world_new (values_of move) (scopes_of new.tasks) move
+        stands_opened opened =
+            let front = All-take (HasValue (made before)) (length (operands_of new)) (operands_of old) stands.operands in
+            let deep : length world_new.frames.frames ≡ suc (length (scopes_of old.tasks ++ length world_old.frames.frames ∷ [])) = omega (arith, opened.deeper, same_frames, length-append (scopes_of old.tasks) (length world_old.frames.frames ∷ [])) in
+            record {
+              belongs = belongs;
+              operands = later_all (operands_of new) (subst (All (HasValue (made before))) (sym opened.operands) front);
+              values = opened.values;
+              scopes = subst (λ ds. ds ≡ depths (length ds)) (sym opened.scopes) (depths_more (scopes_of old.tasks) (length world_old.frames.frames) same_scopes same_frames);
+              frames = subst (λ ds. Framed move (length world_new.frames.frames) (length ds)) (sym opened.scopes) (framed move (length world_new.frames.frames) (length (scopes_of old.tasks ++ length world_old.frames.frames ∷ [])) deep);
+              records = some_record;
+            }
+
+        -- behind an act
+        stands_acted : Rests (made store) old new move → Stands world_old world_new move → Standing made meaning store new world_new (values_of move) (scopes_of new.tasks) move
+        stands_acted rests frames =
+            stands_keeping rests.values rests.scopes (rests.operands (later_all (kept_operands old.tasks) (front_all (HasValue (made before)) (kept_operands old.tasks) old.loose stands.operands)))
+            (acted_frames world_old world_new move (length (scopes_of old.tasks)) same_frames frames)
+
+      module _ (depth : ℕ) (is : scope_of w ≡ depth ∷ []) where
+        stands_closed : All (HasValue (made store)) new.loose → Closed old new world_old.frames.frames world_new.frames.frames move → Standing made meaning store new world_new (values_of move) (scopes_of new.tasks) move
+        stands_closed loose closed =
+            let scopes = here_scopes before w old world_old count stands depth is in
+            let size : length world_old.frames.frames ≡ suc (length (scopes_of old.tasks ++ depth ∷ [])) = subst (λ ds. length world_old.frames.frames ≡ suc (length (scopes_of old.tasks ++ ds))) is stands.frames in
+            let shallow : length world_new.frames.frames ≡ suc (length (scopes_of old.tasks)) = omega (arith, closed.shallower, size, length-append (scopes_of old.tasks) (depth ∷ [])) in
+            record {
+              belongs = belongs;
+              operands = operands_with (made store) old new closed.tasks loose (later_all (operands_of old) stands.operands);
+              values = closed.values;
+              scopes = subst (λ ts. scopes_of ts ≡ depths (length (scopes_of ts))) (sym closed.tasks) (depths_outside (scopes_of old.tasks) depth scopes);
+              frames = subst (λ ts. Framed move (length world_new.frames.frames) (length (scopes_of ts))) (sym closed.tasks) (framed move (length world_new.frames.frames) (length (scopes_of old.tasks)) shallow);
+              records = some_record;
+            }
+
+      -- behind work that needs the stack alone
+      pub stands_alone : scoped w ≡ false → length world_new.frames.frames ≡ length world_old.frames.frames → Keeps (used_of w old) new move → Standing made meaning store new world_new (values_of move) (scopes_of new.tasks) move
+      stands_alone never still keeps = stands_still (unscoped w never) still keeps
+
+    -- behind work that acts on the run's state
+    pub stands_acting : (w : Work) (old new : Kept T) (world_old world_new : World T) (count : ℕ) (result : Result Next (FlowFault T)) → acts w ≡ true
+        → Standing made meaning before old world_old count (scopes_of old.tasks ++ scope_of w) next.Value → Belongs made meaning store world_new → length world_old.records ≤ length world_new.records
+        → IfOk result (Rests (made store) old new) → IfOk result (Stands world_old world_new) → IfOk result (λ move. Standing made meaning store new world_new (values_of move) (scopes_of new.tasks) move)
+    stands_acting w old new world_old world_new count (Ok move) acting stands belongs records rests frames = stands_acted w old new world_old world_new count move stands belongs records (acting_unscoped w acting) rests frames
+    stands_acting w old new world_old world_new count (Err f) acting stands belongs records rests frames = tt
+
+    -- and behind work in frames
+    pub stands_in : (w : Work) (old new : Kept T) (world_old world_new : World T) (count : ℕ) (move : Next) → scoped w ≡ true
+        → Standing made meaning before old world_old count (scopes_of old.tasks ++ scope_of w) next.Value → Belongs made meaning store world_new → length world_old.records ≤ length world_new.records
+        → LeavesIn w old new world_old.frames.frames world_new.frames.frames move → StillIn w world_old.frames.frames world_new.frames.frames → MadeIn (made store) w new.loose
+        → Standing made meaning store new world_new (values_of move) (scopes_of new.tasks) move
+    stands_in (work.AndRight r) old new world_old world_new count move in_frames stands belongs records leaves still labels = stands_opened (work.AndRight r) old new world_old world_new count move stands belongs records refl leaves
+    stands_in (work.OrRight r) old new world_old world_new count move in_frames stands belongs records leaves still labels = stands_opened (work.OrRight r) old new world_old world_new count move stands belongs records refl leaves
+    stands_in (work.Choose a b) old new world_old world_new count move in_frames stands belongs records leaves still labels = stands_opened (work.Choose a b) old new world_old world_new count move stands belongs records refl leaves
+    stands_in (work.ChooseStmt s) old new world_old world_new count move in_frames stands belongs records leaves still labels = stands_opened (work.ChooseStmt s) old new world_old world_new count move stands belongs records refl leaves
+    stands_in (work.ChooseStmts s t) old new world_old world_new count move in_frames stands belongs records leaves still labels = stands_opened (work.ChooseStmts s t) old new world_old world_new count move stands belongs records refl leaves
+    stands_in (work.Tested r) old new world_old world_new count move in_frames stands belongs records leaves still labels = stands_still (work.Tested r) old new world_old world_new count move stands belongs records refl still leaves
+    stands_in (work.EndBranch true depth) old new world_old world_new count move in_frames stands belongs records leaves still labels = stands_closed (work.EndBranch true depth) old new world_old world_new count move stands belongs records depth refl labels leaves
+    stands_in (work.EndBranch false depth) old new world_old world_new count move in_frames stands belongs records leaves still labels = stands_closed (work.EndBranch false depth) old new world_old world_new count move stands belongs records depth refl (none_have new.loose labels) leaves
+    stands_in (work.EndRound turn depth) old new world_old world_new count move in_frames stands belongs records leaves still labels = stands_closed (work.EndRound turn depth) old new world_old world_new count move stands belongs records depth refl (none_have new.loose labels) leaves
+    stands_in _ old new world_old world_new count move in_frames stands belongs records leaves still labels = absurd cc

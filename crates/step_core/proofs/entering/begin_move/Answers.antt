@@ -1,0 +1,35 @@
+use Rattle.std.proofs.Common.{sym, subst}
+use Rattle.step_core.specs.Going.{Begins}
+use Rattle.step_core.proofs.entering.begin_move.Goals as goal
+
+pub returns-in-Null-clause-begins : goal.returns-in-Null-clause-begins
+returns-in-Null-clause-begins g c tables inputs =
+    subst (λ m. Begins g.L.Labels.made g.L.Labels.meaning c.args.labels.now tables inputs c.args.stack.now c.begin_null.new.stack c.args.world.now c.args.world.now m c.begin_null.result) (sym c.in-Null.is) (c.begin_null.ensures.begins tables inputs)
+
+pub returns-in-Bool-clause-begins : goal.returns-in-Bool-clause-begins
+returns-in-Bool-clause-begins g c tables inputs =
+    subst (λ m. Begins g.L.Labels.made g.L.Labels.meaning c.args.labels.now tables inputs c.args.stack.now c.begin_boolean.new.stack c.args.world.now c.args.world.now m c.begin_boolean.result) (sym c.in-Bool.is) (c.begin_boolean.ensures.begins tables inputs)
+
+pub returns-in-Number-clause-begins : goal.returns-in-Number-clause-begins
+returns-in-Number-clause-begins g c tables inputs =
+    subst (λ m. Begins g.L.Labels.made g.L.Labels.meaning c.args.labels.now tables inputs c.args.stack.now c.begin_number.new.stack c.args.world.now c.args.world.now m c.begin_number.result) (sym c.in-Number.is) (c.begin_number.ensures.begins tables inputs)
+
+pub returns-in-Text-clause-begins : goal.returns-in-Text-clause-begins
+returns-in-Text-clause-begins g c tables inputs =
+    subst (λ m. Begins g.L.Labels.made g.L.Labels.meaning c.args.labels.now tables inputs c.args.stack.now c.begin_text.new.stack c.args.world.now c.args.world.now m c.begin_text.result) (sym c.in-Text.is) (c.begin_text.ensures.begins tables inputs)
+
+pub returns-in-Name-clause-begins : goal.returns-in-Name-clause-begins
+returns-in-Name-clause-begins g c tables inputs =
+    subst (λ m. Begins g.L.Labels.made g.L.Labels.meaning c.begin_name.new.labels tables inputs c.args.stack.now c.begin_name.new.stack c.args.world.now c.begin_name.new.world m c.begin_name.result) (sym c.in-Name.is) (c.begin_name.ensures.begins tables inputs)
+
+pub returns-in-Variables-clause-begins : goal.returns-in-Variables-clause-begins
+returns-in-Variables-clause-begins g c tables inputs =
+    subst (λ m. Begins g.L.Labels.made g.L.Labels.meaning c.args.labels.now tables inputs c.args.stack.now c.begin_variables.new.stack c.args.world.now c.args.world.now m c.begin_variables.result) (sym c.in-Variables.is) (c.begin_variables.ensures.begins tables inputs)
+
+pub returns-in-Loop-clause-begins : goal.returns-in-Loop-clause-begins
+returns-in-Loop-clause-begins g c tables inputs =
+    subst (λ m. Begins g.L.Labels.made g.L.Labels.meaning c.begin_loop_of.new.labels tables inputs c.args.stack.now c.begin_loop_of.new.stack c.args.world.now c.begin_loop_of.new.world m c.begin_loop_of.result) (sym c.in-Loop.is) (c.begin_loop_of.ensures.begins tables inputs)
+
+pub returns-in-DoLoop-clause-begins : goal.returns-in-DoLoop-clause-begins
+returns-in-DoLoop-clause-begins g c tables inputs =
+    subst (λ m. Begins g.L.Labels.made g.L.Labels.meaning c.begin_do_loop_of.new.labels tables inputs c.args.stack.now c.begin_do_loop_of.new.stack c.args.world.now c.begin_do_loop_of.new.world m c.begin_do_loop_of.result) (sym c.in-DoLoop.is) (c.begin_do_loop_of.ensures.begins tables inputs)

@@ -1,0 +1,24 @@
+use Rattle.std.proofs.Common.{refl, Ok}
+use Rattle.es_meaning.specs.Evaluation.{turn_step}
+use Rattle.flow_meaning.specs.Planned.{a_turn, asking, plan, planned}
+use Rattle.step_work.specs.declared.work.Next.TheVariants as next
+use Rattle.step_work.specs.Kept.{scopes_of}
+use Rattle.step_work.specs.Pending.{env_above}
+use Rattle.step_work.specs.Shapes.{round_of}
+use Rattle.step_core.specs.Outlook.{here}
+use Rattle.step_core.specs.Going.{Enters}
+use Rattle.step_core.proofs.Begun.{comes_in, entered_part}
+use Rattle.step_core.proofs.Stood.{standing_opened, standing_whole}
+use Rattle.step_core.proofs.entering.enter_turn.Goals as goal
+
+pub returns-clause-enters : goal.returns-clause-enters
+unfolding plan
+returns-clause-enters g c tables inputs =
+    entered_part (λ part. Enters g.L.Labels.made g.L.Labels.meaning c.begin_turn.new.labels tables inputs c.args.stack.now c.begin_turn.new.stack c.args.world.now (record c.args.world.now { frames = c.begin_turn.new.frames }) part (Ok c.in_ok-next.next)) (env_above c.args.stack.now.tasks here) (next.Turn c.args.round) (a_turn (round_of c.args.round) (env_above c.args.stack.now.tasks here)) refl
+    (comes_in g.L.Labels.made g.L.Labels.meaning c.begin_turn.new.labels tables inputs (λ tables inputs e. turn_step (planned tables inputs) (asking tables inputs) (round_of c.args.round) e)
+    (λ reading s. plan tables inputs (a_turn (round_of c.args.round) (env_above c.args.stack.now.tasks here)) s) c.args.stack.now c.begin_turn.new.stack c.args.world.now c.begin_turn.new.frames c.in_ok-next.next (λ reading s. refl) c.requires.standing.values c.in_ok-next.ensures.goes_on)
+
+pub returns-clause-standing : goal.returns-clause-standing
+returns-clause-standing g c =
+    standing_opened g.L.Labels.made g.L.Labels.meaning g.L.Labels.room g.L.Labels.firm c.args.labels.now c.begin_turn.new.labels c.begin_turn.ensures.kept c.args.stack.now c.begin_turn.new.stack c.args.world.now c.begin_turn.new.frames c.in_ok-next.next
+    (standing_whole g.L.Labels.made g.L.Labels.meaning c.args.labels.now c.args.stack.now c.args.world.now (scopes_of c.args.stack.now.tasks) (next.Turn c.args.round) (λ frames scopes whole. whole) c.requires.standing) c.in_ok-next.ensures.opened c.begin_turn.ensures.belongs c.len-depth.ensures.catch

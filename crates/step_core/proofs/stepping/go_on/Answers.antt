@@ -1,0 +1,41 @@
+use Rattle.std.proofs.Common.{refl, sym, ap, subst, ◌∙◌, ◌≡◌, ◌≤◌, ◌<◌, ◌+◌, ◌-◌, ◌*◌, ◌++◌, ◌∷◌, [], ℕ, suc, Bool, true, false, List, map, take, drop, length, Some, None, Ok, Err, IfOk, arith}
+use Rattle.std.specs.List.{All}
+use Rattle.js_values.specs.declared.value.Labelled.{Labelled}
+use Rattle.js_values.specs.Readings.{HasValue, read_value}
+use Rattle.flow_meaning.specs.Planned.{gave, jumped, perform, meaning, plan}
+use Rattle.step_world.specs.Acts.{thrown}
+use Rattle.step_world.specs.Worlds.{state_of}
+use Rattle.step_work.specs.declared.work.Next.TheVariants as next
+use Rattle.step_work.specs.Kept.{scope_of, scopes_of}
+use Rattle.step_work.specs.Loads.{load, lift, weight}
+use Rattle.step_work.specs.Pending.{after, behind, env_above, first_or_undefined, owns, values_of}
+use Rattle.step_work.specs.Resuming.{coming}
+use Rattle.step_core.specs.declared.steps.Ending.TheVariants as ending
+use Rattle.step_core.specs.Outlook.{Comes, IfGoes, ahead, here, outlook}
+use Rattle.step_core.specs.Standing.{Standing, begins_work, given}
+use Rattle.step_core.specs.Stepping.{Stepped, handed, completion_above, enters_part, outlook_after}
+use Rattle.step_core.proofs.StepLaws.{stepped_as, ends_steps, done_alone, resumed_after, standing_taken, standing_handed, ahead_handed}
+use Rattle.step_core.proofs.stepping.go_on.Goals as goal
+
+pub resumed-requires : goal.resumed-requires
+resumed-requires g c =
+    let old = c.args.machine.now in
+    record {
+      standing = standing_handed g.L.Labels.made g.L.Labels.meaning c.args.labels.now c.next_work.new.self old.world (owns c.in-Some.work + given c.args.gave) (scopes_of c.next_work.new.self.tasks ++ scope_of c.in-Some.work) c.args.gave
+          (standing_taken g.L.Labels.made g.L.Labels.meaning c.args.labels.now old.stack c.next_work.new.self old.world c.in-Some.work (given c.args.gave) (handed c.args.gave) c.in-Some.ensures.taken c.requires.standing);
+    }
+
+pub returns-in-None-clause-stepped : goal.returns-in-None-clause-stepped
+returns-in-None-clause-stepped g c tables inputs =
+    let old = c.args.machine.now in
+    ends_steps g.L.Labels.made g.L.Labels.meaning c.args.labels.now tables inputs (λ reading told. outlook tables inputs reading old (handed c.args.gave) told) (record old { stack = c.next_work.new.self }) (ahead old (handed c.args.gave)) ending.Done tt
+    (λ reading told. done_alone tables inputs reading old c.args.gave told c.in-None.ensures.none)
+
+pub returns-in-Some-clause-stepped : goal.returns-in-Some-clause-stepped
+returns-in-Some-clause-stepped g c tables inputs =
+    let old = c.args.machine.now in
+    let taken = record old { stack = c.next_work.new.self } in
+    let w = c.in-Some.work in
+    stepped_as g.L.Labels.made g.L.Labels.meaning c.resumed.new.labels tables inputs (λ reading told. outlook_after tables inputs reading taken w (completion_above tables inputs reading taken w) told) (λ reading told. outlook tables inputs reading old (handed c.args.gave) told)
+    (ahead taken next.Value + weight w) (ahead old (handed c.args.gave)) c.resumed.new.machine c.resumed.result
+    (λ reading told read. resumed_after tables inputs reading old c.next_work.new.self w c.args.gave told c.requires.standing.values c.in-Some.ensures.taken) (ahead_handed old.stack c.next_work.new.self w c.args.gave old.turns c.in-Some.ensures.taken) (c.resumed.ensures.stepped tables inputs)

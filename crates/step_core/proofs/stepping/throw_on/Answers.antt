@@ -1,0 +1,43 @@
+use Rattle.std.proofs.Common.{refl, sym, ap, subst, ◌∙◌, ◌≡◌, ◌≤◌, ◌<◌, ◌+◌, ◌-◌, ◌*◌, ◌++◌, ◌∷◌, [], ℕ, suc, Bool, true, false, List, map, take, drop, length, Some, None, Ok, Err, IfOk, arith}
+use Rattle.std.specs.List.{All}
+use Rattle.js_values.specs.declared.value.Labelled.{Labelled}
+use Rattle.js_values.specs.Readings.{HasValue, read_value}
+use Rattle.flow_meaning.specs.Planned.{gave, jumped, perform, meaning, plan}
+use Rattle.step_world.specs.Acts.{thrown}
+use Rattle.step_world.specs.Worlds.{state_of}
+use Rattle.step_work.specs.declared.work.Next.TheVariants as next
+use Rattle.step_work.specs.Kept.{scope_of, scopes_of}
+use Rattle.step_work.specs.Loads.{load, lift, weight}
+use Rattle.step_work.specs.Pending.{after, behind, env_above, first_or_undefined, owns, values_of}
+use Rattle.step_work.specs.Resuming.{coming}
+use Rattle.step_core.specs.declared.steps.Ending.TheVariants as ending
+use Rattle.step_core.specs.Outlook.{Comes, IfGoes, ahead, here, outlook}
+use Rattle.step_core.specs.Standing.{Standing, begins_work, given}
+use Rattle.step_core.specs.Stepping.{Stepped, handed, completion_above, enters_part, outlook_after}
+use Rattle.step_core.proofs.StepLaws.{stepped_as, ends_steps, threw_alone, passed_after, standing_taken, ahead_taken, alone_by, first_of}
+use Rattle.step_core.proofs.stepping.throw_on.Goals as goal
+
+pub pop-requires : goal.pop-requires
+pop-requires g c = let same = ap (λ k. length k.loose) c.in-None.ensures.unchanged in let one = c.requires.standing.values in omega (arith, same, one)
+
+pub passed-requires : goal.passed-requires
+passed-requires g c =
+    let old = c.args.machine.now in
+    record { standing = standing_taken g.L.Labels.made g.L.Labels.meaning c.args.labels.now old.stack c.next_work.new.self old.world c.in-Some.work 1 next.Throws c.in-Some.ensures.taken c.requires.standing }
+
+pub returns-in-None-clause-stepped : goal.returns-in-None-clause-stepped
+returns-in-None-clause-stepped g c tables inputs =
+    let old = c.args.machine.now in
+    ends_steps g.L.Labels.made g.L.Labels.meaning c.args.labels.now tables inputs (λ reading told. outlook tables inputs reading old next.Throws told) (record old { stack = c.pop.new.self }) (ahead old next.Throws) (ending.Threw c.pop.result) tt
+    (λ reading told. threw_alone tables inputs reading old c.pop.result told c.in-None.ensures.none (alone_by c.pop.new.self.loose old.stack.loose c.pop.result (sym (ap (λ k. k.loose) c.in-None.ensures.unchanged) ∙ c.pop.ensures.top) c.requires.standing.values))
+
+pub returns-in-Some-clause-stepped : goal.returns-in-Some-clause-stepped
+returns-in-Some-clause-stepped g c tables inputs =
+    let old = c.args.machine.now in
+    let taken = record old { stack = c.next_work.new.self } in
+    let w = c.in-Some.work in
+    let thrown_one = first_of old.stack.loose c.requires.standing.values in
+    stepped_as g.L.Labels.made g.L.Labels.meaning c.passed.new.labels tables inputs (λ reading told. outlook_after tables inputs reading taken w (jumped (thrown reading thrown_one.0)) told) (λ reading told. outlook tables inputs reading old next.Throws told)
+    (ahead taken next.Throws + weight w) (ahead old next.Throws) c.passed.new.machine c.passed.result
+    (λ reading told read. passed_after tables inputs reading old c.next_work.new.self w thrown_one.0 told thrown_one.1 c.in-Some.ensures.taken) (ahead_taken old.stack c.next_work.new.self w old.turns c.in-Some.ensures.taken)
+    (c.passed.ensures.stepped tables inputs thrown_one.0 (c.in-Some.ensures.taken.rest ∙ thrown_one.1))

@@ -1,0 +1,98 @@
+-- What the calls say and leave that go on with each kind of work.
+use Rattle.std.specs.Prelude.{◌≡◌, ℕ, Bool, true, false, List, [], map, take, drop, length, Result}
+use Rattle.std.specs.List.{All}
+use Rattle.origin_labels.specs.Label.{Label}
+use Rattle.flow_policy.specs.Policies.{Tables}
+use Rattle.flow_policy.specs.Inputs.{Given}
+use Rattle.flow_frames.specs.declared.faults.FlowFault.{FlowFault}
+use Rattle.flow_frames.specs.Held.{Held}
+use Rattle.js_values.specs.declared.value.Labelled.{Labelled}
+use Rattle.js_values.specs.Readings.{HasValue, read_value}
+use Rattle.es_meaning.specs.Environments.{Env}
+use Rattle.flow_meaning.specs.Scopes.{State}
+use Rattle.flow_meaning.specs.Planned.{gave, Plan}
+use Rattle.step_world.specs.declared.world.World.{World}
+use Rattle.step_work.specs.declared.work.Work.{Work}
+use Rattle.step_work.specs.declared.work.Work.TheVariants as work
+use Rattle.step_work.specs.declared.work.Next.{Next}
+use Rattle.step_work.specs.Kept.{Kept, without_top}
+use Rattle.step_work.specs.Pending.{owns, after, first_or_undefined}
+use Rattle.step_work.specs.Resuming.{Resumes, ResumesDone, ResumesBehind, ResumesIn, ResumesDoneIn, Keeps, Opened, Closed}
+use Rattle.step_moves.specs.Moving as moving
+
+-- the work that acts on the run's state
+abbrev pub acts : Work → Bool
+acts (work.Unary o) = true
+acts (work.BinaryDone o) = true
+acts (work.AssignTo n) = true
+acts (work.CompoundDone o n) = true
+acts (work.Variable n ds) = true
+acts _ = false
+
+-- the work that enters, raises or leaves a frame
+abbrev pub scoped : Work → Bool
+scoped (work.AndRight r) = true
+scoped (work.OrRight r) = true
+scoped (work.Choose a b) = true
+scoped (work.ChooseStmt s) = true
+scoped (work.ChooseStmts s t) = true
+scoped (work.Tested r) = true
+scoped (work.EndBranch gives depth) = true
+scoped (work.EndRound turn depth) = true
+scoped _ = false
+
+module _ {T : Type 0} where
+  -- what work does with what lies loose: its operands undermost, and above them a value, or none at the end of a part
+  abbrev pub continued : Tables → Given → (T → Label) → Work → List (Labelled T) → Env ℕ → State → Plan
+  continued tables inputs reading w loose e s = after tables inputs w (map (read_value reading) (take (owns w) loose)) e (gave (first_or_undefined (map (read_value reading) (drop (owns w) loose)))) s
+
+  -- ---- work that needs the stack alone
+
+  abbrev pub GoesAlone : Work → Kept T → Kept T → Next → Type 0
+  GoesAlone (work.Argument f count rest) = ResumesBehind (work.Argument f count rest)
+  GoesAlone (work.Statements ss) = ResumesDone (work.Statements ss)
+  GoesAlone (work.Declared r) = ResumesDone (work.Declared r)
+  GoesAlone (work.Turned r) = ResumesDone (work.Turned r)
+  GoesAlone w = Resumes w
+
+  -- the stack without a value of which the work makes no use
+  abbrev pub used_of : Work → Kept T → Kept T
+  used_of (work.BinaryRight o r) stack = stack
+  used_of (work.Argument f count rest) stack = stack
+  used_of (work.Statements ss) stack = stack
+  used_of (work.Declared r) stack = stack
+  used_of (work.Turned r) stack = stack
+  used_of _ stack = without_top stack
+
+  -- ---- work in frames
+
+  abbrev pub GoesIn : {S : Type 0} → (S → T → Type 0) → (S → T → Label) → S → Work → Kept T → Kept T → List (Held T) → List (Held T) → Next → Type 0
+  GoesIn made meaning store (work.EndBranch false depth) = ResumesDoneIn made meaning store (work.EndBranch false depth)
+  GoesIn made meaning store (work.EndRound turn depth) = ResumesDoneIn made meaning store (work.EndRound turn depth)
+  GoesIn made meaning store w = ResumesIn made meaning store w
+
+  -- a frame is opened or closed, or the last one is raised
+  abbrev pub LeavesIn : Work → Kept T → Kept T → List (Held T) → List (Held T) → Next → Type 0
+  LeavesIn (work.Tested r) old new frames_old frames_new = Keeps (without_top old) new
+  LeavesIn (work.EndBranch gives depth) old new frames_old frames_new = Closed old new frames_old frames_new
+  LeavesIn (work.EndRound turn depth) old new frames_old frames_new = Closed old new frames_old frames_new
+  LeavesIn _ old new frames_old frames_new = Opened old new frames_old frames_new
+
+  abbrev pub StillIn : Work → List (Held T) → List (Held T) → Type 0
+  StillIn (work.Tested r) frames_old frames_new = length frames_new ≡ length frames_old
+  StillIn _ frames_old frames_new = Unit {0}
+
+  -- at the end of a frame what is given on has labels of a store
+  abbrev pub MadeIn : (T → Type 0) → Work → List (Labelled T) → Type 0
+  MadeIn made (work.EndBranch true depth) loose = All (HasValue made) loose
+  MadeIn made (work.EndBranch false depth) loose = loose ≡ []
+  MadeIn made (work.EndRound turn depth) loose = loose ≡ []
+  MadeIn made _ loose = Unit {0}
+
+  -- ---- work that acts on the run's state, in this record
+
+  abbrev pub GoesActing : {S : Type 0} → (S → T → Type 0) → (S → T → Label) → S → ℕ → Work → Kept T → Kept T → World T → World T → Result Next (FlowFault T) → Type 0
+  GoesActing made meaning store place (work.BinaryDone o) = moving.ResumesBeside made meaning store (work.BinaryDone o)
+  GoesActing made meaning store place (work.CompoundDone o n) = moving.ResumesBeside made meaning store (work.CompoundDone o n)
+  GoesActing made meaning store place (work.Variable n ds) = moving.ResumesAt made meaning store place (work.Variable n ds)
+  GoesActing made meaning store place w = moving.Resumes made meaning store w

@@ -1,0 +1,72 @@
+-- What a run comes to that stands so, and what a step makes of it.
+use Rattle.std.specs.Prelude.{◌≡◌, ◌<◌, ◌+◌, ◌*◌, ℕ, List, [], ◌∷◌, ◌++◌}
+use Rattle.origin_labels.specs.Label.{Label}
+use Rattle.flow_policy.specs.Policies.{Tables}
+use Rattle.flow_policy.specs.Inputs.{Given}
+use Rattle.flow_frames.specs.declared.faults.FlowStop.{FlowStop}
+use Rattle.js_values.specs.Readings.{read_heap, read_value}
+use Rattle.es_meaning.specs.Environments.{Env}
+use Rattle.es_meaning.specs.Outcomes.{Ending, done, threw, halted, left, out_of_turns}
+use Rattle.es_meaning.specs.Plain.{outermost_env}
+use Rattle.es_meaning.specs.Start.{shown}
+use Rattle.flow_meaning.specs.Erased.{erased_heap}
+use Rattle.flow_meaning.specs.Scopes.{Halt, as_plain, stopped, LabelledLine}
+use Rattle.flow_meaning.specs.Planned.{Plan, Ran, perform, meaning}
+use Rattle.flow_meaning.specs.Laws.{performed_run}
+use Rattle.step_world.specs.Names.{leaving_name}
+use Rattle.step_world.specs.Worlds.{state_of}
+use Rattle.step_channels.specs.declared.printing.Printed.{Printed}
+use Rattle.step_channels.specs.Answers.{line_of}
+use Rattle.step_work.specs.declared.work.Next.{Next}
+use Rattle.step_work.specs.Loads.{load, lift}
+use Rattle.step_work.specs.Resuming.{coming}
+use Rattle.step_core.specs.declared.machine.Machine.{Machine}
+use Rattle.step_core.specs.declared.steps.Step.{Step}
+use Rattle.step_core.specs.declared.steps.Step.TheVariants as step
+use Rattle.step_core.specs.declared.steps.Ending as code
+use Rattle.step_core.specs.declared.steps.Ending.TheVariants as ending
+
+-- the outermost code, in which no jump reaches anything round it
+abbrev pub here : Env ℕ
+here = outermost_env 0
+
+-- how much a machine does before its run ends: each part that it enters costs a turn, and the work of less than six steps
+abbrev pub ahead : {T : Type 0} → Machine T → Next → ℕ
+ahead m next = 6 * m.turns + load m.stack.tasks + lift next
+
+module _ {T : Type 0} (tables : Tables) (inputs : Given) (reading : T → Label) where
+  -- the plan of what is done next and of the work that waits, where these lines were printed
+  abbrev pub plan_of : Machine T → Next → List LabelledLine → Plan
+  plan_of m next told = coming tables inputs reading m.stack next here (state_of reading m.world told m.turns)
+
+  -- what it comes to
+  abbrev pub outlook : Machine T → Next → List LabelledLine → Ran
+  outlook m next told = perform (meaning tables inputs) (plan_of m next told)
+
+  -- how a run ended
+  abbrev pub ending_of : Machine T → code.Ending T → Ending Halt
+  ending_of m ending.Done = done
+  ending_of m (ending.Threw v) = threw (shown (erased_heap (read_heap reading m.world.heap)) v.value)
+  ending_of m (ending.Stopped stop) = halted (stopped stop.rule (reading stop.need) (reading stop.have))
+  ending_of m (ending.Left why) = halted (as_plain (left (leaving_name why)))
+  ending_of m ending.OutOfTurns = halted (as_plain out_of_turns)
+
+  -- a step comes to the same: it goes on, it goes on behind a line that it printed, or the run ended so
+  abbrev pub Comes : Machine T → List LabelledLine → Ran → Step T → Type 0
+  Comes m told ran (step.Goes next) = ran ≡ outlook m next told
+  Comes m told ran (step.Line p next) = ran ≡ outlook m next (told ++ line_of tables reading p ∷ [])
+  Comes m told ran (step.Ends e) = performed_run ran ≡ record { lines = told; ending = ending_of m e }
+
+-- facts for a step that goes on, for one that prints, and for one at which a rule stops the run
+abbrev pub IfGoes : {T : Type 0} → (Next → Type 0) → Step T → Type 0
+IfGoes P (step.Goes next) = P next
+IfGoes P (step.Line p next) = P next
+IfGoes P (step.Ends e) = Unit {0}
+
+abbrev pub IfLine : {T : Type 0} → (Printed T → Type 0) → Step T → Type 0
+IfLine P (step.Line p next) = P p
+IfLine P _ = Unit {0}
+
+abbrev pub IfStopped : {T : Type 0} → (FlowStop T → Type 0) → Step T → Type 0
+IfStopped P (step.Ends (ending.Stopped stop)) = P stop
+IfStopped P _ = Unit {0}

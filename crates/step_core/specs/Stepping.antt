@@ -1,0 +1,64 @@
+-- What a step comes to, by what its parts come to.
+use Rattle.std.specs.Prelude.{◌≡◌, ◌<◌, ℕ, Bool, true, false, List, map, take, drop, length, Option, None, Result, Ok, Err}
+use Rattle.origin_labels.specs.Label.{Label}
+use Rattle.flow_text.specs.declared.memory.OutOfMemory.{OutOfMemory}
+use Rattle.flow_policy.specs.Policies.{Tables}
+use Rattle.flow_policy.specs.Inputs.{Given}
+use Rattle.flow_frames.specs.declared.faults.FlowFault.{FlowFault}
+use Rattle.flow_frames.specs.declared.faults.FlowFault.TheVariants as fault
+use Rattle.js_values.specs.declared.value.Labelled.{Labelled}
+use Rattle.js_values.specs.Readings.{IsReading, read_value}
+use Rattle.flow_meaning.specs.Scopes.{LabelledLine}
+use Rattle.flow_meaning.specs.Planned.{Completion, Ran, gave, perform, meaning}
+use Rattle.step_world.specs.Worlds.{state_of}
+use Rattle.step_channels.specs.declared.printing.Printed.{Printed}
+use Rattle.step_calls.specs.Calling.{IsPrinted}
+use Rattle.step_work.specs.Stops.{HasStop}
+use Rattle.step_work.specs.declared.work.Work.{Work}
+use Rattle.step_work.specs.declared.work.Next.{Next}
+use Rattle.step_work.specs.declared.work.Next.TheVariants as next
+use Rattle.step_work.specs.Kept.{scopes_of}
+use Rattle.step_work.specs.Pending.{owns, env_above, after, behind, first_or_undefined, values_of}
+use Rattle.step_core.specs.declared.machine.Machine.{Machine}
+use Rattle.step_core.specs.declared.steps.Step.{Step}
+use Rattle.step_core.specs.declared.steps.Step.TheVariants as step
+use Rattle.step_core.specs.declared.steps.Ending.TheVariants as ending
+use Rattle.step_core.specs.Outlook.{Comes, IfGoes, IfLine, IfStopped, ahead, here, outlook}
+use Rattle.step_core.specs.Standing.{Standing}
+
+module _ {S T : Type 0} (made : S → T → Type 0) (meaning_of : S → T → Label) (store : S) (tables : Tables) (inputs : Given) where
+  -- a step comes to what a run comes to, leaves a machine that stands, and less is to be done than so much
+  pub record Stepped (ran : (T → Label) → List LabelledLine → Ran) (most : ℕ) (new : Machine T) (s : Step T) : Type 0 where
+    pub comes : (reading : T → Label) (told : List LabelledLine) → IsReading made meaning_of store reading → Comes tables inputs reading new told (ran reading told) s
+    pub standing : IfGoes (λ n. Standing made meaning_of store new.stack new.world (values_of n) (scopes_of new.stack.tasks) n) s
+    pub lowers : IfGoes (λ n. ahead new n < most) s
+    pub printed : IfLine (IsPrinted (made store) (length tables.outputs)) s
+    pub stopped : IfStopped (HasStop (made store)) s
+
+-- the step that a move, or its fault, is
+abbrev pub step_of : {T : Type 0} → Result Next (FlowFault T) → Result (Step T) OutOfMemory
+step_of (Ok next) = Ok (step.Goes next)
+step_of (Err (fault.Stop stop)) = Ok (step.Ends (ending.Stopped stop))
+step_of (Err fault.OutOfMemory) = Err (record {})
+
+module _ {T : Type 0} (tables : Tables) (inputs : Given) (reading : T → Label) where
+  -- what a run comes to whose next work was taken and goes on with a completion
+  abbrev pub outlook_after : Machine T → Work → Completion → List LabelledLine → Ran
+  outlook_after m w c told = perform (meaning tables inputs) (behind tables inputs reading m.stack.tasks here (after tables inputs w (map (read_value reading) (take (owns w) m.stack.loose)) (env_above m.stack.tasks here) c (state_of reading m.world told m.turns)))
+
+  -- with what lies above its operands
+  abbrev pub completion_above : Machine T → Work → Completion
+  completion_above m w = gave (first_or_undefined (map (read_value reading) (drop (owns w) m.stack.loose)))
+
+-- the move behind a part that gave a value, or came to its end
+abbrev pub handed : Bool → Next
+handed true = next.Value
+handed false = next.Done
+
+-- the moves that enter a part
+abbrev pub enters_part : Next → Bool
+enters_part (next.Expr x) = true
+enters_part (next.Use how x) = true
+enters_part (next.Stmt x) = true
+enters_part (next.Turn r) = true
+enters_part _ = false

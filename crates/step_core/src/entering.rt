@@ -1,0 +1,305 @@
+//! Parts that a machine enters, and moves that enter none.
+
+ghost use Rattle.std.specs.Prelude.{◌≡◌, true, Some, IfErr, IfOk};
+ghost use Rattle.origin_labels.specs.Stores.{IsKept};
+ghost use Rattle.flow_frames.specs.Stops.{IfStop};
+ghost use Rattle.flow_policy.specs.Policies.{Tables};
+ghost use Rattle.flow_policy.specs.Inputs.{Given};
+ghost use Rattle.flow_meaning.specs.Planned.{Part};
+ghost use Rattle.step_world.specs.Worlds.{Grows};
+ghost use Rattle.step_work.specs.Stops.{HasStop};
+ghost use Rattle.step_work.specs.declared.work.Next.TheVariants as next;
+ghost use Rattle.step_work.specs.Kept.{scopes_of};
+ghost use Rattle.step_work.specs.Loads.{Adds};
+ghost use Rattle.step_work.specs.Pending.{env_above, values_of};
+ghost use Rattle.step_core.specs.Going.{Begins, Enters, Lowers, part_in};
+ghost use Rattle.step_core.specs.Outlook.{here};
+ghost use Rattle.step_core.specs.Standing.{Standing, begins_work};
+
+use flow_frames::FlowFault;
+use flow_text::Text;
+use js_ast::{Declarations, Expr, Stmt};
+use js_number::Int;
+use js_values::EnvId;
+use origin_labels::Labels;
+use std::alloc::Global;
+use step_moves::{begin_use, boolean, declare, null, number, read_name, text};
+use step_work::{
+    Next, Round, Stack, Use, begin_do_loop, begin_expression, begin_loop, begin_statement,
+    begin_turn,
+};
+use step_world::World;
+
+// the record of the outermost code
+pub(crate) const OUTERMOST: EnvId = EnvId(0);
+
+/// A part of the script is entered, for which a turn was spent. A move that enters none stays as it is.
+pub(crate) fn enter<'p, L: Labels>(
+    alloc: Global,
+    labels: &mut L,
+    world: &mut World<L::Label>,
+    stack: &mut Stack<'p, L::Label>,
+    next: Next<'p>,
+) -> Result<Next<'p>, FlowFault<L::Label>>
+    requires standing { Standing L.made L.meaning labels.old stack.old world.old (values_of next) (scopes_of stack.old.tasks) next }
+    ensures enters { (tables : Tables) (inputs : Given) (part : Part) → part_in (env_above stack.old.tasks here) next.entry ≡ Some part → Enters L.made L.meaning labels.new tables inputs stack.old stack.new world.old world.new part result }
+    ensures standing { IfOk result (λ n. Standing L.made L.meaning labels.new stack.new world.new (values_of n) (scopes_of stack.new.tasks) n) }
+    ensures adds { IfOk result (Adds 5 stack.old stack.new) }
+    ensures stopped { IfErr result (IfStop (HasStop (L.made labels.new))) }
+    ensures grows { Grows world.old world.new }
+    ensures kept { IsKept L.made L.meaning L.room L.firm labels.old labels.new }
+{
+    match next {
+        Next::Expr(e) => enter_expression(labels, world, stack, e),
+        Next::Use(how, target) => enter_use(alloc, labels, world, stack, how, target),
+        Next::Stmt(s) => enter_statement(labels, world, stack, s),
+        Next::Turn(round) => enter_turn(labels, world, stack, round),
+        other => Ok(other),
+    }
+}
+
+/// An expression is entered.
+fn enter_expression<'p, L: Labels>(
+    _labels: &L,
+    _world: &World<L::Label>,
+    stack: &mut Stack<'p, L::Label>,
+    e: &'p Expr,
+) -> Result<Next<'p>, FlowFault<L::Label>>
+    requires standing { Standing L.made L.meaning _labels.now stack.old _world.now 0 (scopes_of stack.old.tasks) (next.Expr e) }
+    ensures enters { (tables : Tables) (inputs : Given) (part : Part) → part_in (env_above stack.old.tasks here) (next.Expr e.entry) ≡ Some part → Enters L.made L.meaning _labels.now tables inputs stack.old stack.new _world.now _world.now part result }
+    ensures standing { IfOk result (λ n. Standing L.made L.meaning _labels.now stack.new _world.now (values_of n) (scopes_of stack.new.tasks) n) }
+    ensures adds { IfOk result (Adds 5 stack.old stack.new) }
+    ensures stopped { IfErr result (IfStop (HasStop (L.made _labels.now))) }
+{
+    let next = begin_expression(stack, e)?;
+    Ok(next)
+}
+
+/// A reference is entered for a use.
+fn enter_use<'p, L: Labels>(
+    alloc: Global,
+    labels: &mut L,
+    world: &mut World<L::Label>,
+    stack: &mut Stack<'p, L::Label>,
+    how: Use<'p>,
+    target: &'p Expr,
+) -> Result<Next<'p>, FlowFault<L::Label>>
+    requires standing { Standing L.made L.meaning labels.old stack.old world.old 0 (scopes_of stack.old.tasks) (next.Use how target) }
+    ensures enters { (tables : Tables) (inputs : Given) (part : Part) → part_in (env_above stack.old.tasks here) (next.Use how.entry target.entry) ≡ Some part → Enters L.made L.meaning labels.new tables inputs stack.old stack.new world.old world.new part result }
+    ensures standing { IfOk result (λ n. Standing L.made L.meaning labels.new stack.new world.new (values_of n) (scopes_of stack.new.tasks) n) }
+    ensures adds { IfOk result (Adds 5 stack.old stack.new) }
+    ensures stopped { IfErr result (IfStop (HasStop (L.made labels.new))) }
+    ensures grows { Grows world.old world.new }
+    ensures kept { IsKept L.made L.meaning L.room L.firm labels.old labels.new }
+{
+    begin_use(alloc, labels, world, stack, OUTERMOST, how, target)
+}
+
+/// A statement is entered.
+fn enter_statement<'p, L: Labels>(
+    _labels: &L,
+    _world: &World<L::Label>,
+    stack: &mut Stack<'p, L::Label>,
+    s: &'p Stmt,
+) -> Result<Next<'p>, FlowFault<L::Label>>
+    requires standing { Standing L.made L.meaning _labels.now stack.old _world.now 0 (scopes_of stack.old.tasks) (next.Stmt s) }
+    ensures enters { (tables : Tables) (inputs : Given) (part : Part) → part_in (env_above stack.old.tasks here) (next.Stmt s.entry) ≡ Some part → Enters L.made L.meaning _labels.now tables inputs stack.old stack.new _world.now _world.now part result }
+    ensures standing { IfOk result (λ n. Standing L.made L.meaning _labels.now stack.new _world.now (values_of n) (scopes_of stack.new.tasks) n) }
+    ensures adds { IfOk result (Adds 5 stack.old stack.new) }
+    ensures stopped { IfErr result (IfStop (HasStop (L.made _labels.now))) }
+{
+    let next = begin_statement(stack, s)?;
+    Ok(next)
+}
+
+/// A turn is entered.
+fn enter_turn<'p, L: Labels>(
+    labels: &mut L,
+    world: &mut World<L::Label>,
+    stack: &mut Stack<'p, L::Label>,
+    round: Round<'p>,
+) -> Result<Next<'p>, FlowFault<L::Label>>
+    requires standing { Standing L.made L.meaning labels.old stack.old world.old 0 (scopes_of stack.old.tasks) (next.Turn round) }
+    ensures enters { (tables : Tables) (inputs : Given) (part : Part) → part_in (env_above stack.old.tasks here) (next.Turn round.entry) ≡ Some part → Enters L.made L.meaning labels.new tables inputs stack.old stack.new world.old world.new part result }
+    ensures standing { IfOk result (λ n. Standing L.made L.meaning labels.new stack.new world.new (values_of n) (scopes_of stack.new.tasks) n) }
+    ensures adds { IfOk result (Adds 5 stack.old stack.new) }
+    ensures stopped { IfErr result (IfStop (HasStop (L.made labels.new))) }
+    ensures grows { Grows world.old world.new }
+    ensures kept { IsKept L.made L.meaning L.room L.firm labels.old labels.new }
+{
+    let next = begin_turn(labels, &mut world.frames, stack, round)?;
+    let _depth = world.frames.len();
+    Ok(next)
+}
+
+/// A value that stands in the script, a name, variables or a loop: what a machine does next without entering a part. Any other move stays as it is.
+pub(crate) fn begin_move<'p, L: Labels>(
+    alloc: Global,
+    labels: &mut L,
+    world: &mut World<L::Label>,
+    stack: &mut Stack<'p, L::Label>,
+    next: Next<'p>,
+) -> Result<Next<'p>, FlowFault<L::Label>>
+    requires standing { Standing L.made L.meaning labels.old stack.old world.old (values_of next) (scopes_of stack.old.tasks) next }
+    ensures begins { (tables : Tables) (inputs : Given) → Begins L.made L.meaning labels.new tables inputs stack.old stack.new world.old world.new next.entry result }
+    ensures standing { IfOk result (λ n. Standing L.made L.meaning labels.new stack.new world.new (values_of n) (scopes_of stack.new.tasks) n) }
+    ensures lowers { begins_work next.entry ≡ true → IfOk result (λ n. Lowers stack.old next.entry stack.new n) }
+    ensures stopped { IfErr result (IfStop (HasStop (L.made labels.new))) }
+    ensures grows { Grows world.old world.new }
+    ensures kept { IsKept L.made L.meaning L.room L.firm labels.old labels.new }
+{
+    match next {
+        Next::Null => begin_null(labels, world, stack),
+        Next::Bool(b) => begin_boolean(labels, world, stack, b),
+        Next::Number(n) => begin_number(labels, world, stack, n),
+        Next::Text(units) => begin_text(alloc, labels, world, stack, units),
+        Next::Name(name) => begin_name(alloc, labels, world, stack, name),
+        Next::Variables(list) => begin_variables(labels, world, stack, list),
+        Next::Loop(round) => begin_loop_of(labels, world, stack, round),
+        Next::DoLoop(round) => begin_do_loop_of(labels, world, stack, round),
+        other => Ok(other),
+    }
+}
+
+/// `null`.
+fn begin_null<'p, L: Labels>(
+    labels: &L,
+    _world: &World<L::Label>,
+    stack: &mut Stack<'p, L::Label>,
+) -> Result<Next<'p>, FlowFault<L::Label>>
+    requires standing { Standing L.made L.meaning labels.now stack.old _world.now 0 (scopes_of stack.old.tasks) next.Null }
+    ensures begins { (tables : Tables) (inputs : Given) → Begins L.made L.meaning labels.now tables inputs stack.old stack.new _world.now _world.now next.Null result }
+    ensures standing { IfOk result (λ n. Standing L.made L.meaning labels.now stack.new _world.now (values_of n) (scopes_of stack.new.tasks) n) }
+    ensures lowers { IfOk result (Lowers stack.old next.Null stack.new) }
+    ensures stopped { IfErr result (IfStop (HasStop (L.made labels.now))) }
+{
+    let next = null(labels, stack)?;
+    Ok(next)
+}
+
+/// A boolean that stands in the script.
+fn begin_boolean<'p, L: Labels>(
+    labels: &L,
+    _world: &World<L::Label>,
+    stack: &mut Stack<'p, L::Label>,
+    b: bool,
+) -> Result<Next<'p>, FlowFault<L::Label>>
+    requires standing { Standing L.made L.meaning labels.now stack.old _world.now 0 (scopes_of stack.old.tasks) (next.Bool b) }
+    ensures begins { (tables : Tables) (inputs : Given) → Begins L.made L.meaning labels.now tables inputs stack.old stack.new _world.now _world.now (next.Bool b) result }
+    ensures standing { IfOk result (λ n. Standing L.made L.meaning labels.now stack.new _world.now (values_of n) (scopes_of stack.new.tasks) n) }
+    ensures lowers { IfOk result (Lowers stack.old (next.Bool b) stack.new) }
+    ensures stopped { IfErr result (IfStop (HasStop (L.made labels.now))) }
+{
+    let next = boolean(labels, stack, b)?;
+    Ok(next)
+}
+
+/// A number that stands in the script.
+fn begin_number<'p, L: Labels>(
+    labels: &L,
+    _world: &World<L::Label>,
+    stack: &mut Stack<'p, L::Label>,
+    n: &'p Int,
+) -> Result<Next<'p>, FlowFault<L::Label>>
+    requires standing { Standing L.made L.meaning labels.now stack.old _world.now 0 (scopes_of stack.old.tasks) (next.Number n) }
+    ensures begins { (tables : Tables) (inputs : Given) → Begins L.made L.meaning labels.now tables inputs stack.old stack.new _world.now _world.now (next.Number n.entry) result }
+    ensures standing { IfOk result (λ n. Standing L.made L.meaning labels.now stack.new _world.now (values_of n) (scopes_of stack.new.tasks) n) }
+    ensures lowers { IfOk result (Lowers stack.old (next.Number n.entry) stack.new) }
+    ensures stopped { IfErr result (IfStop (HasStop (L.made labels.now))) }
+{
+    let next = number(labels, stack, n)?;
+    Ok(next)
+}
+
+/// A text that stands in the script.
+fn begin_text<'p, L: Labels>(
+    alloc: Global,
+    labels: &L,
+    _world: &World<L::Label>,
+    stack: &mut Stack<'p, L::Label>,
+    units: &'p Text,
+) -> Result<Next<'p>, FlowFault<L::Label>>
+    requires standing { Standing L.made L.meaning labels.now stack.old _world.now 0 (scopes_of stack.old.tasks) (next.Text units) }
+    ensures begins { (tables : Tables) (inputs : Given) → Begins L.made L.meaning labels.now tables inputs stack.old stack.new _world.now _world.now (next.Text units.entry) result }
+    ensures standing { IfOk result (λ n. Standing L.made L.meaning labels.now stack.new _world.now (values_of n) (scopes_of stack.new.tasks) n) }
+    ensures lowers { IfOk result (Lowers stack.old (next.Text units.entry) stack.new) }
+    ensures stopped { IfErr result (IfStop (HasStop (L.made labels.now))) }
+{
+    let next = text(alloc, labels, stack, units)?;
+    Ok(next)
+}
+
+/// The value of a name.
+fn begin_name<'p, L: Labels>(
+    alloc: Global,
+    labels: &mut L,
+    world: &mut World<L::Label>,
+    stack: &mut Stack<'p, L::Label>,
+    name: &'p Text,
+) -> Result<Next<'p>, FlowFault<L::Label>>
+    requires standing { Standing L.made L.meaning labels.old stack.old world.old 0 (scopes_of stack.old.tasks) (next.Name name) }
+    ensures begins { (tables : Tables) (inputs : Given) → Begins L.made L.meaning labels.new tables inputs stack.old stack.new world.old world.new (next.Name name.entry) result }
+    ensures standing { IfOk result (λ n. Standing L.made L.meaning labels.new stack.new world.new (values_of n) (scopes_of stack.new.tasks) n) }
+    ensures lowers { IfOk result (Lowers stack.old (next.Name name.entry) stack.new) }
+    ensures stopped { IfErr result (IfStop (HasStop (L.made labels.new))) }
+    ensures grows { Grows world.old world.new }
+    ensures kept { IsKept L.made L.meaning L.room L.firm labels.old labels.new }
+{
+    read_name(alloc, labels, world, stack, OUTERMOST, name)
+}
+
+/// Variables with their first values.
+fn begin_variables<'p, L: Labels>(
+    labels: &L,
+    world: &World<L::Label>,
+    stack: &mut Stack<'p, L::Label>,
+    list: &'p Declarations,
+) -> Result<Next<'p>, FlowFault<L::Label>>
+    requires standing { Standing L.made L.meaning labels.now stack.old world.now 0 (scopes_of stack.old.tasks) (next.Variables list) }
+    ensures begins { (tables : Tables) (inputs : Given) → Begins L.made L.meaning labels.now tables inputs stack.old stack.new world.now world.now (next.Variables list.entry) result }
+    ensures standing { IfOk result (λ n. Standing L.made L.meaning labels.now stack.new world.now (values_of n) (scopes_of stack.new.tasks) n) }
+    ensures lowers { IfOk result (Lowers stack.old (next.Variables list.entry) stack.new) }
+    ensures stopped { IfErr result (IfStop (HasStop (L.made labels.now))) }
+{
+    declare(labels, world, stack, OUTERMOST, list)
+}
+
+/// A loop begins with its condition.
+fn begin_loop_of<'p, L: Labels>(
+    labels: &mut L,
+    world: &mut World<L::Label>,
+    stack: &mut Stack<'p, L::Label>,
+    round: Round<'p>,
+) -> Result<Next<'p>, FlowFault<L::Label>>
+    requires standing { Standing L.made L.meaning labels.old stack.old world.old 0 (scopes_of stack.old.tasks) (next.Loop round) }
+    ensures begins { (tables : Tables) (inputs : Given) → Begins L.made L.meaning labels.new tables inputs stack.old stack.new world.old world.new (next.Loop round.entry) result }
+    ensures standing { IfOk result (λ n. Standing L.made L.meaning labels.new stack.new world.new (values_of n) (scopes_of stack.new.tasks) n) }
+    ensures lowers { IfOk result (Lowers stack.old (next.Loop round.entry) stack.new) }
+    ensures stopped { IfErr result (IfStop (HasStop (L.made labels.new))) }
+    ensures grows { Grows world.old world.new }
+    ensures kept { IsKept L.made L.meaning L.room L.firm labels.old labels.new }
+{
+    let next = begin_loop(labels, &mut world.frames, stack, round)?;
+    let _depth = world.frames.len();
+    Ok(next)
+}
+
+/// A loop begins with a turn.
+fn begin_do_loop_of<'p, L: Labels>(
+    labels: &mut L,
+    world: &mut World<L::Label>,
+    stack: &mut Stack<'p, L::Label>,
+    round: Round<'p>,
+) -> Result<Next<'p>, FlowFault<L::Label>>
+    requires standing { Standing L.made L.meaning labels.old stack.old world.old 0 (scopes_of stack.old.tasks) (next.DoLoop round) }
+    ensures begins { (tables : Tables) (inputs : Given) → Begins L.made L.meaning labels.new tables inputs stack.old stack.new world.old world.new (next.DoLoop round.entry) result }
+    ensures standing { IfOk result (λ n. Standing L.made L.meaning labels.new stack.new world.new (values_of n) (scopes_of stack.new.tasks) n) }
+    ensures lowers { IfOk result (Lowers stack.old (next.DoLoop round.entry) stack.new) }
+    ensures stopped { IfErr result (IfStop (HasStop (L.made labels.new))) }
+    ensures grows { Grows world.old world.new }
+    ensures kept { IsKept L.made L.meaning L.room L.firm labels.old labels.new }
+{
+    let next = begin_do_loop(labels, &mut world.frames, stack, round)?;
+    let _depth = world.frames.len();
+    Ok(next)
+}

@@ -1,0 +1,17 @@
+//! One step of a machine: a part of the script is entered, or the work that waits goes on, until a line is printed or the run ends.
+#![tactic(auto)]
+
+mod beginning;
+mod entering;
+mod laws;
+mod machine;
+mod passing;
+mod resuming;
+mod stepping;
+mod steps;
+
+pub use beginning::begin;
+pub use laws::only_adds;
+pub use machine::Machine;
+pub use stepping::step;
+pub use steps::{Ending, Step};

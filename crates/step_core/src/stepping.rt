@@ -1,0 +1,237 @@
+//! One step of a machine.
+
+ghost use Rattle.std.specs.Prelude.{◌≡◌, ◌≤◌, ◌<◌, ◌+◌, ◌++◌, ◌∷◌, [], ℕ, Bool, true, List, IfOk, drop, length};
+ghost use Rattle.origin_labels.specs.Label.{Label};
+ghost use Rattle.origin_labels.specs.Stores.{IsKept};
+ghost use Rattle.flow_policy.specs.Policies.{Tables};
+ghost use Rattle.flow_policy.specs.Inputs.{Given, IsGivenTo};
+ghost use Rattle.js_values.specs.declared.value.Labelled.{Labelled};
+ghost use Rattle.js_values.specs.Readings.{IsReading};
+ghost use Rattle.flow_meaning.specs.Planned.{jumped};
+ghost use Rattle.flow_meaning.specs.Scopes.{LabelledLine};
+ghost use Rattle.step_calls.specs.Calling.{IsPrinted};
+ghost use Rattle.step_work.specs.Stops.{HasStop};
+ghost use Rattle.step_world.specs.Acts.{thrown};
+ghost use Rattle.step_world.specs.Worlds.{Grows};
+ghost use Rattle.step_work.specs.declared.work.Next.TheVariants as next;
+ghost use Rattle.step_work.specs.Kept.{scope_of, scopes_of};
+ghost use Rattle.step_work.specs.Loads.{load, weight};
+ghost use Rattle.step_work.specs.Pending.{owns, values_of};
+ghost use Rattle.step_core.specs.Outlook.{Comes, IfGoes, IfLine, IfStopped, ahead, outlook};
+ghost use Rattle.step_core.specs.Standing.{Standing, begins_work, given};
+ghost use Rattle.step_core.specs.Stepping.{Stepped, handed, completion_above, enters_part, outlook_after};
+
+use crate::entering::{begin_move, enter};
+use crate::machine::Machine;
+use crate::passing::pass_work;
+use crate::resuming::resume;
+use crate::steps::{Ending, Step, step_of};
+use flow_frames::FlowFault;
+use flow_policy::{Inputs, Policy};
+use flow_text::OutOfMemory;
+use origin_labels::Labels;
+use std::alloc::Global;
+use step_calls::call;
+use step_work::{Direct, Next, Work};
+
+/// Does what is next. Want of memory ends the run, whatever is left of the machine.
+pub fn step<'p, L: Labels>(
+    alloc: Global,
+    labels: &mut L,
+    policy: &Policy,
+    inputs: &Inputs,
+    machine: &mut Machine<'p, L::Label>,
+    next: Next<'p>,
+) -> Result<Step<'p, L::Label>, OutOfMemory>
+    requires standing { Standing L.made L.meaning labels.old machine.old.stack machine.old.world (values_of next) (scopes_of machine.old.stack.tasks) next }
+    requires room { length policy.now.origins ≤ L.room labels.old }
+    requires given { IsGivenTo policy.now inputs.now }
+    requires positions { length machine.old.world.positions.items ≡ length policy.now.inputs }
+    ensures comes { IfOk result (λ s. (reading : L.Label → Label) (told : List LabelledLine) → IsReading L.made L.meaning labels.new reading → Comes policy.now inputs.now reading machine.new told (outlook policy.now inputs.now reading machine.old next.entry told) s) }
+    ensures standing { IfOk result (IfGoes (λ n. Standing L.made L.meaning labels.new machine.new.stack machine.new.world (values_of n) (scopes_of machine.new.stack.tasks) n)) }
+    ensures lowers { IfOk result (IfGoes (λ n. ahead machine.new n < ahead machine.old next.entry)) }
+    ensures printed { IfOk result (IfLine (IsPrinted (L.made labels.new) (length policy.now.outputs))) }
+    ensures stopped { IfOk result (IfStopped (HasStop (L.made labels.new))) }
+    ensures positions { length machine.new.world.positions.items ≡ length policy.now.inputs }
+    ensures kept { IsKept L.made L.meaning L.room L.firm labels.old labels.new }
+{
+    stepped(alloc, labels, policy, inputs, machine, next)
+}
+
+// The same, as one record.
+fn stepped<'p, L: Labels>(
+    alloc: Global,
+    labels: &mut L,
+    policy: &Policy,
+    inputs: &Inputs,
+    machine: &mut Machine<'p, L::Label>,
+    next: Next<'p>,
+) -> Result<Step<'p, L::Label>, OutOfMemory>
+    requires standing { Standing L.made L.meaning labels.old machine.old.stack machine.old.world (values_of next) (scopes_of machine.old.stack.tasks) next }
+    requires room { length policy.now.origins ≤ L.room labels.old }
+    requires given { IsGivenTo policy.now inputs.now }
+    requires positions { length machine.old.world.positions.items ≡ length policy.now.inputs }
+    ensures stepped { IfOk result (Stepped L.made L.meaning labels.new policy.now inputs.now (λ reading. outlook policy.now inputs.now reading machine.old next.entry) (ahead machine.old next.entry) machine.new) }
+    ensures grows { Grows machine.old.world machine.new.world }
+    ensures kept { IsKept L.made L.meaning L.room L.firm labels.old labels.new }
+{
+    match next {
+        Next::Leave(why) => Ok(Step::Ends(Ending::Left(why))),
+        Next::Value => go_on(alloc, labels, machine, true),
+        Next::Done => go_on(alloc, labels, machine, false),
+        Next::Throws => throw_on(labels, machine),
+        Next::Direct(function, count) => {
+            call_function(alloc, labels, policy, inputs, machine, function, count)
+        }
+        Next::Expr(_) | Next::Use(_, _) | Next::Stmt(_) | Next::Turn(_) => {
+            enter_part(alloc, labels, machine, next)
+        }
+        Next::Null
+        | Next::Bool(_)
+        | Next::Number(_)
+        | Next::Text(_)
+        | Next::Name(_)
+        | Next::Variables(_)
+        | Next::Loop(_)
+        | Next::DoLoop(_) => begin_work(alloc, labels, machine, next),
+    }
+}
+
+// A part gave a value or came to its end: the work goes on that waited for it, and without any the run is done.
+fn go_on<'p, L: Labels>(
+    alloc: Global,
+    labels: &mut L,
+    machine: &mut Machine<'p, L::Label>,
+    gave: bool,
+) -> Result<Step<'p, L::Label>, OutOfMemory>
+    requires standing { Standing L.made L.meaning labels.old machine.old.stack machine.old.world (given gave) (scopes_of machine.old.stack.tasks) (handed gave) }
+    ensures stepped { (tables : Tables) (inputs : Given) → IfOk result (Stepped L.made L.meaning labels.new tables inputs (λ reading. outlook tables inputs reading machine.old (handed gave)) (ahead machine.old (handed gave)) machine.new) }
+    ensures grows { Grows machine.old.world machine.new.world }
+    ensures kept { IsKept L.made L.meaning L.room L.firm labels.old labels.new }
+{
+    match machine.stack.next_work() {
+        None => Ok(Step::Ends(Ending::Done)),
+        Some(work) => resumed(alloc, labels, machine, work, gave),
+    }
+}
+
+// Work that was taken goes on.
+fn resumed<'p, L: Labels>(
+    alloc: Global,
+    labels: &mut L,
+    machine: &mut Machine<'p, L::Label>,
+    work: Work<'p>,
+    gave: bool,
+) -> Result<Step<'p, L::Label>, OutOfMemory>
+    requires standing { Standing L.made L.meaning labels.old machine.old.stack machine.old.world (owns work + given gave) (scopes_of machine.old.stack.tasks ++ scope_of work) next.Value }
+    ensures stepped { (tables : Tables) (inputs : Given) → IfOk result (Stepped L.made L.meaning labels.new tables inputs (λ reading. outlook_after tables inputs reading machine.old work.entry (completion_above tables inputs reading machine.old work.entry)) (ahead machine.old next.Value + weight work.entry) machine.new) }
+    ensures grows { Grows machine.old.world machine.new.world }
+    ensures kept { IsKept L.made L.meaning L.room L.firm labels.old labels.new }
+{
+    let moved = resume(
+        alloc,
+        labels,
+        &mut machine.world,
+        &mut machine.stack,
+        work,
+        gave,
+    );
+    step_of(moved)
+}
+
+// What is thrown passes the work that waits next, or leaves the script where none waits.
+fn throw_on<'p, L: Labels>(
+    labels: &mut L,
+    machine: &mut Machine<'p, L::Label>,
+) -> Result<Step<'p, L::Label>, OutOfMemory>
+    requires standing { Standing L.made L.meaning labels.old machine.old.stack machine.old.world 1 (scopes_of machine.old.stack.tasks) next.Throws }
+    ensures stepped { (tables : Tables) (inputs : Given) → IfOk result (Stepped L.made L.meaning labels.new tables inputs (λ reading. outlook tables inputs reading machine.old next.Throws) (ahead machine.old next.Throws) machine.new) }
+    ensures grows { Grows machine.old.world machine.new.world }
+    ensures kept { IsKept L.made L.meaning L.room L.firm labels.old labels.new }
+{
+    match machine.stack.next_work() {
+        None => Ok(Step::Ends(Ending::Threw(machine.stack.pop()))),
+        Some(work) => passed(labels, machine, work),
+    }
+}
+
+// What is thrown passes work that was taken.
+fn passed<'p, L: Labels>(
+    labels: &mut L,
+    machine: &mut Machine<'p, L::Label>,
+    work: Work<'p>,
+) -> Result<Step<'p, L::Label>, OutOfMemory>
+    requires standing { Standing L.made L.meaning labels.old machine.old.stack machine.old.world (owns work + 1) (scopes_of machine.old.stack.tasks ++ scope_of work) next.Throws }
+    ensures stepped { (tables : Tables) (inputs : Given) (value : Labelled L.Label) → drop (owns work.entry) machine.old.stack.loose ≡ value ∷ [] → IfOk result (Stepped L.made L.meaning labels.new tables inputs (λ reading. outlook_after tables inputs reading machine.old work.entry (jumped (thrown reading value))) (ahead machine.old next.Throws + weight work.entry) machine.new) }
+    ensures grows { Grows machine.old.world machine.new.world }
+    ensures kept { IsKept L.made L.meaning L.room L.firm labels.old labels.new }
+{
+    let next = pass_work(labels, &mut machine.world, &mut machine.stack, work)?;
+    Ok(Step::Goes(next))
+}
+
+// A part of the script is entered, which costs a turn, and without one the run ends.
+fn enter_part<'p, L: Labels>(
+    alloc: Global,
+    labels: &mut L,
+    machine: &mut Machine<'p, L::Label>,
+    next: Next<'p>,
+) -> Result<Step<'p, L::Label>, OutOfMemory>
+    requires enters { enters_part next ≡ true }
+    requires standing { Standing L.made L.meaning labels.old machine.old.stack machine.old.world (values_of next) (scopes_of machine.old.stack.tasks) next }
+    ensures stepped { (tables : Tables) (inputs : Given) → IfOk result (Stepped L.made L.meaning labels.new tables inputs (λ reading. outlook tables inputs reading machine.old next.entry) (ahead machine.old next.entry) machine.new) }
+    ensures grows { Grows machine.old.world machine.new.world }
+    ensures kept { IsKept L.made L.meaning L.room L.firm labels.old labels.new }
+{
+    if machine.turns == 0 {
+        return Ok(Step::Ends(Ending::OutOfTurns));
+    }
+    machine.turns -= 1;
+    let moved = enter(alloc, labels, &mut machine.world, &mut machine.stack, next);
+    step_of(moved)
+}
+
+// A move that enters no part begins its work.
+fn begin_work<'p, L: Labels>(
+    alloc: Global,
+    labels: &mut L,
+    machine: &mut Machine<'p, L::Label>,
+    next: Next<'p>,
+) -> Result<Step<'p, L::Label>, OutOfMemory>
+    requires begins { begins_work next ≡ true }
+    requires standing { Standing L.made L.meaning labels.old machine.old.stack machine.old.world (values_of next) (scopes_of machine.old.stack.tasks) next }
+    ensures stepped { (tables : Tables) (inputs : Given) → IfOk result (Stepped L.made L.meaning labels.new tables inputs (λ reading. outlook tables inputs reading machine.old next.entry) (ahead machine.old next.entry) machine.new) }
+    ensures grows { Grows machine.old.world machine.new.world }
+    ensures kept { IsKept L.made L.meaning L.room L.firm labels.old labels.new }
+{
+    let moved = begin_move(alloc, labels, &mut machine.world, &mut machine.stack, next);
+    step_of(moved)
+}
+
+// A function of the product is called with the values that no work keeps.
+fn call_function<'p, L: Labels>(
+    alloc: Global,
+    labels: &mut L,
+    policy: &Policy,
+    inputs: &Inputs,
+    machine: &mut Machine<'p, L::Label>,
+    function: Direct,
+    count: u32,
+) -> Result<Step<'p, L::Label>, OutOfMemory>
+    requires standing { Standing L.made L.meaning labels.old machine.old.stack machine.old.world count (scopes_of machine.old.stack.tasks) (next.Direct function count) }
+    requires room { length policy.now.origins ≤ L.room labels.old }
+    requires given { IsGivenTo policy.now inputs.now }
+    requires positions { length machine.old.world.positions.items ≡ length policy.now.inputs }
+    ensures stepped { IfOk result (Stepped L.made L.meaning labels.new policy.now inputs.now (λ reading. outlook policy.now inputs.now reading machine.old (next.Direct function count)) (ahead machine.old (next.Direct function count)) machine.new) }
+    ensures grows { Grows machine.old.world machine.new.world }
+    ensures kept { IsKept L.made L.meaning L.room L.firm labels.old labels.new }
+{
+    let world = &mut machine.world;
+    let stack = &mut machine.stack;
+    match call(alloc, labels, world, policy, inputs, stack, function, count) {
+        Ok((next, None)) => Ok(Step::Goes(next)),
+        Ok((next, Some(line))) => Ok(Step::Line(line, next)),
+        Err(FlowFault::Stop(stop)) => Ok(Step::Ends(Ending::Stopped(stop))),
+        Err(FlowFault::OutOfMemory) => Err(OutOfMemory),
+    }
+}

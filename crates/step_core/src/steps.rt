@@ -1,0 +1,50 @@
+//! What a step comes to.
+
+ghost use Rattle.std.specs.Prelude.{◌≡◌};
+ghost use Rattle.step_core.specs.Stepping.{step_of};
+
+use flow_frames::{FlowFault, FlowStop};
+use flow_text::OutOfMemory;
+use js_values::Labelled;
+use step_channels::Printed;
+use step_work::Next;
+use step_world::Leaving;
+
+/// How a run ends.
+#[derive(Drop)]
+pub enum Ending<T> {
+    /// It reached the end of the script.
+    Done,
+    /// This was thrown and not caught.
+    Threw(Labelled<T>),
+    /// A flow rule stopped it.
+    Stopped(FlowStop<T>),
+    /// It left the language.
+    Left(Leaving),
+    /// Its turns are spent.
+    OutOfTurns,
+}
+
+/// What a step comes to.
+#[derive(Drop)]
+pub enum Step<'p, T> {
+    /// It goes on with this.
+    Goes(Next<'p>),
+    /// It printed a line, and goes on with this.
+    Line(Printed<T>, Next<'p>),
+    /// The run ended.
+    Ends(Ending<T>),
+}
+
+/// The step that a move is, or the rule that stopped it.
+pub(crate) fn step_of<'p, T>(
+    moved: Result<Next<'p>, FlowFault<T>>,
+) -> Result<Step<'p, T>, OutOfMemory>
+    ensures { result ≡ step_of moved.entry }
+{
+    match moved {
+        Ok(next) => Ok(Step::Goes(next)),
+        Err(FlowFault::Stop(stop)) => Ok(Step::Ends(Ending::Stopped(stop))),
+        Err(FlowFault::OutOfMemory) => Err(OutOfMemory),
+    }
+}

@@ -1,0 +1,105 @@
+-- Acts of the planned meaning are those of the labelled one.
+use Rattle.std.proofs.Common.{refl, ap, ◌∙◌, ◌≡◌, ℕ, Bool, true, false, pos}
+use Rattle.js_number.specs.declared.primitive.Primitive.TheVariants.{Num}
+use Rattle.flow_policy.specs.Policies.{Tables}
+use Rattle.flow_policy.specs.Inputs.{Given}
+use Rattle.js_ast.specs.declared.operators.UnaryOperator.{UnaryOperator}
+use Rattle.js_ast.specs.declared.operators.UnaryOperator.TheVariants as unary_operator
+use Rattle.js_ast.specs.declared.operators.BinaryOperator.{BinaryOperator}
+use Rattle.es_meaning.specs.Outcomes.{Outcome, Goes, Jumps, Ends, and_then}
+use Rattle.es_meaning.specs.Plain.{Reference}
+use Rattle.es_meaning.specs.Operations.{One, Value, number_hint, Rec, prefixed, postfixed, asked}
+use Rattle.es_meaning.specs.Evaluation.{Conversion, unconverted, compared, primitives, numbers, takes_number, conversion_of, unary_by, unary_done, unary_value, binary_by, binary_done, binary_values, compared_left, primitive_left, number_left, give, assign_to, assign_giving, compound_done, prefix_by, prefix_number, prefix_value, postfix_by, postfix_number, postfix_value, enters, used}
+use Rattle.flow_meaning.specs.Scopes.{Val, State, Halt, Jump, L}
+use Rattle.flow_meaning.specs.Tracked.{labelled, put_at}
+use Rattle.flow_meaning.specs.Planned.{Plan, End, and_plan, with_result, as_plan, planned, asking}
+
+-- one act, and then another
+then_plan : (o : Outcome Halt Jump Val State) (f : Val → State → Plan) (g : Val → L Val) → ((v : Val) (t : State) → f v t ≡ as_plan Value (g v t)) → and_plan (as_plan Value o) (with_result Value f) ≡ as_plan Value (and_then o g)
+then_plan (Goes v t) f g same = same v t
+then_plan (Jumps j t) f g same = refl
+then_plan (Ends halt t) f g same = refl
+
+module _ (tables : Tables) (inputs : Given) where
+  unary_plan : (b : Bool) (o : UnaryOperator) (v : Val) (s : State) → unary_by (planned tables inputs) b o v s ≡ as_plan Value (unary_by (labelled tables inputs) b o v s)
+  unfolding unary_done
+  unary_plan true o v s = then_plan ((labelled tables inputs).primitive number_hint v s) (unary_done (planned tables inputs) o) (unary_done (labelled tables inputs) o) (λ u t. refl)
+  unary_plan false o v s = refl
+
+  pub unary_as : (o : UnaryOperator) (v : Val) (s : State) → unary_value (planned tables inputs) o v s ≡ as_plan Value (unary_value (labelled tables inputs) o v s)
+  unfolding unary_value
+  unary_as o v s = unary_plan (takes_number o) o v s
+
+  binary_plan : (c : Conversion) (o : BinaryOperator) (v u : Val) (s : State) → binary_by (planned tables inputs) c o v u s ≡ as_plan Value (binary_by (labelled tables inputs) c o v u s)
+  unfolding binary_done compared_left primitive_left number_left
+  binary_plan unconverted o v u s = refl
+  binary_plan compared o v u s = then_plan ((labelled tables inputs).comparable v u s) (compared_left (planned tables inputs) o u) (compared_left (labelled tables inputs) o u)
+      (λ w t. then_plan ((labelled tables inputs).comparable u w t) (binary_done (planned tables inputs) o w) (binary_done (labelled tables inputs) o w) (λ x r. refl))
+  binary_plan (primitives hint) o v u s = then_plan ((labelled tables inputs).primitive hint v s) (primitive_left (planned tables inputs) hint o u) (primitive_left (labelled tables inputs) hint o u)
+      (λ w t. then_plan ((labelled tables inputs).primitive hint u t) (binary_done (planned tables inputs) o w) (binary_done (labelled tables inputs) o w) (λ x r. refl))
+  binary_plan numbers o v u s = then_plan ((labelled tables inputs).primitive number_hint v s) (number_left (planned tables inputs) o u) (number_left (labelled tables inputs) o u)
+      (λ w t. then_plan ((labelled tables inputs).unary unary_operator.Plus w t) (primitive_left (planned tables inputs) number_hint o u) (primitive_left (labelled tables inputs) number_hint o u)
+      (λ x r. then_plan ((labelled tables inputs).primitive number_hint u r) (binary_done (planned tables inputs) o x) (binary_done (labelled tables inputs) o x) (λ y q. refl)))
+
+  pub binary_as : (o : BinaryOperator) (v u : Val) (s : State) → binary_values (planned tables inputs) o v u s ≡ as_plan Value (binary_values (labelled tables inputs) o v u s)
+  unfolding binary_values
+  binary_as o v u s = binary_plan (conversion_of o) o v u s
+
+  -- what gives nothing, and then a value
+  put_plan : (o : Outcome Halt Jump (Unit {0}) State) (v : Val) → and_plan (as_plan One o) (with_result One (give (planned tables inputs) v)) ≡ as_plan Value (and_then o (give (labelled tables inputs) v))
+  unfolding give
+  put_plan (Goes u t) v = refl
+  put_plan (Jumps j t) v = refl
+  put_plan (Ends halt t) v = refl
+
+  pub assign_as : (n : Reference) (v : Val) (s : State) → assign_to (planned tables inputs) n v s ≡ as_plan Value (assign_to (labelled tables inputs) n v s)
+  unfolding assign_to
+  assign_as n v s = put_plan (put_at n.place n.name v s) v
+
+  giving_as : (n : Reference) (result v : Val) (s : State) → assign_giving (planned tables inputs) n result v s ≡ as_plan Value (assign_giving (labelled tables inputs) n result v s)
+  unfolding assign_giving
+  giving_as n result v s = put_plan (put_at n.place n.name v s) result
+
+  pub compound_as : (R : Rec (planned tables inputs)) (Q : Rec (labelled tables inputs)) (o : BinaryOperator) (n : Reference) (v u : Val) (s : State) → compound_done (planned tables inputs) R o n v u s ≡ as_plan Value (compound_done (labelled tables inputs) Q o n v u s)
+  unfolding compound_done
+  compound_as R Q o n v u s =
+      ap (λ p. and_plan p (with_result Value (assign_to (planned tables inputs) n))) (binary_as o v u s)
+      ∙ then_plan (binary_values (labelled tables inputs) o v u s) (assign_to (planned tables inputs) n) (assign_to (labelled tables inputs) n) (assign_as n)
+
+  -- one more or less in front of a name
+  prefix_done : (o : BinaryOperator) (n : Reference) (v : Val) (s : State) → prefix_by (planned tables inputs) o n v s ≡ as_plan Value (prefix_by (labelled tables inputs) o n v s)
+  unfolding prefix_by
+  prefix_done o n v s = then_plan ((labelled tables inputs).binary o v ((labelled tables inputs).literal (Num (pos 1))) s) (assign_to (planned tables inputs) n) (assign_to (labelled tables inputs) n) (assign_as n)
+
+  prefix_counted : (o : BinaryOperator) (n : Reference) (v : Val) (s : State) → prefix_number (planned tables inputs) o n v s ≡ as_plan Value (prefix_number (labelled tables inputs) o n v s)
+  unfolding prefix_number
+  prefix_counted o n v s = then_plan ((labelled tables inputs).unary unary_operator.Plus v s) (prefix_by (planned tables inputs) o n) (prefix_by (labelled tables inputs) o n) (prefix_done o n)
+
+  prefix_named : (o : BinaryOperator) (n : Reference) (v : Val) (s : State) → prefix_value (planned tables inputs) o n v s ≡ as_plan Value (prefix_value (labelled tables inputs) o n v s)
+  unfolding prefix_value
+  prefix_named o n v s = then_plan ((labelled tables inputs).primitive number_hint v s) (prefix_number (planned tables inputs) o n) (prefix_number (labelled tables inputs) o n) (prefix_counted o n)
+
+  pub prefix_as : (o : BinaryOperator) (i : ℕ) (n : Reference) (s : State) → used (planned tables inputs) (asking tables inputs) (prefixed o) i n s ≡ as_plan Value (and_then ((labelled tables inputs).get_name n (enters (labelled tables inputs)) s) (prefix_value (labelled tables inputs) o n))
+  unfolding used
+  prefix_as o i n s = then_plan ((labelled tables inputs).get_name n (enters (labelled tables inputs)) s) (prefix_value (planned tables inputs) o n) (prefix_value (labelled tables inputs) o n) (prefix_named o n)
+
+  -- and behind it
+  postfix_done : (o : BinaryOperator) (n : Reference) (v : Val) (s : State) → postfix_by (planned tables inputs) o n v s ≡ as_plan Value (postfix_by (labelled tables inputs) o n v s)
+  unfolding postfix_by
+  postfix_done o n v s = then_plan ((labelled tables inputs).binary o v ((labelled tables inputs).literal (Num (pos 1))) s) (assign_giving (planned tables inputs) n v) (assign_giving (labelled tables inputs) n v) (giving_as n v)
+
+  postfix_counted : (o : BinaryOperator) (n : Reference) (v : Val) (s : State) → postfix_number (planned tables inputs) o n v s ≡ as_plan Value (postfix_number (labelled tables inputs) o n v s)
+  unfolding postfix_number
+  postfix_counted o n v s = then_plan ((labelled tables inputs).unary unary_operator.Plus v s) (postfix_by (planned tables inputs) o n) (postfix_by (labelled tables inputs) o n) (postfix_done o n)
+
+  postfix_named : (o : BinaryOperator) (n : Reference) (v : Val) (s : State) → postfix_value (planned tables inputs) o n v s ≡ as_plan Value (postfix_value (labelled tables inputs) o n v s)
+  unfolding postfix_value
+  postfix_named o n v s = then_plan ((labelled tables inputs).primitive number_hint v s) (postfix_number (planned tables inputs) o n) (postfix_number (labelled tables inputs) o n) (postfix_counted o n)
+
+  pub postfix_as : (o : BinaryOperator) (i : ℕ) (n : Reference) (s : State) → used (planned tables inputs) (asking tables inputs) (postfixed o) i n s ≡ as_plan Value (and_then ((labelled tables inputs).get_name n (enters (labelled tables inputs)) s) (postfix_value (labelled tables inputs) o n))
+  unfolding used
+  postfix_as o i n s = then_plan ((labelled tables inputs).get_name n (enters (labelled tables inputs)) s) (postfix_value (planned tables inputs) o n) (postfix_value (labelled tables inputs) o n) (postfix_named o n)
+
+  pub typeof_as : (i : ℕ) (n : Reference) (s : State) → used (planned tables inputs) (asking tables inputs) asked i n s ≡ as_plan Value (and_then ((labelled tables inputs).typeof_name n (enters (labelled tables inputs)) s) (unary_done (labelled tables inputs) unary_operator.Typeof))
+  unfolding used unary_done
+  typeof_as i n s = then_plan ((labelled tables inputs).typeof_name n (enters (labelled tables inputs)) s) (unary_done (planned tables inputs) unary_operator.Typeof) (unary_done (labelled tables inputs) unary_operator.Typeof) (λ v t. refl)

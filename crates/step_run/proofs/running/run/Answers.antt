@@ -1,0 +1,17 @@
+use Rattle.std.proofs.Common.{length}
+use Rattle.js_ast.specs.Views.{view_program}
+use Rattle.flow_meaning.specs.Tracked.{tracked_run}
+use Rattle.step_run.proofs.ToldLaws.{ran_declared, ran_broken, ran_isolated}
+use Rattle.step_run.proofs.running.run.Goals as goal
+
+pub returns-clause-isolation : goal.returns-clause-isolation
+returns-clause-isolation g c = ran_isolated c.args.policy.now c.args.show.now c.args.inputs.now (view_program c.args.program.now) c.args.turns (g.K.Sink.taken c.args.sink.now) (g.K.Sink.taken c.put_run.new.sink) c.two_runs.ensures c.put_run.result c.put_run.ensures.ran
+
+pub returns-clause-declared : goal.returns-clause-declared
+returns-clause-declared g c =
+    let run = tracked_run c.args.policy.now c.args.inputs.now (view_program c.args.program.now) c.args.turns in
+    ran_declared c.args.policy.now c.args.show.now run (g.K.Sink.taken c.args.sink.now) (g.K.Sink.taken c.put_run.new.sink) (length c.args.policy.now.origins) c.put_run.result c.put_run.ensures.ran
+    (c.declared.ensures c.args.policy.now c.args.inputs.now (view_program c.args.program.now) c.args.turns c.origins-formed.ensures.formed).ending
+
+pub returns-clause-broken : goal.returns-clause-broken
+returns-clause-broken g c = ran_broken c.args.policy.now c.args.show.now c.args.inputs.now (view_program c.args.program.now) c.args.turns (g.K.Sink.taken c.args.sink.now) (g.K.Sink.taken c.put_run.new.sink) c.erasure.ensures c.put_run.result c.put_run.ensures.ran

@@ -1,0 +1,191 @@
+//! The objects that a run starts with (ECMA-262 15). All their labels are empty.
+
+ghost use Rattle.std.specs.Prelude.{◌≡◌, ◌<◌, ◌≤◌, ◌+◌, [], ◌∷◌, ◌++◌, Ok, None, OnOk, IfOk, length, slice_get};
+ghost use Rattle.origin_labels.specs.Label.{Label, bottom};
+ghost use Rattle.origin_labels.specs.Stores.{IsKept};
+ghost use Rattle.js_values.specs.Readings.{IsReading, HasHeap, read_heap};
+ghost use Rattle.object_heap.specs.Acts.{add};
+ghost use Rattle.object_heap.specs.Formed.{own_in};
+ghost use Rattle.es_meaning.specs.Start.{start_heap, text_property, error_prototype, error};
+ghost use Rattle.step_start.specs.First.{named, kinds, Makes};
+
+use flow_text::{OutOfMemory, Text};
+use js_number::Primitive;
+use js_values::{Body, Class, Inner, Key, Marks, ObjId, Value};
+use object_heap::Heap;
+use origin_labels::Labels;
+use std::alloc::Global;
+
+/// `name`
+const NAME: [u16; 4] = [0x6E, 0x61, 0x6D, 0x65];
+
+/// `message`
+const MESSAGE: [u16; 7] = [0x6D, 0x65, 0x73, 0x73, 0x61, 0x67, 0x65];
+
+/// No units.
+const EMPTY: [u16; 0] = [];
+
+/// `Error`
+const ERROR: [u16; 5] = [0x45, 0x72, 0x72, 0x6F, 0x72];
+
+/// `EvalError`
+const EVAL_ERROR: [u16; 9] = [0x45, 0x76, 0x61, 0x6C, 0x45, 0x72, 0x72, 0x6F, 0x72];
+
+/// `RangeError`
+const RANGE_ERROR: [u16; 10] = [0x52, 0x61, 0x6E, 0x67, 0x65, 0x45, 0x72, 0x72, 0x6F, 0x72];
+
+/// `ReferenceError`
+const REFERENCE_ERROR: [u16; 14] = [
+    0x52, 0x65, 0x66, 0x65, 0x72, 0x65, 0x6E, 0x63, 0x65, 0x45, 0x72, 0x72, 0x6F, 0x72,
+];
+
+/// `SyntaxError`
+const SYNTAX_ERROR: [u16; 11] = [
+    0x53, 0x79, 0x6E, 0x74, 0x61, 0x78, 0x45, 0x72, 0x72, 0x6F, 0x72,
+];
+
+/// `TypeError`
+const TYPE_ERROR: [u16; 9] = [0x54, 0x79, 0x70, 0x65, 0x45, 0x72, 0x72, 0x6F, 0x72];
+
+/// `URIError`
+const URI_ERROR: [u16; 8] = [0x55, 0x52, 0x49, 0x45, 0x72, 0x72, 0x6F, 0x72];
+
+/// The prototype of all objects.
+const OBJECT_PROTOTYPE: ObjId = ObjId(0);
+
+/// The prototype of errors, and of the prototypes of the other kinds of errors.
+const ERROR_PROTOTYPE: ObjId = ObjId(2);
+
+/// A text of these units.
+pub(crate) fn text_of(alloc: Global, units: &[u16]) -> Result<Text, OutOfMemory>
+    ensures { IfOk result (λ t. t ≡ units.now) }
+{
+    let mut text = Text::new(alloc);
+    text.push_units(units)?;
+    Ok(text)
+}
+
+// A property of a built-in object (ECMA-262 15), which is a text.
+fn text_body(alloc: Global, units: &[u16]) -> Result<Body, OutOfMemory>
+    ensures { IfOk result (λ body. body ≡ (text_property units.now).body) }
+{
+    let text = text_of(alloc, units)?;
+    Ok(Body::Data(Value::Primitive(Primitive::Str(text))))
+}
+
+// Adds such a property to an object, which has none of this key.
+fn add_text<T: Copy, L: Labels<Label = T>>(
+    alloc: Global,
+    labels: &mut L,
+    heap: &mut Heap<T>,
+    o: ObjId,
+    key: &[u16],
+    units: &[u16],
+) -> Result<(), OutOfMemory>
+    requires there { o.0 < length heap.old }
+    requires absent { own_in key.now (slice_get heap.old o.0) ≡ None }
+    requires belongs { HasHeap (L.made labels.old) heap.old }
+    ensures adds { OnOk result ((reading : T → Label) → IsReading L.made L.meaning labels.new reading → add o.0 key.now bottom (text_property units.now).body bottom (text_property units.now).marks (read_heap reading heap.old) ≡ Ok (read_heap reading heap.new)) }
+    ensures length { length heap.new ≡ length heap.old }
+    ensures belongs { HasHeap (L.made labels.new) heap.new }
+    ensures kept { IsKept L.made L.meaning L.room L.firm labels.old labels.new }
+{
+    let key = Key::new(text_of(alloc, key)?);
+    let body = text_body(alloc, units)?;
+    let none = labels.bottom();
+    let marks = Marks {
+        writable: true,
+        enumerable: false,
+        configurable: true,
+    };
+    match heap.add(labels, o, key, none, body, none, marks) {
+        Ok(()) => Ok(()),
+        Err(_) => Err(OutOfMemory),
+    }
+}
+
+// Makes the prototype of errors of this name (ECMA-262 15.11.4, 15.11.7).
+fn make_prototype<T: Copy, L: Labels<Label = T>>(
+    alloc: Global,
+    labels: &mut L,
+    heap: &mut Heap<T>,
+    name: &[u16],
+    proto: ObjId,
+) -> Result<(), OutOfMemory>
+    requires proto { proto.0 < length heap.old }
+    requires belongs { HasHeap (L.made labels.old) heap.old }
+    ensures makes { OnOk result (Makes L.made L.meaning labels.new (named name.now proto ∷ []) heap.old heap.new) }
+    ensures length { OnOk result (length heap.new ≡ length heap.old + 1) }
+    ensures belongs { OnOk result (HasHeap (L.made labels.new) heap.new) }
+    ensures kept { IsKept L.made L.meaning L.room L.firm labels.old labels.new }
+{
+    let none = labels.bottom();
+    let o = heap.new_object(Class::Error, Some(proto), none, none, Inner::Plain)?;
+    add_text(alloc, labels, heap, o, &NAME, name)?;
+    add_text(alloc, labels, heap, o, &MESSAGE, &EMPTY)?;
+    Ok(())
+}
+
+// Makes the prototypes of two kinds of errors.
+fn make_two<T: Copy, L: Labels<Label = T>>(
+    alloc: Global,
+    labels: &mut L,
+    heap: &mut Heap<T>,
+    one: &[u16],
+    other: &[u16],
+) -> Result<(), OutOfMemory>
+    requires started { 3 ≤ length heap.old }
+    requires belongs { HasHeap (L.made labels.old) heap.old }
+    ensures makes { OnOk result (Makes L.made L.meaning labels.new (named one.now (error_prototype error) ∷ named other.now (error_prototype error) ∷ []) heap.old heap.new) }
+    ensures length { OnOk result (length heap.new ≡ length heap.old + 2) }
+    ensures belongs { OnOk result (HasHeap (L.made labels.new) heap.new) }
+    ensures kept { IsKept L.made L.meaning L.room L.firm labels.old labels.new }
+{
+    make_prototype(alloc, labels, heap, one, ERROR_PROTOTYPE)?;
+    make_prototype(alloc, labels, heap, other, ERROR_PROTOTYPE)?;
+    Ok(())
+}
+
+// Makes the prototypes of the kinds of errors (ECMA-262 15.11.6).
+fn make_kinds<T: Copy, L: Labels<Label = T>>(
+    alloc: Global,
+    labels: &mut L,
+    heap: &mut Heap<T>,
+) -> Result<(), OutOfMemory>
+    requires started { length heap.old ≡ 3 }
+    requires belongs { HasHeap (L.made labels.old) heap.old }
+    ensures makes { OnOk result (Makes L.made L.meaning labels.new kinds heap.old heap.new) }
+    ensures length { OnOk result (length heap.new ≡ 9) }
+    ensures belongs { OnOk result (HasHeap (L.made labels.new) heap.new) }
+    ensures kept { IsKept L.made L.meaning L.room L.firm labels.old labels.new }
+{
+    make_two(alloc, labels, heap, &EVAL_ERROR, &RANGE_ERROR)?;
+    make_two(alloc, labels, heap, &REFERENCE_ERROR, &SYNTAX_ERROR)?;
+    make_two(alloc, labels, heap, &TYPE_ERROR, &URI_ERROR)?;
+    Ok(())
+}
+
+/// The first objects.
+pub(crate) fn first_objects<T: Copy, L: Labels<Label = T>>(
+    alloc: Global,
+    labels: &mut L,
+) -> Result<Heap<T>, OutOfMemory>
+    ensures objects { IfOk result (Makes L.made L.meaning labels.new start_heap []) }
+    ensures length { IfOk result (λ heap. length heap ≡ 9) }
+    ensures belongs { IfOk result (HasHeap (L.made labels.new)) }
+    ensures kept { IsKept L.made L.meaning L.room L.firm labels.old labels.new }
+{
+    let mut heap = Heap::new(alloc);
+    let none = labels.bottom();
+    heap.new_object(Class::Object, None, none, none, Inner::Plain)?;
+    heap.new_object(
+        Class::Object,
+        Some(OBJECT_PROTOTYPE),
+        none,
+        none,
+        Inner::Plain,
+    )?;
+    make_prototype(alloc, labels, &mut heap, &ERROR, OBJECT_PROTOTYPE)?;
+    make_kinds(alloc, labels, &mut heap)?;
+    Ok(heap)
+}

@@ -1,0 +1,8 @@
+//! What a run holds when it begins (ECMA-262 10.4.1, 10.5, 15).
+#![tactic(auto)]
+
+mod heap;
+mod hoisting;
+mod starting;
+
+pub use starting::start;

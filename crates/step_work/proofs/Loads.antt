@@ -1,0 +1,14 @@
+-- What further work adds to the load.
+use Rattle.std.proofs.Common.{ap, ◌∙◌, ◌≡◌, ◌+◌, List, [], ◌∷◌, ◌++◌, arith}
+use Rattle.step_work.specs.declared.work.Work.{Work}
+use Rattle.step_work.specs.Pending.{Task}
+use Rattle.step_work.specs.Kept.{Kept}
+use Rattle.step_work.specs.Loads.{weight, load}
+
+module _ {T : Type 0} where
+  pub load_more : (tasks : List (Task T)) (w : Task T) → load (tasks ++ w ∷ []) ≡ load tasks + weight w.0
+  load_more [] w = omega arith
+  load_more (v ∷ tasks) w = omega (arith, load_more tasks w)
+
+  pub pushed_load : (old new : Kept T) (w : Work) → new ≡ record { tasks = old.tasks ++ (w, old.loose) ∷ []; loose = [] } → load new.tasks ≡ load old.tasks + weight w
+  pushed_load old new w is = ap (λ k. load k.tasks) is ∙ load_more old.tasks (w, old.loose)

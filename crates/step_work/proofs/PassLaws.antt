@@ -1,0 +1,98 @@
+-- What is thrown, and the work that it passes or that it reaches.
+use Rattle.std.proofs.Common.{refl, sym, ap, ap₂, ◌∙◌, ◌≡◌, ◌+◌, ◌<◌, ◌≤◌, ℕ, Bool, List, [], ◌∷◌, ◌++◌, map, take, length, arith}
+use Rattle.std.proofs.lemmas.Bool.{lt-ltb, le-ltb}
+use Rattle.std.proofs.lemmas.List.{length-map, take_all}
+use Rattle.origin_labels.specs.Label.{Label, union}
+use Rattle.flow_frames.specs.Held.{Held, meant_at, seen_frame}
+use Rattle.js_values.specs.declared.value.Labelled.{Labelled}
+use Rattle.es_meaning.specs.Outcomes.{Goes, Jumps, ret, and_then}
+use Rattle.es_meaning.specs.Operations.{Ty, One, Value}
+use Rattle.es_meaning.specs.Plain.{undefined, choose}
+use Rattle.flow_meaning.specs.Erased.{unlabelled}
+use Rattle.flow_meaning.specs.Scopes.{State, Jump, Left, caught, cut_to, popped, settled}
+use Rattle.flow_meaning.specs.Planned.{Give, gave, jumped, as_plan, end_branch, end_round}
+use Rattle.step_world.specs.Acts.{thrown}
+use Rattle.step_work.specs.declared.work.Work.TheVariants as work
+use Rattle.step_work.specs.declared.work.Next.TheVariants as next
+use Rattle.step_work.specs.Kept.{Kept}
+use Rattle.step_work.specs.Pending.{behind, result_type}
+use Rattle.step_work.specs.Resuming.{with_frames, PassesIn, LeavesAt}
+use Rattle.step_work.proofs.Handed.{gives_alone, throws_alone}
+
+-- ---- what pending work says of a jump
+
+-- the end of a scope whose frame was left hands it on
+passes_branch : (t : Ty) (depth : ℕ) (j : Jump) (s : State) → length s.frames ≤ depth → end_branch t depth (jumped j) s ≡ Give (jumped j) s
+unfolding end_branch popped
+passes_branch t depth j s few =
+    ap (λ b. as_plan t (and_then (choose b (Goes (record { label = meant_at s.frames depth; how = caught j }) (cut_to depth s)) (Jumps j (cut_to depth s))) (λ (l : Left _). ret (settled t l)))) (le-ltb depth (length s.frames) few)
+    ∙ ap (λ fs. Give (jumped j) (record s { frames = fs })) (take_all depth s.frames few)
+
+passes_round : (depth : ℕ) (j : Jump) (s : State) → length s.frames ≤ depth → end_round depth (jumped j) s ≡ Give (jumped j) s
+unfolding end_round popped
+passes_round depth j s few =
+    ap (λ b. as_plan One (and_then (choose b (Goes (record { label = meant_at s.frames depth; how = caught j }) (cut_to depth s)) (Jumps j (cut_to depth s))) (λ (l : Left (Unit {0})). ret tt))) (le-ltb depth (length s.frames) few)
+    ∙ ap (λ fs. Give (jumped j) (record s { frames = fs })) (take_all depth s.frames few)
+
+-- where the frame still stands, the scope is over
+reaches_value : (depth : ℕ) (j : Jump) (s : State) → depth < length s.frames → end_branch Value depth (jumped j) s ≡ Give (gave (record { value = undefined; label = meant_at s.frames depth })) (cut_to depth s)
+unfolding end_branch popped union
+reaches_value depth j s stands =
+    ap (λ b. as_plan Value (and_then (choose b (Goes (record { label = meant_at s.frames depth; how = caught j }) (cut_to depth s)) (Jumps j (cut_to depth s))) (λ (l : Left _). ret (settled Value l)))) (lt-ltb depth (length s.frames) stands)
+
+reaches_branch : (depth : ℕ) (j : Jump) (s : State) → depth < length s.frames → end_branch One depth (jumped j) s ≡ Give (gave (unlabelled undefined)) (cut_to depth s)
+unfolding end_branch popped
+reaches_branch depth j s stands =
+    ap (λ b. as_plan One (and_then (choose b (Goes (record { label = meant_at s.frames depth; how = caught j }) (cut_to depth s)) (Jumps j (cut_to depth s))) (λ (l : Left _). ret (settled One l)))) (lt-ltb depth (length s.frames) stands)
+
+reaches_round : (depth : ℕ) (j : Jump) (s : State) → depth < length s.frames → end_round depth (jumped j) s ≡ Give (gave (unlabelled undefined)) (cut_to depth s)
+unfolding end_round popped
+reaches_round depth j s stands =
+    ap (λ b. as_plan One (and_then (choose b (Goes (record { label = meant_at s.frames depth; how = caught j }) (cut_to depth s)) (Jumps j (cut_to depth s))) (λ (l : Left (Unit {0})). ret tt))) (lt-ltb depth (length s.frames) stands)
+
+-- ---- what a call comes to
+
+module _ {S T : Type 0} (made : S → T → Type 0) (meaning : S → T → Label) (store : S) (depth : ℕ) where
+  -- the frame was left before
+  module _ (stack : Kept T) (frames : List (Held T)) (few : length frames ≤ depth) where
+    few_read : (reading : T → Label) → length (map (seen_frame reading) frames) ≤ depth
+    few_read reading = omega (arith, few, length-map frames (seen_frame reading))
+
+    pub branch_passed : (gives : Bool) → PassesIn made meaning store (work.EndBranch gives depth) stack stack frames frames next.Throws
+    branch_passed gives = λ tables inputs reading e s value read loose.
+        throws_alone tables inputs reading stack stack value e (with_frames reading frames s) refl loose
+        ∙ ap (λ p. behind tables inputs reading stack.tasks e p) (sym (passes_branch (result_type gives) depth (thrown reading value) (with_frames reading frames s) (few_read reading)))
+
+    pub round_passed : (turn : Bool) → PassesIn made meaning store (work.EndRound turn depth) stack stack frames frames next.Throws
+    round_passed turn = λ tables inputs reading e s value read loose.
+        throws_alone tables inputs reading stack stack value e (with_frames reading frames s) refl loose
+        ∙ ap (λ p. behind tables inputs reading stack.tasks e p) (sym (passes_round depth (thrown reading value) (with_frames reading frames s) (few_read reading)))
+
+    pub passed_at : length stack.loose ≡ 1 → LeavesAt depth stack stack frames frames next.Throws
+    passed_at one = record { values = one; tasks = refl; fewer = omega arith; stands = few }
+
+  -- the frame is left
+  module _ (old alone : Kept T) (frames_old frames_new : List (Held T)) (deep : length frames_old ≡ depth + 1) (keep : alone.tasks ≡ old.tasks) (outside : (reading : T → Label) → map (seen_frame reading) frames_new ≡ take depth (map (seen_frame reading) frames_old)) where
+    stands_read : (reading : T → Label) → depth < length (map (seen_frame reading) frames_old)
+    stands_read reading = omega (arith, deep, length-map frames_old (seen_frame reading))
+
+    -- nothing is given
+    pub branch_reached : PassesIn made meaning store (work.EndBranch Bool.false depth) old alone frames_old frames_new next.Done
+    branch_reached = λ tables inputs reading e s value read loose.
+        ap₂ (λ ts fs. behind tables inputs reading ts e (Give (gave (unlabelled undefined)) (record s { frames = fs }))) keep (outside reading)
+        ∙ ap (λ p. behind tables inputs reading old.tasks e p) (sym (reaches_branch depth (thrown reading value) (with_frames reading frames_old s) (stands_read reading)))
+
+    pub round_reached : (turn : Bool) → PassesIn made meaning store (work.EndRound turn depth) old alone frames_old frames_new next.Done
+    round_reached turn = λ tables inputs reading e s value read loose.
+        ap₂ (λ ts fs. behind tables inputs reading ts e (Give (gave (unlabelled undefined)) (record s { frames = fs }))) keep (outside reading)
+        ∙ ap (λ p. behind tables inputs reading old.tasks e p) (sym (reaches_round depth (thrown reading value) (with_frames reading frames_old s) (stands_read reading)))
+
+    -- undefined is given, with the frame's label
+    pub value_reached : (new : Kept T) (label : T) → alone.loose ≡ [] → new.tasks ≡ alone.tasks → new.loose ≡ alone.loose ++ record { value = undefined; label = label } ∷ []
+        → ((reading : T → Label) → meant_at (map (seen_frame reading) frames_old) depth ≡ reading label)
+        → PassesIn made meaning store (work.EndBranch Bool.true depth) old new frames_old frames_new next.Value
+    value_reached new label none same laid labelled = λ tables inputs reading e s value read loose.
+        let given : Labelled T = record { value = undefined; label = label } in
+        gives_alone tables inputs reading old new given e (with_frames reading frames_new s) (same ∙ keep) (laid ∙ ap (λ vs. vs ++ given ∷ []) none)
+        ∙ ap₂ (λ l fs. behind tables inputs reading old.tasks e (Give (gave (record { value = undefined; label = l })) (record s { frames = fs }))) (sym (labelled reading)) (outside reading)
+        ∙ ap (λ p. behind tables inputs reading old.tasks e p) (sym (reaches_value depth (thrown reading value) (with_frames reading frames_old s) (stands_read reading)))

@@ -1,0 +1,42 @@
+-- How much a machine does before it enters a further part: each step that enters none has less to do afterwards, so they come to an end.
+use Rattle.std.specs.Prelude.{ℕ, ◌+◌, ◌≤◌, List, [], ◌∷◌}
+use Rattle.step_work.specs.declared.work.Work.{Work}
+use Rattle.step_work.specs.declared.work.Work.TheVariants as work
+use Rattle.step_work.specs.declared.work.Next.{Next}
+use Rattle.step_work.specs.declared.work.Next.TheVariants as next
+use Rattle.step_work.specs.Pending.{Task}
+use Rattle.step_work.specs.Kept.{Kept}
+
+-- what work counts: one, and more where other work may come into its place
+abbrev pub weight : Work → ℕ
+weight (work.AndRight r) = 2
+weight (work.OrRight r) = 2
+weight (work.Choose a b) = 2
+weight (work.ChooseStmt s) = 2
+weight (work.ChooseStmts s t) = 2
+weight (work.Argument f count rest) = 2
+weight (work.Looped r) = 3
+weight (work.Declared r) = 3
+weight _ = 1
+
+abbrev pub load : {T : Type 0} → List (Task T) → ℕ
+load [] = 0
+load (w ∷ tasks) = weight w.0 + load tasks
+
+-- what a next move counts. One that enters a part counts nothing: it costs a turn
+abbrev pub lift : Next → ℕ
+lift (next.Expr x) = 0
+lift (next.Use how x) = 0
+lift (next.Stmt x) = 0
+lift (next.Turn r) = 0
+lift (next.Leave why) = 0
+lift next.Value = 1
+lift next.Throws = 1
+lift next.Done = 1
+lift (next.Loop r) = 3
+lift (next.DoLoop r) = 3
+lift _ = 2
+
+-- a call adds at most so much
+abbrev pub Adds : {T : Type 0} → ℕ → Kept T → Kept T → Next → Type 0
+Adds n old new next = load new.tasks + lift next ≤ load old.tasks + n

@@ -1,0 +1,2 @@
+var note = read("note");
+if (read("ballot") === "yes") print("count", "Yes. " + note);

@@ -1,0 +1,1 @@
+if (read("ballot") === "yes") print("door", "Somebody said yes");

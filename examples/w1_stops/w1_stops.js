@@ -1,0 +1,3 @@
+var yes = 0;
+if (read("ballot") === "yes") yes = yes + 1;
+print("count", yes);

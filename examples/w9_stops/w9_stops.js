@@ -1,0 +1,3 @@
+print("door", "Voting");
+if (read("ballot") === "yes") tally = 1;
+print("door", "Voted");
