@@ -1,5 +1,5 @@
 -- What is told of the numbers below a limit: two limits under which the same is said tell the same fault, in whatever order.
-use Rattle.std.proofs.Common.{refl, sym, ap, ◌∙◌, ◌≡◌, ◌<◌, zero, suc, ℕ, Bool, true, false, cond, List, [], ◌∷◌, ◌++◌, ◌==◌, ◌&&◌, ◌||◌, ◌*◌, ◌+◌, nat_lt, Option, Some, None, inl, inr, ◌⊎◌, arith}
+use Rattle.std.proofs.Common.{refl, sym, ap, ◌∙◌, ◌≡◌, ◌<◌, zero, suc, ℕ, Bool, true, false, cond, List, [], ◌++◌, ◌==◌, ◌&&◌, ◌||◌, ◌*◌, ◌+◌, nat_lt, Option, Some, None, inl, inr, ◌⊎◌, arith}
 use Rattle.std.proofs.lemmas.Bool.{ltb-true, ltb-false, cases_eq}
 use Rattle.js_faults.specs.declared.fault.EarlyError.{EarlyError}
 use Rattle.js_faults.specs.declared.fault.EarlyErrorKind.{EarlyErrorKind}

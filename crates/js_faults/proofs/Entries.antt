@@ -1,5 +1,5 @@
 -- Parameters and properties as entries: what is told of the entries is what is told of them.
-use Rattle.std.proofs.Common.{refl, sym, ap, ◌∙◌, ◌≡◌, suc, ℕ, Bool, true, false, cond, not, ◌==◌, ◌&&◌, ◌||◌, List, [], ◌∷◌, ◌++◌, length, map, Option}
+use Rattle.std.proofs.Common.{refl, sym, ap, ◌∙◌, ◌≡◌, suc, Bool, true, false, cond, not, ◌==◌, ◌&&◌, ◌||◌, List, [], ◌∷◌, ◌++◌, length, map, Option}
 use Rattle.std.specs.List.{list_any, filter}
 use Rattle.std.specs.Str.{bytes_eq}
 use Rattle.std.proofs.Math.Bool.{and-true}

@@ -1,20 +1,20 @@
 -- What the neighbours of a place show, where the order is one: whether the node may not stand behind an earlier one of its list.
-use Rattle.std.proofs.Common.{refl, sym, ap, ◌∙◌, ◌≡◌, ◌<◌, ◌≤◌, ◌+◌, ◌-◌, zero, suc, ℕ, Bool, true, false, not, ◌==◌, ◌&&◌, ◌||◌, nat_lt, List, [], ◌∷◌, ◌++◌, length, get_or, take, inl, inr, ◌⊎◌, arith, append_assoc}
+use Rattle.std.proofs.Common.{refl, sym, ap, ◌∙◌, ◌≡◌, ◌<◌, ◌≤◌, ◌+◌, ◌-◌, suc, ℕ, Bool, true, false, not, ◌==◌, ◌&&◌, ◌||◌, nat_lt, List, [], ◌∷◌, ◌++◌, length, get_or, take, inl, inr, ◌⊎◌, arith, append_assoc}
 use Rattle.std.specs.List.{list_any, filter}
-use Rattle.std.specs.Str.{bytes_eq}
 use Rattle.std.proofs.Math.Seq.{get_or-append_seam, take-append_seam}
-use Rattle.std.proofs.lemmas.Bool.{cases_Bool, cases_eq, cases_lt, or_cases, or_left, or_right, or_parts, and_parts, and_from, not-true, not_from_false, false≢true, ltb-true, lt-ltb, eq-eqb, ne_eqb, false_from_ne_true}
+use Rattle.std.proofs.lemmas.Bool.{cases_Bool, cases_eq, cases_lt, or_cases, or_left, or_right, and_parts, and_from, not-true, not_from_false, false≢true, ltb-true, lt-ltb, eq-eqb, ne_eqb, false_from_ne_true}
 use Rattle.std.proofs.lemmas.List.{get_or-take, length-take-le, append-nil}
 use Rattle.std.proofs.lemmas.List.Folds.{list_any_at}
 use Rattle.std.proofs.lemmas.Slice.Eq.{bytes_eq-Decides}
 use Rattle.js_faults.specs.declared.fault.EarlyError.{EarlyError}
 use Rattle.js_faults.specs.declared.fault.EarlyErrorKind.{EarlyErrorKind}
+use Rattle.js_orders.specs.Orders.{IsOrder}
 use Rattle.js_faults.specs.Early.{fault_if}
 use Rattle.js_faults.specs.Faults.{first_of}
-use Rattle.js_faults.specs.Ordered.{Entry, no_entry, nth, one_key, are_parts, conflicts, of_repeats, IsOrder, same_at, has_third, clashes_at, told_in_order}
+use Rattle.js_faults.specs.Ordered.{Entry, no_entry, nth, one_key, are_parts, conflicts, of_repeats, keys_of, same_at, has_third, clashes_at, told_in_order}
 use Rattle.js_faults.proofs.Alike.{told, told_alike}
 use Rattle.js_faults.proofs.Counts.{count, count_filter, two_pass, three_pass}
-use Rattle.js_faults.proofs.Runs.{any_found, rises_within, stands_in_front, between, apart, place_of}
+use Rattle.js_faults.proofs.Runs.{names_one, any_found, rises_within, stands_in_front, between, apart, place_of}
 
 both_ways : (a b : Bool) → (a ≡ true → b ≡ true) → (b ≡ true → a ≡ true) → a ≡ b
 both_ways true b f g = sym (f refl)
@@ -27,7 +27,7 @@ same_text e f = (bytes_eq-Decides e.key f.key).0
 one_text : (e f : Entry) → e.key ≡ f.key → one_key e f ≡ true
 one_text e f = (bytes_eq-Decides e.key f.key).1
 
-module _ (es : List Entry) (order : List ℕ) (is : IsOrder es order) where
+module _ (es : List Entry) (order : List ℕ) (is : IsOrder (keys_of es) order) where
   -- what has a place's key and stands neither there nor in front of it shows a third one
   shows_third : (p t : ℕ) → 0 < p → p < length order → t < length order → (t ≡ p → ⊥) → (t ≡ p - 1 → ⊥) → (nth es (get_or order t 0)).key ≡ (nth es (get_or order p 0)).key → has_third es order p ≡ true
   shows_third p t pos lp lt not_p not_before e = one (cases_lt t p)
@@ -51,7 +51,7 @@ module _ (es : List Entry) (order : List ℕ) (is : IsOrder es order) where
   not_two : (p q r : ℕ) → p < q → q < r → r < length order → (i : ℕ) → (nth es (get_or order p 0)).key ≡ (nth es i).key → (nth es (get_or order q 0)).key ≡ (nth es i).key → (nth es (get_or order r 0)).key ≡ (nth es i).key
       → not (length (filter (one_key (nth es i)) es) == 2) ≡ true
   not_two p q r pq qr lr i ep eq er = not_from_false (length (filter (one_key (nth es i)) es) == 2) (ne_eqb (length (filter (one_key (nth es i)) es)) 2 (λ two.
-      three_pass (λ j. one_key (nth es i) (nth es j)) (length es) (get_or order p 0) (get_or order q 0) (get_or order r 0) (is.within p (omega arith)) (is.within q (omega arith)) (is.within r lr)
+      three_pass (λ j. one_key (nth es i) (nth es j)) (length es) (get_or order p 0) (get_or order q 0) (get_or order r 0) (names_one es order is p (omega arith)) (names_one es order is q (omega arith)) (names_one es order is r lr)
       (apart es order is p q pq (omega arith)) (apart es order is p r (omega arith) lr) (apart es order is q r qr lr)
       (one_text (nth es i) (nth es (get_or order p 0)) (sym ep)) (one_text (nth es i) (nth es (get_or order q 0)) (sym eq)) (one_text (nth es i) (nth es (get_or order r 0)) (sym er))
       (sym (counted i) ∙ two)))
@@ -71,7 +71,7 @@ module _ (es : List Entry) (order : List ℕ) (is : IsOrder es order) where
   just_two : (p : ℕ) → 0 < p → p < length order → (nth es (get_or order p 0)).key ≡ (nth es (get_or order (p - 1) 0)).key → has_third es order p ≡ false
       → length (filter (one_key (nth es (get_or order p 0))) es) ≡ 2
   just_two p pos lp e none = counted (get_or order p 0) ∙ two_pass (λ j. one_key (nth es (get_or order p 0)) (nth es j)) (length es) (get_or order (p - 1) 0) (get_or order p 0)
-      (is.within (p - 1) (omega arith)) (is.within p lp) (apart es order is (p - 1) p (omega arith) lp)
+      (names_one es order is (p - 1) (omega arith)) (names_one es order is p lp) (apart es order is (p - 1) p (omega arith) lp)
       (one_text (nth es (get_or order p 0)) (nth es (get_or order (p - 1) 0)) e) (one_text (nth es (get_or order p 0)) (nth es (get_or order p 0)) refl)
       (λ i lt not_before not_p. false_from_ne_true (one_key (nth es (get_or order p 0)) (nth es i)) (λ has.
       let w = place_of es order is i lt in
@@ -86,7 +86,7 @@ module _ (es : List Entry) (order : List ℕ) (is : IsOrder es order) where
       let pos = ltb-true 0 p outer.0 in
       let e : (nth es (get_or order p 0)).key ≡ (nth es (get_or order (p - 1) 0)).key = same_text (nth es (get_or order p 0)) (nth es (get_or order (p - 1) 0)) inner.0 in
       let front = rises_within es order is (p - 1) p (omega arith) lp (sym e) in
-      let below = is.within p lp in
+      let below = names_one es order is p lp in
       list_any_at (conflicts es (nth es (get_or order p 0))) (take (get_or order p 0) es) (get_or order (p - 1) 0) no_entry
       (rw (length-take-le (get_or order p 0) es (omega arith)) front)
       (rw (get_or-take (get_or order p 0) es (get_or order (p - 1) 0) no_entry front)
@@ -123,7 +123,7 @@ module _ (es : List Entry) (order : List ℕ) (is : IsOrder es order) where
   -- where there is an earlier one, neighbours show it
   hidden_none : (p : ℕ) → p < length order → list_any (conflicts es (nth es (get_or order p 0))) (take (get_or order p 0) es) ≡ true → clashes_at es order p ≡ true
   hidden_none p lp h =
-      let below = is.within p lp in
+      let below = names_one es order is p lp in
       let w = any_found (conflicts es (nth es (get_or order p 0))) (take (get_or order p 0) es) no_entry h in
       let long = length-take-le (get_or order p 0) es (omega arith) in
       let front : w.0 < get_or order p 0 = rw long at w.1 in
@@ -169,9 +169,9 @@ repeats_behind kind all front (x ∷ xs) e =
     longer (y ∷ ys) = ap suc (longer ys)
 
 -- an order tells what the list does
-pub order_tells : (kind : EarlyErrorKind) (es : List Entry) (order : List ℕ) → IsOrder es order → first_of (told (told_in_order kind es order) (length order)) ≡ first_of (of_repeats kind es [] es)
+pub order_tells : (kind : EarlyErrorKind) (es : List Entry) (order : List ℕ) → IsOrder (keys_of es) order → first_of (told (told_in_order kind es order) (length order)) ≡ first_of (of_repeats kind es [] es)
 order_tells kind es order is =
     told_alike (told_in_order kind es order) (told_in_list kind es) (length order) (length es)
-    (λ p lp. (get_or order p 0, is.within p lp, ap (λ b. fault_if b (nth es (get_or order p 0)).at kind) (clash_is es order is p lp)))
+    (λ p lp. (get_or order p 0, names_one es order is p lp, ap (λ b. fault_if b (nth es (get_or order p 0)).at kind) (clash_is es order is p lp)))
     (λ i lt. let w = place_of es order is i lt in (w.0, w.1, ap (told_in_list kind es) (sym w.2) ∙ sym (ap (λ b. fault_if b (nth es (get_or order w.0 0)).at kind) (clash_is es order is w.0 w.1))))
     ∙ ap first_of (sym (repeats_behind kind es [] es refl))

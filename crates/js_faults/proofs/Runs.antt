@@ -1,20 +1,21 @@
 -- Orders by key: those of one key stand side by side, from the left, and each stands somewhere.
-use Rattle.std.proofs.Common.{refl, sym, ap, ◌∙◌, ◌≡◌, ◌<◌, ◌≤◌, ◌+◌, ◌-◌, zero, suc, ℕ, Bool, true, false, List, [], ◌∷◌, ◌++◌, length, get_or, eqb, inl, inr, ◌⊎◌, arith}
-use Rattle.std.specs.List.{list_any, IsDistinct, AllByRecursion}
+use Rattle.std.proofs.Common.{refl, sym, ap, ◌∙◌, ◌≡◌, ◌<◌, ◌≤◌, ◌-◌, zero, suc, ℕ, Bool, true, false, List, [], ◌∷◌, length, get_or, eqb, inl, inr, ◌⊎◌, arith}
+use Rattle.std.specs.List.{list_any, IsDistinct}
 use Rattle.std.specs.Cmp.{IsTotalOrder}
 use Rattle.std.specs.Cmp.Lexicographic.{slice_cmp, on_texts}
 use Rattle.std.specs.Ordering.{nat_cmp, ordering_then}
 use Rattle.std.specs.declared.cmp.Ordering.{Ordering}
 use Rattle.std.specs.declared.cmp.Ordering.TheVariants.{Less, Equal, Greater}
-use Rattle.std.proofs.lemmas.Bool.{cases_Bool, cases_eq, cases_lt, cases_order, or_cases, false≢true, eqb-true, eq-eqb, ne_eqb, false_from_ne_true}
+use Rattle.std.proofs.lemmas.Bool.{cases_Bool, cases_eq, cases_order, or_cases, false≢true, eqb-true, ne_eqb, false_from_ne_true}
 use Rattle.std.proofs.lemmas.Cmp.{then_total, nat_cmp_total, nat_list_cmp_total, tied_itself, ranked}
-use Rattle.std.proofs.lemmas.List.{get_or_default}
+use Rattle.std.proofs.lemmas.List.{get_or_default, length-map}
 use Rattle.std.proofs.lemmas.List.Folds.{list_any_at}
 use Rattle.std.proofs.lemmas.List.Elements.{recursion_from_All}
 use Rattle.std.proofs.lemmas.Map.Keys.{IsDistinct-from_apart, IsDistinct-cons}
 use Rattle.std.proofs.lemmas.Map.Lookups.{exact_bytes}
 use Rattle.std.proofs.lemmas.Map.Steps.{length-le_from_distinct_below}
-use Rattle.js_faults.specs.Ordered.{Entry, nth, rank, IsOrder}
+use Rattle.js_orders.specs.Orders.{rank, IsOrder}
+use Rattle.js_faults.specs.Ordered.{Entry, nth, keys_of}
 
 -- ---- the order
 
@@ -24,8 +25,14 @@ then_less Less b e = inl refl
 then_less Equal b e = inr (refl, e)
 then_less Greater b e = cc
 
-rank_total : (es : List Entry) → IsTotalOrder (rank es)
-rank_total es = then_total (on_texts (λ (i : ℕ). (nth es i).key)) nat_cmp_total
+rank_total : (keys : List (List ℕ)) → IsTotalOrder (rank keys)
+rank_total keys = then_total (on_texts (λ (i : ℕ). get_or keys i [])) nat_cmp_total
+
+-- the key of the node at a place
+pub key_at : (es : List Entry) (i : ℕ) → get_or (keys_of es) i [] ≡ (nth es i).key
+key_at [] i = refl
+key_at (e ∷ es) zero = refl
+key_at (e ∷ es) (suc i) = key_at es i
 
 nat_less : (m n : ℕ) → nat_cmp m n ≡ Less → m < n
 nat_less m n e = ranked m n Less (sym e)
@@ -48,22 +55,32 @@ any_found {X} test (x ∷ xs) d e = one (or_cases (test x) (list_any test xs) e)
     one (inl h) more = (zero, omega arith, h)
     one (inr h) more = let w = more h in (suc w.0, omega arith, w.2)
 
-module _ (es : List Entry) (order : List ℕ) (is : IsOrder es order) where
+module _ (es : List Entry) (order : List ℕ) (is : IsOrder (keys_of es) order) where
+  pub as_many : length order ≡ length es
+  as_many = is.all ∙ length-map es (λ e. e.key)
+
+  pub names_one : (p : ℕ) → p < length order → get_or order p 0 < length es
+  names_one p lt = rw (← length-map es (λ e. e.key)) (is.within p lt)
+
   -- a place is in front of each further one
-  pub rises_far : (p q : ℕ) → p < q → q < length order → rank es (get_or order p 0) (get_or order q 0) ≡ Less
+  rises_far : (p q : ℕ) → p < q → q < length order → rank (keys_of es) (get_or order p 0) (get_or order q 0) ≡ Less
   rises_far p zero lt in_order = absurd (omega arith)
   rises_far p (suc q) lt in_order = one (cases_eq p q) (λ less. rises_far p q less (omega arith))
     where
-      step : rank es (get_or order q 0) (get_or order (suc q) 0) ≡ Less
+      step : rank (keys_of es) (get_or order q 0) (get_or order (suc q) 0) ≡ Less
       step = let e : suc q - 1 ≡ q = omega arith in rw e at (is.rises (suc q) (omega arith) in_order)
 
-      one : (p ≡ q) ⊎ (p ≡ q → ⊥) → (p < q → rank es (get_or order p 0) (get_or order q 0) ≡ Less) → rank es (get_or order p 0) (get_or order (suc q) 0) ≡ Less
+      one : (p ≡ q) ⊎ (p ≡ q → ⊥) → (p < q → rank (keys_of es) (get_or order p 0) (get_or order q 0) ≡ Less) → rank (keys_of es) (get_or order p 0) (get_or order (suc q) 0) ≡ Less
       one (inl e) far = rw e step
-      one (inr ne) far = (rank_total es).trans (get_or order p 0) (get_or order q 0) (get_or order (suc q) 0) (far (omega arith)) step
+      one (inr ne) far = (rank_total (keys_of es)).trans (get_or order p 0) (get_or order q 0) (get_or order (suc q) 0) (far (omega arith)) step
+
+  -- by their keys
+  shown_far : (p q : ℕ) → p < q → q < length order → ordering_then (slice_cmp nat_cmp (nth es (get_or order p 0)).key (nth es (get_or order q 0)).key) (nat_cmp (get_or order p 0) (get_or order q 0)) ≡ Less
+  shown_far p q lt in_order = rw (← key_at es (get_or order p 0), ← key_at es (get_or order q 0)) (rises_far p q lt in_order)
 
   -- its key is not behind
   keys_rise : (p q : ℕ) → p < q → q < length order → (slice_cmp nat_cmp (nth es (get_or order p 0)).key (nth es (get_or order q 0)).key ≡ Less) ⊎ (slice_cmp nat_cmp (nth es (get_or order p 0)).key (nth es (get_or order q 0)).key ≡ Equal)
-  keys_rise p q lt in_order = one (then_less (slice_cmp nat_cmp (nth es (get_or order p 0)).key (nth es (get_or order q 0)).key) (nat_cmp (get_or order p 0) (get_or order q 0)) (rises_far p q lt in_order))
+  keys_rise p q lt in_order = one (then_less (slice_cmp nat_cmp (nth es (get_or order p 0)).key (nth es (get_or order q 0)).key) (nat_cmp (get_or order p 0) (get_or order q 0)) (shown_far p q lt in_order))
     where
       one : (slice_cmp nat_cmp (nth es (get_or order p 0)).key (nth es (get_or order q 0)).key ≡ Less) ⊎ ((slice_cmp nat_cmp (nth es (get_or order p 0)).key (nth es (get_or order q 0)).key ≡ Equal) × (nat_cmp (get_or order p 0) (get_or order q 0) ≡ Less))
           → (slice_cmp nat_cmp (nth es (get_or order p 0)).key (nth es (get_or order q 0)).key ≡ Less) ⊎ (slice_cmp nat_cmp (nth es (get_or order p 0)).key (nth es (get_or order q 0)).key ≡ Equal)
@@ -72,7 +89,7 @@ module _ (es : List Entry) (order : List ℕ) (is : IsOrder es order) where
 
   -- those of one key rise
   pub rises_within : (p q : ℕ) → p < q → q < length order → (nth es (get_or order p 0)).key ≡ (nth es (get_or order q 0)).key → get_or order p 0 < get_or order q 0
-  rises_within p q lt in_order e = one (then_less (slice_cmp nat_cmp (nth es (get_or order p 0)).key (nth es (get_or order q 0)).key) (nat_cmp (get_or order p 0) (get_or order q 0)) (rises_far p q lt in_order))
+  rises_within p q lt in_order e = one (then_less (slice_cmp nat_cmp (nth es (get_or order p 0)).key (nth es (get_or order q 0)).key) (nat_cmp (get_or order p 0) (get_or order q 0)) (shown_far p q lt in_order))
     where
       one : (slice_cmp nat_cmp (nth es (get_or order p 0)).key (nth es (get_or order q 0)).key ≡ Less) ⊎ ((slice_cmp nat_cmp (nth es (get_or order p 0)).key (nth es (get_or order q 0)).key ≡ Equal) × (nat_cmp (get_or order p 0) (get_or order q 0) ≡ Less))
           → get_or order p 0 < get_or order q 0
@@ -105,7 +122,7 @@ module _ (es : List Entry) (order : List ℕ) (is : IsOrder es order) where
       rw (get_or_default order i d 0 (omega arith), get_or_default order j d 0 in_order) (ne_eqb (get_or order i 0) (get_or order j 0) (apart i j lt in_order)))
 
   all_below : (q : ℕ) → list_any (eqb q) order ≡ true → q < length es
-  all_below q e = let w = any_found (eqb q) order 0 e in let same = eqb-true q (get_or order w.0 0) w.2 in let below = is.within w.0 w.1 in omega arith
+  all_below q e = let w = any_found (eqb q) order 0 e in let same = eqb-true q (get_or order w.0 0) w.2 in let below = names_one w.0 w.1 in omega arith
 
   -- each node has a place
   pub place_of : (i : ℕ) → i < length es → (p : ℕ) × (p < length order) × (get_or order p 0 ≡ i)
@@ -115,7 +132,7 @@ module _ (es : List Entry) (order : List ℕ) (is : IsOrder es order) where
       one (inl e) = let w = any_found (eqb i) order 0 e in (w.0, w.1, sym (eqb-true i (get_or order w.0 0) w.2))
       one (inr e) = absurd (let many : length (i ∷ order) ≤ length es = length-le_from_distinct_below (i ∷ order) (length es)
           (IsDistinct-cons eqb i order (recursion_from_All (λ y. eqb i y ≡ false) order (λ k d in_order. false_from_ne_true (eqb i (get_or order k d)) (λ same. false≢true (sym e ∙ list_any_at (eqb i) order k d in_order same)))) all_distinct)
-          (λ q found. below q (or_cases (eqb q i) (list_any (eqb q) order) found)) in let as_many = is.all in omega arith)
+          (λ q found. below q (or_cases (eqb q i) (list_any (eqb q) order) found)) in let all = as_many in omega arith)
         where
           below : (q : ℕ) → (eqb q i ≡ true) ⊎ (list_any (eqb q) order ≡ true) → q < length es
           below q (inl same) = let r = eqb-true q i same in omega arith

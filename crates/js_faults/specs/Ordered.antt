@@ -1,14 +1,12 @@
--- Nodes that may repeat the key of an earlier one, and orders of them in which those of one key stand side by side.
-use Rattle.std.specs.Prelude.{◌≡◌, ◌<◌, ◌+◌, ◌-◌, ℕ, List, [], ◌∷◌, ◌++◌, length, get_or, slice_index, Bool, false, not, nat_lt, ◌==◌, ◌&&◌, ◌||◌, take}
+-- Nodes that may repeat the key of an earlier one, and what is told of them by an order in which those of one key stand side by side.
+use Rattle.std.specs.Prelude.{◌+◌, ◌-◌, ℕ, List, [], ◌∷◌, ◌++◌, length, map, get_or, slice_index, Bool, false, not, nat_lt, ◌==◌, ◌&&◌, ◌||◌}
 use Rattle.std.specs.List.{list_any, filter}
 use Rattle.std.specs.Str.{bytes_eq}
-use Rattle.std.specs.Ordering.{ordering_then, nat_cmp, is_lt}
-use Rattle.std.specs.declared.cmp.Ordering.{Ordering}
-use Rattle.std.specs.declared.cmp.Ordering.TheVariants.{Less}
-use Rattle.std.specs.Cmp.Lexicographic.{slice_cmp}
+use Rattle.std.specs.Ordering.{is_lt}
 use Rattle.js_faults.specs.declared.fault.EarlyError.{EarlyError}
 use Rattle.js_faults.specs.declared.fault.EarlyErrorKind.{EarlyErrorKind}
 use Rattle.js_ast.specs.Keys.{key_text}
+use Rattle.js_orders.specs.Orders.{rank}
 use Rattle.js_ast.specs.Trees.{Ident, Property}
 use Rattle.js_faults.specs.Early.{fault_if, of_bound, key_of, place_of_property, is_getter, is_setter}
 
@@ -57,19 +55,13 @@ unfoldable pub of_repeats : EarlyErrorKind → List Entry → List Entry → Lis
 of_repeats kind all earlier [] = []
 of_repeats kind all earlier (e ∷ es) = fault_if (list_any (conflicts all e) earlier) e.at kind ++ of_repeats kind all (earlier ++ e ∷ []) es
 
--- by the key, and those of one key from the left
-abbrev pub rank : List Entry → ℕ → ℕ → Ordering
-rank es i j = ordering_then (slice_cmp nat_cmp (nth es i).key (nth es j).key) (nat_cmp i j)
-
--- each of them once, in that order
-pub record IsOrder (es : List Entry) (order : List ℕ) : Type 0 where
-  pub all : length order ≡ length es
-  pub within : (p : ℕ) → p < length order → slice_index order p < length es
-  pub rises : (p : ℕ) → 0 < p → p < length order → rank es (slice_index order (p - 1)) (slice_index order p) ≡ Less
+-- their keys
+abbrev pub keys_of : List Entry → List (List ℕ)
+keys_of es = map (λ e. e.key) es
 
 -- the node at a place is the first, or it ranks behind the one in front of it
-abbrev pub rises_at : List Entry → List ℕ → ℕ → Bool
-rises_at es order p = (p == 0) || is_lt (rank es (slice_index order (p - 1)) (slice_index order p))
+abbrev pub rises_at : List (List ℕ) → List ℕ → ℕ → Bool
+rises_at keys order p = (p == 0) || is_lt (rank keys (slice_index order (p - 1)) (slice_index order p))
 
 -- two places of an order have one key
 abbrev pub same_at : List Entry → List ℕ → ℕ → ℕ → Bool

@@ -5,10 +5,11 @@ ghost use Rattle.std.specs.List.{list_any};
 ghost use Rattle.std.specs.Str.{bytes_eq};
 ghost use Rattle.js_ast.specs.Nodes.{nodes_of};
 ghost use Rattle.js_ast.specs.Views.{view_ident, view_name, view_idents, view_expr};
+ghost use Rattle.js_orders.specs.Orders.{IsOrder};
 ghost use Rattle.js_faults.specs.Early.{is_eval_or_arguments, is_strict_word, of_name, of_bound, of_bound_maybe, of_parameters, fault_if, has_text, of_assigned, of_deleted};
 ghost use Rattle.js_faults.specs.declared.fault.EarlyErrorKind.TheVariants as kind;
 ghost use Rattle.js_faults.specs.Faults.{first_of};
-ghost use Rattle.js_faults.specs.Ordered.{IsOrder, name_entry, of_each};
+ghost use Rattle.js_faults.specs.Ordered.{keys_of, name_entry, of_each};
 
 use crate::fault::{EarlyError, EarlyErrorKind, earlier, fault_if};
 use crate::ordered::{Keyed, is_order, of_ordered};
@@ -122,7 +123,7 @@ fn of_each(names: &[Ident]) -> Option<EarlyError>
 // Parameters with an order by name, which has equal ones side by side.
 #[tactic(auto, using(crate::proofs::Entries::parameters_are))]
 fn by_order(names: &[Ident], order: &[usize]) -> Option<EarlyError>
-    requires { IsOrder (map (λ i. name_entry (view_ident i)) names.now) order.now }
+    requires { IsOrder (keys_of (map (λ i. name_entry (view_ident i)) names.now)) order.now }
     ensures { result ≡ first_of (of_parameters [] (view_idents names.now)) }
 {
     earlier(

@@ -1,10 +1,11 @@
 //! Nodes with keys, of which an order by key is known: those that repeat the key of an earlier one.
 
-ghost use Rattle.std.specs.Prelude.{◌≡◌, ◌<◌, ◌-◌, ◌&&◌, List, [], map, length, nat_lt, slice_index, true};
+ghost use Rattle.std.specs.Prelude.{◌≡◌, ◌<◌, ◌-◌, ◌&&◌, [], map, length, nat_lt, slice_index, true};
 ghost use Rattle.std.specs.Ordering.{nat_cmp, is_lt};
 ghost use Rattle.std.specs.Cmp.Lexicographic.{slice_cmp};
+ghost use Rattle.js_orders.specs.Orders.{rank, IsOrder};
 ghost use Rattle.js_faults.specs.Faults.{first_of};
-ghost use Rattle.js_faults.specs.Ordered.{Entry, nth, are_parts, of_repeats, rank, IsOrder, rises_at, same_at, has_third, clashes_at, told_in_order};
+ghost use Rattle.js_faults.specs.Ordered.{Entry, nth, keys_of, are_parts, of_repeats, rises_at, same_at, has_third, clashes_at, told_in_order};
 
 use crate::fault::{EarlyError, EarlyErrorKind, earlier, fault_if};
 use std::cmp::Ordering;
@@ -34,10 +35,11 @@ fn node<T: Keyed>(nodes: &[T], i: usize) -> &T
 }
 
 /// Whether a node goes before another: by its key, or by its place in the list where they have one key.
+#[tactic(auto, using(crate::proofs::Runs::key_at))]
 fn ranks_before<T: Keyed>(nodes: &[T], i: usize, j: usize) -> bool
     requires first { i < length nodes.now }
     requires second { j < length nodes.now }
-    ensures { result ≡ is_lt (rank (map T.entry nodes.now) i j) }
+    ensures { result ≡ is_lt (rank (keys_of (map T.entry nodes.now)) i j) }
 {
     let keys = node(nodes, i).compared(node(nodes, j));
     keys.then(i.cmp(&j)).is_lt()
@@ -47,14 +49,15 @@ fn ranks_before<T: Keyed>(nodes: &[T], i: usize, j: usize) -> bool
 fn stands_at<T: Keyed>(nodes: &[T], order: &[usize], p: usize) -> bool
     requires place { p < length order.now }
     requires before { 0 < p → slice_index order.now (p - 1) < length nodes.now }
-    ensures { result ≡ (nat_lt (slice_index order.now p) (length nodes.now) && rises_at (map T.entry nodes.now) order.now p) }
+    ensures { result ≡ (nat_lt (slice_index order.now p) (length nodes.now) && rises_at (keys_of (map T.entry nodes.now)) order.now p) }
 {
     order[p] < nodes.len() && (p == 0 || ranks_before(nodes, order[p - 1], order[p]))
 }
 
 /// Whether each node has one place in the order, by key.
 pub(crate) fn is_order<T: Keyed>(nodes: &[T], order: &[usize]) -> bool
-    ensures { result ≡ true → IsOrder (map T.entry nodes.now) order.now }
+    ensures yes { result ≡ true → IsOrder (keys_of (map T.entry nodes.now)) order.now }
+    ensures no { IsOrder (keys_of (map T.entry nodes.now)) order.now → result ≡ true }
 {
     if order.len() != nodes.len() {
         return false;
@@ -68,7 +71,7 @@ pub(crate) fn is_order<T: Keyed>(nodes: &[T], order: &[usize]) -> bool
 }
 
 fn node_at<'a, T: Keyed>(nodes: &'a [T], order: &[usize], p: usize) -> &'a T
-    requires order { IsOrder (map T.entry nodes.now) order.now }
+    requires order { IsOrder (keys_of (map T.entry nodes.now)) order.now }
     requires place { p < length order.now }
     ensures { T.entry result.now ≡ nth (map T.entry nodes.now) (slice_index order.now p) }
 {
@@ -76,7 +79,7 @@ fn node_at<'a, T: Keyed>(nodes: &'a [T], order: &[usize], p: usize) -> &'a T
 }
 
 fn same_at<T: Keyed>(nodes: &[T], order: &[usize], p: usize, q: usize) -> bool
-    requires order { IsOrder (map T.entry nodes.now) order.now }
+    requires order { IsOrder (keys_of (map T.entry nodes.now)) order.now }
     requires first { p < length order.now }
     requires second { q < length order.now }
     ensures { result ≡ same_at (map T.entry nodes.now) order.now p q }
@@ -88,7 +91,7 @@ fn same_at<T: Keyed>(nodes: &[T], order: &[usize], p: usize, q: usize) -> bool
 
 // Whether a neighbour but the one in front has the key.
 fn has_third<T: Keyed>(nodes: &[T], order: &[usize], p: usize) -> bool
-    requires order { IsOrder (map T.entry nodes.now) order.now }
+    requires order { IsOrder (keys_of (map T.entry nodes.now)) order.now }
     requires place { p < length order.now }
     ensures { result ≡ has_third (map T.entry nodes.now) order.now p }
 {
@@ -98,7 +101,7 @@ fn has_third<T: Keyed>(nodes: &[T], order: &[usize], p: usize) -> bool
 
 // Whether the node may not stand behind an earlier one.
 fn clashes_at<T: Keyed>(nodes: &[T], order: &[usize], p: usize) -> bool
-    requires order { IsOrder (map T.entry nodes.now) order.now }
+    requires order { IsOrder (keys_of (map T.entry nodes.now)) order.now }
     requires place { p < length order.now }
     ensures { result ≡ clashes_at (map T.entry nodes.now) order.now p }
 {
@@ -114,7 +117,7 @@ fn told_at<T: Keyed>(
     p: usize,
     kind: EarlyErrorKind,
 ) -> Option<EarlyError>
-    requires order { IsOrder (map T.entry nodes.now) order.now }
+    requires order { IsOrder (keys_of (map T.entry nodes.now)) order.now }
     requires place { p < length order.now }
     ensures { result ≡ first_of (told_in_order kind (map T.entry nodes.now) order.now p) }
 {
@@ -128,7 +131,7 @@ pub(crate) fn of_ordered<T: Keyed>(
     order: &[usize],
     kind: EarlyErrorKind,
 ) -> Option<EarlyError>
-    requires { IsOrder (map T.entry nodes.now) order.now }
+    requires { IsOrder (keys_of (map T.entry nodes.now)) order.now }
     ensures { result ≡ first_of (of_repeats kind (map T.entry nodes.now) [] (map T.entry nodes.now)) }
 {
     let mut first = None;

@@ -1,5 +1,5 @@
 -- How deep a list is with one more node.
-use Rattle.std.proofs.Common.{◌≡◌, ℕ, max, refl, arith}
+use Rattle.std.proofs.Common.{◌≡◌, max, refl, arith}
 use Rattle.js_ast.specs.Trees.{Ident, Expr, Exprs, no_exprs, more_exprs, MaybeExpr, Items, no_items, hole, item, Property, Properties, no_properties, more_properties, Declarations, one_declaration, more_declarations, Clauses, no_clauses, case, default, Statement, Statements, no_statements, more_statements}
 use Rattle.js_ast.specs.Depth.{depth, depth_exprs, depth_maybe, depth_items, depth_property, depth_properties, depth_declarations, depth_clauses, depth_statement, depth_statements}
 use Rattle.js_ast.specs.Joined.{joined_exprs, joined_items, joined_properties, joined_declarations, joined_clauses, joined_statements}

@@ -1,5 +1,5 @@
 -- The turns of the loops of statements: each that goes on takes a token.
-use Rattle.std.proofs.Common.{◌≡◌, ℕ, suc, ◌<◌, ◌≤◌, Bool, true, false, if◌then◌else◌, leb, List, [], ◌∷◌, length, Option, Some, None, Ok, Err, refl, arith}
+use Rattle.std.proofs.Common.{◌≡◌, ℕ, suc, ◌≤◌, Bool, true, false, if◌then◌else◌, leb, List, [], ◌∷◌, length, Option, Some, Ok, Err, refl, arith}
 use Rattle.js_ast.specs.declared.token.Token.{Token}
 use Rattle.js_ast.specs.declared.words.Keyword.TheVariants as key
 use Rattle.js_ast.specs.declared.words.Sign.TheVariants as sign

@@ -14,7 +14,6 @@ mod literals;
 mod node_lists;
 mod nodes;
 mod operators;
-mod orders;
 mod parameter_lists;
 mod reading;
 mod statements;

@@ -24,6 +24,7 @@ pub(crate) fn node(
 ) -> Result<(Expr, u32), OutOfMemory>
     ensures node { IfOk result (λ x. view_expr x.0 ≡ view_expr_kind at kind) }
     ensures depth { IfOk result (λ x. x.1 ≡ depth) }
+    ensures kind { IfOk result (λ x. x.0.kind.value ≡ kind) }
 {
     let kind = Box::new(alloc, kind)?;
     Ok((Expr { at, kind }, depth))

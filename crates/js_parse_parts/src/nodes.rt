@@ -7,15 +7,16 @@ ghost use Rattle.js_ast.specs.Depth.{depth, depth_items, depth_properties, depth
 ghost use Rattle.js_ast.specs.Trees.{at_of, function_of};
 ghost use Rattle.js_ast.specs.Views.{view_name, view_idents, view_expr, view_exprs, view_items, view_properties, view_stmts};
 ghost use Rattle.js_parse_parts.specs.Answers.{Deep};
+ghost use Rattle.js_parse_parts.specs.InOrder.{IsOrderedObject};
 
 use crate::functions::unmarked;
 use crate::literals::node;
-use crate::orders::ordered_properties;
 use flow_text::{OutOfMemory, Text};
 use js_ast::{
     AssignOperator, BinaryOperator, Expr, ExprKind, ExprList, Ident, IdentList, ItemList,
     PostfixOperator, PropertyList, StmtList, UnaryOperator,
 };
+use js_orders::ordered_properties;
 use std::alloc::Global;
 
 /// An expression in parentheses.
@@ -60,6 +61,7 @@ pub fn object(
     ensures node { IfOk result (λ x. view_expr x.0 ≡ trees.object at (view_properties (nodes_of properties.0)) comma) }
     ensures deep { IfOk result (λ x. x.1 ≡ depth (view_expr x.0)) }
     ensures size { IfOk result (λ x. x.1 ≡ suc properties.1) }
+    ensures order { IfOk result (λ x. IsOrderedObject x.0) }
 {
     let list = ordered_properties(alloc, properties.0)?;
     let kind = ExprKind::Object {

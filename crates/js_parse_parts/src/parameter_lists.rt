@@ -1,16 +1,19 @@
 //! The parameters of a function.
 
+ghost use Rattle.std.specs.Prelude.{◌≤◌, length, IfOk};
 ghost use Rattle.js_ast.specs.Nodes.{nodes_of};
 ghost use Rattle.js_list_parser.specs.Reading.{loop};
 ghost use Rattle.js_list_parser.specs.ExpressionParsing.{parameter, parameters};
 ghost use Rattle.js_ast.specs.Views.{view_idents};
+ghost use Rattle.js_orders.specs.Named.{text_of};
+ghost use Rattle.js_orders.specs.Orders.{KeepsOrder};
 ghost use Rattle.js_parse_parts.specs.Answers.{Gives, turn_of};
 
 use crate::expected::bound_name;
-use crate::orders::ordered_names;
 use crate::reading::{Fault, ReadFault, Turn};
 use crate::words::{Word, behind, word_at};
 use js_ast::{IdentList, Sign, Token};
+use js_orders::ordered_names;
 use std::alloc::Global;
 
 // A further parameter, or the end of the parameters.
@@ -58,7 +61,8 @@ fn more_parameters<'a>(
 /// Parameters, and the tokens behind the parenthesis that closes them.
 #[tactic(auto, unfolding(js_list_parser::specs::ExpressionParsing::parameters, js_list_parser::specs::ExpressionParsing::parameters_by))]
 pub fn parameters(alloc: Global, tokens: &[Token]) -> Result<(IdentList, &[Token]), ReadFault<'_>>
-    ensures { Gives (λ x. (view_idents (nodes_of x.0), x.1.now)) result (parameters tokens.now) }
+    ensures gives { Gives (λ x. (view_idents (nodes_of x.0), x.1.now)) result (parameters tokens.now) }
+    ensures order { IfOk result (λ x. 8 ≤ length (nodes_of x.0) → KeepsOrder text_of x.0) }
 {
     let mut list = IdentList::new(alloc);
     match word_at(tokens) {

@@ -55,6 +55,12 @@ or_next_assoc : (a b c : Option ℕ) → or_next (or_next a b) c ≡ or_next a (
 or_next_assoc None b c = refl
 or_next_assoc (Some at) b c = refl
 
+-- what stands behind the header of a `for`
+pub behind_header : (a b c d : Option ℕ) → or_next (or_next a (or_next b c)) d ≡ or_next a (or_next b (or_next c d))
+behind_header None None c d = refl
+behind_header None (Some at) c d = refl
+behind_header (Some at) b c d = refl
+
 variables_from : (d : Ident × MaybeExpr) (ds : List (Ident × MaybeExpr)) → in_declarations (declarations_from d ds) ≡ or_next (in_variable d) (in_variables ds)
 variables_from d [] = sym (none_behind (in_variable d))
 variables_from d (e ∷ es) = ap (λ rest. or_next (in_ident d.0) (or_next (in_maybe d.1) rest)) (variables_from e es) ∙ sym (or_next_assoc (in_ident d.0) (in_maybe d.1) (in_variables (e ∷ es)))

@@ -199,6 +199,8 @@ module _ (n : ℕ) where
   grouped {found} xs ys zs f = subst (λ (ats : List ℕ). Within ats found) (append_assoc xs ys zs) f
 
   mutual
+    unfolding in_statement in_statements
+
     statement_within : (s : Scope) (t : Statement) → Within (all_statement places s t) (in_statement t)
     statement_within s (block (block_of at body)) = over (statements_within s body)
     statement_within s (var at ds semi) = over (variables_within ds)

@@ -107,7 +107,21 @@ abbrev pub in_first : First → Option ℕ
 in_first (first_expr e) = in_maybe e
 in_first (first_var ds) = in_declarations ds
 
-abbrev mutual
+-- what stands in front of a statement's own statements, and the place of a statement that isn't built. An upgrade directive isn't
+abbrev pub in_head : Statement → Option ℕ
+in_head (block b) = None
+in_head (var at ds semi) = in_declarations ds
+in_head (empty at) = None
+in_head (expression at e semi) = where_built (is_none (directive_in e)) at (in_expr e)
+in_head (if_then at e s) = in_expr e
+in_head (if_else at e s u) = in_expr e
+in_head (do_while at s e semi) = None
+in_head (while at e s) = in_expr e
+in_head (for at first test step s) = or_next (in_first first) (or_next (in_maybe test) (in_maybe step))
+in_head (debugger at semi) = None
+in_head s = Some (place_of s)
+
+unfoldable mutual
   -- an upgrade directive isn't built
   pub in_statement : Statement → Option ℕ
   in_statement (block (block_of at body)) = in_statements body

@@ -9,7 +9,7 @@ ghost use Rattle.js_ast.specs.Nodes.{nodes_of};
 ghost use Rattle.js_ast.specs.Views.{view_ident, view_expr, view_exprs, view_maybe_expr, view_declaration, view_declarations, view_first, view_stmt, view_stmts, view_program};
 ghost use Rattle.js_faults.specs.Directives.{directive_in};
 ghost use Rattle.es_meaning.specs.Evaluation.{is_name};
-ghost use Rattle.js_unbuilt.specs.Unbuilt.{is_reserved, is_called, is_callee, takes_operand, is_built, or_next, where_built, in_ident, in_expr, in_exprs, in_maybe, in_declarations, in_first, in_statement, in_statements, first_unbuilt};
+ghost use Rattle.js_unbuilt.specs.Unbuilt.{is_reserved, is_called, is_callee, takes_operand, is_built, or_next, where_built, in_ident, in_expr, in_exprs, in_maybe, in_declarations, in_first, in_head, in_statement, in_statements, first_unbuilt};
 
 use flow_text::Text;
 use js_ast::{
@@ -102,11 +102,11 @@ fn is_directive(e: &Expr) -> bool
     }
 }
 
-/// The place, where something isn't built.
-fn unless(built: bool, at: usize) -> Option<usize>
-    ensures { result ≡ where_built built at None }
+/// The place of a node that isn't built, and the first one in its parts where it is.
+fn where_built(built: bool, at: usize, parts: Option<usize>) -> Option<usize>
+    ensures { result ≡ where_built built at parts }
 {
-    if built { None } else { Some(at) }
+    if built { parts } else { Some(at) }
 }
 
 /// The first of two places in source order.
@@ -119,10 +119,21 @@ fn first_of(first: Option<usize>, next: Option<usize>) -> Option<usize>
     }
 }
 
+/// The first of three.
+fn first_of_three(
+    first: Option<usize>,
+    second: Option<usize>,
+    third: Option<usize>,
+) -> Option<usize>
+    ensures { result ≡ or_next first (or_next second third) }
+{
+    first_of(first, first_of(second, third))
+}
+
 fn in_ident(ident: &Ident) -> Option<usize>
     ensures { result ≡ in_ident (view_ident ident.now) }
 {
-    unless(!is_reserved(&ident.text), ident.at)
+    where_built(!is_reserved(&ident.text), ident.at, None)
 }
 
 #[cycle(walk)]
@@ -132,45 +143,34 @@ fn in_expr(e: &Expr) -> Option<usize>
 {
     match &*e.kind {
         ExprKind::Number(_) | ExprKind::String { .. } | ExprKind::Null | ExprKind::Bool(_) => None,
-        ExprKind::Name(text) => unless(!is_reserved(text), e.at),
+        ExprKind::Name(text) => where_built(!is_reserved(text), e.at, None),
         ExprKind::Paren(inner) => in_expr(inner),
-        ExprKind::Call { callee, args } => {
-            if !is_callee(callee) {
-                return Some(e.at);
-            }
-            in_exprs(args)
-        }
+        ExprKind::Call { callee, args } => where_built(is_callee(callee), e.at, in_exprs(args)),
         ExprKind::Postfix { operand, .. } => {
-            if !is_name(operand) {
-                return Some(e.at);
-            }
-            in_expr(operand)
+            where_built(is_name(operand), e.at, in_expr(operand))
         }
         ExprKind::Unary { operator, operand } => {
-            if !takes_operand(*operator, operand) {
-                return Some(e.at);
-            }
-            in_expr(operand)
+            where_built(takes_operand(*operator, operand), e.at, in_expr(operand))
         }
         ExprKind::Binary {
             left,
             operator,
             right,
-        } => {
-            if !is_built(*operator) {
-                return Some(e.at);
-            }
-            first_of(in_expr(left), in_expr(right))
-        }
+        } => where_built(
+            is_built(*operator),
+            e.at,
+            first_of(in_expr(left), in_expr(right)),
+        ),
         ExprKind::Assign { target, value, .. } => {
-            if !is_name(target) {
-                return Some(e.at);
-            }
-            first_of(in_expr(target), in_expr(value))
+            where_built(
+                is_name(target),
+                e.at,
+                first_of(in_expr(target), in_expr(value)),
+            )
         }
         ExprKind::Comma { left, right } => first_of(in_expr(left), in_expr(right)),
         ExprKind::Conditional { test, then, other } => {
-            first_of(in_expr(test), first_of(in_expr(then), in_expr(other)))
+            first_of_three(in_expr(test), in_expr(then), in_expr(other))
         }
         ExprKind::This
         | ExprKind::Array { .. }
@@ -240,60 +240,61 @@ fn in_first(first: &ForFirst) -> Option<usize>
 fn in_expression(at: usize, e: &Expr) -> Option<usize>
     ensures { result ≡ where_built (is_none (directive_in (view_expr e.now))) at (in_expr (view_expr e.now)) }
 {
-    if is_directive(e) {
-        return Some(at);
-    }
-    in_expr(e)
+    where_built(!is_directive(e), at, in_expr(e))
 }
 
-#[cycle(statements)]
-#[tactic(auto, using(js_ast::proofs::ViewLaws::held_expr, js_ast::proofs::ViewLaws::held_stmts, js_ast::specs::declared::trees::ExprKind::TheViews::the_lemmas))]
-fn in_statement(s: &Stmt) -> Option<usize>
-    ensures { result ≡ in_statement (view_stmt s.now) }
+/// The first place in the header of a `for`.
+fn in_header(first: &ForFirst, test: &Option<Expr>, update: &Option<Expr>) -> Option<usize>
+    ensures { result ≡ or_next (in_first (view_first first.now)) (or_next (in_maybe (view_maybe_expr test.now)) (in_maybe (view_maybe_expr update.now))) }
+{
+    first_of_three(in_first(first), in_maybe(test), in_maybe(update))
+}
+
+/// The first place in what stands in front of a statement's own statements, or the statement's where it isn't built.
+#[tactic(auto, using(js_ast::proofs::ViewLaws::held_expr, js_ast::specs::declared::trees::ExprKind::TheViews::the_lemmas))]
+fn in_head(s: &Stmt) -> Option<usize>
+    ensures { result ≡ in_head (view_stmt s.now) }
 {
     match &*s.kind {
-        StmtKind::Empty | StmtKind::Debugger(_) => None,
-        StmtKind::Block(list) => in_statements(list),
+        StmtKind::Empty | StmtKind::Debugger(_) | StmtKind::Block(_) | StmtKind::DoWhile { .. } => {
+            None
+        }
         StmtKind::Var { declarations, .. } => in_declarations(declarations),
         StmtKind::Expr { expr, .. } => in_expression(s.at, expr),
-        StmtKind::If {
-            test,
-            then,
-            other: None,
-        } => first_of(in_expr(test), in_statement(then)),
-        StmtKind::If {
-            test,
-            then,
-            other: Some(other),
-        } => first_of(
-            in_expr(test),
-            first_of(in_statement(then), in_statement(other)),
-        ),
-        StmtKind::DoWhile { body, test, .. } => first_of(in_statement(body), in_expr(test)),
-        StmtKind::While { test, body } => first_of(in_expr(test), in_statement(body)),
+        StmtKind::If { test, .. } => in_expr(test),
+        StmtKind::While { test, .. } => in_expr(test),
         StmtKind::For {
             first,
             test,
             update,
-            body,
-        } => first_of(
-            in_first(first),
-            first_of(
-                in_maybe(test),
-                first_of(in_maybe(update), in_statement(body)),
-            ),
-        ),
-        StmtKind::ForIn { .. }
-        | StmtKind::Continue { .. }
-        | StmtKind::Break { .. }
-        | StmtKind::Return { .. }
-        | StmtKind::Throw { .. }
-        | StmtKind::Switch { .. }
-        | StmtKind::Labelled { .. }
-        | StmtKind::TryCatch { .. }
-        | StmtKind::TryFinally { .. }
-        | StmtKind::TryBoth { .. }
-        | StmtKind::Function(_) => Some(s.at),
+            ..
+        } => in_header(first, test, update),
+        _ => Some(s.at),
+    }
+}
+
+#[cycle(statements)]
+#[tactic(auto, using(crate::proofs::Loops::behind_header, js_ast::proofs::ViewLaws::held_expr, js_ast::proofs::ViewLaws::held_stmts, js_ast::specs::declared::trees::ExprKind::TheViews::the_lemmas), unfolding(crate::specs::Unbuilt::in_statement))]
+fn in_statement(s: &Stmt) -> Option<usize>
+    ensures { result ≡ in_statement (view_stmt s.now) }
+{
+    let head = in_head(s);
+    match &*s.kind {
+        StmtKind::Block(list) => in_statements(list),
+        StmtKind::If {
+            then,
+            other: None,
+            ..
+        } => first_of(head, in_statement(then)),
+        StmtKind::If {
+            then,
+            other: Some(other),
+            ..
+        } => first_of_three(head, in_statement(then), in_statement(other)),
+        StmtKind::DoWhile { body, test, .. } => first_of(in_statement(body), in_expr(test)),
+        StmtKind::While { body, .. } => first_of(head, in_statement(body)),
+        StmtKind::For { body, .. } => first_of(head, in_statement(body)),
+        _ => head,
     }
 }
 

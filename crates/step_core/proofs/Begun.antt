@@ -1,5 +1,5 @@
 -- Calls that come to a machine's plan.
-use Rattle.std.proofs.Common.{sym, ap, subst, ◌∙◌, ◌≡◌, ◌≤◌, ◌<◌, ◌+◌, ℕ, List, [], ◌∷◌, ◌++◌, length, take, drop, Option, Some, Result, Ok, Err, IfOk, arith}
+use Rattle.std.proofs.Common.{sym, ap, subst, ◌∙◌, ◌≡◌, ◌≤◌, ◌<◌, ℕ, [], ◌∷◌, ◌++◌, length, take, drop, Some, Result, Ok, Err, IfOk, arith}
 use Rattle.std.proofs.lemmas.List.{nil_from_length, take-append-drop}
 use Rattle.origin_labels.specs.Label.{Label}
 use Rattle.flow_policy.specs.Policies.{Tables}
@@ -7,7 +7,6 @@ use Rattle.flow_policy.specs.Inputs.{Given}
 use Rattle.flow_frames.specs.Held as held
 use Rattle.flow_frames.specs.declared.faults.FlowFault.{FlowFault}
 use Rattle.js_values.specs.declared.value.Labelled.{Labelled}
-use Rattle.js_values.specs.Readings.{read_value}
 use Rattle.es_meaning.specs.Environments.{Env}
 use Rattle.flow_meaning.specs.Scopes.{State}
 use Rattle.flow_meaning.specs.Planned.{Part, Plan, jumped}
@@ -17,7 +16,7 @@ use Rattle.step_world.specs.Worlds.{state_of}
 use Rattle.step_work.specs.declared.work.Work.{Work}
 use Rattle.step_work.specs.declared.work.Next.{Next}
 use Rattle.step_work.specs.Kept.{Kept}
-use Rattle.step_work.specs.Loads.{Adds, lift, load}
+use Rattle.step_work.specs.Loads.{Adds, lift}
 use Rattle.step_work.specs.Pending.{owns, env_above, after, behind}
 use Rattle.step_work.specs.Resuming.{Begins, BeginsIn, Passes, PassesIn}
 use Rattle.step_moves.specs.Moving.{BeginsAnywhere, BeginsAt, Moves}

@@ -1,15 +1,16 @@
 -- Calls of the functions of the product, as steps.
-use Rattle.std.proofs.Common.{sym, ap, subst, ◌∙◌, ◌≡◌, ◌<◌, ℕ, suc, Bool, List, [], ◌∷◌, ◌++◌, length, Option, Some, None, Result, Ok, Err, arith}
+use Rattle.std.proofs.Common.{sym, ap, ap₂, subst, ◌∙◌, ◌≡◌, ◌<◌, ℕ, suc, Bool, List, [], ◌∷◌, ◌++◌, length, Some, None, Result, Ok, Err, IfOk, arith}
 use Rattle.std.specs.List.{All}
 use Rattle.std.proofs.lemmas.List.Elements.{All-append, All-weaker}
 use Rattle.origin_labels.specs.Label.{Label}
 use Rattle.origin_labels.specs.Stores.{IsKept}
 use Rattle.flow_policy.specs.Policies.{Tables}
 use Rattle.flow_policy.specs.Inputs.{Given}
+use Rattle.flow_text.specs.declared.memory.OutOfMemory.{OutOfMemory}
 use Rattle.flow_frames.specs.declared.faults.FlowStop.{FlowStop}
 use Rattle.flow_frames.specs.declared.faults.FlowFault.TheVariants as fault
 use Rattle.js_values.specs.declared.value.Labelled.{Labelled}
-use Rattle.js_values.specs.Readings.{HasValue, IsReading}
+use Rattle.js_values.specs.Readings.{HasValue}
 use Rattle.flow_meaning.specs.Laws.{performed_run}
 use Rattle.flow_meaning.specs.Planned.{perform, meaning}
 use Rattle.step_world.specs.declared.world.World.{World}
@@ -21,14 +22,15 @@ use Rattle.step_work.specs.Stops.{HasStop}
 use Rattle.step_work.specs.declared.work.Direct.{Direct}
 use Rattle.step_work.specs.declared.work.Next.{Next}
 use Rattle.step_work.specs.declared.work.Next.TheVariants as next
-use Rattle.step_work.specs.Kept.{Kept, scopes_of, kept_operands, operands_of}
+use Rattle.step_work.specs.Kept.{Kept, scopes_of, kept_operands}
 use Rattle.step_work.specs.Pending.{values_of}
 use Rattle.step_core.specs.declared.machine.Machine.{Machine}
+use Rattle.step_core.specs.declared.steps.Step.{Step}
 use Rattle.step_core.specs.declared.steps.Step.TheVariants as step
 use Rattle.step_core.specs.declared.steps.Ending.TheVariants as ending
 use Rattle.step_core.specs.Outlook.{ahead, here, outlook}
 use Rattle.step_core.specs.Standing.{Standing, depths, Framed}
-use Rattle.step_core.specs.Stepping.{Stepped}
+use Rattle.step_core.specs.Stepping.{Prints, Stepped}
 use Rattle.step_core.proofs.Depths.{framed}
 use Rattle.step_core.proofs.Parts.{front_all}
 
@@ -46,14 +48,18 @@ module _ {S T : Type 0} (made : S → T → Type 0) (meaning_of : S → T → La
   }
 
   -- behind the line that it printed
-  pub called_line : (n : Next) (p : Printed T) (most : ℕ) → Calls made meaning_of store tables inputs f old.stack new.stack old.world new.world (Ok (n, Some p))
+  pub called_line : (n : Next) (p : Printed T) (most : ℕ) (result : Result (Step T) OutOfMemory) → IfOk result (Prints p n) → Calls made meaning_of store tables inputs f old.stack new.stack old.world new.world (Ok (n, Some p))
       → Standing made meaning_of store new.stack new.world (values_of n) (scopes_of new.stack.tasks) n → ahead new n < most → IsPrinted (made store) (length tables.outputs) p
-      → Stepped made meaning_of store tables inputs (λ reading told. outlook tables inputs reading old (next.Direct f count) told) most new (step.Line p n)
-  called_line n p most calls standing lowers printed = record {
-    comes = λ reading told read. ap (perform (meaning tables inputs)) (sym (calls reading here told old.turns read)) ∙ ap (λ turns. outlook tables inputs reading (record new { turns = turns }) n (told ++ line_of tables reading p ∷ [])) (sym same);
-    standing = standing;
-    lowers = lowers;
-    printed = printed;
+      → IfOk result (Stepped made meaning_of store tables inputs (λ reading told. outlook tables inputs reading old (next.Direct f count) told) most new)
+  called_line n p most (Err wanted) prints calls standing lowers printed = tt
+  called_line n p most (Ok (step.Goes m)) prints calls standing lowers printed = absurd prints
+  called_line n p most (Ok (step.Ends e)) prints calls standing lowers printed = absurd prints
+  called_line n p most (Ok (step.Line b m)) prints calls standing lowers printed = record {
+    comes = λ reading told read. ap (perform (meaning tables inputs)) (sym (calls reading here told old.turns read)) ∙ ap (λ turns. outlook tables inputs reading (record new { turns = turns }) n (told ++ line_of tables reading p ∷ [])) (sym same)
+        ∙ ap₂ (λ (q : Printed T) (k : Next). outlook tables inputs reading new k (told ++ line_of tables reading q ∷ [])) (sym prints.0) (sym prints.1);
+    standing = subst (λ (k : Next). Standing made meaning_of store new.stack new.world (values_of k) (scopes_of new.stack.tasks) k) (sym prints.1) standing;
+    lowers = subst (λ (k : Next). ahead new k < most) (sym prints.1) lowers;
+    printed = subst (IsPrinted (made store) (length tables.outputs)) (sym prints.0) printed;
     stopped = tt;
   }
 

@@ -10,3 +10,4 @@ pub mod Stood
 pub mod StepLaws
 pub mod StartLaws
 pub mod CallLaws
+pub mod AtOnce

@@ -1,5 +1,5 @@
 -- What plans come to behind pending work.
-use Rattle.std.proofs.Common.{refl, sym, ap, ◌∙◌, ◌≡◌, ℕ, suc, List, [], ◌∷◌}
+use Rattle.std.proofs.Common.{sym, ap, ◌∙◌, ◌≡◌, ℕ, suc, List, [], ◌∷◌}
 use Rattle.origin_labels.specs.Label.{Label}
 use Rattle.flow_policy.specs.Policies.{Tables}
 use Rattle.flow_policy.specs.Inputs.{Given}
@@ -13,7 +13,7 @@ use Rattle.step_work.specs.Pending.{Task, inside, after_task, behind}
 
 module _ {T : Type 0} (tables : Tables) (inputs : Given) (reading : T → Label) where
   -- a plan is performed first, and then what waits
-  perform_behind : (evaluator : Evaluator) (tasks : List (Task T)) (e : Env ℕ) (p : Plan) → perform evaluator (behind tables inputs reading tasks e p) ≡ and_go (perform evaluator p) (λ c t. perform evaluator (behind tables inputs reading tasks e (Give c t)))
+  pub perform_behind : (evaluator : Evaluator) (tasks : List (Task T)) (e : Env ℕ) (p : Plan) → perform evaluator (behind tables inputs reading tasks e p) ≡ and_go (perform evaluator p) (λ c t. perform evaluator (behind tables inputs reading tasks e (Give c t)))
   unfolding behind
   perform_behind evaluator [] e p = sym (and_give evaluator (perform evaluator p))
   perform_behind evaluator (w ∷ tasks) e p =

@@ -1,5 +1,5 @@
 -- A machine in front of a program.
-use Rattle.std.proofs.Common.{refl, sym, ap, subst, ◌∙◌, ◌≡◌, ◌<◌, ℕ, suc, List, [], length, arith}
+use Rattle.std.proofs.Common.{refl, sym, ap, subst, ◌∙◌, ◌≡◌, suc, [], length, arith}
 use Rattle.std.specs.List.{All}
 use Rattle.origin_labels.specs.Label.{Label}
 use Rattle.flow_policy.specs.Policies.{Tables}

@@ -1,5 +1,5 @@
 -- What the parts of a step come to is what the step comes to.
-use Rattle.std.proofs.Common.{append_assoc, ap₂, refl, sym, ap, subst, ◌∙◌, ◌≡◌, ◌≤◌, ◌<◌, ◌+◌, ◌*◌, ◌-◌, ℕ, zero, suc, Bool, true, false, List, [], ◌∷◌, ◌++◌, map, take, drop, length, Option, Some, None, Result, Ok, Err, IfOk, IfErr, arith}
+use Rattle.std.proofs.Common.{append_assoc, ap₂, refl, sym, ap, subst, ◌∙◌, ◌≡◌, ◌<◌, ◌+◌, ◌*◌, ◌-◌, ℕ, zero, suc, Bool, true, false, List, [], ◌∷◌, ◌++◌, map, take, drop, length, Some, Result, Ok, Err, IfOk, IfErr, arith}
 use Rattle.std.specs.List.{All}
 use Rattle.std.proofs.lemmas.List.{nil_from_length, length-append, length-drop, take-append-drop}
 use Rattle.origin_labels.specs.Label.{Label}
@@ -35,7 +35,7 @@ use Rattle.step_work.specs.declared.work.Next.{Next}
 use Rattle.step_work.specs.declared.work.Next.TheVariants as next
 use Rattle.step_work.specs.Kept.{Kept, Taken, scopes_of, scope_of, operands_of, kept_operands}
 use Rattle.step_work.specs.Loads.{load, lift, weight, Adds}
-use Rattle.step_work.specs.Pending.{Task, owns, env_above, behind, first_or_undefined, next_plan, values_of}
+use Rattle.step_work.specs.Pending.{owns, env_above, behind, first_or_undefined, next_plan, values_of}
 use Rattle.step_work.specs.Resuming.{coming}
 use Rattle.step_work.proofs.Keeping.{kept_more, scopes_more}
 use Rattle.step_work.proofs.Loads.{load_more}
@@ -44,7 +44,6 @@ use Rattle.step_core.specs.declared.machine.Machine.{Machine}
 use Rattle.step_core.specs.declared.steps.Step.{Step}
 use Rattle.step_core.specs.declared.steps.Step.TheVariants as step
 use Rattle.step_core.specs.declared.steps.Ending.{Ending}
-use Rattle.step_core.specs.declared.steps.Ending.TheVariants as ending
 use Rattle.step_core.specs.Going.{ComesTo, Lowers, part_in}
 use Rattle.step_core.specs.Outlook.{Comes, IfGoes, IfStopped, ahead, here, outlook}
 use Rattle.step_core.specs.Standing.{Standing, Framed, depths, given}

@@ -1,9 +1,9 @@
 -- What still holds of a machine behind a call.
-use Rattle.std.proofs.Common.{refl, sym, ap, subst, ◌∙◌, ◌≡◌, ◌≤◌, ◌+◌, ◌-◌, ℕ, zero, suc, Bool, List, [], ◌∷◌, ◌++◌, get_or, length, take, drop, append-nil, Result, Ok, Err, IfOk, arith}
+use Rattle.std.proofs.Common.{refl, sym, ap, subst, ◌∙◌, ◌≡◌, ◌≤◌, ◌+◌, ◌-◌, ℕ, suc, Bool, List, [], ◌∷◌, ◌++◌, length, take, drop, append-nil, Result, Ok, Err, IfOk, arith}
 use Rattle.std.specs.List.{All}
 use Rattle.std.proofs.lemmas.List.{length_push}
 use Rattle.std.proofs.lemmas.List.Elements.{All-append, All-drop, All-take, All-weaker}
-use Rattle.origin_labels.specs.Label.{Label, IsLabel}
+use Rattle.origin_labels.specs.Label.{Label}
 use Rattle.origin_labels.specs.Stores.{IsKept}
 use Rattle.origin_labels.proofs.StoreLaws.{IsKept-refl}
 use Rattle.flow_frames.specs.Held.{Held, Belong, CatchByTry}
@@ -67,7 +67,7 @@ module _ {S T : Type 0} (made : S → T → Type 0) (meaning : S → T → Label
   }
 
   module _ (room : S → ℕ) (firm : S → Bool) (earlier later : S) (kept : IsKept made meaning room firm earlier later) where
-    later_values : (vs : List (Labelled T)) → All (HasValue (made earlier)) vs → All (HasValue (made later)) vs
+    pub later_values : (vs : List (Labelled T)) → All (HasValue (made earlier)) vs → All (HasValue (made later)) vs
     later_values vs all = All-weaker (HasValue (made earlier)) (HasValue (made later)) (λ v m. (kept.labels v.label m).0) vs all
 
     -- one frame more, with its scope

@@ -1,5 +1,5 @@
 -- What it means that a call goes on as a machine's plan says.
-use Rattle.std.specs.Prelude.{◌≡◌, ◌<◌, ◌+◌, ℕ, List, [], ◌∷◌, map, take, drop, Option, Some, None, Result}
+use Rattle.std.specs.Prelude.{◌<◌, ◌+◌, ℕ, List, map, take, drop, Option, Some, None, Result}
 use Rattle.origin_labels.specs.Label.{Label}
 use Rattle.flow_policy.specs.Policies.{Tables}
 use Rattle.flow_policy.specs.Inputs.{Given}

@@ -1,10 +1,10 @@
 -- What a run comes to that stands so, and what a step makes of it.
-use Rattle.std.specs.Prelude.{◌≡◌, ◌<◌, ◌+◌, ◌*◌, ℕ, List, [], ◌∷◌, ◌++◌}
+use Rattle.std.specs.Prelude.{◌≡◌, ◌+◌, ◌*◌, ℕ, List, [], ◌∷◌, ◌++◌}
 use Rattle.origin_labels.specs.Label.{Label}
 use Rattle.flow_policy.specs.Policies.{Tables}
 use Rattle.flow_policy.specs.Inputs.{Given}
 use Rattle.flow_frames.specs.declared.faults.FlowStop.{FlowStop}
-use Rattle.js_values.specs.Readings.{read_heap, read_value}
+use Rattle.js_values.specs.Readings.{read_heap}
 use Rattle.es_meaning.specs.Environments.{Env}
 use Rattle.es_meaning.specs.Outcomes.{Ending, done, threw, halted, left, out_of_turns}
 use Rattle.es_meaning.specs.Plain.{outermost_env}
@@ -54,7 +54,7 @@ module _ {T : Type 0} (tables : Tables) (inputs : Given) (reading : T → Label)
   -- a step comes to the same: it goes on, it goes on behind a line that it printed, or the run ended so
   abbrev pub Comes : Machine T → List LabelledLine → Ran → Step T → Type 0
   Comes m told ran (step.Goes next) = ran ≡ outlook m next told
-  Comes m told ran (step.Line p next) = ran ≡ outlook m next (told ++ line_of tables reading p ∷ [])
+  Comes m told ran (step.Line p next) = ran ≡ outlook m next (told ++ line_of tables reading p.value ∷ [])
   Comes m told ran (step.Ends e) = performed_run ran ≡ record { lines = told; ending = ending_of m e }
 
 -- facts for a step that goes on, for one that prints, and for one at which a rule stops the run
@@ -64,7 +64,7 @@ IfGoes P (step.Line p next) = P next
 IfGoes P (step.Ends e) = Unit {0}
 
 abbrev pub IfLine : {T : Type 0} → (Printed T → Type 0) → Step T → Type 0
-IfLine P (step.Line p next) = P p
+IfLine P (step.Line p next) = P p.value
 IfLine P _ = Unit {0}
 
 abbrev pub IfStopped : {T : Type 0} → (FlowStop T → Type 0) → Step T → Type 0

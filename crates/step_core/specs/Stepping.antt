@@ -1,12 +1,11 @@
 -- What a step comes to, by what its parts come to.
-use Rattle.std.specs.Prelude.{◌≡◌, ◌<◌, ℕ, Bool, true, false, List, map, take, drop, length, Option, None, Result, Ok, Err}
+use Rattle.std.specs.Prelude.{◌≡◌, ◌<◌, ℕ, Bool, true, false, List, map, take, drop, length, Result, Ok, Err}
 use Rattle.origin_labels.specs.Label.{Label}
 use Rattle.flow_text.specs.declared.memory.OutOfMemory.{OutOfMemory}
 use Rattle.flow_policy.specs.Policies.{Tables}
 use Rattle.flow_policy.specs.Inputs.{Given}
 use Rattle.flow_frames.specs.declared.faults.FlowFault.{FlowFault}
 use Rattle.flow_frames.specs.declared.faults.FlowFault.TheVariants as fault
-use Rattle.js_values.specs.declared.value.Labelled.{Labelled}
 use Rattle.js_values.specs.Readings.{IsReading, read_value}
 use Rattle.flow_meaning.specs.Scopes.{LabelledLine}
 use Rattle.flow_meaning.specs.Planned.{Completion, Ran, gave, perform, meaning}
@@ -23,7 +22,7 @@ use Rattle.step_core.specs.declared.machine.Machine.{Machine}
 use Rattle.step_core.specs.declared.steps.Step.{Step}
 use Rattle.step_core.specs.declared.steps.Step.TheVariants as step
 use Rattle.step_core.specs.declared.steps.Ending.TheVariants as ending
-use Rattle.step_core.specs.Outlook.{Comes, IfGoes, IfLine, IfStopped, ahead, here, outlook}
+use Rattle.step_core.specs.Outlook.{Comes, IfGoes, IfLine, IfStopped, ahead, here}
 use Rattle.step_core.specs.Standing.{Standing}
 
 module _ {S T : Type 0} (made : S → T → Type 0) (meaning_of : S → T → Label) (store : S) (tables : Tables) (inputs : Given) where
@@ -40,6 +39,11 @@ abbrev pub step_of : {T : Type 0} → Result Next (FlowFault T) → Result (Step
 step_of (Ok next) = Ok (step.Goes next)
 step_of (Err (fault.Stop stop)) = Ok (step.Ends (ending.Stopped stop))
 step_of (Err fault.OutOfMemory) = Err (record {})
+
+-- the step is that this line was printed and the run goes on with this
+abbrev pub Prints : {T : Type 0} → Printed T → Next → Step T → Type 0
+Prints line move (step.Line p next) = (p.value ≡ line) × (next ≡ move)
+Prints line move _ = ⊥
 
 module _ {T : Type 0} (tables : Tables) (inputs : Given) (reading : T → Label) where
   -- what a run comes to whose next work was taken and goes on with a completion

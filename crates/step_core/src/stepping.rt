@@ -21,17 +21,19 @@ ghost use Rattle.step_core.specs.Outlook.{Comes, IfGoes, IfLine, IfStopped, ahea
 ghost use Rattle.step_core.specs.Standing.{Standing, begins_work, given};
 ghost use Rattle.step_core.specs.Stepping.{Stepped, handed, completion_above, enters_part, outlook_after};
 
-use crate::entering::{begin_move, enter};
+use crate::entering::{OUTERMOST, begin_move, enter};
 use crate::machine::Machine;
 use crate::passing::pass_work;
 use crate::resuming::resume;
-use crate::steps::{Ending, Step, step_of};
+use crate::steps::{Ending, Step, line_step, step_of};
 use flow_frames::FlowFault;
 use flow_policy::{Inputs, Policy};
 use flow_text::OutOfMemory;
+use js_ast::Expr;
 use origin_labels::Labels;
 use std::alloc::Global;
 use step_calls::call;
+use step_numbers::evaluate;
 use step_work::{Direct, Next, Work};
 
 /// Does what is next. Want of memory ends the run, whatever is left of the machine.
@@ -83,7 +85,8 @@ fn stepped<'p, L: Labels>(
         Next::Direct(function, count) => {
             call_function(alloc, labels, policy, inputs, machine, function, count)
         }
-        Next::Expr(_) | Next::Use(_, _) | Next::Stmt(_) | Next::Turn(_) => {
+        Next::Expr(e) => begin_expr(alloc, labels, machine, e),
+        Next::Use(_, _) | Next::Stmt(_) | Next::Turn(_) => {
             enter_part(alloc, labels, machine, next)
         }
         Next::Null
@@ -170,6 +173,26 @@ fn passed<'p, L: Labels>(
     Ok(Step::Goes(next))
 }
 
+// An expression of names and numbers comes to its value at once, and any other is entered.
+fn begin_expr<'p, L: Labels>(
+    alloc: Global,
+    labels: &mut L,
+    machine: &mut Machine<'p, L::Label>,
+    e: &'p Expr,
+) -> Result<Step<'p, L::Label>, OutOfMemory>
+    requires standing { Standing L.made L.meaning labels.old machine.old.stack machine.old.world 0 (scopes_of machine.old.stack.tasks) (next.Expr e) }
+    ensures stepped { (tables : Tables) (inputs : Given) → IfOk result (Stepped L.made L.meaning labels.new tables inputs (λ reading. outlook tables inputs reading machine.old (next.Expr e.entry)) (ahead machine.old (next.Expr e.entry)) machine.new) }
+    ensures grows { Grows machine.old.world machine.new.world }
+    ensures kept { IsKept L.made L.meaning L.room L.firm labels.old labels.new }
+{
+    let Some(found) = evaluate(labels, &machine.world, OUTERMOST, machine.turns, e) else {
+        return enter_part(alloc, labels, machine, Next::Expr(e));
+    };
+    machine.turns = found.turns;
+    machine.stack.lay(found.value)?;
+    Ok(Step::Goes(Next::Value))
+}
+
 // A part of the script is entered, which costs a turn, and without one the run ends.
 fn enter_part<'p, L: Labels>(
     alloc: Global,
@@ -230,7 +253,7 @@ fn call_function<'p, L: Labels>(
     let stack = &mut machine.stack;
     match call(alloc, labels, world, policy, inputs, stack, function, count) {
         Ok((next, None)) => Ok(Step::Goes(next)),
-        Ok((next, Some(line))) => Ok(Step::Line(line, next)),
+        Ok((next, Some(line))) => line_step(alloc, line, next),
         Err(FlowFault::Stop(stop)) => Ok(Step::Ends(Ending::Stopped(stop))),
         Err(FlowFault::OutOfMemory) => Err(OutOfMemory),
     }

@@ -1,11 +1,12 @@
 //! What a step comes to.
 
-ghost use Rattle.std.specs.Prelude.{◌≡◌};
-ghost use Rattle.step_core.specs.Stepping.{step_of};
+ghost use Rattle.std.specs.Prelude.{◌≡◌, IfOk};
+ghost use Rattle.step_core.specs.Stepping.{Prints, step_of};
 
 use flow_frames::{FlowFault, FlowStop};
 use flow_text::OutOfMemory;
 use js_values::Labelled;
+use std::alloc::Global;
 use step_channels::Printed;
 use step_work::Next;
 use step_world::Leaving;
@@ -30,8 +31,8 @@ pub enum Ending<T> {
 pub enum Step<'p, T> {
     /// It goes on with this.
     Goes(Next<'p>),
-    /// It printed a line, and goes on with this.
-    Line(Printed<T>, Next<'p>),
+    /// It printed a line, and goes on with this. The line lies in a box, since steps are moved and few of them print.
+    Line(Box<Printed<T>>, Next<'p>),
     /// The run ended.
     Ends(Ending<T>),
 }
@@ -47,4 +48,16 @@ pub(crate) fn step_of<'p, T>(
         Err(FlowFault::Stop(stop)) => Ok(Step::Ends(Ending::Stopped(stop))),
         Err(FlowFault::OutOfMemory) => Err(OutOfMemory),
     }
+}
+
+/// The step that printed a line.
+pub(crate) fn line_step<'p, T: Copy>(
+    alloc: Global,
+    line: Printed<T>,
+    next: Next<'p>,
+) -> Result<Step<'p, T>, OutOfMemory>
+    ensures { IfOk result (Prints line next.entry) }
+{
+    let line = Box::new(alloc, line)?;
+    Ok(Step::Line(line, next))
 }

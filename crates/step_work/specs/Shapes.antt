@@ -1,15 +1,16 @@
 -- The machine's words for parts of a script, as the meaning has them.
-use Rattle.std.specs.Prelude.{[], ◌∷◌, Option, Some, None, Bool, true, false}
+use Rattle.std.specs.Prelude.{Option, Some, None, Bool, true, false}
 use Rattle.std.specs.Borrow.{Bor}
 use Rattle.js_ast.specs.declared.trees.Expr as code
 use Rattle.js_ast.specs.declared.operators.BinaryOperator.{BinaryOperator}
 use Rattle.js_ast.specs.declared.operators.BinaryOperator.TheVariants as binary_operator
 use Rattle.js_ast.specs.declared.operators.PostfixOperator.{PostfixOperator}
 use Rattle.js_ast.specs.declared.operators.PostfixOperator.TheVariants as postfix_operator
-use Rattle.js_ast.specs.Trees.{MaybeExpr, absent, present}
+use Rattle.js_ast.specs.Trees.{MaybeExpr, absent, present, Statement, do_while, while, for}
 use Rattle.js_ast.specs.Views.{view_expr, view_stmt}
 use Rattle.es_meaning.specs.Operations as meaning
 use Rattle.es_meaning.specs.Operations.{assigned, updated_by, prefixed, postfixed, asked}
+use Rattle.es_meaning.specs.Evaluation as evaluation
 use Rattle.step_work.specs.declared.work.Use.{Use}
 use Rattle.step_work.specs.declared.work.Use.TheVariants.{Assigned, Updated, Prefixed, Postfixed, Asked}
 use Rattle.step_work.specs.declared.work.Round.{Round}
@@ -27,9 +28,29 @@ abbrev pub maybe_of : Option (Bor code.Expr) → MaybeExpr
 maybe_of None = absent
 maybe_of (Some e) = present (view_expr e.now)
 
--- a loop has no label of its own
+-- what a turn of a loop evaluates. A statement that is no loop is its own body
+abbrev pub body_of : Statement → Statement
+body_of (do_while at s c semi) = s
+body_of (while at c s) = s
+body_of (for at first test update s) = s
+body_of s = s
+
+abbrev pub update_of : Statement → MaybeExpr
+update_of (for at first test update s) = update
+update_of _ = absent
+
+abbrev pub test_of : Statement → MaybeExpr
+test_of (do_while at s c semi) = present c
+test_of (while at c s) = present c
+test_of (for at first test update s) = test
+test_of _ = absent
+
+abbrev pub turn_of : Statement → meaning.Round
+turn_of s = evaluation.round_of (body_of s) (update_of s) (test_of s)
+
+-- the turn of the loop that a round is of
 abbrev pub round_of : Round → meaning.Round
-round_of r = record { labels = None ∷ []; body = view_stmt r.body.now; update = maybe_of r.update; test = maybe_of r.test }
+round_of r = turn_of (view_stmt r.of.now)
 
 abbrev pub direct_of : Direct → meaning.Direct
 direct_of Read = meaning.read

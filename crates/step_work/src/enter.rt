@@ -241,30 +241,9 @@ pub fn begin_statement<'p, T: Copy>(
             None => begin_if(stack, test, then),
             Some(other) => begin_if_else(stack, test, then, other),
         },
-        StmtKind::DoWhile { body, test, .. } => Ok(Next::DoLoop(Round {
-            body,
-            update: None,
-            test: Some(test),
-        })),
-        StmtKind::While { test, body } => Ok(Next::Loop(Round {
-            body,
-            update: None,
-            test: Some(test),
-        })),
-        StmtKind::For {
-            first,
-            test,
-            update,
-            body,
-        } => begin_for(
-            stack,
-            first,
-            Round {
-                body,
-                update: update.as_ref(),
-                test: test.as_ref(),
-            },
-        ),
+        StmtKind::DoWhile { .. } => Ok(Next::DoLoop(Round { of: s })),
+        StmtKind::While { .. } => Ok(Next::Loop(Round { of: s })),
+        StmtKind::For { first, .. } => begin_for(stack, first, Round { of: s }),
         StmtKind::ForIn { .. }
         | StmtKind::Continue { .. }
         | StmtKind::Break { .. }

@@ -7,7 +7,6 @@ ghost use Rattle.flow_frames.specs.Changes.{pushed};
 ghost use Rattle.flow_frames.specs.Held.{Belong, seen_frame};
 ghost use Rattle.js_values.specs.Readings.{IsReading};
 ghost use Rattle.es_meaning.specs.Evaluation.{loop, turn_step};
-ghost use Rattle.js_ast.specs.Views.{view_stmt};
 ghost use Rattle.flow_meaning.specs.Planned.{planned, asking};
 ghost use Rattle.step_work.specs.Loads.{Adds};
 ghost use Rattle.step_work.specs.Resuming.{BeginsIn, Opened};
@@ -110,7 +109,7 @@ fn begin_body<'p, L: Labels>(
 ) -> Result<Next<'p>, OutOfMemory>
     requires loose { length stack.old.loose ≡ 0 }
     requires belongs { Belong L.made L.meaning labels.old frames.old.frames }
-    ensures goes_on { IfOk result (BeginsIn L.made L.meaning labels.new (λ tables inputs e. (planned tables inputs).round true (None ∷ []) e ((asking tables inputs).stmt (view_stmt round.entry.body.now))) stack.old stack.new frames.old.frames frames.new.frames) }
+    ensures goes_on { IfOk result (BeginsIn L.made L.meaning labels.new (λ tables inputs e. (planned tables inputs).round true (None ∷ []) e ((asking tables inputs).stmt (round_of round.entry).body)) stack.old stack.new frames.old.frames frames.new.frames) }
     ensures opened { IfOk result (Opened stack.old stack.new frames.old.frames frames.new.frames) }
     ensures adds { IfOk result (Adds 1 stack.old stack.new) }
     ensures belongs { Belong L.made L.meaning labels.new frames.new.frames }
@@ -120,5 +119,5 @@ fn begin_body<'p, L: Labels>(
     let none = labels.bottom();
     enter(labels, frames, Kind::Turn, none)?;
     stack.push(Work::EndRound(true, depth))?;
-    Ok(Next::Stmt(round.body))
+    Ok(Next::Stmt(round.body()))
 }

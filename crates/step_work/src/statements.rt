@@ -72,7 +72,7 @@ pub fn begin_test<'p, T: Copy>(
     ensures keeps { IfOk result (Keeps stack.old stack.new) }
     ensures adds { IfOk result (Adds 1 stack.old stack.new) }
 {
-    match round.test {
+    match round.test() {
         None => Ok(Next::Turn(round)),
         Some(test) => {
             stack.push(Work::Tested(round))?;
@@ -107,7 +107,7 @@ pub fn turned<'p, T: Copy>(
     ensures keeps { IfOk result (Keeps stack.old stack.new) }
     ensures adds { IfOk result (Adds 1 stack.old stack.new) }
 {
-    match round.update {
+    match round.update() {
         None => begin_test(stack, round),
         Some(update) => {
             stack.push(Work::Updated(round))?;

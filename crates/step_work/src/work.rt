@@ -1,10 +1,12 @@
 //! The parts of a script that a machine enters, and the work that waits for what they come to.
 
 ghost use Rattle.std.specs.Prelude.{◌≡◌};
+ghost use Rattle.js_ast.specs.Views.{view_stmt};
 ghost use Rattle.step_work.specs.Pending.{owns};
+ghost use Rattle.step_work.specs.Shapes.{maybe_of, round_of};
 
 use flow_text::Text;
-use js_ast::{BinaryOperator, Declaration, Declarations, Expr, Stmt, UnaryOperator};
+use js_ast::{BinaryOperator, Declaration, Declarations, Expr, Stmt, StmtKind, UnaryOperator};
 use js_number::Int;
 use step_world::{Leaving, Reference};
 
@@ -23,12 +25,46 @@ pub enum Use<'p> {
     Asked,
 }
 
-/// What a turn of a loop evaluates: its body, and behind it what its header changes, and its condition.
+/// A loop of which a turn is evaluated, as one reference, since it is moved with each `Next` and `Work`. A statement
+/// that is no loop is its own body, and nothing else.
 #[derive(Clone, Copy)]
 pub struct Round<'p> {
-    pub body: &'p Stmt,
-    pub update: Option<&'p Expr>,
-    pub test: Option<&'p Expr>,
+    pub of: &'p Stmt,
+}
+
+impl<'p> Round<'p> {
+    /// What a turn evaluates first.
+    pub fn body(self) -> &'p Stmt
+        ensures { view_stmt result.now ≡ (round_of self.entry).body }
+    {
+        match &*self.of.kind {
+            StmtKind::DoWhile { body, .. }
+            | StmtKind::While { body, .. }
+            | StmtKind::For { body, .. } => body,
+            _ => self.of,
+        }
+    }
+
+    /// What the header changes behind a turn.
+    pub fn update(self) -> Option<&'p Expr>
+        ensures { maybe_of result ≡ (round_of self.entry).update }
+    {
+        match &*self.of.kind {
+            StmtKind::For { update, .. } => update.as_ref(),
+            _ => None,
+        }
+    }
+
+    /// The condition.
+    pub fn test(self) -> Option<&'p Expr>
+        ensures { maybe_of result ≡ (round_of self.entry).test }
+    {
+        match &*self.of.kind {
+            StmtKind::DoWhile { test, .. } | StmtKind::While { test, .. } => Some(test),
+            StmtKind::For { test, .. } => test.as_ref(),
+            _ => None,
+        }
+    }
 }
 
 /// The functions that this product adds to the language.

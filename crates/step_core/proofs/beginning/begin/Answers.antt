@@ -1,4 +1,4 @@
-use Rattle.std.proofs.Common.{[], List, subst}
+use Rattle.std.proofs.Common.{[], subst}
 use Rattle.js_ast.specs.Views.{view_program, view_stmts}
 use Rattle.es_meaning.specs.Evaluation.{statements}
 use Rattle.flow_meaning.specs.Planned.{planned, asking}

@@ -1,19 +1,7 @@
-use Rattle.std.proofs.Common.{refl, sym, ap, subst, ◌∙◌, ◌≡◌, ◌≤◌, ◌<◌, ◌+◌, ◌-◌, ◌*◌, ◌++◌, ◌∷◌, [], ℕ, suc, Bool, true, false, List, map, take, drop, length, Some, None, Ok, Err, IfOk, arith}
-use Rattle.std.specs.List.{All}
-use Rattle.js_values.specs.declared.value.Labelled.{Labelled}
-use Rattle.js_values.specs.Readings.{HasValue, read_value}
-use Rattle.flow_meaning.specs.Planned.{gave, jumped, perform, meaning, plan}
-use Rattle.step_world.specs.Acts.{thrown}
-use Rattle.step_world.specs.Worlds.{state_of}
+use Rattle.std.proofs.Common.{refl, arith}
+use Rattle.js_values.specs.Readings.{HasValue}
 use Rattle.step_work.specs.declared.work.Next.TheVariants as next
-use Rattle.step_work.specs.Kept.{scope_of, scopes_of}
-use Rattle.step_work.specs.Loads.{load, lift, weight}
-use Rattle.step_work.specs.Pending.{after, behind, env_above, first_or_undefined, owns, values_of}
-use Rattle.step_work.specs.Resuming.{coming}
-use Rattle.step_core.specs.declared.steps.Ending.TheVariants as ending
-use Rattle.step_core.specs.Outlook.{Comes, IfGoes, ahead, here, outlook}
-use Rattle.step_core.specs.Standing.{Standing, begins_work, given}
-use Rattle.step_core.specs.Stepping.{Stepped, handed, completion_above, enters_part, outlook_after}
+use Rattle.step_core.specs.Outlook.{ahead}
 use Rattle.step_work.specs.Kept.{kept_operands}
 use Rattle.step_core.specs.declared.machine.Machine.{Machine}
 use Rattle.step_core.proofs.Parts.{behind_all}
@@ -39,7 +27,7 @@ returns-in-Ok-default-Some-clause-stepped g c =
     let old = c.args.machine.now in
     let new : Machine g.row.L-Label.Denot = record { world = c.call.new.world; stack = c.call.new.stack; turns = old.turns } in
     let adds = c.in-Ok-default-Some.ensures.adds in
-    called_line g.L.Labels.made g.L.Labels.meaning c.call.new.labels c.args.policy.now c.args.inputs.now c.args.function c.args.count old new refl c.in-Ok-default-Some.next c.in-Ok-default-Some.line (ahead old (next.Direct c.args.function c.args.count))
+    called_line g.L.Labels.made g.L.Labels.meaning c.call.new.labels c.args.policy.now c.args.inputs.now c.args.function c.args.count old new refl c.in-Ok-default-Some.next c.in-Ok-default-Some.line (ahead old (next.Direct c.args.function c.args.count)) c.line_step.result c.line_step.ensures
     (rw c.in-Ok-default-Some.field-0-1-is at c.in-Ok-default-Some.ensures.goes_on)
     (standing_called g.L.Labels.made g.L.Labels.meaning g.L.Labels.room g.L.Labels.firm c.args.labels.now c.call.new.labels c.call.ensures.kept old.stack c.call.new.stack old.world c.call.new.world c.args.count (next.Direct c.args.function c.args.count) c.in-Ok-default-Some.next refl
     c.requires.standing c.in-Ok-default-Some.ensures.rests c.in-Ok-default-Some.ensures.frames c.call.ensures.belongs c.call.ensures.grows)
@@ -49,5 +37,6 @@ pub returns-in-Err-Stop-clause-stepped : goal.returns-in-Err-Stop-clause-stepped
 returns-in-Err-Stop-clause-stepped g c =
     let old = c.args.machine.now in
     let new : Machine g.row.L-Label.Denot = record { world = c.call.new.world; stack = c.call.new.stack; turns = old.turns } in
+    rw c.in-Err-Stop.field-0-is (
     called_stop g.L.Labels.made g.L.Labels.meaning c.call.new.labels c.args.policy.now c.args.inputs.now c.args.function c.args.count old new refl c.in-Err-Stop.stop (ahead old (next.Direct c.args.function c.args.count))
-    (rw c.in-Err-Stop.field-0-is at c.in-Err-Stop.ensures.goes_on) (rw c.in-Err-Stop.field-0-is at c.in-Err-Stop.ensures.stopped)
+    (rw c.in-Err-Stop.field-0-is at c.in-Err-Stop.ensures.goes_on) (rw c.in-Err-Stop.field-0-is at c.in-Err-Stop.ensures.stopped))

@@ -1,19 +1,12 @@
-use Rattle.std.proofs.Common.{refl, sym, ap, subst, ◌∙◌, ◌≡◌, ◌≤◌, ◌<◌, ◌+◌, ◌-◌, ◌*◌, ◌++◌, ◌∷◌, [], ℕ, suc, Bool, true, false, List, map, take, drop, length, Some, None, Ok, Err, IfOk, arith}
-use Rattle.std.specs.List.{All}
-use Rattle.js_values.specs.declared.value.Labelled.{Labelled}
-use Rattle.js_values.specs.Readings.{HasValue, read_value}
-use Rattle.flow_meaning.specs.Planned.{gave, jumped, perform, meaning, plan}
-use Rattle.step_world.specs.Acts.{thrown}
-use Rattle.step_world.specs.Worlds.{state_of}
+use Rattle.std.proofs.Common.{◌+◌, ◌++◌}
 use Rattle.step_work.specs.declared.work.Next.TheVariants as next
 use Rattle.step_work.specs.Kept.{scope_of, scopes_of}
-use Rattle.step_work.specs.Loads.{load, lift, weight}
-use Rattle.step_work.specs.Pending.{after, behind, env_above, first_or_undefined, owns, values_of}
-use Rattle.step_work.specs.Resuming.{coming}
+use Rattle.step_work.specs.Loads.{weight}
+use Rattle.step_work.specs.Pending.{owns}
 use Rattle.step_core.specs.declared.steps.Ending.TheVariants as ending
-use Rattle.step_core.specs.Outlook.{Comes, IfGoes, ahead, here, outlook}
-use Rattle.step_core.specs.Standing.{Standing, begins_work, given}
-use Rattle.step_core.specs.Stepping.{Stepped, handed, completion_above, enters_part, outlook_after}
+use Rattle.step_core.specs.Outlook.{ahead, outlook}
+use Rattle.step_core.specs.Standing.{given}
+use Rattle.step_core.specs.Stepping.{handed, completion_above, outlook_after}
 use Rattle.step_core.proofs.StepLaws.{stepped_as, ends_steps, done_alone, resumed_after, standing_taken, standing_handed, ahead_handed}
 use Rattle.step_core.proofs.stepping.go_on.Goals as goal
 

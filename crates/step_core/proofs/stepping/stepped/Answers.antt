@@ -1,19 +1,6 @@
-use Rattle.std.proofs.Common.{refl, sym, ap, subst, ◌∙◌, ◌≡◌, ◌≤◌, ◌<◌, ◌+◌, ◌-◌, ◌*◌, ◌++◌, ◌∷◌, [], ℕ, suc, Bool, true, false, List, map, take, drop, length, Some, None, Ok, Err, IfOk, arith}
-use Rattle.std.specs.List.{All}
-use Rattle.js_values.specs.declared.value.Labelled.{Labelled}
-use Rattle.js_values.specs.Readings.{HasValue, read_value}
-use Rattle.flow_meaning.specs.Planned.{gave, jumped, perform, meaning, plan}
-use Rattle.step_world.specs.Acts.{thrown}
-use Rattle.step_world.specs.Worlds.{state_of}
 use Rattle.step_work.specs.declared.work.Next.TheVariants as next
-use Rattle.step_work.specs.Kept.{scope_of, scopes_of}
-use Rattle.step_work.specs.Loads.{load, lift, weight}
-use Rattle.step_work.specs.Pending.{after, behind, env_above, first_or_undefined, owns, values_of}
-use Rattle.step_work.specs.Resuming.{coming}
 use Rattle.step_core.specs.declared.steps.Ending.TheVariants as ending
-use Rattle.step_core.specs.Outlook.{Comes, IfGoes, ahead, here, outlook}
-use Rattle.step_core.specs.Standing.{Standing, begins_work, given}
-use Rattle.step_core.specs.Stepping.{Stepped, handed, completion_above, enters_part, outlook_after}
+use Rattle.step_core.specs.Outlook.{ahead, outlook}
 use Rattle.step_core.proofs.StepLaws.{ends_steps, left_alone}
 use Rattle.step_core.proofs.stepping.stepped.Goals as goal
 
@@ -33,7 +20,10 @@ pub returns-in-Throws-clause-stepped : goal.returns-in-Throws-clause-stepped
 returns-in-Throws-clause-stepped g c = rw c.in-Throws.is (c.throw_on.ensures.stepped c.args.policy.now c.args.inputs.now)
 
 pub returns-in-Expr-clause-stepped : goal.returns-in-Expr-clause-stepped
-returns-in-Expr-clause-stepped g c = c.enter_part.ensures.stepped c.args.policy.now c.args.inputs.now
+returns-in-Expr-clause-stepped g c = rw c.in-Expr.is (c.begin_expr.ensures.stepped c.args.policy.now c.args.inputs.now)
 
 pub returns-in-Null-clause-stepped : goal.returns-in-Null-clause-stepped
 returns-in-Null-clause-stepped g c = c.begin_work.ensures.stepped c.args.policy.now c.args.inputs.now
+
+pub returns-in-Use-clause-stepped : goal.returns-in-Use-clause-stepped
+returns-in-Use-clause-stepped g c = c.enter_part.ensures.stepped c.args.policy.now c.args.inputs.now

@@ -38,7 +38,7 @@ steps-preserved g c =
     let L = g.L.Labels in
     record {
       so_far = line_put L.made L.meaning c.args.show.now c.args.policy.now c.args.inputs.now c.args.machine.now c.args.first L.room L.firm (c.only_adds.ensures c.args.policy.now c.args.inputs.now) c.steps.labels c.step.new.labels c.step.ensures.kept c.steps.machine c.step.new.machine c.steps.next c.in-Line.on
-          (g.K.Sink.taken c.args.sink.now) (g.K.Sink.taken c.steps.sink) c.steps.invariant.so_far c.in-Line.printed (rw c.in-Line.is at c.in-Ok.ensures.comes) (g.K.Sink.taken c.put_line.new.sink) c.in-Ok-put_line.ensures.puts;
+          (g.K.Sink.taken c.args.sink.now) (g.K.Sink.taken c.steps.sink) c.steps.invariant.so_far c.in-Line.printed.value (rw c.in-Line.is at c.in-Ok.ensures.comes) (g.K.Sink.taken c.put_line.new.sink) (rw c.deref.ensures at c.in-Ok-put_line.ensures.puts);
       standing = rw c.in-Line.is at c.in-Ok.ensures.standing;
       positions = c.step.ensures.positions;
       kept = IsKept-trans L.made L.meaning L.room L.firm c.args.labels.now c.steps.labels c.step.new.labels c.steps.invariant.kept c.step.ensures.kept;
@@ -50,7 +50,7 @@ pub returns-in-Err-clause-puts : goal.returns-in-Err-clause-puts
 returns-in-Err-clause-puts g c =
     let L = g.L.Labels in
     line_cut L.made L.meaning c.args.show.now c.args.policy.now c.args.inputs.now c.args.machine.now c.args.first L.room L.firm (c.only_adds.ensures c.args.policy.now c.args.inputs.now) c.steps.labels c.step.new.labels c.step.ensures.kept c.steps.machine c.step.new.machine c.steps.next c.in-Line.on
-    (g.K.Sink.taken c.args.sink.now) (g.K.Sink.taken c.steps.sink) c.steps.invariant.so_far c.in-Line.printed (rw c.in-Line.is at c.in-Ok.ensures.comes) c.in-Err.cut (g.K.Sink.taken c.put_line.new.sink) c.in-Err.ensures.puts
+    (g.K.Sink.taken c.args.sink.now) (g.K.Sink.taken c.steps.sink) c.steps.invariant.so_far c.in-Line.printed.value (rw c.in-Line.is at c.in-Ok.ensures.comes) c.in-Err.cut (g.K.Sink.taken c.put_line.new.sink) (rw c.deref.ensures at c.in-Err.ensures.puts)
 
 pub returns-in-Ends-clause-puts : goal.returns-in-Ends-clause-puts
 returns-in-Ends-clause-puts g c =

@@ -1,0 +1,14 @@
+use Rattle.step_work.specs.declared.work.Next.TheVariants as next
+use Rattle.step_work.specs.Kept.{scopes_of}
+use Rattle.step_core.proofs.AtOnce.{evaluated_steps, stands_later}
+use Rattle.step_core.proofs.stepping.begin_expr.Goals as goal
+
+pub enter_part-requires-clause-standing : goal.enter_part-requires-clause-standing
+enter_part-requires-clause-standing g c =
+    stands_later g.L.Labels.made g.L.Labels.meaning g.L.Labels.room g.L.Labels.firm c.args.labels.now c.evaluate.new.labels c.evaluate.ensures.kept g.met.L.Labels.rising
+    c.args.machine.now.stack c.args.machine.now.world (scopes_of c.args.machine.now.stack.tasks) 0 (next.Expr c.args.e) c.requires.standing
+
+pub returns-clause-stepped : goal.returns-clause-stepped
+returns-clause-stepped g c tables inputs =
+    evaluated_steps g.L.Labels.made g.L.Labels.meaning g.L.Labels.room g.L.Labels.firm c.args.labels.now c.evaluate.new.labels c.evaluate.ensures.kept g.met.L.Labels.rising tables inputs
+    c.args.machine.now c.args.e c.lay.new.self c.in-Some.found.value c.in-Some.found.turns c.requires.standing c.in_ok-lay.ensures.tasks c.in_ok-lay.ensures.laid c.in-Some.ensures.evaluates

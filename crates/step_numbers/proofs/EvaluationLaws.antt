@@ -1,0 +1,206 @@
+-- What the parts of an expression come to is what the expression comes to.
+use Rattle.std.proofs.Common.{refl, sym, ap, ap₂, subst, IfSome, ◌∙◌, ◌≡◌, ◌<◌, ◌-◌, ℕ, zero, suc, ℤ, Bool, true, List, Option, Some, None, Ok, arith}
+use Rattle.std.specs.List.{slice_get}
+use Rattle.std.specs.Option.{option_map}
+use Rattle.std.proofs.lemmas.Option.{none-some}
+use Rattle.origin_labels.specs.Label.{Label, bottom, union}
+use Rattle.origin_labels.specs.Stores.{IsKept}
+use Rattle.flow_policy.specs.Policies.{Tables}
+use Rattle.flow_policy.specs.Inputs as inputs
+use Rattle.js_ast.specs.declared.operators.BinaryOperator.{BinaryOperator}
+use Rattle.js_ast.specs.Trees as trees
+use Rattle.js_ast.specs.Trees.{Expr}
+use Rattle.js_number.specs.declared.primitive.Primitive.{Primitive}
+use Rattle.js_number.specs.declared.primitive.Primitive.TheVariants.{Num}
+use Rattle.js_values.specs.declared.value.Labelled.{Labelled}
+use Rattle.js_values.specs.declared.value.Value.TheVariants as value
+use Rattle.js_values.specs.Chains.{beginning}
+use Rattle.js_values.specs.Readings.{HasRecords, read_value}
+use Rattle.js_values.specs.Records.{Binding, Record, bound_in, first_with, found, if_has, lookup}
+use Rattle.js_values.proofs.ReadingLaws.{IsReading-earlier}
+use Rattle.es_meaning.specs.Evaluation.{binary_right, binary_values, enters, expr_step, read_name}
+use Rattle.es_meaning.specs.Operations.{Value}
+use Rattle.es_meaning.specs.Outcomes.{Goes}
+use Rattle.flow_meaning.specs.Scopes.{LabelledLine, State, Val}
+use Rattle.flow_meaning.specs.Tracked.{given, labelled}
+use Rattle.flow_meaning.specs.Planned.{Ask, Part, Plan, an_expr, and_go, as_plan, asking, completed, meaning, perform, plan, planned, with_result}
+use Rattle.flow_meaning.proofs.Depth.{is_performed}
+use Rattle.flow_meaning.proofs.Performing.{perform_asked}
+use Rattle.step_world.specs.declared.world.World.{World}
+use Rattle.step_world.specs.Worlds.{state_of}
+use Rattle.step_names.proofs.NameLaws.{name_has, name_read}
+use Rattle.step_names.proofs.Reading.{read_lookup}
+use Rattle.step_values.specs.Converted.{converted}
+use Rattle.step_values.proofs.ConvertedLaws as converted_laws
+use Rattle.step_work.specs.Shapes.{evaluates_both}
+use Rattle.step_work.proofs.Steps.{both_operands}
+use Rattle.step_moves.proofs.PlanLaws as plan_laws
+use Rattle.step_numbers.specs.declared.evaluating.Counted.{Counted}
+use Rattle.step_numbers.specs.Evaluated.{Evaluates, labelled_number}
+
+-- ---- the record that has a name in it is the innermost one
+
+has_here : {V : Type 0} (i : ℕ) (b : Binding V) (o : Option (Binding V)) (rest : Option ℕ) → o ≡ Some b → if_has i o rest ≡ Some i
+has_here i b o rest is = ap (λ x. if_has i x rest) is
+
+found_first : {V : Type 0} (name : List ℕ) (i : ℕ) (b : Binding V) (o : Option (Record V)) (behind : Record V → List (ℕ × Record V)) → bound_in name o ≡ Some b → first_with name (beginning i o behind) ≡ Some i
+found_first name i b None behind is = absurd (none-some b is)
+found_first name i b (Some r) behind is = has_here i b (found name r.bindings) (first_with name (behind r)) is
+
+lookup_own : {V : Type 0} (name : List ℕ) (records : List (Record V)) (i : ℕ) (b : Binding V) → bound_in name (slice_get records i) ≡ Some b → lookup name records i ≡ Some i
+lookup_own name records i b is = found_first name i b (slice_get records i) _ is
+
+binding_of : {V : Type 0} (v : V) (o : Option (Binding V)) → Some v ≡ option_map (λ b. b.value) o → (P : Type 0) → ((b : Binding V) → o ≡ Some b → P) → P
+binding_of v None is P goes_on = absurd (none-some v (sym is))
+binding_of v (Some b) is P goes_on = goes_on b refl
+
+-- a turn is left
+pub one_left : (turns : ℕ) → (turns ≡ 0 → ⊥) → turns - 1 < turns
+one_left zero some = absurd (some refl)
+one_left (suc n) some = omega arith
+
+-- ---- plans
+
+module _ (tables : Tables) (inputs : inputs.Given) where
+  -- for a turn an expression comes to what its plan comes to
+  entered : {T : Type 0} (reading : T → Label) (w : World T) (told : List LabelledLine) (e : Expr) (at turns : ℕ) → (turns ≡ 0 → ⊥)
+      → meaning tables inputs (an_expr e at) (state_of reading w told turns) ≡ perform (meaning tables inputs) (plan tables inputs (an_expr e at) (state_of reading w told (turns - 1)))
+  entered reading w told e at zero some = absurd (some refl)
+  entered reading w told e at (suc n) some =
+      let less : n ≡ suc n - 1 = omega arith in
+      subst (λ k. meaning tables inputs (an_expr e at) (state_of reading w told (suc n)) ≡ perform (meaning tables inputs) (plan tables inputs (an_expr e at) (state_of reading w told k))) less
+      (is_performed.some_left tables inputs (an_expr e at) (state_of reading w told n) n)
+
+  -- a part that was asked for gave a value
+  asked_gave : (part : Part) (f : Val → State → Plan) (s t : State) (v : Val) → meaning tables inputs part s ≡ Goes v t → perform (meaning tables inputs) (Ask part s (with_result Value f)) ≡ perform (meaning tables inputs) (f v t)
+  unfolding perform and_go
+  asked_gave part f s t v h = ap (λ o. and_go o (λ c u. perform (meaning tables inputs) (with_result Value f c u))) h
+
+  number_plan : (place at : ℕ) (n : ℤ) (s : State) → perform (meaning tables inputs) (plan tables inputs (an_expr (trees.number place n) at) s) ≡ Goes (record { value = value.Primitive (Num n); label = bottom }) s
+  unfolding plan expr_step perform completed
+  number_plan place at n s = refl
+
+  paren_plan : (place at : ℕ) (e : Expr) (s : State) → perform (meaning tables inputs) (plan tables inputs (an_expr (trees.paren place e) at) s) ≡ meaning tables inputs (an_expr e at) s
+  unfolding plan expr_step
+  paren_plan place at e s = perform_asked (meaning tables inputs) (an_expr e at) s
+
+  name_plan : (place at : ℕ) (text : List ℕ) (s : State) (v : Val) (t : State) → lookup text s.records at ≡ Some at → (labelled tables inputs).get_name (record { name = text; place = Some at }) (enters (labelled tables inputs)) s ≡ Goes v t
+      → perform (meaning tables inputs) (plan tables inputs (an_expr (trees.name place text) at) s) ≡ Goes v t
+  unfolding plan expr_step read_name perform completed
+  name_plan place at text s v t there reads =
+      ap (λ p. perform (meaning tables inputs) (read_name (planned tables inputs) (asking tables inputs) (record { name = text; place = p }) s)) there
+      ∙ ap (λ o. perform (meaning tables inputs) (as_plan Value o)) reads
+
+  binary_plan : (place at : ℕ) (l r : Expr) (o : BinaryOperator) (s t u : State) (v w : Val) (p : Primitive) → evaluates_both o ≡ true
+      → meaning tables inputs (an_expr l at) s ≡ Goes v t → meaning tables inputs (an_expr r at) t ≡ Goes w u → converted o v.value w.value ≡ Ok p
+      → perform (meaning tables inputs) (plan tables inputs (an_expr (trees.binary place l o r) at) s) ≡ Goes (record { value = value.Primitive p; label = union v.label w.label }) u
+  unfolding plan expr_step binary_right given perform completed
+  binary_plan place at l r o s t u v w p both left right is =
+      ap (perform (meaning tables inputs)) (both_operands tables inputs o l r at s both)
+      ∙ asked_gave (an_expr l at) (binary_right (planned tables inputs) (asking tables inputs) o r at) s t v left
+      ∙ asked_gave (an_expr r at) (binary_values (planned tables inputs) o v) t u w right
+      ∙ ap (perform (meaning tables inputs)) (plan_laws.binary_as tables inputs o v w u)
+      ∙ ap (λ x. perform (meaning tables inputs) (as_plan Value x)) (converted_laws.binary_as tables inputs o v w u ∙ ap (λ x. given (union v.label w.label) x u) is)
+
+-- ---- what an expression comes to
+
+module _ {S T : Type 0} (made : S → T → Type 0) (meaning_of : S → T → Label) where
+  -- in a later store too
+  pub later : (room : S → ℕ) (firm : S → Bool) (old new : S) (e : Expr) (at : ℕ) (w : World T) (turns : ℕ) (v : Labelled T) (left : ℕ) → IsKept made meaning_of room firm old new
+      → Evaluates made meaning_of old e at w turns v left → Evaluates made meaning_of new e at w turns v left
+  later room firm old new e at w turns v left kept evaluates = record {
+    comes = λ tables inputs reading told read. evaluates.comes tables inputs reading told (IsReading-earlier made meaning_of room firm old new reading kept read);
+    labelled = (kept.labels v.label evaluates.labelled).0;
+    fewer = evaluates.fewer;
+  }
+
+  pub number_evaluated : (store : S) (place at : ℕ) (w : World T) (turns : ℕ) (n : ℤ) (label : T) → (turns ≡ 0 → ⊥) → made store label → meaning_of store label ≡ bottom
+      → Evaluates made meaning_of store (trees.number place n) at w turns (labelled_number n label) (turns - 1)
+  number_evaluated store place at w turns n label some has means = record {
+    comes = λ tables inputs reading told read.
+        entered tables inputs reading w told (trees.number place n) at turns some
+        ∙ number_plan tables inputs place at n (state_of reading w told (turns - 1))
+        ∙ ap (λ l. Goes (record { value = value.Primitive (Num n); label = l }) (state_of reading w told (turns - 1))) (sym (read.agrees label has ∙ means));
+    labelled = has;
+    fewer = one_left turns some;
+  }
+
+  pub paren_evaluated : (store : S) (place at : ℕ) (w : World T) (turns : ℕ) (e : Expr) (v : Labelled T) (left : ℕ) → (turns ≡ 0 → ⊥)
+      → Evaluates made meaning_of store e at w (turns - 1) v left → Evaluates made meaning_of store (trees.paren place e) at w turns v left
+  paren_evaluated store place at w turns e v left some inner = record {
+    comes = λ tables inputs reading told read.
+        entered tables inputs reading w told (trees.paren place e) at turns some
+        ∙ paren_plan tables inputs place at e (state_of reading w told (turns - 1))
+        ∙ inner.comes tables inputs reading told read;
+    labelled = inner.labelled;
+    fewer = let fewer = inner.fewer in let below = one_left turns some in omega (arith, below, fewer);
+  }
+
+  pub name_evaluated : (store : S) (place at : ℕ) (w : World T) (turns : ℕ) (text : List ℕ) (v : Labelled T) → (turns ≡ 0 → ⊥) → HasRecords (made store) w.records
+      → Some v ≡ option_map (λ b. b.value) (bound_in text (slice_get w.records at)) → Evaluates made meaning_of store (trees.name place text) at w turns v (turns - 1)
+  name_evaluated store place at w turns text v some has is = record {
+    comes = λ tables inputs reading told read.
+        entered tables inputs reading w told (trees.name place text) at turns some
+        ∙ name_plan tables inputs place at text (state_of reading w told (turns - 1)) (read_value reading v) (state_of reading w told (turns - 1))
+        (read_lookup reading text w.records at ∙ binding_of v (bound_in text (slice_get w.records at)) is (lookup text w.records at ≡ Some at) (λ b bound. lookup_own text w.records at b bound))
+        ((name_read made meaning_of store w (Some at) text v is).says reading read told (turns - 1));
+    labelled = name_has (made store) w.records (Some at) text v has is;
+    fewer = one_left turns some;
+  }
+
+  pub binary_evaluated : (store : S) (place at : ℕ) (w : World T) (turns : ℕ) (l r : Expr) (o : BinaryOperator) (v u : Labelled T) (t left : ℕ) (p : Primitive) (label : T) → (turns ≡ 0 → ⊥) → evaluates_both o ≡ true
+      → Evaluates made meaning_of store l at w (turns - 1) v t → Evaluates made meaning_of store r at w t u left → converted o v.value u.value ≡ Ok p
+      → made store label → meaning_of store label ≡ union (meaning_of store v.label) (meaning_of store u.label)
+      → Evaluates made meaning_of store (trees.binary place l o r) at w turns (record { value = value.Primitive p; label = label }) left
+  binary_evaluated store place at w turns l r o v u t left p label some both first second is has means = record {
+    comes = λ tables inputs reading told read.
+        let joined : union (reading v.label) (reading u.label) ≡ reading label = ap₂ union (read.agrees v.label first.labelled) (read.agrees u.label second.labelled) ∙ sym means ∙ sym (read.agrees label has) in
+        entered tables inputs reading w told (trees.binary place l o r) at turns some
+        ∙ binary_plan tables inputs place at l r o (state_of reading w told (turns - 1)) (state_of reading w told t) (state_of reading w told left) (read_value reading v) (read_value reading u) p both
+        (first.comes tables inputs reading told read) (second.comes tables inputs reading told read) is
+        ∙ ap (λ x. Goes (record { value = value.Primitive p; label = x }) (state_of reading w told left)) joined;
+    labelled = has;
+    fewer = let fewer = first.fewer in let less = second.fewer in let below = one_left turns some in omega (arith, below, fewer, less);
+  }
+
+-- ---- what the code answers
+
+module _ {S T : Type 0} (made : S → T → Type 0) (meaning_of : S → T → Label) where
+  -- where it answers, an expression comes to a number
+  abbrev pub Counts : S → Expr → ℕ → World T → ℕ → Option (Counted T) → Type 0
+  Counts store e at w turns result = IfSome result (λ c. Evaluates made meaning_of store e at w turns (labelled_number c.number c.label) c.turns)
+
+  pub name_counts : (store : S) (e : Expr) (place at : ℕ) (w : World T) (turns : ℕ) (text : List ℕ) (result : Option (Counted T)) → e ≡ trees.name place text → (turns ≡ 0 → ⊥) → HasRecords (made store) w.records
+      → IfSome result (λ c. (Some (labelled_number c.number c.label) ≡ option_map (λ b. b.value) (bound_in text (slice_get w.records at))) × (c.turns ≡ turns - 1)) → Counts store e at w turns result
+  name_counts store e place at w turns text None is some has found = tt
+  name_counts store e place at w turns text (Some c) is some has found =
+      subst (λ x. Evaluates made meaning_of store x at w turns (labelled_number c.number c.label) c.turns) (sym is)
+      (subst (λ n. Evaluates made meaning_of store (trees.name place text) at w turns (labelled_number c.number c.label) n) (sym found.1)
+      (name_evaluated made meaning_of store place at w turns text (labelled_number c.number c.label) some has found.0))
+
+  pub paren_counts : (store : S) (e inner : Expr) (place at : ℕ) (w : World T) (turns : ℕ) (result : Option (Counted T)) → e ≡ trees.paren place inner → (turns ≡ 0 → ⊥) → Counts store inner at w (turns - 1) result → Counts store e at w turns result
+  paren_counts store e inner place at w turns None is some counts = tt
+  paren_counts store e inner place at w turns (Some c) is some counts =
+      subst (λ x. Evaluates made meaning_of store x at w turns (labelled_number c.number c.label) c.turns) (sym is) (paren_evaluated made meaning_of store place at w turns inner (labelled_number c.number c.label) c.turns some counts)
+
+  module _ (room : S → ℕ) (firm : S → Bool) (earlier middle store : S) (kept : IsKept made meaning_of room firm earlier middle) (behind : IsKept made meaning_of room firm middle store) where
+    -- two operands that were evaluated, with the union of their labels
+    pub operands_evaluated : (place at : ℕ) (w : World T) (turns : ℕ) (l r : Expr) (o : BinaryOperator) (v u : Labelled T) (t left : ℕ) (p : Primitive) (label : T) → (turns ≡ 0 → ⊥) → evaluates_both o ≡ true
+        → Evaluates made meaning_of earlier l at w (turns - 1) v t → Evaluates made meaning_of middle r at w t u left → converted o v.value u.value ≡ Ok p
+        → made store label → meaning_of store label ≡ union (meaning_of middle v.label) (meaning_of middle u.label)
+        → Evaluates made meaning_of store (trees.binary place l o r) at w turns (record { value = value.Primitive p; label = label }) left
+    operands_evaluated place at w turns l r o v u t left p label some both first second is has means =
+        let between = later made meaning_of room firm earlier middle l at w (turns - 1) v t kept first in
+        binary_evaluated made meaning_of store place at w turns l r o v u t left p label some both
+        (later made meaning_of room firm middle store l at w (turns - 1) v t behind between) (later made meaning_of room firm middle store r at w t u left behind second) is has
+        (means ∙ ap₂ union (sym (behind.labels v.label between.labelled).1) (sym (behind.labels u.label second.labelled).1))
+
+    pub binary_counts : (e l r : Expr) (place at : ℕ) (w : World T) (turns : ℕ) (o : BinaryOperator) (first second : Counted T) (result : Option (Counted T)) → e ≡ trees.binary place l o r → (turns ≡ 0 → ⊥)
+        → Evaluates made meaning_of earlier l at w (turns - 1) (labelled_number first.number first.label) first.turns → Evaluates made meaning_of middle r at w first.turns (labelled_number second.number second.label) second.turns
+        → IfSome result (λ c. converted o (value.Primitive (Num first.number)) (value.Primitive (Num second.number)) ≡ Ok (Num c.number)) → IfSome result (λ c. evaluates_both o ≡ true) → IfSome result (λ c. made store c.label)
+        → IfSome result (λ c. meaning_of store c.label ≡ union (meaning_of middle first.label) (meaning_of middle second.label)) → IfSome result (λ c. c.turns ≡ second.turns) → Counts store e at w turns result
+    binary_counts e l r place at w turns o first second None is some left right gives both has means turned = tt
+    binary_counts e l r place at w turns o first second (Some c) is some left right gives both has means turned =
+        subst (λ x. Evaluates made meaning_of store x at w turns (labelled_number c.number c.label) c.turns) (sym is)
+        (subst (λ n. Evaluates made meaning_of store (trees.binary place l o r) at w turns (labelled_number c.number c.label) n) (sym turned)
+        (operands_evaluated place at w turns l r o (labelled_number first.number first.label) (labelled_number second.number second.label) first.turns second.turns (Num c.number) c.label some both left right gives has means))

@@ -1,0 +1,222 @@
+//! Expressions of names and numbers.
+
+ghost use Rattle.std.specs.Prelude.{◌≡◌, ◌<◌, ◌-◌, ℕ, true, Ok, Some, IfSome, length, slice_get};
+ghost use Rattle.std.specs.Option.{option_map};
+ghost use Rattle.origin_labels.specs.Stores.{IsKept};
+ghost use Rattle.js_ast.specs.Trees as trees;
+ghost use Rattle.js_ast.specs.Views.{view_expr};
+ghost use Rattle.js_values.specs.Readings.{HasRecords, HasValue};
+ghost use Rattle.js_values.specs.Records.{bound_in};
+ghost use Rattle.js_number.specs.declared.primitive.Primitive.TheVariants as prims;
+ghost use Rattle.origin_labels.specs.Label.{union};
+ghost use Rattle.js_values.specs.declared.value.Value.TheVariants as value;
+ghost use Rattle.step_values.specs.Converted.{converted};
+ghost use Rattle.step_work.specs.Shapes.{evaluates_both};
+ghost use Rattle.step_numbers.specs.Evaluated.{Evaluates, as_value, combined_of, labelled_number, left_with, named, number_at, truth_at, value_at};
+
+use crate::operators::{combined, combines, compared, compares};
+use flow_text::Text;
+use js_ast::{BinaryOperator, Expr, ExprKind};
+use js_number::{Int, Primitive};
+use js_values::{EnvId, Labelled, Value};
+use origin_labels::Labels;
+use step_world::World;
+
+// A deeper expression is evaluated node by node, so that each node is tried at most so many times.
+const DEPTH: u32 = 8;
+
+/// What an expression comes to.
+#[derive(Drop)]
+pub struct Evaluated<T> {
+    pub value: Labelled<T>,
+    /// How many turns are left.
+    pub turns: u64,
+}
+
+/// A number that an expression comes to.
+#[derive(Drop)]
+struct Counted<T> {
+    number: Int,
+    label: T,
+    /// How many turns are left.
+    turns: u64,
+}
+
+/// Evaluates an expression in a record, where it is made of names of that record, numbers, parentheses and operators between numbers, with one comparison outermost or none, it isn't deep, and there are turns for it. Nothing but the store of labels changes.
+pub fn evaluate<L: Labels>(
+    labels: &mut L,
+    world: &World<L::Label>,
+    at: EnvId,
+    turns: u64,
+    e: &Expr,
+) -> Option<Evaluated<L::Label>>
+    requires records { HasRecords (L.made labels.old) world.now.records }
+    requires at { at.0 < length world.now.records }
+    ensures exact { L.firm labels.old ≡ true → option_map (λ x. (x.value.value, x.turns)) result ≡ value_at world.now.records at.0 8 (view_expr e.now) turns }
+    ensures evaluates { IfSome result (λ x. Evaluates L.made L.meaning labels.new (view_expr e.now) at.0 world.now turns x.value x.turns) }
+    ensures kept { IsKept L.made L.meaning L.room L.firm labels.old labels.new }
+{
+    match &*e.kind {
+        ExprKind::Binary {
+            left,
+            operator,
+            right,
+        } => {
+            if compares(*operator) {
+                comparison(labels, world, at, turns, left, *operator, right)
+            } else {
+                as_value(number(labels, world, at, turns, DEPTH, e))
+            }
+        }
+        _ => as_value(number(labels, world, at, turns, DEPTH, e)),
+    }
+}
+
+fn as_value<T>(counted: Option<Counted<T>>) -> Option<Evaluated<T>>
+    ensures { result ≡ option_map (λ c. record { value = labelled_number c.number c.label; turns = c.turns }) counted }
+{
+    let counted = counted?;
+    Some(Evaluated {
+        value: Labelled {
+            value: Value::Primitive(Primitive::Num(counted.number)),
+            label: counted.label,
+        },
+        turns: counted.turns,
+    })
+}
+
+/// A comparison of two numbers.
+fn comparison<L: Labels>(
+    labels: &mut L,
+    world: &World<L::Label>,
+    at: EnvId,
+    turns: u64,
+    left: &Expr,
+    operator: BinaryOperator,
+    right: &Expr,
+) -> Option<Evaluated<L::Label>>
+    requires records { HasRecords (L.made labels.old) world.now.records }
+    requires at { at.0 < length world.now.records }
+    ensures exact { L.firm labels.old ≡ true → option_map (λ x. (x.value.value, x.turns)) result ≡ as_value world.now.records at.0 prims.Bool (truth_at world.now.records at.0 8 operator (view_expr left.now) (view_expr right.now) turns) }
+    ensures evaluates { (place : ℕ) → IfSome result (λ x. Evaluates L.made L.meaning labels.new (trees.binary place (view_expr left.now) operator (view_expr right.now)) at.0 world.now turns x.value x.turns) }
+    ensures kept { IsKept L.made L.meaning L.room L.firm labels.old labels.new }
+{
+    if turns == 0 {
+        return None;
+    }
+    let first = number(labels, world, at, turns - 1, DEPTH, left)?;
+    let second = number(labels, world, at, first.turns, DEPTH, right)?;
+    let holds = compared(operator, first.number, second.number)?;
+    let Ok(label) = labels.join(first.label, second.label) else {
+        return None;
+    };
+    Some(Evaluated {
+        value: Labelled {
+            value: Value::Primitive(Primitive::Bool(holds)),
+            label,
+        },
+        turns: second.turns,
+    })
+}
+
+/// A number.
+#[tactic(auto, using(crate::proofs::ExactLaws::stays_out, js_ast::specs::declared::trees::ExprKind::TheViews::the_lemmas))]
+fn number<L: Labels>(
+    labels: &mut L,
+    world: &World<L::Label>,
+    at: EnvId,
+    turns: u64,
+    depth: u32,
+    e: &Expr,
+) -> Option<Counted<L::Label>>
+    requires records { HasRecords (L.made labels.old) world.now.records }
+    requires at { at.0 < length world.now.records }
+    ensures exact { L.firm labels.old ≡ true → option_map (λ c. (c.number, c.turns)) result ≡ number_at world.now.records at.0 depth (view_expr e.now) turns }
+    ensures evaluates { IfSome result (λ c. Evaluates L.made L.meaning labels.new (view_expr e.now) at.0 world.now turns (labelled_number c.number c.label) c.turns) }
+    ensures kept { IsKept L.made L.meaning L.room L.firm labels.old labels.new }
+{
+    if turns == 0 || depth == 0 {
+        return None;
+    }
+    let turns = turns - 1;
+    match &*e.kind {
+        ExprKind::Name(name) => named(world, at, turns, name),
+        ExprKind::Number(n) => Some(Counted {
+            number: *n,
+            label: labels.bottom(),
+            turns,
+        }),
+        ExprKind::Paren(inner) => number(labels, world, at, turns, depth - 1, inner),
+        ExprKind::Binary {
+            left,
+            operator,
+            right,
+        } => {
+            if !combines(*operator) {
+                return None;
+            }
+            let first = number(labels, world, at, turns, depth - 1, left)?;
+            let second = number(labels, world, at, first.turns, depth - 1, right)?;
+            joined(labels, *operator, first, second)
+        }
+        ExprKind::String { .. }
+        | ExprKind::This
+        | ExprKind::Null
+        | ExprKind::Bool(_)
+        | ExprKind::Array { .. }
+        | ExprKind::Object { .. }
+        | ExprKind::Function(_)
+        | ExprKind::Member { .. }
+        | ExprKind::Index { .. }
+        | ExprKind::New { .. }
+        | ExprKind::Call { .. }
+        | ExprKind::Postfix { .. }
+        | ExprKind::Unary { .. }
+        | ExprKind::Conditional { .. }
+        | ExprKind::Assign { .. }
+        | ExprKind::Comma { .. } => None,
+    }
+}
+
+/// The number that a name has in the record.
+fn named<T: Copy>(world: &World<T>, at: EnvId, turns: u64, name: &Text) -> Option<Counted<T>>
+    requires { at.0 < length world.now.records }
+    ensures exact { option_map (λ c. (c.number, c.turns)) result ≡ named (option_map (λ b. b.value) (bound_in name.now (slice_get world.now.records at.0))) turns }
+    ensures found { IfSome result (λ c. (Some (labelled_number c.number c.label) ≡ option_map (λ b. b.value) (bound_in name.now (slice_get world.now.records at.0))) × (c.turns ≡ turns)) }
+{
+    let found = world.records.own(at, name)?;
+    match &found.value {
+        Value::Primitive(Primitive::Num(n)) => Some(Counted {
+            number: *n,
+            label: found.label,
+            turns,
+        }),
+        _ => None,
+    }
+}
+
+/// What arithmetic gives of two numbers, with the turns that are left behind the second.
+fn joined<L: Labels>(
+    labels: &mut L,
+    operator: BinaryOperator,
+    first: Counted<L::Label>,
+    second: Counted<L::Label>,
+) -> Option<Counted<L::Label>>
+    requires first { L.made labels.old first.label }
+    requires second { L.made labels.old second.label }
+    ensures exact { L.firm labels.old ≡ true → option_map (λ c. (c.number, c.turns)) result ≡ left_with (combined_of operator first.number second.number) second.turns }
+    ensures gives { IfSome result (λ c. converted operator (value.Primitive (prims.Num first.number)) (value.Primitive (prims.Num second.number)) ≡ Ok (prims.Num c.number)) }
+    ensures both { IfSome result (λ _. evaluates_both operator ≡ true) }
+    ensures made { IfSome result (λ c. L.made labels.new c.label) }
+    ensures means { IfSome result (λ c. L.meaning labels.new c.label ≡ union (L.meaning labels.old first.label) (L.meaning labels.old second.label)) }
+    ensures left { IfSome result (λ c. c.turns ≡ second.turns) }
+    ensures kept { IsKept L.made L.meaning L.room L.firm labels.old labels.new }
+{
+    let number = combined(operator, first.number, second.number)?;
+    let label = labels.join(first.label, second.label).ok()?;
+    Some(Counted {
+        number,
+        label,
+        turns: second.turns,
+    })
+}

@@ -1,0 +1,82 @@
+//! Operators between two numbers.
+
+ghost use Rattle.std.specs.Prelude.{◌≡◌, true, Ok, IfSome};
+ghost use Rattle.js_number.specs.declared.primitive.Primitive.TheVariants as prims;
+ghost use Rattle.js_values.specs.declared.value.Value.TheVariants as value;
+ghost use Rattle.step_values.specs.Converted.{converted};
+ghost use Rattle.step_work.specs.Shapes.{evaluates_both};
+ghost use Rattle.step_numbers.specs.Evaluated.{combined_of, combines, compared_of, compares, in_numbers};
+
+use js_ast::BinaryOperator;
+use js_number::{Int, LeftNumbers, add, mul, rem, sub};
+
+/// Whether it compares two numbers.
+pub(crate) fn compares(operator: BinaryOperator) -> bool
+    ensures { result ≡ compares operator }
+{
+    matches!(
+        operator,
+        BinaryOperator::Less
+            | BinaryOperator::Greater
+            | BinaryOperator::LessEqual
+            | BinaryOperator::GreaterEqual
+            | BinaryOperator::Equal
+            | BinaryOperator::NotEqual
+            | BinaryOperator::StrictEqual
+            | BinaryOperator::StrictNotEqual
+    )
+}
+
+/// Whether it is arithmetic, which gives a number of two.
+pub(crate) fn combines(operator: BinaryOperator) -> bool
+    ensures { result ≡ combines operator }
+{
+    matches!(
+        operator,
+        BinaryOperator::Add
+            | BinaryOperator::Subtract
+            | BinaryOperator::Multiply
+            | BinaryOperator::Remainder
+    )
+}
+
+/// What a comparison says of two numbers.
+#[tactic(auto, using(crate::proofs::NumberLaws::converts_numbers, crate::proofs::NumberLaws::less_given, crate::proofs::NumberLaws::turned_given))]
+pub(crate) fn compared(operator: BinaryOperator, left: Int, right: Int) -> Option<bool>
+    ensures exact { result ≡ compared_of operator left right }
+    ensures says { IfSome result (λ b. converted operator (value.Primitive (prims.Num left)) (value.Primitive (prims.Num right)) ≡ Ok (prims.Bool b)) }
+    ensures both { IfSome result (λ _. evaluates_both operator ≡ true) }
+{
+    match operator {
+        BinaryOperator::Less => Some(left.get() < right.get()),
+        BinaryOperator::Greater => Some(right.get() < left.get()),
+        BinaryOperator::LessEqual => Some(!(right.get() < left.get())),
+        BinaryOperator::GreaterEqual => Some(!(left.get() < right.get())),
+        BinaryOperator::Equal | BinaryOperator::StrictEqual => Some(left == right),
+        BinaryOperator::NotEqual | BinaryOperator::StrictNotEqual => Some(left != right),
+        _ => None,
+    }
+}
+
+/// What arithmetic gives of two numbers, where that is a number of the profile.
+#[tactic(auto, using(crate::proofs::NumberLaws::converts_numbers, crate::proofs::NumberLaws::of_both, crate::proofs::NumberLaws::sum_of_both))]
+pub(crate) fn combined(operator: BinaryOperator, left: Int, right: Int) -> Option<Int>
+    ensures exact { result ≡ combined_of operator left right }
+    ensures gives { IfSome result (λ n. converted operator (value.Primitive (prims.Num left)) (value.Primitive (prims.Num right)) ≡ Ok (prims.Num n)) }
+    ensures both { IfSome result (λ _. evaluates_both operator ≡ true) }
+{
+    match operator {
+        BinaryOperator::Add => kept(add(left, right)),
+        BinaryOperator::Subtract => kept(sub(left, right)),
+        BinaryOperator::Multiply => kept(mul(left, right)),
+        BinaryOperator::Remainder => kept(rem(left, right)),
+        _ => None,
+    }
+}
+
+fn kept(answer: Result<Int, LeftNumbers>) -> Option<Int>
+    ensures number { IfSome result (λ n. answer ≡ Ok n) }
+    ensures exact { result ≡ in_numbers answer }
+{
+    answer.ok()
+}

@@ -1,0 +1,197 @@
+ghost use Rattle.std.specs.Prelude.{◌≡◌, length, IfOk};
+ghost use Rattle.std.specs.List.{All};
+ghost use Rattle.flow_frames.specs.Held.{Belong};
+ghost use Rattle.js_values.specs.Readings.{HasValue};
+
+use crate::works::{empty, name};
+use flow_frames::{Frames, Kind};
+use flow_text::OutOfMemory;
+use js_ast::{Expr, Stmt};
+use js_number::Primitive;
+use js_values::{Labelled, Value};
+use origin_labels::{Labels, Masks};
+use std::alloc::Global;
+use std::test::*;
+use step_work::*;
+
+// A stack with this value alone.
+fn one_value<'p, L: Labels>(
+    alloc: Global,
+    _labels: &L,
+    value: bool,
+    label: L::Label,
+) -> Result<Stack<'p, L::Label>, OutOfMemory>
+    requires { L.made _labels.now label }
+    ensures one { IfOk result (λ stack. length stack.loose ≡ 1) }
+    ensures made { IfOk result (λ stack. All (HasValue (L.made _labels.now)) stack.loose) }
+{
+    let mut stack = Stack::new(alloc);
+    stack.lay(Labelled {
+        value: Value::Primitive(Primitive::Bool(value)),
+        label,
+    })?;
+    Ok(stack)
+}
+
+// What `&&` and `||` do behind a left operand: whether the right one is evaluated, and how many frames there are then.
+fn logical<L: Labels>(
+    alloc: Global,
+    labels: &mut L,
+    right: &Expr,
+    left: bool,
+    and: bool,
+) -> Result<(bool, usize), OutOfMemory> {
+    let mut frames = Frames::new(alloc, &*labels)?;
+    let none = labels.bottom();
+    let mut stack = one_value(alloc, &*labels, left, none)?;
+    let next = if and {
+        and_right(labels, &mut frames, &mut stack, right)?
+    } else {
+        or_right(labels, &mut frames, &mut stack, right)?
+    };
+    Ok((matches!(next, Next::Expr(_)), frames.len()))
+}
+
+#[test]
+fn logical_operators(rt: HostRuntime) -> Result<(), Fail> {
+    let alloc = rt.alloc();
+    let right = name(alloc, "a")?;
+    let rows = [
+        (true, true, true),
+        (false, true, false),
+        (true, false, false),
+        (false, false, true),
+    ];
+    for (left, and, evaluated) in rows {
+        assert_eq!(rt;
+            logical(alloc, &mut Masks, &right, left, and)?,
+            (evaluated, 2)
+        );
+    }
+    Ok(())
+}
+
+// Whether origin 0 decides that a run is in the frames.
+fn is_secret<L: Labels>(labels: &L, frames: &Frames<L::Label>) -> bool
+    requires { Belong L.made L.meaning labels.now frames.now.frames }
+{
+    let context = frames.context(labels);
+    labels.has(context, 0)
+}
+
+// Whether a statement is evaluated next, how many frames there are, and whether origin 0 decides it.
+fn inside<L: Labels>(labels: &L, frames: &Frames<L::Label>, next: Next<'_>) -> (bool, usize, bool)
+    requires { Belong L.made L.meaning labels.now frames.now.frames }
+{
+    let is_secret = is_secret(labels, frames);
+    (matches!(next, Next::Stmt(_)), frames.len(), is_secret)
+}
+
+// What comes of a part that a value with this label chose.
+fn chosen<L: Labels>(
+    alloc: Global,
+    labels: &mut L,
+    secret: L::Label,
+    body: &Stmt,
+    other: Option<&Stmt>,
+) -> Result<(bool, usize, bool), OutOfMemory>
+    requires { L.made labels.old secret }
+{
+    let mut frames = Frames::new(alloc, &*labels)?;
+    let mut stack = one_value(alloc, &*labels, false, secret)?;
+    match other {
+        Some(other) => {
+            let next = choose_stmts(labels, &mut frames, &mut stack, body, other)?;
+            Ok(inside(&*labels, &frames, next))
+        }
+        None => {
+            let next = choose_stmt(labels, &mut frames, &mut stack, body)?;
+            Ok(inside(&*labels, &frames, next))
+        }
+    }
+}
+
+// The value of a stack that has one alone.
+fn only_value<'p, L: Labels>(_labels: &L, stack: &mut Stack<'p, L::Label>) -> Labelled<L::Label>
+    requires one { length stack.old.loose ≡ 1 }
+    requires made { All (HasValue (L.made _labels.now)) stack.old.loose }
+    ensures { L.made _labels.now result.label }
+{
+    stack.pop()
+}
+
+// What a value without origins has behind a branch that this label chose: whether it has origin 0, and how many frames there are.
+fn ended<L: Labels>(
+    alloc: Global,
+    labels: &mut L,
+    secret: L::Label,
+) -> Result<(bool, usize), OutOfMemory>
+    requires { L.made labels.old secret }
+{
+    let mut frames = Frames::new(alloc, &*labels)?;
+    frames.push(labels, Kind::Branch, secret)?;
+    let none = labels.bottom();
+    let mut stack = one_value(alloc, &*labels, true, none)?;
+    if frames.len() != 2 {
+        return Err(OutOfMemory);
+    }
+    let Next::Value = end_branch_value(labels, &mut frames, &mut stack, 1)? else {
+        return Err(OutOfMemory);
+    };
+    let value = only_value(&*labels, &mut stack);
+    Ok((labels.has(value.label, 0), frames.len()))
+}
+
+// What a loop's condition with this label does: whether a turn comes, and whether origin 0 decides that the run is in the loop.
+fn asked<L: Labels>(
+    alloc: Global,
+    labels: &mut L,
+    secret: L::Label,
+    body: &Stmt,
+    holds: bool,
+) -> Result<(bool, bool), OutOfMemory>
+    requires { L.made labels.old secret }
+{
+    let round = Round { of: body };
+    let mut frames = Frames::new(alloc, &*labels)?;
+    let mut stack = one_value(alloc, &*labels, holds, secret)?;
+    let next = tested(labels, &mut frames, &mut stack, round)?;
+    let is_secret = is_secret(labels, &frames);
+    Ok((matches!(next, Next::Turn(_)), is_secret))
+}
+
+#[test]
+fn branches_of_statements(rt: HostRuntime) -> Result<(), Fail> {
+    let alloc = rt.alloc();
+    let body = empty(alloc)?;
+    let other = empty(alloc)?;
+    let mut labels = Masks;
+    let secret = labels.single(0)?;
+    assert_eq!(rt;
+        chosen(alloc, &mut labels, secret, &body, None)?,
+        (false, 2, true)
+    );
+    assert_eq!(rt;
+        chosen(alloc, &mut labels, secret, &body, Some(&other))?,
+        (true, 2, true)
+    );
+    Ok(())
+}
+
+#[test]
+fn ends_and_conditions(rt: HostRuntime) -> Result<(), Fail> {
+    let alloc = rt.alloc();
+    let body = empty(alloc)?;
+    let mut labels = Masks;
+    let secret = labels.single(0)?;
+    assert_eq!(rt; ended(alloc, &mut labels, secret)?, (true, 1));
+    assert_eq!(rt;
+        asked(alloc, &mut labels, secret, &body, true)?,
+        (true, true)
+    );
+    assert_eq!(rt;
+        asked(alloc, &mut labels, secret, &body, false)?,
+        (false, true)
+    );
+    Ok(())
+}

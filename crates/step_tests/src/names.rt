@@ -1,0 +1,327 @@
+ghost use Rattle.std.specs.Prelude.{◌≡◌, ◌<◌, ◌≤◌, IfSome, IfOk, OnOk, length};
+ghost use Rattle.origin_labels.specs.Stores.{IsKept};
+ghost use Rattle.js_values.specs.Readings.{HasHeap, HasRecords};
+ghost use Rattle.step_world.specs.Worlds.{Belongs, Grows};
+
+use env_records::{Envs, records_belong};
+use flow_frames::{FlowFault, Frames, Kind, Rule};
+use flow_text::{OutOfMemory, Text};
+use js_number::{Int, Primitive};
+use js_values::{Class, EnvId, Inner, Labelled, ObjId, Value};
+use object_heap::{Heap, objects_belong};
+use origin_labels::{Labels, Masks};
+use std::alloc::Global;
+use std::test::*;
+use step_names::*;
+use step_world::{Came, Reference, World};
+
+// What an act comes to: a number, another value, an error with this prototype, or a stop.
+#[derive(Clone, Copy, Debug, PartialEq, Eq)]
+enum Answer {
+    Gives(bool),
+    Throws(Option<ObjId>),
+    Stops(Rule),
+    Other,
+}
+
+fn number(n: i64) -> Value {
+    match Int::new(n) {
+        Some(n) => Value::Primitive(Primitive::Num(n)),
+        None => Value::Primitive(Primitive::Null),
+    }
+}
+
+fn unlabelled<L: Labels>(labels: &L, value: Value) -> Labelled<L::Label>
+    ensures { L.made labels.now result.label }
+{
+    let label = labels.bottom();
+    Labelled { value, label }
+}
+
+// As many objects as a run starts with.
+fn objects<L: Labels>(alloc: Global, labels: &L) -> Result<Heap<L::Label>, OutOfMemory>
+    ensures count { IfOk result (λ heap. 9 ≤ length heap) }
+    ensures belongs { IfOk result (λ heap. HasHeap (L.made labels.now) heap) }
+{
+    objects_belong::<L>();
+    let none = labels.bottom();
+    let mut heap = Heap::new(alloc);
+    'more: while heap.len() < 9 {
+        heap.new_object(Class::Object, None, none, none, Inner::Plain)?;
+    }
+    Ok(heap)
+}
+
+// Two records: the outer one has `x`, which can be assigned, and the inner one `this`, which can't.
+fn two_records<L: Labels>(alloc: Global, labels: &L) -> Result<(Envs<L::Label>, EnvId), OutOfMemory>
+    ensures there { IfOk result (λ pair. pair.1.0 < length pair.0) }
+    ensures belongs { IfOk result (λ pair. HasRecords (L.made labels.now) pair.0) }
+{
+    records_belong::<L>();
+    let mut envs = Envs::new(alloc);
+    let outer = envs.new_record(None)?;
+    let x = Text::spelled(alloc, "x")?;
+    envs.bind(outer, x, true, unlabelled(labels, number(0)))?;
+    let inner = envs.new_record(Some(outer))?;
+    let this = Text::spelled(alloc, "this")?;
+    envs.bind(inner, this, false, unlabelled(labels, number(0)))?;
+    Ok((envs, inner))
+}
+
+// A world with these records, in the Root alone.
+fn make_world<L: Labels>(alloc: Global, labels: &L) -> Result<(World<L::Label>, EnvId), OutOfMemory>
+    ensures there { IfOk result (λ pair. pair.1.0 < length pair.0.records) }
+    ensures belongs { IfOk result (λ pair. Belongs L.made L.meaning labels.now pair.0) }
+{
+    let frames = Frames::new(alloc, labels)?;
+    let heap = objects(alloc, labels)?;
+    let (records, inner) = two_records(alloc, labels)?;
+    let world = World {
+        frames,
+        heap,
+        records,
+        positions: Vec::new(alloc),
+    };
+    Ok((world, inner))
+}
+
+pub(crate) fn start<L: Labels>(alloc: Global, labels: &L) -> Option<(World<L::Label>, EnvId)>
+    ensures there { IfSome result (λ pair. pair.1.0 < length pair.0.records) }
+    ensures belongs { IfSome result (λ pair. Belongs L.made L.meaning labels.now pair.0) }
+{
+    match make_world(alloc, labels) {
+        Ok(pair) => Some(pair),
+        Err(_) => None,
+    }
+}
+
+// The prototype of an object, if the heap has it.
+fn prototype_of<T: Copy>(world: &World<T>, value: &Value) -> Option<ObjId> {
+    match value {
+        Value::Object(o) => {
+            let o = *o;
+            if world.heap.len() <= o.0 {
+                return None;
+            }
+            world.heap.shape(o).proto
+        }
+        Value::Primitive(_) => None,
+    }
+}
+
+fn told<T: Copy>(
+    world: &World<T>,
+    came: Result<Came<Labelled<T>, T>, FlowFault<T>>,
+    wanted: Value,
+) -> Answer {
+    match came {
+        Ok(Came::Goes(given)) => Answer::Gives(given.value == wanted),
+        Ok(Came::Throws(error)) => Answer::Throws(prototype_of(world, &error.value)),
+        Ok(Came::Leaves(_)) => Answer::Other,
+        Err(FlowFault::Stop(stop)) => Answer::Stops(stop.rule),
+        Err(FlowFault::OutOfMemory) => Answer::Other,
+    }
+}
+
+fn got<L: Labels>(
+    alloc: Global,
+    labels: &mut L,
+    world: &mut World<L::Label>,
+    at: EnvId,
+    name: &Text,
+    wanted: Value,
+) -> Answer
+    requires there { at.0 < length world.old.records }
+    requires belongs { Belongs L.made L.meaning labels.old world.old }
+    ensures belongs { Belongs L.made L.meaning labels.new world.new }
+    ensures grows { Grows world.old world.new }
+{
+    let reference = resolve(world, at, name);
+    let came = get_name(alloc, labels, world, reference);
+    told(world, came, wanted)
+}
+
+fn asked<L: Labels>(
+    alloc: Global,
+    labels: &L,
+    world: &World<L::Label>,
+    at: EnvId,
+    name: &Text,
+    wanted: Value,
+) -> Answer
+    requires there { at.0 < length world.now.records }
+    requires belongs { Belongs L.made L.meaning labels.now world.now }
+{
+    let reference = resolve(world, at, name);
+    let came = typeof_name(alloc, labels, world, reference);
+    told(world, came, wanted)
+}
+
+// A name is given a number, and a second one is what the assignment gives.
+fn given<L: Labels>(
+    labels: &mut L,
+    world: &mut World<L::Label>,
+    at: EnvId,
+    name: &Text,
+    n: i64,
+    wanted: i64,
+) -> Answer
+    requires there { at.0 < length world.old.records }
+    requires belongs { Belongs L.made L.meaning labels.old world.old }
+    ensures belongs { Belongs L.made L.meaning labels.new world.new }
+    ensures grows { Grows world.old world.new }
+{
+    let reference = resolve(world, at, name);
+    let other = unlabelled(labels, number(wanted));
+    let value = unlabelled(labels, number(n));
+    let came = assign_giving(labels, world, reference, other, value);
+    told(world, came, number(wanted))
+}
+
+fn assigned<L: Labels>(
+    alloc: Global,
+    labels: &mut L,
+    world: &mut World<L::Label>,
+    at: EnvId,
+    name: &Text,
+    n: i64,
+) -> Answer
+    requires there { at.0 < length world.old.records }
+    requires belongs { Belongs L.made L.meaning labels.old world.old }
+    ensures belongs { Belongs L.made L.meaning labels.new world.new }
+    ensures grows { Grows world.old world.new }
+{
+    let reference = resolve(world, at, name);
+    let value = unlabelled(labels, number(n));
+    let came = assign_to(alloc, labels, world, reference, value);
+    told(world, came, number(n))
+}
+
+fn put<L: Labels>(
+    labels: &mut L,
+    world: &mut World<L::Label>,
+    at: EnvId,
+    name: &Text,
+    n: i64,
+) -> bool
+    requires there { at.0 < length world.old.records }
+    requires belongs { Belongs L.made L.meaning labels.old world.old }
+    ensures belongs { Belongs L.made L.meaning labels.new world.new }
+    ensures grows { Grows world.old world.new }
+{
+    let reference = resolve(world, at, name);
+    let value = unlabelled(labels, number(n));
+    let came = put_name(labels, world, reference, value);
+    matches!(came, Ok(Came::Goes(())))
+}
+
+fn thrown<L: Labels>(
+    labels: &mut L,
+    world: &mut World<L::Label>,
+    kind: ErrorKind,
+    cause: L::Label,
+) -> Answer
+    requires cause { L.made labels.old cause }
+    requires belongs { Belongs L.made L.meaning labels.old world.old }
+    ensures belongs { Belongs L.made L.meaning labels.new world.new }
+    ensures grows { Grows world.old world.new }
+{
+    let came = throw_error(labels, world, kind, cause);
+    told(world, came, number(0))
+}
+
+// Enters a frame.
+fn enter<L: Labels>(
+    labels: &mut L,
+    world: &mut World<L::Label>,
+    kind: Kind,
+    label: L::Label,
+) -> Result<(), OutOfMemory>
+    requires label { L.made labels.old label }
+    requires belongs { Belongs L.made L.meaning labels.old world.old }
+    ensures belongs { OnOk result (Belongs L.made L.meaning labels.new world.new) }
+    ensures grows { Grows world.old world.new }
+    ensures kept { IsKept L.made L.meaning L.room L.firm labels.old labels.new }
+{
+    world.frames.push(labels, kind, label)?;
+    Ok(())
+}
+
+// An error is thrown in a branch inside a Try frame, and how many frames are left.
+fn thrown_inside<L: Labels>(
+    labels: &mut L,
+    world: &mut World<L::Label>,
+    kind: ErrorKind,
+    cause: L::Label,
+) -> Option<(Answer, usize)>
+    requires cause { L.made labels.old cause }
+    requires belongs { Belongs L.made L.meaning labels.old world.old }
+    ensures belongs { IfSome result (λ told. Belongs L.made L.meaning labels.new world.new) }
+    ensures grows { Grows world.old world.new }
+{
+    enter(labels, world, Kind::Try, cause).ok()?;
+    enter(labels, world, Kind::Branch, cause).ok()?;
+    let answer = thrown(labels, world, kind, cause);
+    Some((answer, world.frames.len()))
+}
+
+#[test]
+fn names_have_values(rt: HostRuntime) -> Result<(), Fail> {
+    let alloc = rt.alloc();
+    let x = Text::spelled(alloc, "x").ok().ok_or("memory")?;
+    let y = Text::spelled(alloc, "y").ok().ok_or("memory")?;
+    let (mut world, inner) = start(alloc, &Masks).ok_or("memory")?;
+    let here = resolve(&world, inner, &x);
+    assert_eq!(rt; here.record, Some(EnvId(0)));
+    let value = got(alloc, &mut Masks, &mut world, inner, &x, number(0));
+    assert_eq!(rt; value, Answer::Gives(true));
+    let undefined = Value::Primitive(Primitive::Undefined);
+    let unknown = asked(alloc, &Masks, &world, inner, &y, undefined);
+    assert_eq!(rt; unknown, Answer::Gives(true));
+    let error = got(alloc, &mut Masks, &mut world, inner, &y, number(0));
+    assert_eq!(rt; error, Answer::Throws(Some(ObjId(5))));
+    Ok(())
+}
+
+#[test]
+fn names_are_assigned(rt: HostRuntime) -> Result<(), Fail> {
+    let alloc = rt.alloc();
+    let x = Text::spelled(alloc, "x").ok().ok_or("memory")?;
+    let this = Text::spelled(alloc, "this").ok().ok_or("memory")?;
+    let (mut world, inner) = start(alloc, &Masks).ok_or("memory")?;
+    let one = assigned(alloc, &mut Masks, &mut world, inner, &x, 1);
+    assert_eq!(rt; one, Answer::Gives(true));
+    let value = got(alloc, &mut Masks, &mut world, inner, &x, number(1));
+    assert_eq!(rt; value, Answer::Gives(true));
+    let other = given(&mut Masks, &mut world, inner, &x, 2, 1);
+    assert_eq!(rt; other, Answer::Gives(true));
+    let value = got(alloc, &mut Masks, &mut world, inner, &x, number(2));
+    assert_eq!(rt; value, Answer::Gives(true));
+    let put_three = put(&mut Masks, &mut world, inner, &x, 3);
+    assert!(rt; put_three);
+    let value = got(alloc, &mut Masks, &mut world, inner, &x, number(3));
+    assert_eq!(rt; value, Answer::Gives(true));
+    let error = assigned(alloc, &mut Masks, &mut world, inner, &this, 1);
+    assert_eq!(rt; error, Answer::Throws(Some(ObjId(7))));
+    Ok(())
+}
+
+#[test]
+fn errors_are_thrown(rt: HostRuntime) -> Result<(), Fail> {
+    let alloc = rt.alloc();
+    let none = Masks.bottom();
+    let a = Masks.single(0).ok().ok_or("memory")?;
+    let x = Text::spelled(alloc, "x").ok().ok_or("memory")?;
+    let (mut world, inner) = start(alloc, &Masks).ok_or("memory")?;
+    assert_eq!(rt; ErrorKind::UriError.prototype(), ObjId(8));
+    let error = thrown(&mut Masks, &mut world, ErrorKind::RangeError, none);
+    assert_eq!(rt; error, Answer::Throws(Some(ObjId(4))));
+    let stop = thrown(&mut Masks, &mut world, ErrorKind::RangeError, a);
+    assert_eq!(rt; stop, Answer::Stops(Rule::W9));
+    let inside = thrown_inside(&mut Masks, &mut world, ErrorKind::EvalError, a);
+    let caught = inside.ok_or("memory")?;
+    assert_eq!(rt; caught, (Answer::Throws(Some(ObjId(3))), 2));
+    let stop = assigned(alloc, &mut Masks, &mut world, inner, &x, 1);
+    assert_eq!(rt; stop, Answer::Stops(Rule::W1));
+    Ok(())
+}
