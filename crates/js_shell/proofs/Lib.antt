@@ -1,6 +1,7 @@
 pub mod Answering
 pub mod Appending
 pub mod Asked
+pub mod InOrder
 pub mod Isolating
 pub mod Kept
 pub mod PolicyFormed

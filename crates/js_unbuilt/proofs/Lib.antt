@@ -1,3 +1,3 @@
-pub mod Calls
+pub mod InOrder
+pub mod Looked
 pub mod Loops
-pub mod Placed

@@ -1,5 +1,5 @@
 -- Loops over the nodes of a list that end at the first place found: what the rest gives is what the whole list gives, as long as nothing is found.
-use Rattle.std.proofs.Common.{refl, sym, ap, ◌∙◌, ◌≡◌, ◌<◌, ◌≤◌, ◌+◌, ℕ, List, [], ◌∷◌, length, drop, get_or, Option, Some, None, true, false}
+use Rattle.std.proofs.Common.{refl, sym, ap, ◌∙◌, ◌≡◌, ◌<◌, ◌≤◌, ◌+◌, ℕ, List, [], ◌∷◌, ◌++◌, length, drop, get_or, append_assoc, Option, Some, None, true, false}
 use Rattle.std.specs.Option.{is_some}
 use Rattle.std.proofs.lemmas.List.{drop_more, at_drop_all}
 use Rattle.js_ast.specs.declared.trees.Declarations.{Declarations, out-Declarations}
@@ -7,11 +7,9 @@ use Rattle.js_ast.specs.Nodes.{nodes_of}
 use Rattle.js_ast.specs.Trees.{Ident, MaybeExpr}
 use Rattle.js_ast.specs.Views.{view_declaration, view_declarations, view_other_declarations, declarations_from}
 use Rattle.js_ast.proofs.ViewLaws.{parts_declarations}
-use Rattle.js_unbuilt.specs.Unbuilt.{or_next, in_ident, in_maybe, in_declarations}
-
-none_behind : (f : Option ℕ) → or_next f None ≡ f
-none_behind None = refl
-none_behind (Some at) = refl
+use Rattle.js_unbuilt.specs.Unbuilt.{unbuilt_ident, unbuilt_maybe, unbuilt_declarations}
+use Rattle.js_unbuilt.specs.Looking.{first_in, or_next}
+use Rattle.js_unbuilt.proofs.Looked.{none_behind, first_append}
 
 -- what is found first is found
 pub found_first : (found next : Option ℕ) → is_some found ≡ true → or_next found next ≡ found
@@ -44,26 +42,18 @@ ends F xs i whole none le so_far = sym (at_drop_all F xs i le ∙ none) ∙ so_f
 
 -- a variable and its initialiser
 abbrev pub in_variable : Ident × MaybeExpr → Option ℕ
-in_variable d = or_next (in_ident d.0) (in_maybe d.1)
+in_variable d = first_in (unbuilt_ident d.0 ++ unbuilt_maybe d.1)
 
 -- variables in turn
 abbrev pub in_variables : List (Ident × MaybeExpr) → Option ℕ
 in_variables [] = None
 in_variables (d ∷ ds) = or_next (in_variable d) (in_variables ds)
 
-or_next_assoc : (a b c : Option ℕ) → or_next (or_next a b) c ≡ or_next a (or_next b c)
-or_next_assoc None b c = refl
-or_next_assoc (Some at) b c = refl
-
--- what stands behind the header of a `for`
-pub behind_header : (a b c d : Option ℕ) → or_next (or_next a (or_next b c)) d ≡ or_next a (or_next b (or_next c d))
-behind_header None None c d = refl
-behind_header None (Some at) c d = refl
-behind_header (Some at) b c d = refl
-
-variables_from : (d : Ident × MaybeExpr) (ds : List (Ident × MaybeExpr)) → in_declarations (declarations_from d ds) ≡ or_next (in_variable d) (in_variables ds)
+variables_from : (d : Ident × MaybeExpr) (ds : List (Ident × MaybeExpr)) → first_in (unbuilt_declarations (declarations_from d ds)) ≡ or_next (in_variable d) (in_variables ds)
 variables_from d [] = sym (none_behind (in_variable d))
-variables_from d (e ∷ es) = ap (λ rest. or_next (in_ident d.0) (or_next (in_maybe d.1) rest)) (variables_from e es) ∙ sym (or_next_assoc (in_ident d.0) (in_maybe d.1) (in_variables (e ∷ es)))
+variables_from d (e ∷ es) =
+    let others = unbuilt_declarations (declarations_from e es) in
+    ap first_in (sym (append_assoc (unbuilt_ident d.0) (unbuilt_maybe d.1) others)) ∙ first_append (unbuilt_ident d.0 ++ unbuilt_maybe d.1) others ∙ ap (or_next (in_variable d)) (variables_from e es)
 
-pub whole_variables : (ds : Declarations) → in_declarations (view_declarations ds) ≡ or_next (in_variable (view_declaration (out-Declarations ds).first)) (in_variables (view_other_declarations (nodes_of (out-Declarations ds).others)))
-whole_variables ds = ap in_declarations (parts_declarations ds) ∙ variables_from (view_declaration (out-Declarations ds).first) (view_other_declarations (nodes_of (out-Declarations ds).others))
+pub whole_variables : (ds : Declarations) → first_in (unbuilt_declarations (view_declarations ds)) ≡ or_next (in_variable (view_declaration (out-Declarations ds).first)) (in_variables (view_other_declarations (nodes_of (out-Declarations ds).others)))
+whole_variables ds = ap (λ d. first_in (unbuilt_declarations d)) (parts_declarations ds) ∙ variables_from (view_declaration (out-Declarations ds).first) (view_other_declarations (nodes_of (out-Declarations ds).others))

@@ -1,5 +1,5 @@
--- Which nodes of a program aren't built yet, and the first of them in source order. A node stands in front of its parts, and these in the order in which they are written.
-use Rattle.std.specs.Prelude.{ℕ, Bool, true, false, not, ◌||◌, List, Option, Some, None, codes}
+-- Which nodes of a program aren't built yet, by their places, and the least of these places.
+use Rattle.std.specs.Prelude.{ℕ, Bool, true, false, not, ◌||◌, List, [], ◌∷◌, ◌++◌, Option, Some, None, codes, min}
 use Rattle.std.specs.Option.{is_none}
 use Rattle.std.specs.Str.{bytes_eq}
 use Rattle.js_ast.specs.declared.operators.UnaryOperator.{UnaryOperator}
@@ -60,86 +60,79 @@ is_built binary_operator.In = false
 is_built binary_operator.Instanceof = false
 is_built _ = true
 
--- the first of two places in source order
-abbrev pub or_next : Option ℕ → Option ℕ → Option ℕ
-or_next (Some at) next = Some at
-or_next None next = next
-
--- a node at a place, where it is built with these parts, or isn't
-abbrev pub where_built : Bool → ℕ → Option ℕ → Option ℕ
-where_built true at parts = parts
-where_built false at parts = Some at
+-- a place, unless what stands there is built
+abbrev pub unless : Bool → ℕ → List ℕ
+unless true at = []
+unless false at = at ∷ []
 
 -- a name where it is bound
-abbrev pub in_ident : Ident → Option ℕ
-in_ident ident = where_built (not (is_reserved ident.text)) ident.at None
+abbrev pub unbuilt_ident : Ident → List ℕ
+unbuilt_ident ident = unless (not (is_reserved ident.text)) ident.at
 
-abbrev mutual
-  pub in_expr : Expr → Option ℕ
-  in_expr (name at text) = where_built (not (is_reserved text)) at None
-  in_expr (number at n) = None
-  in_expr (string at text v) = None
-  in_expr (null at) = None
-  in_expr (boolean at b) = None
-  in_expr (paren at e) = in_expr e
-  in_expr (call at (name there text) es) = where_built (is_called text) at (in_exprs es)
-  in_expr (postfix at e o) = where_built (is_name e) at (in_expr e)
-  in_expr (unary at o e) = where_built (takes_operand o e) at (in_expr e)
-  in_expr (binary at l o r) = where_built (is_built o) at (or_next (in_expr l) (in_expr r))
-  in_expr (conditional at c a b) = or_next (in_expr c) (or_next (in_expr a) (in_expr b))
-  in_expr (assign at l o r) = where_built (is_name l) at (or_next (in_expr l) (in_expr r))
-  in_expr (comma at l r) = or_next (in_expr l) (in_expr r)
-  in_expr e = Some (at_of e)
-
-  pub in_exprs : Exprs → Option ℕ
-  in_exprs no_exprs = None
-  in_exprs (more_exprs e es) = or_next (in_expr e) (in_exprs es)
-
-abbrev pub in_maybe : MaybeExpr → Option ℕ
-in_maybe absent = None
-in_maybe (present e) = in_expr e
-
-abbrev pub in_declarations : Declarations → Option ℕ
-in_declarations (one_declaration ident e) = or_next (in_ident ident) (in_maybe e)
-in_declarations (more_declarations ident e ds) = or_next (in_ident ident) (or_next (in_maybe e) (in_declarations ds))
-
-abbrev pub in_first : First → Option ℕ
-in_first (first_expr e) = in_maybe e
-in_first (first_var ds) = in_declarations ds
-
--- what stands in front of a statement's own statements, and the place of a statement that isn't built. An upgrade directive isn't
-abbrev pub in_head : Statement → Option ℕ
-in_head (block b) = None
-in_head (var at ds semi) = in_declarations ds
-in_head (empty at) = None
-in_head (expression at e semi) = where_built (is_none (directive_in e)) at (in_expr e)
-in_head (if_then at e s) = in_expr e
-in_head (if_else at e s u) = in_expr e
-in_head (do_while at s e semi) = None
-in_head (while at e s) = in_expr e
-in_head (for at first test step s) = or_next (in_first first) (or_next (in_maybe test) (in_maybe step))
-in_head (debugger at semi) = None
-in_head s = Some (place_of s)
-
+-- the node where it isn't built, and those of its parts that aren't; what a call calls is no part of it. Of a kind that isn't built at all the
+-- node stands alone: none of its parts stands in front of it
 unfoldable mutual
-  -- an upgrade directive isn't built
-  pub in_statement : Statement → Option ℕ
-  in_statement (block (block_of at body)) = in_statements body
-  in_statement (var at ds semi) = in_declarations ds
-  in_statement (empty at) = None
-  in_statement (expression at e semi) = where_built (is_none (directive_in e)) at (in_expr e)
-  in_statement (if_then at e s) = or_next (in_expr e) (in_statement s)
-  in_statement (if_else at e s u) = or_next (in_expr e) (or_next (in_statement s) (in_statement u))
-  in_statement (do_while at s e semi) = or_next (in_statement s) (in_expr e)
-  in_statement (while at e s) = or_next (in_expr e) (in_statement s)
-  in_statement (for at first test step s) = or_next (in_first first) (or_next (in_maybe test) (or_next (in_maybe step) (in_statement s)))
-  in_statement (debugger at semi) = None
-  in_statement s = Some (place_of s)
+  pub unbuilt_expr : Expr → List ℕ
+  unbuilt_expr (name at text) = unless (not (is_reserved text)) at
+  unbuilt_expr (number at n) = []
+  unbuilt_expr (string at text v) = []
+  unbuilt_expr (null at) = []
+  unbuilt_expr (boolean at b) = []
+  unbuilt_expr (paren at e) = unbuilt_expr e
+  unbuilt_expr (call at e es) = unless (is_callee e) at ++ unbuilt_exprs es
+  unbuilt_expr (postfix at e o) = unless (is_name e) at ++ unbuilt_expr e
+  unbuilt_expr (unary at o e) = unless (takes_operand o e) at ++ unbuilt_expr e
+  unbuilt_expr (binary at l o r) = unless (is_built o) at ++ (unbuilt_expr l ++ unbuilt_expr r)
+  unbuilt_expr (conditional at c a b) = unbuilt_expr c ++ (unbuilt_expr a ++ unbuilt_expr b)
+  unbuilt_expr (assign at l o r) = unless (is_name l) at ++ (unbuilt_expr l ++ unbuilt_expr r)
+  unbuilt_expr (comma at l r) = unbuilt_expr l ++ unbuilt_expr r
+  unbuilt_expr e = at_of e ∷ []
 
-  pub in_statements : Statements → Option ℕ
-  in_statements no_statements = None
-  in_statements (more_statements s ss) = or_next (in_statement s) (in_statements ss)
+  pub unbuilt_exprs : Exprs → List ℕ
+  unbuilt_exprs no_exprs = []
+  unbuilt_exprs (more_exprs e es) = unbuilt_expr e ++ unbuilt_exprs es
 
--- the place of a program's first node that isn't built
+abbrev pub unbuilt_maybe : MaybeExpr → List ℕ
+unbuilt_maybe absent = []
+unbuilt_maybe (present e) = unbuilt_expr e
+
+abbrev pub unbuilt_declarations : Declarations → List ℕ
+unbuilt_declarations (one_declaration ident e) = unbuilt_ident ident ++ unbuilt_maybe e
+unbuilt_declarations (more_declarations ident e ds) = unbuilt_ident ident ++ (unbuilt_maybe e ++ unbuilt_declarations ds)
+
+abbrev pub unbuilt_first : First → List ℕ
+unbuilt_first (first_expr e) = unbuilt_maybe e
+unbuilt_first (first_var ds) = unbuilt_declarations ds
+
+-- the same of statements. An upgrade directive isn't built
+unfoldable mutual
+  pub unbuilt_statement : Statement → List ℕ
+  unbuilt_statement (block (block_of at body)) = unbuilt_statements body
+  unbuilt_statement (var at ds semi) = unbuilt_declarations ds
+  unbuilt_statement (empty at) = []
+  unbuilt_statement (expression at e semi) = unless (is_none (directive_in e)) at ++ unbuilt_expr e
+  unbuilt_statement (if_then at e s) = unbuilt_expr e ++ unbuilt_statement s
+  unbuilt_statement (if_else at e s u) = unbuilt_expr e ++ (unbuilt_statement s ++ unbuilt_statement u)
+  unbuilt_statement (do_while at s e semi) = unbuilt_statement s ++ unbuilt_expr e
+  unbuilt_statement (while at e s) = unbuilt_expr e ++ unbuilt_statement s
+  unbuilt_statement (for at first test step s) = unbuilt_first first ++ (unbuilt_maybe test ++ (unbuilt_maybe step ++ unbuilt_statement s))
+  unbuilt_statement (debugger at semi) = []
+  unbuilt_statement s = place_of s ∷ []
+
+  pub unbuilt_statements : Statements → List ℕ
+  unbuilt_statements no_statements = []
+  unbuilt_statements (more_statements s ss) = unbuilt_statement s ++ unbuilt_statements ss
+
+-- the least of a number and others
+abbrev pub least_of : ℕ → List ℕ → ℕ
+least_of n [] = n
+least_of n (m ∷ ms) = min n (least_of m ms)
+
+-- the least of some numbers, where there are any
+abbrev pub least : List ℕ → Option ℕ
+least [] = None
+least (n ∷ ns) = Some (least_of n ns)
+
+-- the place of a program's first node that isn't built, where there is one
 abbrev pub first_unbuilt : Statements → Option ℕ
-first_unbuilt program = in_statements program
+first_unbuilt program = least (unbuilt_statements program)

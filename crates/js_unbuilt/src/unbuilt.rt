@@ -1,7 +1,8 @@
 //! The first node of a program, in source order, that can't be run yet.
 
-ghost use Rattle.std.specs.Prelude.{◌≡◌, ◌≤◌, ℕ, List, IfSome, not};
+ghost use Rattle.std.specs.Prelude.{◌≡◌, ◌≤◌, ◌++◌, ℕ, List, IfSome, not};
 ghost use Rattle.std.specs.List.{All};
+ghost use Rattle.std.specs.List.Sorted.{IsNonDecreasingBy};
 ghost use Rattle.std.specs.Option.{is_none};
 ghost use Rattle.js_ast.specs.declared.token.Token.{Token};
 ghost use Rattle.js_ast.specs.Grammar.{SpellsProgram};
@@ -9,7 +10,8 @@ ghost use Rattle.js_ast.specs.Nodes.{nodes_of};
 ghost use Rattle.js_ast.specs.Views.{view_ident, view_expr, view_exprs, view_maybe_expr, view_declaration, view_declarations, view_first, view_stmt, view_stmts, view_program};
 ghost use Rattle.js_faults.specs.Directives.{directive_in};
 ghost use Rattle.es_meaning.specs.Evaluation.{is_name};
-ghost use Rattle.js_unbuilt.specs.Unbuilt.{is_reserved, is_called, is_callee, takes_operand, is_built, or_next, where_built, in_ident, in_expr, in_exprs, in_maybe, in_declarations, in_first, in_head, in_statement, in_statements, first_unbuilt};
+ghost use Rattle.js_unbuilt.specs.Unbuilt.{is_reserved, is_called, is_callee, takes_operand, is_built, unless, unbuilt_ident, unbuilt_expr, unbuilt_exprs, unbuilt_maybe, unbuilt_declarations, unbuilt_first, unbuilt_statement, unbuilt_statements, first_unbuilt};
+ghost use Rattle.js_unbuilt.specs.Looking.{first_in, or_next, unbuilt_head};
 
 use flow_text::Text;
 use js_ast::{
@@ -104,7 +106,7 @@ fn is_directive(e: &Expr) -> bool
 
 /// The place of a node that isn't built, and the first one in its parts where it is.
 fn where_built(built: bool, at: usize, parts: Option<usize>) -> Option<usize>
-    ensures { result ≡ where_built built at parts }
+    ensures { result ≡ or_next (first_in (unless built at)) parts }
 {
     if built { parts } else { Some(at) }
 }
@@ -130,16 +132,17 @@ fn first_of_three(
     first_of(first, first_of(second, third))
 }
 
+#[tactic(auto, using(crate::proofs::Looked::none_behind))]
 fn in_ident(ident: &Ident) -> Option<usize>
-    ensures { result ≡ in_ident (view_ident ident.now) }
+    ensures { result ≡ first_in (unbuilt_ident (view_ident ident.now)) }
 {
     where_built(!is_reserved(&ident.text), ident.at, None)
 }
 
 #[cycle(walk)]
-#[tactic(auto, using(crate::proofs::Calls::at_call, js_ast::proofs::ViewLaws::held_exprs, js_ast::specs::declared::trees::ExprKind::TheViews::the_lemmas))]
+#[tactic(auto, using(crate::proofs::Looked::first_append, crate::proofs::Looked::none_behind, js_ast::proofs::ViewLaws::held_exprs, js_ast::specs::declared::trees::ExprKind::TheViews::the_lemmas), unfolding(crate::specs::Unbuilt::unbuilt_expr))]
 fn in_expr(e: &Expr) -> Option<usize>
-    ensures { result ≡ in_expr (view_expr e.now) }
+    ensures { result ≡ first_in (unbuilt_expr (view_expr e.now)) }
 {
     match &*e.kind {
         ExprKind::Number(_) | ExprKind::String { .. } | ExprKind::Null | ExprKind::Bool(_) => None,
@@ -184,7 +187,7 @@ fn in_expr(e: &Expr) -> Option<usize>
 
 #[cycle(walk)]
 fn in_exprs(list: &ExprList) -> Option<usize>
-    ensures { result ≡ in_exprs (view_exprs (nodes_of list.now)) }
+    ensures { result ≡ first_in (unbuilt_exprs (view_exprs (nodes_of list.now))) }
 {
     'exprs: for e in list.items() {
         let found = in_expr(e);
@@ -196,7 +199,7 @@ fn in_exprs(list: &ExprList) -> Option<usize>
 }
 
 fn in_maybe(e: &Option<Expr>) -> Option<usize>
-    ensures { result ≡ in_maybe (view_maybe_expr e.now) }
+    ensures { result ≡ first_in (unbuilt_maybe (view_maybe_expr e.now)) }
 {
     match e {
         Some(e) => in_expr(e),
@@ -205,14 +208,15 @@ fn in_maybe(e: &Option<Expr>) -> Option<usize>
 }
 
 /// The first place in a variable and its initialiser.
+#[tactic(auto, using(crate::proofs::Looked::first_append))]
 fn in_declaration(declaration: &Declaration) -> Option<usize>
-    ensures { result ≡ or_next (in_ident (view_declaration declaration.now).0) (in_maybe (view_declaration declaration.now).1) }
+    ensures { result ≡ first_in (unbuilt_ident (view_declaration declaration.now).0 ++ unbuilt_maybe (view_declaration declaration.now).1) }
 {
     first_of(in_ident(&declaration.name), in_maybe(&declaration.value))
 }
 
 fn in_declarations(declarations: &Declarations) -> Option<usize>
-    ensures { result ≡ in_declarations (view_declarations declarations.now) }
+    ensures { result ≡ first_in (unbuilt_declarations (view_declarations declarations.now)) }
 {
     let found = in_declaration(&declarations.first);
     if found.is_some() {
@@ -228,7 +232,7 @@ fn in_declarations(declarations: &Declarations) -> Option<usize>
 }
 
 fn in_first(first: &ForFirst) -> Option<usize>
-    ensures { result ≡ in_first (view_first first.now) }
+    ensures { result ≡ first_in (unbuilt_first (view_first first.now)) }
 {
     match first {
         ForFirst::Expr(e) => in_maybe(e),
@@ -237,15 +241,17 @@ fn in_first(first: &ForFirst) -> Option<usize>
 }
 
 /// The first place in an expression that is a statement.
+#[tactic(auto, using(crate::proofs::Looked::first_append))]
 fn in_expression(at: usize, e: &Expr) -> Option<usize>
-    ensures { result ≡ where_built (is_none (directive_in (view_expr e.now))) at (in_expr (view_expr e.now)) }
+    ensures { result ≡ first_in (unless (is_none (directive_in (view_expr e.now))) at ++ unbuilt_expr (view_expr e.now)) }
 {
     where_built(!is_directive(e), at, in_expr(e))
 }
 
 /// The first place in the header of a `for`.
+#[tactic(auto, using(crate::proofs::Looked::first_append))]
 fn in_header(first: &ForFirst, test: &Option<Expr>, update: &Option<Expr>) -> Option<usize>
-    ensures { result ≡ or_next (in_first (view_first first.now)) (or_next (in_maybe (view_maybe_expr test.now)) (in_maybe (view_maybe_expr update.now))) }
+    ensures { result ≡ first_in (unbuilt_first (view_first first.now) ++ (unbuilt_maybe (view_maybe_expr test.now) ++ unbuilt_maybe (view_maybe_expr update.now))) }
 {
     first_of_three(in_first(first), in_maybe(test), in_maybe(update))
 }
@@ -253,7 +259,7 @@ fn in_header(first: &ForFirst, test: &Option<Expr>, update: &Option<Expr>) -> Op
 /// The first place in what stands in front of a statement's own statements, or the statement's where it isn't built.
 #[tactic(auto, using(js_ast::proofs::ViewLaws::held_expr, js_ast::specs::declared::trees::ExprKind::TheViews::the_lemmas))]
 fn in_head(s: &Stmt) -> Option<usize>
-    ensures { result ≡ in_head (view_stmt s.now) }
+    ensures { result ≡ first_in (unbuilt_head (view_stmt s.now)) }
 {
     match &*s.kind {
         StmtKind::Empty | StmtKind::Debugger(_) | StmtKind::Block(_) | StmtKind::DoWhile { .. } => {
@@ -274,9 +280,9 @@ fn in_head(s: &Stmt) -> Option<usize>
 }
 
 #[cycle(statements)]
-#[tactic(auto, using(crate::proofs::Loops::behind_header, js_ast::proofs::ViewLaws::held_expr, js_ast::proofs::ViewLaws::held_stmts, js_ast::specs::declared::trees::ExprKind::TheViews::the_lemmas), unfolding(crate::specs::Unbuilt::in_statement))]
+#[tactic(auto, using(crate::proofs::Looked::first_append, crate::proofs::Looked::behind_header, js_ast::proofs::ViewLaws::held_expr, js_ast::proofs::ViewLaws::held_stmts, js_ast::specs::declared::trees::ExprKind::TheViews::the_lemmas), unfolding(crate::specs::Unbuilt::unbuilt_statement))]
 fn in_statement(s: &Stmt) -> Option<usize>
-    ensures { result ≡ in_statement (view_stmt s.now) }
+    ensures { result ≡ first_in (unbuilt_statement (view_stmt s.now)) }
 {
     let head = in_head(s);
     match &*s.kind {
@@ -300,7 +306,7 @@ fn in_statement(s: &Stmt) -> Option<usize>
 
 #[cycle(statements)]
 fn in_statements(list: &StmtList) -> Option<usize>
-    ensures { result ≡ in_statements (view_stmts (nodes_of list.now)) }
+    ensures { result ≡ first_in (unbuilt_statements (view_stmts (nodes_of list.now))) }
 {
     'statements: for s in list.items() {
         let found = in_statement(s);
@@ -311,10 +317,11 @@ fn in_statements(list: &StmtList) -> Option<usize>
     None
 }
 
-/// The place of the first node of a program, in source order, that can't be run yet. Where the tokens of the program
-/// begin in a source, so does the node.
+/// The place of the first node of a program that can't be run yet: the least place of one, where tokens in order spell
+/// the program. Where the tokens begin in a source, so does the node.
 pub fn first_unbuilt(program: &Program) -> Option<usize>
-    ensures found { result ≡ first_unbuilt (view_program program.now) }
+    ensures first { (tokens : List Token) → SpellsProgram (view_program program.now) tokens → IsNonDecreasingBy (λ t. t.from) tokens → result ≡ first_unbuilt (view_program program.now) }
+    ensures none { is_none result ≡ is_none (first_unbuilt (view_program program.now)) }
     ensures place { (tokens : List Token) (end : ℕ) → SpellsProgram (view_program program.now) tokens → All (λ t. t.from ≤ end) tokens → IfSome result (λ at. at ≤ end) }
 {
     in_statements(&program.body)

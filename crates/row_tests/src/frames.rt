@@ -1,6 +1,7 @@
 ghost use Rattle.std.specs.Prelude.{◌≡◌, ◌<◌, ◌≤◌, IfOk, length};
 ghost use Rattle.flow_frames.specs.Held.{Belong};
 
+use crate::told::holds;
 use flow_frames::*;
 use flow_text::OutOfMemory;
 use origin_labels::{Labels, Masks};
@@ -87,16 +88,11 @@ fn inside<L: Labels>(
     Ok(origins(labels, label))
 }
 
-#[test]
-fn begins_with_a_root(rt: HostRuntime) -> Result<(), Fail> {
-    let store = Masks;
-    let mut frames = Frames::new(rt.alloc(), &store).ok().ok_or("memory")?;
-    assert_eq!(rt; frames.len(), 1);
-    assert_eq!(rt; frames.target(), 0);
-    assert!(rt; frames.kind(0) == Kind::Root);
-    assert_eq!(rt; context(&store, &frames), [false, false]);
-    assert!(rt; frames.reserve().is_ok());
-    Ok(())
+fn begins_with_a_root<L: Labels>(alloc: Global, labels: &L) -> Result<bool, OutOfMemory> {
+    let mut frames = Frames::new(alloc, labels)?;
+    frames.reserve()?;
+    let root = frames.len() == 1 && frames.target() == 0 && frames.kind(0) == Kind::Root;
+    Ok(root && context(labels, &frames) == [false, false])
 }
 
 // What the labels inside the Root and inside the Branch have.
@@ -130,69 +126,77 @@ fn raised<L: Labels>(
     Some((before, left, context(&*labels, &*frames)))
 }
 
-#[test]
-fn labels_of_what_is_inside(rt: HostRuntime) -> Result<(), Fail> {
-    let mut store = Masks;
-    let a = store.single(0).ok().ok_or("memory")?;
-    let both = inside_of_both(rt.alloc(), &mut store, a)
-        .ok()
-        .ok_or("memory")?;
-    assert_eq!(rt; both, ([true, false], [false, false]));
-    Ok(())
+fn labels_of_what_is_inside(alloc: Global) -> Result<bool, OutOfMemory> {
+    let a = Masks.single(0)?;
+    let both = inside_of_both(alloc, &mut Masks, a)?;
+    Ok(both == ([true, false], [false, false]))
+}
+
+fn labels_of_a_raised_frame(alloc: Global) -> Result<bool, OutOfMemory> {
+    let a = Masks.single(0)?;
+    let b = Masks.single(1)?;
+    let mut frames = branched(alloc, &mut Masks, a)?;
+    let branch = frames.len() == 2 && context(&Masks, &frames) == [true, false];
+    let told = raised(&mut Masks, &mut frames, b);
+    Ok(branch && told == Some(([true, true], [true, true], [false, false])))
+}
+
+// Whether a jump to the Root from the Branch is stopped: the need has origin 0, and the label doesn't.
+fn stops_a_jump(alloc: Global) -> Result<bool, OutOfMemory> {
+    let a = Masks.single(0)?;
+    let none = Masks.bottom();
+    let mut frames = branched(alloc, &mut Masks, a)?;
+    let Err(FlowFault::Stop(stop)) = frames.jump(&mut Masks, 0, none) else {
+        return Ok(false);
+    };
+    let need = origins(&Masks, stop.need) == [true, false];
+    let have = origins(&Masks, stop.have) == [false, false];
+    Ok(need && have && stop.rule == Rule::W9 && frames.len() == 2)
+}
+
+// The same of raising the Root.
+fn stops_a_raise(alloc: Global) -> Result<bool, OutOfMemory> {
+    let a = Masks.single(0)?;
+    let mut frames = branched(alloc, &mut Masks, a)?;
+    let Err(FlowFault::Stop(stop)) = frames.raise(&mut Masks, 0, a) else {
+        return Ok(false);
+    };
+    let need = origins(&Masks, stop.need) == [true, false];
+    let have = origins(&Masks, stop.have) == [false, false];
+    Ok(need && have && stop.rule == Rule::W10 && frames.len() == 2)
+}
+
+// Whether a jump to the depth 2 leaves three frames.
+fn jumps<L: Labels>(labels: &mut L, frames: &mut Frames<L::Label>, none: L::Label) -> bool
+    requires none { L.made labels.old none }
+    requires belongs { Belong L.made L.meaning labels.old frames.old.frames }
+{
+    if frames.len() <= 2 {
+        return false;
+    }
+    let jumped = frames.jump(labels, 2, none).is_ok();
+    jumped && frames.len() == 3 && context(&*labels, &*frames) == [true, false]
+}
+
+fn throws_and_jumps(alloc: Global) -> Result<bool, OutOfMemory> {
+    let a = Masks.single(0)?;
+    let none = Masks.bottom();
+    let mut frames = branched(alloc, &mut Masks, a)?;
+    let to_try = target_inside(&mut Masks, &mut frames, Kind::Try) == Some(2);
+    let past_call = target_inside(&mut Masks, &mut frames, Kind::Call) == Some(2);
+    let to_last = target_inside(&mut Masks, &mut frames, Kind::Try) == Some(4);
+    silence(&Masks, &mut frames);
+    let past_quiet = frames.target() == 2;
+    Ok(to_try && past_call && to_last && past_quiet && jumps(&mut Masks, &mut frames, none))
 }
 
 #[test]
-fn labels_of_a_raised_frame(rt: HostRuntime) -> Result<(), Fail> {
-    let mut store = Masks;
-    let a = store.single(0).ok().ok_or("memory")?;
-    let b = store.single(1).ok().ok_or("memory")?;
-    let mut frames = branched(rt.alloc(), &mut store, a).ok().ok_or("memory")?;
-    assert_eq!(rt; frames.len(), 2);
-    assert_eq!(rt; context(&store, &frames), [true, false]);
-    let told = raised(&mut store, &mut frames, b).ok_or("memory")?;
-    assert_eq!(rt; told, ([true, true], [true, true], [false, false]));
-    Ok(())
-}
-
-#[test]
-fn stops_by_a_rule(rt: HostRuntime) -> Result<(), Fail> {
-    let mut store = Masks;
-    let none = store.bottom();
-    let a = store.single(0).ok().ok_or("memory")?;
-    let mut frames = branched(rt.alloc(), &mut store, a).ok().ok_or("memory")?;
-    if let Err(FlowFault::Stop(stop)) = frames.jump(&mut store, 0, none) {
-        assert!(rt; stop.rule == Rule::W9);
-        assert_eq!(rt; origins(&store, stop.need), [true, false]);
-        assert_eq!(rt; origins(&store, stop.have), [false, false]);
-    } else {
-        assert!(rt; false);
-    }
-    if let Err(FlowFault::Stop(stop)) = frames.raise(&mut store, 0, a) {
-        assert!(rt; stop.rule == Rule::W10);
-        assert_eq!(rt; origins(&store, stop.need), [true, false]);
-        assert_eq!(rt; origins(&store, stop.have), [false, false]);
-    } else {
-        assert!(rt; false);
-    }
-    assert_eq!(rt; frames.len(), 2);
-    Ok(())
-}
-
-#[test]
-fn throws_and_jumps(rt: HostRuntime) -> Result<(), Fail> {
-    let mut store = Masks;
-    let none = store.bottom();
-    let a = store.single(0).ok().ok_or("memory")?;
-    let mut frames = branched(rt.alloc(), &mut store, a).ok().ok_or("memory")?;
-    assert_eq!(rt; target_inside(&mut store, &mut frames, Kind::Try), Some(2));
-    assert_eq!(rt; target_inside(&mut store, &mut frames, Kind::Call), Some(2));
-    assert_eq!(rt; target_inside(&mut store, &mut frames, Kind::Try), Some(4));
-    silence(&store, &mut frames);
-    assert_eq!(rt; frames.target(), 2);
-    if frames.len() > 2 {
-        assert!(rt; frames.jump(&mut store, 2, none).is_ok());
-    }
-    assert_eq!(rt; frames.len(), 3);
-    assert_eq!(rt; context(&store, &frames), [true, false]);
-    Ok(())
+fn labels_of_frames(rt: HostRuntime) {
+    let alloc = rt.alloc();
+    assert!(rt; holds(begins_with_a_root(alloc, &Masks)));
+    assert!(rt; holds(labels_of_what_is_inside(alloc)));
+    assert!(rt; holds(labels_of_a_raised_frame(alloc)));
+    assert!(rt; holds(stops_a_jump(alloc)));
+    assert!(rt; holds(stops_a_raise(alloc)));
+    assert!(rt; holds(throws_and_jumps(alloc)));
 }

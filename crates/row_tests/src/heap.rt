@@ -1,6 +1,7 @@
-ghost use Rattle.std.specs.Prelude.{◌≡◌, ◌<◌, IfOk, IfSome, length};
+ghost use Rattle.std.specs.Prelude.{◌≡◌, ◌<◌, IfOk, length};
 ghost use Rattle.js_values.specs.Readings.{HasHeap};
 
+use crate::told::holds;
 use flow_frames::Rule;
 use flow_text::{OutOfMemory, Text};
 use js_number::{Int, Primitive};
@@ -11,7 +12,7 @@ use std::alloc::Global;
 use std::test::*;
 
 // What is answered to a call: of a stop its rule, and whether need and have hold origin 0.
-#[derive(Clone, Copy, Debug, PartialEq, Eq)]
+#[derive(Clone, Copy, PartialEq, Eq)]
 enum Answer {
     Done,
     Stopped(Rule, bool, bool),
@@ -38,8 +39,8 @@ fn is_stop(answer: Answer, rule: Rule) -> bool {
     answer == Answer::Stopped(rule, true, false)
 }
 
-fn key(alloc: Global, spelling: &str) -> Option<Key> {
-    Some(Key::new(Text::spelled(alloc, spelling).ok()?))
+fn key(alloc: Global, spelling: &str) -> Result<Key, OutOfMemory> {
+    Ok(Key::new(Text::spelled(alloc, spelling)?))
 }
 
 fn marks(writable: bool) -> Marks {
@@ -58,7 +59,7 @@ fn number(n: i64) -> Value {
 }
 
 // Whether a property holds the number.
-fn holds<T: Copy>(heap: &Heap<T>, o: ObjId, key: &Key, n: i64) -> bool
+fn has_number<T: Copy>(heap: &Heap<T>, o: ObjId, key: &Key, n: i64) -> bool
     requires { o.0 < length heap.now }
 {
     match heap.own(o, key) {
@@ -88,21 +89,6 @@ fn make_one<L: Labels>(
     let o = heap.new_object(class, None, none, none, Inner::Plain)?;
     let _added = added(labels, &mut heap, o, same, none);
     Ok((heap, o, name))
-}
-
-fn one_object<L: Labels>(
-    alloc: Global,
-    labels: &mut L,
-    class: Class,
-    spelling: &str,
-) -> Option<(Heap<L::Label>, ObjId, Key)>
-    ensures there { IfSome result (λ made. made.1.0 < length made.0) }
-    ensures belongs { IfSome result (λ made. HasHeap (L.made labels.new) made.0) }
-{
-    match make_one(alloc, labels, class, spelling) {
-        Ok(made) => Some(made),
-        Err(_) => None,
-    }
 }
 
 // What is answered where the number 0 is added.
@@ -274,76 +260,93 @@ fn shut<L: Labels>(labels: &mut L, heap: &mut Heap<L::Label>, o: ObjId, need: L:
     told!(labels, result)
 }
 
-#[test]
-fn changes_are_stopped(rt: HostRuntime) -> Result<(), Fail> {
-    let a = Masks.single(0).ok().ok_or("memory")?;
-    let (mut heap, o, x) = one_object(rt.alloc(), &mut Masks, Class::Object, "x").ok_or("memory")?;
+fn changes_are_stopped(alloc: Global) -> Result<bool, OutOfMemory> {
+    let a = Masks.single(0)?;
+    let (mut heap, o, x) = make_one(alloc, &mut Masks, Class::Object, "x")?;
     let name = is_stop(written(&mut Masks, &mut heap, o, &x, a, Rule::W1), Rule::W1);
     let body = is_stop(with_body(&mut Masks, &mut heap, o, &x, a), Rule::W2);
     let marks = is_stop(frozen(&mut Masks, &mut heap, o, &x, a), Rule::W6);
     let existence = is_stop(upge(&mut Masks, &mut heap, o, &x, a, a), Rule::W8);
-    assert!(rt; name && body && marks && existence && holds(&heap, o, &x, 0));
-    Ok(())
+    Ok(name && body && marks && existence && has_number(&heap, o, &x, 0))
 }
 
-#[test]
-fn shapes_are_kept(rt: HostRuntime) -> Result<(), Fail> {
-    let none = Masks.bottom();
-    let a = Masks.single(0).ok().ok_or("memory")?;
-    let (mut heap, o, x) = one_object(rt.alloc(), &mut Masks, Class::Object, "x").ok_or("memory")?;
-    let y = key(rt.alloc(), "y").ok_or("memory")?;
+fn shapes_are_kept(alloc: Global) -> Result<bool, OutOfMemory> {
+    let a = Masks.single(0)?;
+    let y = key(alloc, "y")?;
+    let (mut heap, o, _) = make_one(alloc, &mut Masks, Class::Object, "x")?;
     let addition = is_stop(added(&mut Masks, &mut heap, o, y, a), Rule::W3);
     let structure = is_stop(upgs(&mut Masks, &mut heap, o, a, a), Rule::W7);
     let extension = is_stop(shut(&mut Masks, &mut heap, o, a), Rule::W7);
+    Ok(addition && structure && extension)
+}
+
+fn removals_are_stopped(alloc: Global) -> Result<bool, OutOfMemory> {
+    let a = Masks.single(0)?;
+    let none = Masks.bottom();
+    let (mut heap, o, x) = make_one(alloc, &mut Masks, Class::Object, "x")?;
     let property = is_stop(removed(&mut Masks, &mut heap, o, &x, a), Rule::W4);
     let raised = upge(&mut Masks, &mut heap, o, &x, none, a) == Answer::Done;
     let object = is_stop(removed(&mut Masks, &mut heap, o, &x, a), Rule::W5);
-    assert!(rt; addition && structure && extension && property && raised && object);
-    Ok(())
+    Ok(property && raised && object)
 }
 
-#[test]
-fn changes_are_done(rt: HostRuntime) -> Result<(), Fail> {
+// Whether the first property of an object is the key's, and can't be written.
+fn is_frozen<T: Copy>(heap: &Heap<T>, o: ObjId, x: &Key) -> bool
+    requires { o.0 < length heap.now }
+{
+    matches!(heap.own_at(o, 0), Some((key, slot)) if *key == *x && !slot.marks.writable)
+}
+
+fn changes_are_done(alloc: Global) -> Result<bool, OutOfMemory> {
     let none = Masks.bottom();
-    let (mut heap, o, x) = one_object(rt.alloc(), &mut Masks, Class::Object, "x").ok_or("memory")?;
+    let (mut heap, o, x) = make_one(alloc, &mut Masks, Class::Object, "x")?;
     let value = written(&mut Masks, &mut heap, o, &x, none, Rule::W2) == Answer::Done;
-    let one = holds(&heap, o, &x, 1);
+    let one = has_number(&heap, o, &x, 1);
     let marks = frozen(&mut Masks, &mut heap, o, &x, none) == Answer::Done;
-    let first = matches!(heap.own_at(o, 0), Some((key, slot)) if *key == x && !slot.marks.writable);
+    let first = is_frozen(&heap, o, &x);
     let body = with_body(&mut Masks, &mut heap, o, &x, none) == Answer::Done;
-    let no_value = !holds(&heap, o, &x, 1);
-    assert!(rt; value && one && marks && first && body && no_value);
-    Ok(())
+    Ok(value && one && marks && first && body && !has_number(&heap, o, &x, 1))
 }
 
-#[test]
-fn shapes_are_changed(rt: HostRuntime) -> Result<(), Fail> {
-    let a = Masks.single(0).ok().ok_or("memory")?;
-    let none = Masks.bottom();
-    let (mut heap, o, x) = one_object(rt.alloc(), &mut Masks, Class::Object, "x").ok_or("memory")?;
-    let structure = upgs(&mut Masks, &mut heap, o, none, a) == Answer::Done;
-    let extension = shut(&mut Masks, &mut heap, o, a) == Answer::Done;
-    let removal = removed(&mut Masks, &mut heap, o, &x, none) == Answer::Done;
+// Whether the only object is one without properties, to which none can be added.
+fn is_empty_and_shut<T: Copy>(heap: &Heap<T>, o: ObjId) -> bool
+    requires { o.0 < length heap.now }
+{
     let gone = heap.own_at(o, 0).is_none() && heap.len() == 1;
     let shape = heap.shape(o);
     let shut = shape.class == Class::Object && shape.proto.is_none() && !shape.extensible;
-    let plain = matches!(heap.inner(o), Inner::Plain);
-    assert!(rt; structure && extension && removal && gone && shut && plain);
-    Ok(())
+    gone && shut && matches!(heap.inner(o), Inner::Plain)
 }
 
-#[test]
-fn elements_raise_the_length(rt: HostRuntime) -> Result<(), Fail> {
+fn shapes_are_changed(alloc: Global) -> Result<bool, OutOfMemory> {
+    let a = Masks.single(0)?;
     let none = Masks.bottom();
-    let a = Masks.single(0).ok().ok_or("memory")?;
-    let (mut heap, o, length) = one_object(rt.alloc(), &mut Masks, Class::Array, "length").ok_or(
-        "memory",
-    )?;
-    let third = key(rt.alloc(), "3").ok_or("memory")?;
-    let fourth = key(rt.alloc(), "4").ok_or("memory")?;
+    let (mut heap, o, x) = make_one(alloc, &mut Masks, Class::Object, "x")?;
+    let structure = upgs(&mut Masks, &mut heap, o, none, a) == Answer::Done;
+    let extension = shut(&mut Masks, &mut heap, o, a) == Answer::Done;
+    let removal = removed(&mut Masks, &mut heap, o, &x, none) == Answer::Done;
+    Ok(structure && extension && removal && is_empty_and_shut(&heap, o))
+}
+
+fn elements_raise_the_length(alloc: Global) -> Result<bool, OutOfMemory> {
+    let none = Masks.bottom();
+    let a = Masks.single(0)?;
+    let third = key(alloc, "3")?;
+    let fourth = key(alloc, "4")?;
+    let (mut heap, o, length) = make_one(alloc, &mut Masks, Class::Array, "length")?;
     let above = added(&mut Masks, &mut heap, o, third, none) == Answer::Done;
     let raised = upgs(&mut Masks, &mut heap, o, none, a) == Answer::Done;
     let stopped = is_stop(added(&mut Masks, &mut heap, o, fourth, a), Rule::W2);
-    assert!(rt; above && raised && stopped && holds(&heap, o, &length, 4));
-    Ok(())
+    Ok(above && raised && stopped && has_number(&heap, o, &length, 4))
+}
+
+#[test]
+fn changes_of_objects(rt: HostRuntime) {
+    let alloc = rt.alloc();
+    assert!(rt; holds(changes_are_stopped(alloc)));
+    assert!(rt; holds(shapes_are_kept(alloc)));
+    assert!(rt; holds(removals_are_stopped(alloc)));
+    assert!(rt; holds(changes_are_done(alloc)));
+    assert!(rt; holds(shapes_are_changed(alloc)));
+    assert!(rt; holds(elements_raise_the_length(alloc)));
 }

@@ -2,8 +2,6 @@
 #![tactic(auto)]
 
 #[cfg(test)]
-mod early;
-#[cfg(test)]
 mod frames;
 #[cfg(test)]
 mod heap;
@@ -16,7 +14,7 @@ mod policies;
 #[cfg(test)]
 mod records;
 #[cfg(test)]
-mod trees;
+mod told;
 #[cfg(test)]
 mod values;
 #[cfg(test)]

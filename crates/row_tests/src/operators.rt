@@ -1,6 +1,7 @@
 ghost use Rattle.js_values.specs.Readings.{HasValue};
 ghost use Rattle.step_world.specs.Acts.{HasAnswer};
 
+use crate::told::holds;
 use env_records::Envs;
 use flow_frames::{FlowFault, Frames};
 use flow_text::{OutOfMemory, Text};
@@ -10,32 +11,145 @@ use js_values::{Class, Inner, Labelled, ObjId, Value};
 use object_heap::Heap;
 use origin_labels::{Labels, Masks};
 use std::alloc::Global;
+use std::process::Abort;
 use std::test::*;
 use step_values::*;
 use step_world::{Came, Leaving, World};
 
-// What an operator came to: of a value, whether it depends on the origins 0 and 1.
-#[derive(Debug, Drop, PartialEq, Eq)]
-enum Answer {
-    Gives(Value, bool, bool),
-    Leaves(Leaving),
-    Other,
+// A value as data. The object is a function.
+#[derive(Clone, Copy)]
+enum Given {
+    Text(&'static str),
+    Number(i64),
+    Bool(bool),
+    Object,
+    Undefined,
 }
 
-fn answered<L: Labels>(
-    labels: &L,
-    came: Result<Came<Labelled<L::Label>, L::Label>, FlowFault<L::Label>>,
-) -> Answer
-    requires { HasAnswer (HasValue (L.made labels.now)) (L.made labels.now) came }
-{
-    match came {
-        Ok(Came::Goes(v)) => {
-            let (first, second) = (labels.has(v.label, 0), labels.has(v.label, 1));
-            Answer::Gives(v.value, first, second)
-        }
-        Ok(Came::Leaves(why)) => Answer::Leaves(why),
-        _ => Answer::Other,
-    }
+// A value as a condition.
+const TRUTHS: &[(Given, bool)] = &[
+    (Given::Text(""), false),
+    (Given::Text("0"), true),
+    (Given::Object, true),
+    (Given::Number(-1), true),
+    (Given::Number(0), false),
+];
+
+// What an operator gives in front of a value, or why it leaves the run.
+type Front = (UnaryOperator, Given, Result<Given, Leaving>);
+
+const FRONTS: &[Front] = &[
+    (
+        UnaryOperator::Minus,
+        Given::Text(" 3 "),
+        Ok(Given::Number(-3)),
+    ),
+    (
+        UnaryOperator::BitNot,
+        Given::Number(5),
+        Ok(Given::Number(-6)),
+    ),
+    (
+        UnaryOperator::Typeof,
+        Given::Undefined,
+        Ok(Given::Text("undefined")),
+    ),
+    (
+        UnaryOperator::Typeof,
+        Given::Object,
+        Ok(Given::Text("function")),
+    ),
+    (UnaryOperator::Plus, Given::Object, Err(Leaving::Unbuilt)),
+    (UnaryOperator::Plus, Given::Undefined, Err(Leaving::Number)),
+];
+
+// The same of an operator between two values.
+type Middle = (Given, BinaryOperator, Given, Result<Given, Leaving>);
+
+const NUMBERS: &[Middle] = &[
+    (
+        Given::Text("7"),
+        BinaryOperator::Subtract,
+        Given::Bool(true),
+        Ok(Given::Number(6)),
+    ),
+    (
+        Given::Number(-5),
+        BinaryOperator::Remainder,
+        Given::Number(3),
+        Ok(Given::Number(-2)),
+    ),
+    (
+        Given::Number(1),
+        BinaryOperator::Divide,
+        Given::Number(2),
+        Err(Leaving::Number),
+    ),
+    (
+        Given::Number(-1),
+        BinaryOperator::ShiftRightZero,
+        Given::Number(28),
+        Ok(Given::Number(15)),
+    ),
+];
+
+// The left operand is a number before the right one is asked whether it is an object (ECMA-262 11.5).
+const ORDERS: &[Middle] = &[
+    (
+        Given::Undefined,
+        BinaryOperator::Multiply,
+        Given::Object,
+        Err(Leaving::Number),
+    ),
+    (
+        Given::Number(2),
+        BinaryOperator::Multiply,
+        Given::Object,
+        Err(Leaving::Unbuilt),
+    ),
+    (
+        Given::Undefined,
+        BinaryOperator::Add,
+        Given::Object,
+        Err(Leaving::Unbuilt),
+    ),
+];
+
+const COMPARISONS: &[Middle] = &[
+    (
+        Given::Text("10"),
+        BinaryOperator::Less,
+        Given::Text("9"),
+        Ok(Given::Bool(true)),
+    ),
+    (
+        Given::Text("10"),
+        BinaryOperator::Less,
+        Given::Number(9),
+        Ok(Given::Bool(false)),
+    ),
+    (
+        Given::Object,
+        BinaryOperator::Equal,
+        Given::Object,
+        Ok(Given::Bool(true)),
+    ),
+    (
+        Given::Undefined,
+        BinaryOperator::NotEqual,
+        Given::Object,
+        Ok(Given::Bool(true)),
+    ),
+    (
+        Given::Number(1),
+        BinaryOperator::Equal,
+        Given::Object,
+        Err(Leaving::Unbuilt),
+    ),
+];
+
+fn text(alloc: Global, spelling: &str) -> Result<Value, OutOfMemory> {
+    Ok(Value::Primitive(Primitive::Str(Text::spelled(alloc, spelling)?)))
 }
 
 fn number(n: i64) -> Value {
@@ -45,20 +159,14 @@ fn number(n: i64) -> Value {
     }
 }
 
-fn boolean(b: bool) -> Value {
-    Value::Primitive(Primitive::Bool(b))
-}
-
-fn text(alloc: Global, spelling: &str) -> Result<Value, OutOfMemory> {
-    Ok(Value::Primitive(Primitive::Str(Text::spelled(alloc, spelling)?)))
-}
-
-fn object() -> Value {
-    Value::Object(ObjId(0))
-}
-
-fn undefined() -> Value {
-    Value::Primitive(Primitive::Undefined)
+fn value_of(alloc: Global, given: Given) -> Result<Value, OutOfMemory> {
+    match given {
+        Given::Text(spelling) => text(alloc, spelling),
+        Given::Number(n) => Ok(number(n)),
+        Given::Bool(b) => Ok(Value::Primitive(Primitive::Bool(b))),
+        Given::Object => Ok(Value::Object(ObjId(0))),
+        Given::Undefined => Ok(Value::Primitive(Primitive::Undefined)),
+    }
 }
 
 // The first object is a function, and there is no other.
@@ -78,128 +186,92 @@ fn world_with_function<L: Labels>(
     })
 }
 
-// What an operator gives in front of a value that depends on origin 0.
-fn front(alloc: Global, operator: UnaryOperator, value: Value) -> Result<Answer, OutOfMemory> {
-    let mut labels = Masks;
-    let world = world_with_function(alloc, &labels)?;
-    let label = labels.single(0)?;
-    let value = Labelled { value, label };
-    Ok(answered(&labels, unary_value(alloc, &world, operator, &value)))
+fn is_given(alloc: Global, value: &Value, wanted: Result<Given, Leaving>) -> bool {
+    match wanted {
+        Ok(wanted) => matches!(value_of(alloc, wanted), Ok(wanted) if wanted == *value),
+        Err(_) => false,
+    }
 }
 
-// What an operator gives between a value that depends on origin 0 and one that depends on origin 1.
-fn middle(
+// Whether this is what an operator came to. A value that it gives depends on these of the origins 0 and 1.
+fn is_answer<L: Labels>(
     alloc: Global,
-    left: Value,
-    operator: BinaryOperator,
-    right: Value,
-) -> Result<Answer, OutOfMemory> {
-    let mut labels = Masks;
-    let world = world_with_function(alloc, &labels)?;
-    let left = Labelled {
-        value: left,
-        label: labels.single(0)?,
-    };
-    let right = Labelled {
-        value: right,
-        label: labels.single(1)?,
-    };
-    let result = binary_values(alloc, &mut labels, &world, operator, &left, &right);
-    Ok(answered(&labels, result))
-}
-
-fn gives(answer: Answer, value: Value) -> bool {
-    answer == Answer::Gives(value, true, true)
+    labels: &L,
+    came: Result<Came<Labelled<L::Label>, L::Label>, FlowFault<L::Label>>,
+    origins: [bool; 2],
+    wanted: Result<Given, Leaving>,
+) -> bool
+    requires { HasAnswer (HasValue (L.made labels.now)) (L.made labels.now) came }
+{
+    match came {
+        Ok(Came::Goes(v)) => {
+            let depends = [labels.has(v.label, 0), labels.has(v.label, 1)];
+            depends == origins && is_given(alloc, &v.value, wanted)
+        }
+        Ok(Came::Leaves(why)) => wanted.err() == Some(why),
+        _ => false,
+    }
 }
 
 #[test]
 fn values_as_booleans(rt: HostRuntime) -> Result<(), Fail> {
-    let empty = truth(&text(rt.alloc(), "")?);
-    let zero = truth(&text(rt.alloc(), "0")?);
-    assert!(rt; zero && !empty);
-    assert!(rt; truth(&object()) && truth(&number(-1)) && !truth(&number(0)));
+    for (given, wanted) in TRUTHS {
+        assert!(rt; truth(&value_of(rt.alloc(), *given)?) == *wanted);
+    }
     Ok(())
 }
 
-#[test]
-fn operators_in_front(rt: HostRuntime) -> Result<(), Fail> {
-    let alloc = rt.alloc();
-    let minus = front(alloc, UnaryOperator::Minus, text(alloc, " 3 ")?)?;
-    assert!(rt; minus == Answer::Gives(number(-3), true, false));
-    let flipped = front(alloc, UnaryOperator::BitNot, number(5))?;
-    assert!(rt; flipped == Answer::Gives(number(-6), true, false));
-    let nothing = front(alloc, UnaryOperator::Typeof, undefined())?;
-    assert!(rt; nothing == Answer::Gives(text(alloc, "undefined")?, true, false));
-    let function = front(alloc, UnaryOperator::Typeof, object())?;
-    assert!(rt; function == Answer::Gives(text(alloc, "function")?, true, false));
-    let object = front(alloc, UnaryOperator::Plus, object())?;
-    assert!(rt; object == Answer::Leaves(Leaving::Unbuilt));
-    let none = front(alloc, UnaryOperator::Plus, undefined())?;
-    assert!(rt; none == Answer::Leaves(Leaving::Number));
-    Ok(())
+// The value depends on origin 0.
+fn is_front(alloc: Global, row: &Front) -> Result<bool, OutOfMemory> {
+    let mut labels = Masks;
+    let world = world_with_function(alloc, &labels)?;
+    let value = Labelled {
+        value: value_of(alloc, row.1)?,
+        label: labels.single(0)?,
+    };
+    let came = unary_value(alloc, &world, row.0, &value);
+    Ok(is_answer(alloc, &labels, came, [true, false], row.2))
 }
 
 #[test]
-fn operators_on_numbers(rt: HostRuntime) -> Result<(), Fail> {
-    let alloc = rt.alloc();
-    let less = middle(
-        alloc,
-        text(alloc, "7")?,
-        BinaryOperator::Subtract,
-        boolean(true),
-    )?;
-    assert!(rt; gives(less, number(6)));
-    let rest = middle(alloc, number(-5), BinaryOperator::Remainder, number(3))?;
-    assert!(rt; gives(rest, number(-2)));
-    let half = middle(alloc, number(1), BinaryOperator::Divide, number(2))?;
-    assert!(rt; half == Answer::Leaves(Leaving::Number));
-    let shifted = middle(
-        alloc,
-        number(-1),
-        BinaryOperator::ShiftRightZero,
-        number(28),
-    )?;
-    assert!(rt; gives(shifted, number(15)));
-    Ok(())
+fn operators_in_front(rt: HostRuntime) {
+    for row in FRONTS {
+        assert!(rt; holds(is_front(rt.alloc(), row)));
+    }
 }
 
-// The left operand is a number before the right one is asked whether it is an object (ECMA-262 11.5).
-#[test]
-fn operands_are_converted_in_their_order(rt: HostRuntime) -> Result<(), Fail> {
-    let alloc = rt.alloc();
-    let first = middle(alloc, undefined(), BinaryOperator::Multiply, object())?;
-    assert!(rt; first == Answer::Leaves(Leaving::Number));
-    let second = middle(alloc, number(2), BinaryOperator::Multiply, object())?;
-    assert!(rt; second == Answer::Leaves(Leaving::Unbuilt));
-    let sum = middle(alloc, undefined(), BinaryOperator::Add, object())?;
-    assert!(rt; sum == Answer::Leaves(Leaving::Unbuilt));
-    Ok(())
+// The left value depends on origin 0, and the right one on origin 1.
+fn is_middle(alloc: Global, row: &Middle) -> Result<bool, OutOfMemory> {
+    let mut labels = Masks;
+    let world = world_with_function(alloc, &labels)?;
+    let left = Labelled {
+        value: value_of(alloc, row.0)?,
+        label: labels.single(0)?,
+    };
+    let right = Labelled {
+        value: value_of(alloc, row.2)?,
+        label: labels.single(1)?,
+    };
+    let came = binary_values(alloc, &mut labels, &world, row.1, &left, &right);
+    Ok(is_answer(alloc, &labels, came, [true, true], row.3))
+}
+
+fn all_middle(rt: &impl Abort, alloc: Global, rows: &[Middle]) {
+    for row in rows {
+        assert!(rt; holds(is_middle(alloc, row)));
+    }
 }
 
 #[test]
-fn values_are_compared(rt: HostRuntime) -> Result<(), Fail> {
+fn operators_between(rt: HostRuntime) {
     let alloc = rt.alloc();
-    let texts = middle(
-        alloc,
-        text(alloc, "10")?,
-        BinaryOperator::Less,
-        text(alloc, "9")?,
-    )?;
-    assert!(rt; gives(texts, boolean(true)));
-    let numbers = middle(alloc, text(alloc, "10")?, BinaryOperator::Less, number(9))?;
-    assert!(rt; gives(numbers, boolean(false)));
-    let itself = middle(alloc, object(), BinaryOperator::Equal, object())?;
-    assert!(rt; gives(itself, boolean(true)));
-    let nothing = middle(alloc, undefined(), BinaryOperator::NotEqual, object())?;
-    assert!(rt; gives(nothing, boolean(true)));
-    let converted = middle(alloc, number(1), BinaryOperator::Equal, object())?;
-    assert!(rt; converted == Answer::Leaves(Leaving::Unbuilt));
-    Ok(())
+    all_middle(&rt, alloc, NUMBERS);
+    all_middle(&rt, alloc, ORDERS);
+    all_middle(&rt, alloc, COMPARISONS);
 }
 
-#[test]
-fn converted_values(rt: HostRuntime) -> Result<(), Fail> {
-    let alloc = rt.alloc();
+// A number that depends on origin 1, and a text that depends on none.
+fn is_joined(alloc: Global) -> Result<bool, OutOfMemory> {
     let mut labels = Masks;
     let left = Labelled {
         value: number(1),
@@ -209,8 +281,11 @@ fn converted_values(rt: HostRuntime) -> Result<(), Fail> {
         value: text(alloc, "2")?,
         label: labels.bottom(),
     };
-    let sum = binary(alloc, &mut labels, BinaryOperator::Add, &left, &right);
-    let sum = answered(&labels, sum);
-    assert!(rt; sum == Answer::Gives(text(alloc, "12")?, false, true));
-    Ok(())
+    let came = binary(alloc, &mut labels, BinaryOperator::Add, &left, &right);
+    Ok(is_answer(alloc, &labels, came, [false, true], Ok(Given::Text("12"))))
+}
+
+#[test]
+fn converted_values(rt: HostRuntime) {
+    assert!(rt; holds(is_joined(rt.alloc())));
 }

@@ -1,12 +1,17 @@
+ghost use Rattle.flow_policy.specs.Inputs.{IsGivenTo};
+
+use crate::told::holds;
 use flow_policy::*;
-use flow_text::Text;
+use flow_text::{OutOfMemory, Text};
+use origin_labels::{OriginList, Origins};
 use std::alloc::Global;
+use std::process::Abort;
 use std::test::*;
 
 const POLICY: &[u8] = b"origin A\norigin B\nin pin A\nin note -\nout all A,B\nout pub -";
 
 // A policy, the number of its first bad line, and what is wrong there.
-const BAD_POLICIES: [(&[u8], usize, PolicyKind); 14] = [
+const BAD_POLICIES: &[(&[u8], usize, PolicyKind)] = &[
     (b"in pin Z", 1, PolicyKind::Unknown),
     (b"origin A\norigin A", 2, PolicyKind::Repeat),
     (b"origin A\nin a A\nout a A\nin a -", 4, PolicyKind::Repeat),
@@ -27,30 +32,44 @@ const BAD_POLICIES: [(&[u8], usize, PolicyKind); 14] = [
     (b"origin A\rB\n", 1, PolicyKind::Name),
 ];
 
-// The same of an input.
-const BAD_INPUTS: [(&[u8], usize, InputKind); 4] = [
+// An input under that policy.
+const INPUT: &[u8] = b"pin 1\nnote\r\npin  a b\npin \xC3\xA9\rx";
+
+// A channel of it and a line's number there, and the line.
+const LINES: &[((usize, usize), Option<&[u8]>)] = &[
+    ((0, 0), Some(b"1")),
+    ((0, 1), Some(b" a b")),
+    ((0, 2), Some(b"\xC3\xA9\rx")),
+    ((0, 3), None),
+    ((1, 0), Some(b"")),
+    ((1, 1), None),
+];
+
+// The same as of policies, of inputs.
+const BAD_INPUTS: &[(&[u8], usize, InputKind)] = &[
     (b"pin 1\npox 2\n", 2, InputKind::Channel),
     (b"pin 1\n\npin 2", 2, InputKind::Channel),
     (b"pin 1\npin \xFF\npox", 2, InputKind::Utf8),
     (b"all 1", 1, InputKind::Channel),
 ];
 
-// A list under that policy, and its origins.
-const LISTS: [(&str, &[u32]); 2] = [("B,A,B", &[0, 1]), ("-", &[])];
-
-// The same, and why it is none.
-const BAD_LISTS: [(&str, ListFault); 7] = [
-    ("A,,B", ListFault::Form),
-    ("", ListFault::Form),
-    ("A,", ListFault::Form),
-    ("A-", ListFault::Form),
-    ("A, B", ListFault::Form),
-    ("A,Z,Y", ListFault::Unknown { which: 1 }),
-    ("Z", ListFault::Unknown { which: 0 }),
+// A list under that policy, and its origins, or why it is none.
+const LISTS: &[(&str, Result<&[u32], ListFault>)] = &[
+    ("B,A,B", Ok(&[0, 1])),
+    ("-", Ok(&[])),
+    ("A,,B", Err(ListFault::Form)),
+    ("", Err(ListFault::Form)),
+    ("A,", Err(ListFault::Form)),
+    ("A-", Err(ListFault::Form)),
+    ("A, B", Err(ListFault::Form)),
+    ("A,Z,Y", Err(ListFault::Unknown { which: 1 })),
+    ("Z", Err(ListFault::Unknown { which: 0 })),
 ];
 
 // Two inputs, an observer, and the first channel on which the inputs differ for it.
-const PAIRS: [(&[u8], &[u8], &str, Option<usize>); 5] = [
+type Pair = (&'static [u8], &'static [u8], &'static str, Option<usize>);
+
+const PAIRS: &[Pair] = &[
     (b"pin 1\nnote x", b"pin 2\nnote x", "-", None),
     (b"pin 1\nnote x", b"pin 2\nnote x", "A", Some(0)),
     (b"pin 1\nnote x", b"pin 1\nnote y", "-", Some(1)),
@@ -72,114 +91,162 @@ fn is_channel(alloc: Global, channel: Option<&Channel>, name: &[u8], label: &[u3
     }
 }
 
+fn has_origins(alloc: Global, origins: &Origins) -> bool {
+    origins.len() == 2 && is_text(alloc, origins.name(1), b"B")
+}
+
+fn has_inputs(alloc: Global, inputs: &[Channel]) -> bool {
+    inputs.len() == 2
+        && is_channel(alloc, inputs.get(0), b"pin", &[0])
+        && is_channel(alloc, inputs.get(1), b"note", &[])
+}
+
+fn has_outputs(alloc: Global, outputs: &[Channel]) -> bool {
+    outputs.len() == 2
+        && is_channel(alloc, outputs.get(0), b"all", &[0, 1])
+        && is_channel(alloc, outputs.get(1), b"pub", &[])
+}
+
+fn is_policy(alloc: Global) -> Result<bool, PolicyFault> {
+    let policy = read_policy(alloc, POLICY)?;
+    let channels = has_inputs(alloc, policy.inputs()) && has_outputs(alloc, policy.outputs());
+    Ok(channels && has_origins(alloc, policy.origins()))
+}
+
 #[test]
-fn a_policy(rt: HostRuntime) -> Result<(), Fail> {
-    let alloc = rt.alloc();
-    let policy = read_policy(alloc, POLICY).ok().ok_or("it is a policy")?;
-    assert_eq!(rt; policy.origins().len(), 2);
-    assert!(rt; is_text(alloc, policy.origins().name(1), b"B"));
-    let inputs = policy.inputs();
-    assert_eq!(rt; inputs.len(), 2);
-    assert!(rt; is_channel(alloc, inputs.get(0), b"pin", &[0]));
-    assert!(rt; is_channel(alloc, inputs.get(1), b"note", &[]));
-    let outputs = policy.outputs();
-    assert_eq!(rt; outputs.len(), 2);
-    assert!(rt; is_channel(alloc, outputs.get(0), b"all", &[0, 1]));
-    assert!(rt; is_channel(alloc, outputs.get(1), b"pub", &[]));
-    Ok(())
+fn a_policy(rt: HostRuntime) {
+    assert!(rt; holds(is_policy(rt.alloc())));
+}
+
+fn is_bad_policy(alloc: Global, bytes: &[u8], line: usize, kind: PolicyKind) -> bool {
+    read_policy(alloc, bytes).err() == Some(PolicyFault::Bad { line, kind })
 }
 
 #[test]
 fn bad_policies(rt: HostRuntime) {
-    for (bytes, line, kind) in &BAD_POLICIES {
-        let wanted = PolicyFault::Bad {
-            line: *line,
-            kind: *kind,
-        };
-        assert!(rt; read_policy(rt.alloc(), *bytes).err() == Some(wanted));
+    for (bytes, line, kind) in BAD_POLICIES {
+        assert!(rt; is_bad_policy(rt.alloc(), *bytes, *line, *kind));
     }
 }
 
-#[test]
-fn a_full_table(rt: HostRuntime) -> Result<(), Fail> {
-    let mut bytes = Vec::new(rt.alloc());
-    for i in 0..65u8 {
+// So many lines, each with an origin of its own.
+fn origin_lines(alloc: Global, count: u8) -> Result<Vec<u8>, OutOfMemory> {
+    let mut bytes = Vec::new(alloc);
+    for i in 0..count {
         bytes.extend_from_slice(b"origin o")?;
-        bytes.extend_from_slice(&[b'0' + i / 10, b'0' + i % 10, b'\n'])?;
+        bytes.extend_from_slice(&[b'0' + i / 10 % 10, b'0' + i % 10, b'\n'])?;
     }
-    let wanted = PolicyFault::Bad {
-        line: 65,
-        kind: PolicyKind::Many,
-    };
-    assert!(rt; read_policy(rt.alloc(), &bytes).err() == Some(wanted));
-    Ok(())
+    Ok(bytes)
+}
+
+fn is_full(alloc: Global) -> Result<bool, OutOfMemory> {
+    let bytes = origin_lines(alloc, 65)?;
+    Ok(is_bad_policy(alloc, &bytes, 65, PolicyKind::Many))
+}
+
+#[test]
+fn a_full_table(rt: HostRuntime) {
+    assert!(rt; holds(is_full(rt.alloc())));
+}
+
+fn has_line(
+    alloc: Global,
+    policy: &Policy,
+    inputs: &Inputs,
+    place: (usize, usize),
+    wanted: Option<&[u8]>,
+) -> bool
+    requires { IsGivenTo policy.now inputs.now }
+{
+    let (channel, n) = place;
+    if policy.inputs().len() <= channel {
+        return false;
+    }
+    match (inputs.line(channel, n), wanted) {
+        (Some(line), Some(wanted)) => is_text(alloc, line, wanted),
+        (None, None) => true,
+        _ => false,
+    }
+}
+
+fn all_lines(rt: &impl Abort, alloc: Global, policy: &Policy, inputs: &Inputs)
+    requires { IsGivenTo policy.now inputs.now }
+{
+    for (place, wanted) in LINES {
+        assert!(rt; has_line(alloc, policy, inputs, *place, *wanted));
+    }
+}
+
+fn is_bad_input(alloc: Global, policy: &Policy, row: &(&[u8], usize, InputKind)) -> bool {
+    let (bytes, line, kind) = *row;
+    read_inputs(alloc, policy, bytes).err() == Some(InputFault::Bad { line, kind })
+}
+
+fn no_inputs(rt: &impl Abort, alloc: Global, policy: &Policy) {
+    for row in BAD_INPUTS {
+        assert!(rt; is_bad_input(alloc, policy, row));
+    }
 }
 
 #[test]
 fn inputs(rt: HostRuntime) -> Result<(), Fail> {
-    let alloc = rt.alloc();
-    let policy = read_policy(alloc, POLICY).ok().ok_or("it is a policy")?;
-    let bytes = b"pin 1\nnote\r\npin  a b\npin \xC3\xA9\rx";
-    let inputs = read_inputs(alloc, &policy, bytes)
-        .ok()
-        .ok_or("it is an input")?;
-    let lines: [(usize, usize, &[u8]); 4] = [
-        (0, 0, b"1"),
-        (0, 1, b" a b"),
-        (0, 2, b"\xC3\xA9\rx"),
-        (1, 0, b""),
-    ];
-    for (channel, n, spelling) in &lines {
-        assert!(rt; *channel < policy.inputs().len());
-        let line = inputs.line(*channel, *n).ok_or("the line is there")?;
-        assert!(rt; is_text(alloc, line, *spelling));
-    }
-    assert!(rt; policy.inputs().len() == 2);
-    assert!(rt; inputs.line(0, 3).is_none());
-    assert!(rt; inputs.line(1, 1).is_none());
-    for (bytes, line, kind) in &BAD_INPUTS {
-        let wanted = InputFault::Bad {
-            line: *line,
-            kind: *kind,
-        };
-        assert!(rt; read_inputs(alloc, &policy, *bytes).err() == Some(wanted));
-    }
+    let policy = read_policy(rt.alloc(), POLICY)?;
+    let inputs = read_inputs(rt.alloc(), &policy, INPUT)?;
+    all_lines(&rt, rt.alloc(), &policy, &inputs);
+    no_inputs(&rt, rt.alloc(), &policy);
     Ok(())
+}
+
+fn is_list(alloc: Global, policy: &Policy, list: &str, wanted: Result<&[u32], ListFault>) -> bool {
+    match (read_list(alloc, policy.origins(), list), wanted) {
+        (Ok(label), Ok(wanted)) => label.items() == wanted,
+        (Err(fault), Err(wanted)) => fault == wanted,
+        _ => false,
+    }
+}
+
+fn all_lists(rt: &impl Abort, alloc: Global, policy: &Policy) {
+    for (list, wanted) in LISTS {
+        assert!(rt; is_list(alloc, policy, *list, *wanted), "{list}");
+    }
 }
 
 #[test]
 fn lists(rt: HostRuntime) -> Result<(), Fail> {
-    let alloc = rt.alloc();
-    let policy = read_policy(alloc, POLICY).ok().ok_or("it is a policy")?;
-    for (list, wanted) in &LISTS {
-        let label = read_list(alloc, policy.origins(), *list)
-            .ok()
-            .ok_or("it is a list")?;
-        assert!(rt; label.items() == *wanted);
-    }
-    for (list, wanted) in &BAD_LISTS {
-        assert!(rt; read_list(alloc, policy.origins(), *list).err() == Some(*wanted));
-    }
+    let policy = read_policy(rt.alloc(), POLICY)?;
+    all_lists(&rt, rt.alloc(), &policy);
     Ok(())
+}
+
+fn differ(
+    alloc: Global,
+    policy: &Policy,
+    first: &[u8],
+    second: &[u8],
+    observer: &OriginList,
+    wanted: Option<usize>,
+) -> Result<bool, InputFault> {
+    let first = read_inputs(alloc, policy, first)?;
+    let second = read_inputs(alloc, policy, second)?;
+    Ok(disagree(policy, &first, &second, observer) == wanted)
+}
+
+fn differ_for(alloc: Global, policy: &Policy, row: &Pair) -> bool {
+    match read_list(alloc, policy.origins(), row.2) {
+        Ok(observer) => holds(differ(alloc, policy, row.0, row.1, &observer, row.3)),
+        Err(_) => false,
+    }
+}
+
+fn all_pairs(rt: &impl Abort, alloc: Global, policy: &Policy) {
+    for row in PAIRS {
+        assert!(rt; differ_for(alloc, policy, row), "{}", row.2);
+    }
 }
 
 #[test]
 fn disagreements(rt: HostRuntime) -> Result<(), Fail> {
-    let alloc = rt.alloc();
-    let policy = read_policy(alloc, b"origin A\nin pin A\nin note -")
-        .ok()
-        .ok_or("it is a policy")?;
-    for (first, second, list, wanted) in &PAIRS {
-        let first = read_inputs(alloc, &policy, *first)
-            .ok()
-            .ok_or("it is an input")?;
-        let second = read_inputs(alloc, &policy, *second)
-            .ok()
-            .ok_or("it is an input")?;
-        let observer = read_list(alloc, policy.origins(), *list)
-            .ok()
-            .ok_or("it is a list")?;
-        assert!(rt; disagree(&policy, &first, &second, &observer) == *wanted);
-    }
+    let policy = read_policy(rt.alloc(), b"origin A\nin pin A\nin note -")?;
+    all_pairs(&rt, rt.alloc(), &policy);
     Ok(())
 }

@@ -1,8 +1,9 @@
-ghost use Rattle.std.specs.Prelude.{◌≡◌, ◌<◌, IfSome, length};
+ghost use Rattle.std.specs.Prelude.{◌≡◌, ◌<◌, IfOk, length};
 ghost use Rattle.js_values.specs.Readings.{HasRecords};
 
+use crate::told::holds;
 use env_records::*;
-use flow_text::Text;
+use flow_text::{OutOfMemory, Text};
 use js_number::{Int, Primitive};
 use js_values::{EnvId, Labelled, Value};
 use origin_labels::{Labels, Masks};
@@ -10,7 +11,7 @@ use std::alloc::Global;
 use std::test::*;
 
 // What is answered to an assignment: of a stop, whether need and have hold origin 0.
-#[derive(Clone, Copy, Debug, PartialEq, Eq)]
+#[derive(Clone, Copy, PartialEq, Eq)]
 enum Answer {
     Done,
     Immutable,
@@ -18,28 +19,39 @@ enum Answer {
     OutOfMemory,
 }
 
-fn number<T: Copy>(n: i64, label: T) -> Option<Labelled<T>>
-    ensures { IfSome result (λ v. v.label ≡ label) }
+// A name, whether the context depends on origin 0, and what is answered to an assignment there.
+const ASSIGNMENTS: &[(&str, bool, Option<Answer>)] = &[
+    ("x", false, Some(Answer::Done)),
+    ("this", true, Some(Answer::Immutable)),
+    ("x", true, Some(Answer::Stopped(true, false))),
+    ("y", false, None),
+];
+
+fn number<T: Copy>(n: i64, label: T) -> Labelled<T>
+    ensures { result.label ≡ label }
 {
-    let value = Value::Primitive(Primitive::Num(Int::new(n)?));
-    Some(Labelled { value, label })
+    let value = match Int::new(n) {
+        Some(n) => Value::Primitive(Primitive::Num(n)),
+        None => Value::Primitive(Primitive::Null),
+    };
+    Labelled { value, label }
 }
 
 // Two records: the outer one has `x`, which can be assigned, and the inner one `this`, which can't.
-fn two_records<L: Labels>(alloc: Global, labels: &L) -> Option<(Envs<L::Label>, EnvId)>
-    ensures there { IfSome result (λ pair. pair.1.0 < length pair.0) }
-    ensures belongs { IfSome result (λ pair. HasRecords (L.made labels.now) pair.0) }
+fn two_records<L: Labels>(alloc: Global, labels: &L) -> Result<(Envs<L::Label>, EnvId), OutOfMemory>
+    ensures there { IfOk result (λ pair. pair.1.0 < length pair.0) }
+    ensures belongs { IfOk result (λ pair. HasRecords (L.made labels.now) pair.0) }
 {
     records_belong::<L>();
     let none = labels.bottom();
     let mut envs = Envs::new(alloc);
-    let outer = envs.new_record(None).ok()?;
-    let x = Text::spelled(alloc, "x").ok()?;
-    envs.bind(outer, x, true, number(0, none)?).ok()?;
-    let inner = envs.new_record(Some(outer)).ok()?;
-    let this = Text::spelled(alloc, "this").ok()?;
-    envs.bind(inner, this, false, number(0, none)?).ok()?;
-    Some((envs, inner))
+    let outer = envs.new_record(None)?;
+    let x = Text::spelled(alloc, "x")?;
+    envs.bind(outer, x, true, number(0, none))?;
+    let inner = envs.new_record(Some(outer))?;
+    let this = Text::spelled(alloc, "this")?;
+    envs.bind(inner, this, false, number(0, none))?;
+    Ok((envs, inner))
 }
 
 // What is answered to an assignment of 1 to the name, as it is looked up from the record.
@@ -56,7 +68,7 @@ fn assigned<L: Labels>(
     ensures there { length envs.new ≡ length envs.old }
     ensures belongs { HasRecords (L.made labels.new) envs.new }
 {
-    let value = number(1, context)?;
+    let value = number(1, context);
     let found = envs.lookup(e, name)?;
     Some(match envs.assign(labels, found, name, context, value) {
         Ok(()) => Answer::Done,
@@ -68,34 +80,37 @@ fn assigned<L: Labels>(
     })
 }
 
-#[test]
-fn finds_and_assigns(rt: HostRuntime) -> Result<(), Fail> {
+fn are_found(alloc: Global) -> Result<bool, OutOfMemory> {
+    let x = Text::spelled(alloc, "x")?;
+    let this = Text::spelled(alloc, "this")?;
+    let y = Text::spelled(alloc, "y")?;
+    let (envs, inner) = two_records(alloc, &Masks)?;
+    let outside = envs.lookup(inner, &x) == Some(EnvId(0)) && envs.own(inner, &x).is_none();
+    let inside = envs.lookup(inner, &this) == Some(inner) && envs.own(inner, &this).is_some();
+    Ok(outside && inside && envs.lookup(inner, &y).is_none())
+}
+
+fn is_assigned(
+    alloc: Global,
+    name: &str,
+    secret: bool,
+    wanted: Option<Answer>,
+) -> Result<bool, OutOfMemory> {
+    let name = Text::spelled(alloc, name)?;
+    let a = Masks.single(0)?;
     let none = Masks.bottom();
-    let a = Masks.single(0).ok().ok_or("memory")?;
-    let x = Text::spelled(rt.alloc(), "x").ok().ok_or("memory")?;
-    let this = Text::spelled(rt.alloc(), "this").ok().ok_or("memory")?;
-    let y = Text::spelled(rt.alloc(), "y").ok().ok_or("memory")?;
-    let (mut envs, inner) = two_records(rt.alloc(), &Masks).ok_or("memory")?;
-    assert_eq!(rt; envs.lookup(inner, &x), Some(EnvId(0)));
-    assert_eq!(rt; envs.lookup(inner, &this), Some(inner));
-    assert_eq!(rt; envs.lookup(inner, &y), None);
-    let done = assigned(&mut Masks, &mut envs, inner, &x, none);
-    assert_eq!(rt; done, Some(Answer::Done));
-    let immutable = assigned(&mut Masks, &mut envs, inner, &this, a);
-    assert_eq!(rt; immutable, Some(Answer::Immutable));
-    let stopped = assigned(&mut Masks, &mut envs, inner, &x, a);
-    assert_eq!(rt; stopped, Some(Answer::Stopped(true, false)));
-    let unknown = assigned(&mut Masks, &mut envs, inner, &y, none);
-    assert_eq!(rt; unknown, None);
-    Ok(())
+    let (mut envs, inner) = two_records(alloc, &Masks)?;
+    let context = if secret { a } else { none };
+    Ok(assigned(&mut Masks, &mut envs, inner, &name, context) == wanted)
 }
 
 #[test]
-fn records_have_their_own_names(rt: HostRuntime) -> Result<(), Fail> {
-    let x = Text::spelled(rt.alloc(), "x").ok().ok_or("memory")?;
-    let this = Text::spelled(rt.alloc(), "this").ok().ok_or("memory")?;
-    let (envs, inner) = two_records(rt.alloc(), &Masks).ok_or("memory")?;
-    assert!(rt; envs.own(inner, &this).is_some());
-    assert!(rt; envs.own(inner, &x).is_none());
-    Ok(())
+fn finds_and_assigns(rt: HostRuntime) {
+    assert!(rt; holds(are_found(rt.alloc())));
+    for (name, secret, wanted) in ASSIGNMENTS {
+        assert!(rt;
+            holds(is_assigned(rt.alloc(), *name, *secret, *wanted)),
+            "{name}"
+        );
+    }
 }

@@ -1,6 +1,7 @@
-ghost use Rattle.std.specs.Prelude.{◌≡◌, ◌<◌, IfOk, IfSome, length};
+ghost use Rattle.std.specs.Prelude.{◌≡◌, ◌<◌, IfOk, length};
 ghost use Rattle.js_values.specs.Readings.{HasHeap};
 
+use crate::told::holds;
 use flow_text::{OutOfMemory, Text};
 use js_number::Primitive;
 use js_values::{Body, Class, Inner, Key, KeyRow, Marks, ObjId, Value};
@@ -30,23 +31,6 @@ fn make_two<L: Labels>(
     Ok((heap, o))
 }
 
-fn two_objects<L: Labels>(
-    alloc: Global,
-    labels: &L,
-    link: L::Label,
-    structure: L::Label,
-) -> Option<(Heap<L::Label>, ObjId)>
-    requires link { L.made labels.now link }
-    requires structure { L.made labels.now structure }
-    ensures there { IfSome result (λ pair. pair.1.0 < length pair.0) }
-    ensures belongs { IfSome result (λ pair. HasHeap (L.made labels.now) pair.0) }
-{
-    match make_two(alloc, labels, link, structure) {
-        Ok(pair) => Some(pair),
-        Err(_) => None,
-    }
-}
-
 // Where the key is found, and whether the walk has the origins 0 and 1.
 fn found<L: Labels>(
     labels: &mut L,
@@ -65,7 +49,7 @@ fn found<L: Labels>(
     ))
 }
 
-// Adds a property whose labels are empty, but for what the structure of its object gives, and gives its key.
+// Adds a property that the object doesn't have, whose labels are empty but for what the structure of its object gives, and gives its key.
 fn added<L: Labels>(
     alloc: Global,
     labels: &mut L,
@@ -73,16 +57,16 @@ fn added<L: Labels>(
     o: ObjId,
     spelling: &str,
     enumerable: bool,
-) -> Option<Key>
+) -> Result<Key, OutOfMemory>
     requires there { o.0 < length heap.old }
     requires belongs { HasHeap (L.made labels.old) heap.old }
     ensures there { length heap.new ≡ length heap.old }
     ensures belongs { HasHeap (L.made labels.new) heap.new }
 {
-    let key = Key::new(Text::spelled(alloc, spelling).ok()?);
-    let same = key.copy(alloc).ok()?;
+    let key = Key::new(Text::spelled(alloc, spelling)?);
+    let same = key.copy(alloc)?;
     if heap.own(o, &same).is_some() {
-        return None;
+        return Err(OutOfMemory);
     }
     let none = labels.bottom();
     let body = Body::Data(Value::Primitive(Primitive::Undefined));
@@ -92,8 +76,8 @@ fn added<L: Labels>(
         configurable: true,
     };
     match heap.add(labels, o, same, none, body, none, marks) {
-        Ok(()) => Some(key),
-        Err(_) => None,
+        Ok(()) => Ok(key),
+        Err(_) => Err(OutOfMemory),
     }
 }
 
@@ -123,58 +107,60 @@ fn listed<L: Labels>(
     labels: &mut L,
     heap: &Heap<L::Label>,
     o: ObjId,
-) -> Option<(KeyRow, bool, bool)>
+) -> Result<(KeyRow, bool, bool), OutOfMemory>
     requires there { o.0 < length heap.now }
     requires belongs { HasHeap (L.made labels.old) heap.now }
 {
-    let list = keys(alloc, heap, labels, o).ok()?;
+    let list = keys(alloc, heap, labels, o)?;
     let link = labels.has(list.walk, 0);
     let structure = labels.has(list.walk, 1);
-    Some((list.keys, link, structure))
+    Ok((list.keys, link, structure))
 }
 
-#[test]
-fn walks_past_objects_without_properties(rt: HostRuntime) -> Result<(), Fail> {
-    let a = Masks.single(0).ok().ok_or("memory")?;
-    let b = Masks.single(1).ok().ok_or("memory")?;
-    let p = Key::new(Text::spelled(rt.alloc(), "p").ok().ok_or("memory")?);
-    let (heap, o) = two_objects(rt.alloc(), &Masks, a, b).ok_or("memory")?;
+fn walks_past_objects_without_properties(alloc: Global) -> Result<bool, OutOfMemory> {
+    let a = Masks.single(0)?;
+    let b = Masks.single(1)?;
+    let p = Key::new(Text::spelled(alloc, "p")?);
+    let (heap, o) = make_two(alloc, &Masks, a, b)?;
     let absent = found(&mut Masks, &heap, o, &p) == Some((None, true, true));
     let added = planned(&mut Masks, &heap, o, &p) == Some((false, true, true));
-    let (row, link, structure) = listed(rt.alloc(), &mut Masks, &heap, o).ok_or("memory")?;
-    assert!(rt; absent && added && row.items().is_empty() && link && structure);
-    Ok(())
+    let (row, link, structure) = listed(alloc, &mut Masks, &heap, o)?;
+    Ok(absent && added && row.items().is_empty() && link && structure)
 }
 
 // A property of the object stands before one of its prototype with the same key.
-#[test]
-fn nearer_properties_shadow(rt: HostRuntime) -> Result<(), Fail> {
-    let a = Masks.single(0).ok().ok_or("memory")?;
-    let b = Masks.single(1).ok().ok_or("memory")?;
-    let (mut heap, o) = two_objects(rt.alloc(), &Masks, a, b).ok_or("memory")?;
-    let y = added(rt.alloc(), &mut Masks, &mut heap, ObjId(0), "y", true).ok_or("memory")?;
-    added(rt.alloc(), &mut Masks, &mut heap, ObjId(0), "x", true).ok_or("memory")?;
-    let x = added(rt.alloc(), &mut Masks, &mut heap, o, "x", true).ok_or("memory")?;
+fn nearer_properties_shadow(alloc: Global) -> Result<bool, OutOfMemory> {
+    let a = Masks.single(0)?;
+    let b = Masks.single(1)?;
+    let (mut heap, o) = make_two(alloc, &Masks, a, b)?;
+    let y = added(alloc, &mut Masks, &mut heap, ObjId(0), "y", true)?;
+    added(alloc, &mut Masks, &mut heap, ObjId(0), "x", true)?;
+    let x = added(alloc, &mut Masks, &mut heap, o, "x", true)?;
     let near = found(&mut Masks, &heap, o, &x) == Some((Some(o), false, false));
     let far = found(&mut Masks, &heap, o, &y) == Some((Some(ObjId(0)), true, true));
     let writes = planned(&mut Masks, &heap, o, &x) == Some((true, false, false));
     let adds = planned(&mut Masks, &heap, o, &y) == Some((false, true, true));
-    assert!(rt; near && far && writes && adds);
-    Ok(())
+    Ok(near && far && writes && adds)
 }
 
 // The object's own keys stand first, and a key of a prototype isn't taken where the object has it, also if it isn't enumerable there (ECMA-262 12.6.4).
-#[test]
-fn hidden_keys_shadow(rt: HostRuntime) -> Result<(), Fail> {
-    let a = Masks.single(0).ok().ok_or("memory")?;
-    let b = Masks.single(1).ok().ok_or("memory")?;
-    let (mut heap, o) = two_objects(rt.alloc(), &Masks, a, b).ok_or("memory")?;
-    added(rt.alloc(), &mut Masks, &mut heap, ObjId(0), "x", true).ok_or("memory")?;
-    let y = added(rt.alloc(), &mut Masks, &mut heap, ObjId(0), "y", true).ok_or("memory")?;
-    let z = added(rt.alloc(), &mut Masks, &mut heap, o, "z", true).ok_or("memory")?;
-    added(rt.alloc(), &mut Masks, &mut heap, o, "x", false).ok_or("memory")?;
-    let (row, link, structure) = listed(rt.alloc(), &mut Masks, &heap, o).ok_or("memory")?;
+fn hidden_keys_shadow(alloc: Global) -> Result<bool, OutOfMemory> {
+    let a = Masks.single(0)?;
+    let b = Masks.single(1)?;
+    let (mut heap, o) = make_two(alloc, &Masks, a, b)?;
+    added(alloc, &mut Masks, &mut heap, ObjId(0), "x", true)?;
+    let y = added(alloc, &mut Masks, &mut heap, ObjId(0), "y", true)?;
+    let z = added(alloc, &mut Masks, &mut heap, o, "z", true)?;
+    added(alloc, &mut Masks, &mut heap, o, "x", false)?;
+    let (row, link, structure) = listed(alloc, &mut Masks, &heap, o)?;
     let once = matches!(row.items(), [first, second] if *first == z && *second == y);
-    assert!(rt; once && link && structure);
-    Ok(())
+    Ok(once && link && structure)
+}
+
+#[test]
+fn walks_of_prototypes(rt: HostRuntime) {
+    let alloc = rt.alloc();
+    assert!(rt; holds(walks_past_objects_without_properties(alloc)));
+    assert!(rt; holds(nearer_properties_shadow(alloc)));
+    assert!(rt; holds(hidden_keys_shadow(alloc)));
 }

@@ -1,6 +1,8 @@
-//! Scripts through the parser and the program, with the answers worked out by hand. They stand here so that those crates are proved once.
+//! Scripts and trees through the parser and the program, with the answers worked out by hand. They stand here so that those crates are proved once.
 #![tactic(auto)]
 
+#[cfg(test)]
+mod early;
 #[cfg(test)]
 mod expressions;
 #[cfg(test)]
@@ -9,5 +11,9 @@ mod programs;
 mod running;
 #[cfg(test)]
 mod shell;
+#[cfg(test)]
+mod told;
+#[cfg(test)]
+mod trees;
 #[cfg(test)]
 mod unbuilt;

@@ -2,11 +2,10 @@ ghost use Rattle.std.specs.Prelude.{IfOk};
 ghost use Rattle.js_ast.specs.IsMarked.{IsMarked};
 
 use flow_text::Text;
-use js_ast::{ExprKind, Program, Stmt, StmtKind};
+use js_ast::{ExprKind, Function, Program, Stmt, StmtKind};
 use js_parse::{ParseFault, parse};
 use js_scan::scan;
 use std::alloc::Global;
-use std::process::Abort;
 use std::test::*;
 
 /// Why a source has no program.
@@ -24,74 +23,69 @@ pub(crate) fn parsed(alloc: Global, source: &str) -> Result<Program, Refused>
     parse(alloc, &tokens, text.len()).map_err(|fault| Refused::NoProgram(fault))
 }
 
-fn fault_of(alloc: Global, source: &str) -> Option<ParseFault> {
-    match parsed(alloc, source) {
-        Err(Refused::NoProgram(fault)) => Some(fault),
-        _ => None,
-    }
-}
-
 // How many statements a source has.
-fn statements_of(alloc: Global, source: &str) -> Option<usize> {
-    Some(parsed(alloc, source).ok()?.body.items().len())
-}
+const COUNTS: &[(&str, usize)] = &[
+    ("", 0),
+    (";", 1),
+    ("a = b\nc = d", 2),
+    ("a = b\n(c)", 1),
+    ("a++\n(b)", 2),
+    ("a\n++b", 2),
+    ("if (a) b; else c; d", 2),
+    ("function f(a, b) { return a + b; } f(1, 2);", 2),
+    (
+        "for (var a in b) { continue; } switch (a) { case 1: break; default: }",
+        2,
+    ),
+    ("try { throw a; } catch (e) { } finally { } debugger", 2),
+    ("l: while (a) { break l }", 1),
+    (
+        "var o = { get a() { return [1, , 2,]; }, set a(v) { }, 'b': this, 3: null };",
+        1,
+    ),
+];
 
-fn counts(rt: &impl Abort, alloc: Global, rows: &[(&str, usize)]) -> Result<(), Fail> {
-    for (source, count) in rows {
-        assert_eq!(rt; statements_of(alloc, source), Some(*count), "{source}");
+fn has_count(alloc: Global, source: &str, count: usize) -> bool {
+    match parsed(alloc, source) {
+        Ok(program) => program.body.items().len() == count,
+        Err(_) => false,
     }
-    Ok(())
-}
-
-fn faults(rt: &impl Abort, alloc: Global, rows: &[(&str, ParseFault)]) -> Result<(), Fail> {
-    for (source, fault) in rows {
-        assert_eq!(rt; fault_of(alloc, source), Some(*fault), "{source}");
-    }
-    Ok(())
 }
 
 #[test]
-fn programs(rt: HostRuntime) -> Result<(), Fail> {
-    let rows = [
-        ("", 0),
-        (";", 1),
-        ("a = b\nc = d", 2),
-        ("a = b\n(c)", 1),
-        ("a++\n(b)", 2),
-        ("a\n++b", 2),
-        ("if (a) b; else c; d", 2),
-        ("function f(a, b) { return a + b; } f(1, 2);", 2),
-        (
-            "for (var a in b) { continue; } switch (a) { case 1: break; default: }",
-            2,
-        ),
-        ("try { throw a; } catch (e) { } finally { } debugger", 2),
-        ("l: while (a) { break l }", 1),
-        (
-            "var o = { get a() { return [1, , 2,]; }, set a(v) { }, 'b': this, 3: null };",
-            1,
-        ),
-    ];
-    counts(&rt, rt.alloc(), &rows)
+fn programs(rt: HostRuntime) {
+    for (source, count) in COUNTS {
+        assert!(rt; has_count(rt.alloc(), *source, *count), "{source}");
+    }
+}
+
+const FAULTS: &[(&str, ParseFault)] = &[
+    ("a b", ParseFault::Syntax { at: 2 }),
+    ("a +", ParseFault::Syntax { at: 3 }),
+    ("if (1 { }", ParseFault::Syntax { at: 6 }),
+    ("with (a) { }", ParseFault::With { at: 0 }),
+    ("a\nwith (b) c", ParseFault::With { at: 2 }),
+    ("a with (b)", ParseFault::Syntax { at: 2 }),
+    ("a; 'flow bad -'", ParseFault::Directive { at: 3 }),
+    ("'flow bad -'; )", ParseFault::Syntax { at: 14 }),
+];
+
+fn has_fault(alloc: Global, source: &str, wanted: ParseFault) -> bool {
+    match parsed(alloc, source) {
+        Err(Refused::NoProgram(fault)) => fault == wanted,
+        _ => false,
+    }
 }
 
 #[test]
-fn refused_tokens(rt: HostRuntime) -> Result<(), Fail> {
-    let rows = [
-        ("a b", ParseFault::Syntax { at: 2 }),
-        ("a +", ParseFault::Syntax { at: 3 }),
-        ("if (1 { }", ParseFault::Syntax { at: 6 }),
-        ("with (a) { }", ParseFault::With { at: 0 }),
-        ("a\nwith (b) c", ParseFault::With { at: 2 }),
-        ("a with (b)", ParseFault::Syntax { at: 2 }),
-        ("a; 'flow bad -'", ParseFault::Directive { at: 3 }),
-        ("'flow bad -'; )", ParseFault::Syntax { at: 14 }),
-    ];
-    faults(&rt, rt.alloc(), &rows)
+fn refused_tokens(rt: HostRuntime) {
+    for (source, fault) in FAULTS {
+        assert!(rt; has_fault(rt.alloc(), *source, *fault), "{source}");
+    }
 }
 
 /// What a statement is, as far as the rows tell it.
-#[derive(Clone, Copy, Debug, PartialEq, Eq)]
+#[derive(Clone, Copy, PartialEq, Eq)]
 enum Form {
     Name,
     Paren,
@@ -115,105 +109,126 @@ fn form_of(statement: &Stmt) -> Form {
     }
 }
 
-// How many statements a source has, and the first and the last of them.
-fn ends_of(alloc: Global, source: &str) -> Option<(usize, Form, Form)> {
-    let program = parsed(alloc, source).ok()?;
-    let statements = program.body.items();
-    let first = form_of(statements.first()?);
-    Some((statements.len(), first, form_of(statements.last()?)))
+// How many statements a source has, and the first and the last of them: one name, and sources in which a line's end is
+// a semicolon or isn't (ECMA-262 7.9).
+const ENDS: &[(&str, usize, Form, Form)] = &[
+    ("a", 1, Form::Name, Form::Name),
+    ("a = b\n(c)", 1, Form::Assign, Form::Assign),
+    ("a++\n(b)", 2, Form::Postfix, Form::Paren),
+    ("a\n++b", 2, Form::Name, Form::Prefix),
+];
+
+fn has_ends(statements: &[Stmt], count: usize, first: Form, last: Form) -> bool {
+    match (statements.first(), statements.last()) {
+        (Some(front), Some(back)) => {
+            statements.len() == count && form_of(front) == first && form_of(back) == last
+        }
+        _ => false,
+    }
 }
 
-// One name, and sources in which a line's end is a semicolon or isn't (ECMA-262 7.9).
+fn is_tree(alloc: Global, source: &str, count: usize, first: Form, last: Form) -> bool {
+    match parsed(alloc, source) {
+        Ok(program) => has_ends(program.body.items(), count, first, last),
+        Err(_) => false,
+    }
+}
+
 #[test]
-fn trees(rt: HostRuntime) -> Result<(), Fail> {
-    let rows = [
-        ("a", (1, Form::Name, Form::Name)),
-        ("a = b\n(c)", (1, Form::Assign, Form::Assign)),
-        ("a++\n(b)", (2, Form::Postfix, Form::Paren)),
-        ("a\n++b", (2, Form::Name, Form::Prefix)),
-    ];
-    for (source, ends) in rows {
-        assert_eq!(rt; ends_of(rt.alloc(), source), Some(ends), "{source}");
+fn trees(rt: HostRuntime) {
+    for (source, count, first, last) in ENDS {
+        assert!(rt;
+            is_tree(rt.alloc(), *source, *count, *first, *last),
+            "{source}"
+        );
     }
-    Ok(())
 }
 
-// How many parameters each function of a source has, and whether its code is strict, by the list and one by one.
-fn functions_of(alloc: Global, source: &str) -> Option<Vec<(usize, bool)>> {
-    let Ok(program) = parsed(alloc, source) else {
-        return None;
-    };
-    let Ok(functions) = program.functions(alloc) else {
-        return None;
-    };
-    let mut shown = Vec::new(alloc);
-    for f in functions.as_slice() {
-        shown.push((f.params.items().len(), f.strict)).ok()?;
-    }
-    Some(shown)
+// How many parameters each function of a source has, and whether its code is strict.
+type Marks = &'static [(usize, bool)];
+
+const FUNCTIONS: &[(&str, Marks)] = &[
+    ("a;", &[]),
+    ("function f(a, b) { }", &[(2, false)]),
+    (
+        "a(function (b) { }); function f() { }",
+        &[(1, false), (0, false)],
+    ),
+    (
+        "function f(a) { 'use strict'; return function () { } } function g(a, b) { }",
+        &[(1, true), (0, true), (2, false)],
+    ),
+    (
+        "'a'; \"use strict\"\n({ get a() { }, set a(b) { } }); function f(a, b) { }",
+        &[(0, false), (1, false), (2, false)],
+    ),
+    (
+        "'a'; \"use strict\"; ({ get a() { }, set a(b) { } }); function f(a, b) { }",
+        &[(0, true), (1, true), (2, true)],
+    ),
+    ("'use\\x20strict'; function f() { }", &[(0, false)]),
+    ("('use strict'); function f() { }", &[(0, false)]),
+    ("a; 'use strict'; function f() { }", &[(0, false)]),
+    ("function f() { 'use strict' }", &[(0, true)]),
+    (
+        "function f() { function g() { } } ({ get a() { }, set a(b) { } }); function h() { }",
+        &[(0, false), (0, false), (0, false), (1, false), (0, false)],
+    ),
+    (
+        "function f() { 'a'; 'use strict'; function g() { } } function h() { }",
+        &[(0, true), (0, true), (0, false)],
+    ),
+    (
+        "function f() { } 'use strict'; function h() { }",
+        &[(0, false), (0, false)],
+    ),
+];
+
+fn mark_of(f: &Function) -> (usize, bool) {
+    (f.params.items().len(), f.strict)
 }
 
-// The same, one by one.
-fn functions_by_number(alloc: Global, source: &str) -> Option<Vec<(usize, bool)>> {
-    let Ok(program) = parsed(alloc, source) else {
-        return None;
-    };
-    let mut shown = Vec::new(alloc);
+// The functions of a list.
+fn has_marks(functions: &[&Function], marks: Marks) -> bool {
+    functions.len() == marks.len()
+        && functions
+            .iter()
+            .zip(marks)
+            .all(|(f, mark)| mark_of(*f) == *mark)
+}
+
+fn has_functions(alloc: Global, program: &Program, marks: Marks) -> bool
+    requires { IsMarked program.now }
+{
+    match program.functions(alloc) {
+        Ok(functions) => has_marks(functions.as_slice(), marks),
+        Err(_) => false,
+    }
+}
+
+// The same functions, one by one.
+fn has_numbers(program: &Program, marks: Marks) -> bool
+    requires { IsMarked program.now }
+{
     for n in 0..program.function_count {
-        let f = program.function(n);
-        shown.push((f.params.items().len(), f.strict)).ok()?;
+        match marks.get(n as usize) {
+            Some(mark) if *mark == mark_of(program.function(n)) => {}
+            _ => return false,
+        }
     }
-    Some(shown)
+    marks.len() == program.function_count as usize
+}
+
+fn is_marked(alloc: Global, source: &str, marks: Marks) -> bool {
+    match parsed(alloc, source) {
+        Ok(program) => has_functions(alloc, &program, marks) && has_numbers(&program, marks),
+        Err(_) => false,
+    }
 }
 
 #[test]
-fn functions_with_their_marks(rt: HostRuntime) -> Result<(), Fail> {
-    let rows: [(&str, &[(usize, bool)]); 13] = [
-        ("a;", &[]),
-        ("function f(a, b) { }", &[(2, false)]),
-        (
-            "a(function (b) { }); function f() { }",
-            &[(1, false), (0, false)],
-        ),
-        (
-            "function f(a) { 'use strict'; return function () { } } function g(a, b) { }",
-            &[(1, true), (0, true), (2, false)],
-        ),
-        (
-            "'a'; \"use strict\"\n({ get a() { }, set a(b) { } }); function f(a, b) { }",
-            &[(0, false), (1, false), (2, false)],
-        ),
-        (
-            "'a'; \"use strict\"; ({ get a() { }, set a(b) { } }); function f(a, b) { }",
-            &[(0, true), (1, true), (2, true)],
-        ),
-        ("'use\\x20strict'; function f() { }", &[(0, false)]),
-        ("('use strict'); function f() { }", &[(0, false)]),
-        ("a; 'use strict'; function f() { }", &[(0, false)]),
-        ("function f() { 'use strict' }", &[(0, true)]),
-        (
-            "function f() { function g() { } } ({ get a() { }, set a(b) { } }); function h() { }",
-            &[(0, false), (0, false), (0, false), (1, false), (0, false)],
-        ),
-        (
-            "function f() { 'a'; 'use strict'; function g() { } } function h() { }",
-            &[(0, true), (0, true), (0, false)],
-        ),
-        (
-            "function f() { } 'use strict'; function h() { }",
-            &[(0, false), (0, false)],
-        ),
-    ];
-    for (source, functions) in rows {
-        assert!(rt;
-            functions_of(rt.alloc(), source).is_some_and(|shown| shown.as_slice() == functions),
-            "{source}"
-        );
-        assert!(rt;
-            functions_by_number(rt.alloc(), source).is_some_and(|shown| shown.as_slice()
-                == functions),
-            "{source}"
-        );
+fn functions_with_their_marks(rt: HostRuntime) {
+    for (source, marks) in FUNCTIONS {
+        assert!(rt; is_marked(rt.alloc(), *source, *marks), "{source}");
     }
-    Ok(())
 }

@@ -1,6 +1,9 @@
+ghost use Rattle.flow_policy.specs.Inputs.{IsGivenTo};
+
 use crate::programs::parsed;
 use flow_io::MemorySink;
-use flow_policy::{read_inputs, read_policy};
+use flow_policy::{Inputs, Policy, read_inputs, read_policy};
+use js_ast::Program;
 use origin_labels::{Masks, OriginList};
 use std::alloc::Global;
 use std::test::*;
@@ -9,7 +12,7 @@ use step_run::{Ending, Show, run};
 const POLICY: &[u8] = b"origin A\nin pin A\nin note -\nout all A\nout pub -\n";
 
 // How a run ended.
-#[derive(Clone, Copy, Debug, PartialEq, Eq)]
+#[derive(Clone, Copy, PartialEq, Eq)]
 enum End {
     Done,
     Threw,
@@ -31,7 +34,7 @@ fn end_of(ending: &Ending) -> End {
 }
 
 // A script, the turns of its run, how it ends and what it writes: a part of the script that is entered costs one turn.
-const TURNS: [(&str, u64, End, &str); 9] = [
+const TURNS: &[(&str, u64, End, &str)] = &[
     ("", 0, End::Done, ""),
     (";", 0, End::OutOfTurns, ""),
     (";", 1, End::Done, ""),
@@ -54,7 +57,7 @@ const TURNS: [(&str, u64, End, &str); 9] = [
 ];
 
 // What a run writes for an observer without origins: the lines on channels that it sees.
-const SEEN: [(&str, &str); 2] = [
+const SEEN: &[(&str, &str)] = &[
     (
         "print('pub', 'a'); print('all', read('pin')); print('pub', 'b');",
         "pub a\npub b\n",
@@ -62,37 +65,57 @@ const SEEN: [(&str, &str); 2] = [
     ("print('all', 'a');", ""),
 ];
 
-fn ran(alloc: Global, script: &str, turns: u64, show: &Show) -> Option<(Ending, MemorySink)> {
-    let program = parsed(alloc, script).ok()?;
-    let policy = read_policy(alloc, POLICY).ok()?;
-    let inputs = read_inputs(alloc, &policy, b"pin 7\n").ok()?;
+// Whether a run ends so and writes these bytes.
+fn runs(alloc: Global, script: &str, turns: u64, show: &Show, end: End, bytes: &str) -> bool {
+    let Ok(program) = parsed(alloc, script) else {
+        return false;
+    };
+    let Ok(policy) = read_policy(alloc, POLICY) else {
+        return false;
+    };
+    let Ok(inputs) = read_inputs(alloc, &policy, b"pin 7\n") else {
+        return false;
+    };
+    writes(alloc, &program, &policy, &inputs, turns, show, end, bytes)
+}
+
+fn writes(
+    alloc: Global,
+    program: &Program,
+    policy: &Policy,
+    inputs: &Inputs,
+    turns: u64,
+    show: &Show,
+    end: End,
+    bytes: &str,
+) -> bool
+    requires { IsGivenTo policy.now inputs.now }
+{
     let _formed = policy.origins();
     let mut sink = MemorySink::new(alloc);
     let ending = run(
-        alloc, &program, &policy, &inputs, turns, show, &mut Masks, &mut sink,
+        alloc, program, policy, inputs, turns, show, &mut Masks, &mut sink,
     );
-    Some((ending, sink))
+    end_of(&ending) == end && sink.taken() == bytes.as_bytes()
 }
 
 #[test]
-fn turns_are_spent(rt: HostRuntime) -> Result<(), Fail> {
-    let alloc = rt.alloc();
+fn turns_are_spent(rt: HostRuntime) {
     for (script, turns, end, bytes) in TURNS {
-        let (ending, sink) = ran(alloc, script, turns, &Show::All).ok_or("refused")?;
-        assert_eq!(rt; end_of(&ending), end, "{script}");
-        assert_eq!(rt; sink.taken(), bytes.as_bytes(), "{script}");
+        assert!(rt;
+            runs(rt.alloc(), *script, *turns, &Show::All, *end, *bytes),
+            "{script}"
+        );
     }
-    Ok(())
 }
 
 #[test]
-fn lines_that_an_observer_sees(rt: HostRuntime) -> Result<(), Fail> {
-    let alloc = rt.alloc();
-    let show = Show::Only(OriginList::new(alloc));
+fn lines_that_an_observer_sees(rt: HostRuntime) {
+    let show = Show::Only(OriginList::new(rt.alloc()));
     for (script, bytes) in SEEN {
-        let (ending, sink) = ran(alloc, script, 1000, &show).ok_or("refused")?;
-        assert_eq!(rt; end_of(&ending), End::Done, "{script}");
-        assert_eq!(rt; sink.taken(), bytes.as_bytes(), "{script}");
+        assert!(rt;
+            runs(rt.alloc(), *script, 1000, &show, End::Done, *bytes),
+            "{script}"
+        );
     }
-    Ok(())
 }

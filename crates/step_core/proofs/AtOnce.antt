@@ -1,5 +1,5 @@
 -- An expression that was evaluated at once.
-use Rattle.std.proofs.Common.{sym, ap, ◌∙◌, ◌≡◌, ◌<◌, ◌+◌, ◌*◌, ℕ, List, [], ◌∷◌, ◌++◌, map, length, Bool, refl, arith}
+use Rattle.std.proofs.Common.{sym, ap, subst, ◌∙◌, ◌≡◌, ◌<◌, ◌+◌, ◌*◌, ℕ, List, [], ◌∷◌, ◌++◌, map, length, Bool, Result, IfOk, refl, arith}
 use Rattle.std.proofs.lemmas.List.{nil_from_length}
 use Rattle.std.specs.Borrow.{Bor}
 use Rattle.origin_labels.specs.Label.{Label, IsLabel}
@@ -7,24 +7,30 @@ use Rattle.origin_labels.specs.Stores.{IsKept}
 use Rattle.flow_policy.specs.Policies.{Tables}
 use Rattle.flow_policy.specs.Inputs.{Given}
 use Rattle.js_ast.specs.declared.trees.Expr.{Expr}
-use Rattle.js_ast.specs.Views.{view_expr}
+use Rattle.js_ast.specs.declared.trees.Stmt.{Stmt}
+use Rattle.js_ast.specs.Views.{view_expr, view_stmt}
 use Rattle.js_values.specs.declared.value.Labelled.{Labelled}
 use Rattle.js_values.specs.Readings.{read_value}
 use Rattle.es_meaning.specs.Outcomes.{Goes}
+use Rattle.es_meaning.specs.Plain.{undefined}
+use Rattle.flow_meaning.specs.Erased.{unlabelled}
 use Rattle.flow_meaning.specs.Scopes.{LabelledLine, State}
-use Rattle.flow_meaning.specs.Planned.{Ask, Completion, Give, an_expr, and_go, gave, meaning, perform}
+use Rattle.flow_meaning.specs.Planned.{Ask, Completion, Give, a_stmt, an_expr, and_go, gave, meaning, perform}
 use Rattle.flow_meaning.proofs.Performing.{perform_asked}
 use Rattle.step_world.specs.declared.world.World.{World}
-use Rattle.step_world.specs.Worlds.{state_of}
+use Rattle.step_world.specs.Worlds.{Grows, state_of}
 use Rattle.step_world.proofs.ActLaws.{Belongs-later, Grows-refl}
 use Rattle.step_work.specs.declared.work.Next.{Next}
 use Rattle.step_work.specs.declared.work.Next.TheVariants as next
 use Rattle.step_work.specs.Kept.{Kept, operands_of, scopes_of}
 use Rattle.step_work.specs.Loads.{load}
 use Rattle.step_work.specs.Pending.{behind, env_above, first_or_undefined, values_of}
-use Rattle.step_moves.proofs.Settled.{rests_laid}
+use Rattle.step_moves.proofs.Settled.{rests_laid, rests_same}
+use Rattle.step_numbers.specs.Assigned.{Finishes, Gives, Rebinds}
 use Rattle.step_numbers.specs.Evaluated.{Evaluates}
 use Rattle.step_core.specs.declared.machine.Machine.{Machine}
+use Rattle.flow_text.specs.declared.memory.OutOfMemory.{OutOfMemory}
+use Rattle.step_core.specs.declared.steps.Step.{Step}
 use Rattle.step_core.specs.declared.steps.Step.TheVariants as step
 use Rattle.step_core.specs.Outlook.{ahead, here, outlook}
 use Rattle.step_core.specs.Standing.{Standing}
@@ -33,13 +39,13 @@ use Rattle.step_core.proofs.Performed.{perform_behind}
 use Rattle.step_core.proofs.Stood.{later_values, standing_rests, standing_whole}
 use Rattle.step_core.proofs.Taking.{env_place}
 
-module _ {T : Type 0} (tables : Tables) (inputs : Given) (reading : T → Label) (told : List LabelledLine) (m : Machine T) (x : Bor Expr) (stack : Kept T) (v : Labelled T) (left : ℕ) where
+module _ {T : Type 0} (tables : Tables) (inputs : Given) (reading : T → Label) (told : List LabelledLine) (m : Machine T) (new : World T) (left : ℕ) where
   -- its value is handed on, with so many turns left
-  handed_on : m.stack.loose ≡ [] → stack.tasks ≡ m.stack.tasks → stack.loose ≡ m.stack.loose ++ v ∷ []
-      → meaning tables inputs (an_expr (view_expr x.now) 0) (state_of reading m.world told m.turns) ≡ Goes (read_value reading v) (state_of reading m.world told left)
-      → outlook tables inputs reading m (next.Expr x) told ≡ outlook tables inputs reading (record { world = m.world; stack = stack; turns = left }) next.Value told
+  handed_on : (x : Bor Expr) (stack : Kept T) (v : Labelled T) → m.stack.loose ≡ [] → stack.tasks ≡ m.stack.tasks → stack.loose ≡ m.stack.loose ++ v ∷ []
+      → meaning tables inputs (an_expr (view_expr x.now) 0) (state_of reading m.world told m.turns) ≡ Goes (read_value reading v) (state_of reading new told left)
+      → outlook tables inputs reading m (next.Expr x) told ≡ outlook tables inputs reading (record { world = new; stack = stack; turns = left }) next.Value told
   unfolding and_go
-  handed_on none tasks laid comes =
+  handed_on x stack v none tasks laid comes =
       let M = meaning tables inputs in
       let s = state_of reading m.world told m.turns in
       let rest : Completion → State → _ = λ c t. perform M (behind tables inputs reading m.stack.tasks here (Give c t)) in
@@ -47,8 +53,20 @@ module _ {T : Type 0} (tables : Tables) (inputs : Given) (reading : T → Label)
       ∙ ap (λ o. and_go o rest) (perform_asked M (an_expr (view_expr x.now) (env_above m.stack.tasks here).place) s)
       ∙ ap (λ i. and_go (M (an_expr (view_expr x.now) i) s) rest) (env_place m.stack.tasks here)
       ∙ ap (λ o. and_go o rest) comes
-      ∙ ap (λ ts. perform M (behind tables inputs reading ts here (Give (gave (read_value reading v)) (state_of reading m.world told left)))) (sym tasks)
-      ∙ ap (λ vs. perform M (behind tables inputs reading stack.tasks here (Give (gave (first_or_undefined (map (read_value reading) vs))) (state_of reading m.world told left)))) (sym (laid ∙ ap (λ vs. vs ++ v ∷ []) none))
+      ∙ ap (λ ts. perform M (behind tables inputs reading ts here (Give (gave (read_value reading v)) (state_of reading new told left)))) (sym tasks)
+      ∙ ap (λ vs. perform M (behind tables inputs reading stack.tasks here (Give (gave (first_or_undefined (map (read_value reading) vs))) (state_of reading new told left)))) (sym (laid ∙ ap (λ vs. vs ++ v ∷ []) none))
+
+  -- a statement came to its end, with so many turns left
+  finished_on : (x : Bor Stmt) → meaning tables inputs (a_stmt (view_stmt x.now) (env_above m.stack.tasks here)) (state_of reading m.world told m.turns) ≡ Goes (unlabelled undefined) (state_of reading new told left)
+      → outlook tables inputs reading m (next.Stmt x) told ≡ outlook tables inputs reading (record { world = new; stack = m.stack; turns = left }) next.Done told
+  unfolding and_go
+  finished_on x comes =
+      let M = meaning tables inputs in
+      let s = state_of reading m.world told m.turns in
+      let rest : Completion → State → _ = λ c t. perform M (behind tables inputs reading m.stack.tasks here (Give c t)) in
+      perform_behind tables inputs reading M m.stack.tasks here (Ask (a_stmt (view_stmt x.now) (env_above m.stack.tasks here)) s Give)
+      ∙ ap (λ o. and_go o rest) (perform_asked M (a_stmt (view_stmt x.now) (env_above m.stack.tasks here)) s)
+      ∙ ap (λ o. and_go o rest) comes
 
 module _ {S T : Type 0} (made : S → T → Type 0) (meaning_of : S → T → Label) (room : S → ℕ) (firm : S → Bool) (earlier later : S) (kept : IsKept made meaning_of room firm earlier later) (rising : (store : S) (label : T) → made store label → IsLabel (meaning_of store label)) where
   -- the machine stands in the later store
@@ -67,7 +85,7 @@ module _ {S T : Type 0} (made : S → T → Type 0) (meaning_of : S → T → La
       → stack.tasks ≡ m.stack.tasks → stack.loose ≡ m.stack.loose ++ v ∷ [] → Evaluates made meaning_of later (view_expr x.now) 0 m.world m.turns v left
       → Stepped made meaning_of later tables inputs (λ reading. outlook tables inputs reading m (next.Expr x)) (ahead m (next.Expr x)) (record { world = m.world; stack = stack; turns = left }) (step.Goes next.Value)
   evaluated_steps tables inputs m x stack v left stands tasks laid evaluates = record {
-    comes = λ reading told read. handed_on tables inputs reading told m x stack v left (nil_from_length m.stack.loose stands.values) tasks laid (evaluates.comes tables inputs reading told read);
+    comes = λ reading told read. handed_on tables inputs reading told m m.world left x stack v (nil_from_length m.stack.loose stands.values) tasks laid (evaluates.comes tables inputs reading told read);
     standing = standing_rests made meaning_of room firm earlier later kept m.stack stack m.world m.world next.Value
         (standing_whole made meaning_of earlier m.stack m.world (scopes_of m.stack.tasks) (next.Expr x) (λ frames scopes whole. whole) stands) (rests_laid (made later) m.stack stack v next.Value stands.values tasks laid refl evaluates.labelled)
         refl (Belongs-later made meaning_of room firm earlier later kept rising m.world stands.belongs) (Grows-refl m.world);
@@ -75,3 +93,45 @@ module _ {S T : Type 0} (made : S → T → Type 0) (meaning_of : S → T → La
     printed = tt;
     stopped = tt;
   }
+
+  -- a step that hands on what was assigned
+  pub assigned_steps : (tables : Tables) (inputs : Given) (m : Machine T) (new : World T) (x : Bor Expr) (stack : Kept T) (v : Labelled T) (left : ℕ) → Standing made meaning_of earlier m.stack m.world 0 (scopes_of m.stack.tasks) (next.Expr x)
+      → stack.tasks ≡ m.stack.tasks → stack.loose ≡ m.stack.loose ++ v ∷ [] → Gives made meaning_of later (view_expr x.now) 0 m.world new m.turns v left → Rebinds made meaning_of later m.world new
+      → Stepped made meaning_of later tables inputs (λ reading. outlook tables inputs reading m (next.Expr x)) (ahead m (next.Expr x)) (record { world = new; stack = stack; turns = left }) (step.Goes next.Value)
+  assigned_steps tables inputs m new x stack v left stands tasks laid gives rebinds = record {
+    comes = λ reading told read. handed_on tables inputs reading told m new left x stack v (nil_from_length m.stack.loose stands.values) tasks laid (gives.comes tables inputs reading told read);
+    standing = standing_rests made meaning_of room firm earlier later kept m.stack stack m.world new next.Value
+        (standing_whole made meaning_of earlier m.stack m.world (scopes_of m.stack.tasks) (next.Expr x) (λ frames scopes whole. whole) stands) (rests_laid (made later) m.stack stack v next.Value stands.values tasks laid refl gives.labelled)
+        (ap (λ f. length f.frames) rebinds.frames) rebinds.belongs rebinds.grows;
+    lowers = let fewer = gives.fewer in let same : load stack.tasks ≡ load m.stack.tasks = ap load tasks in omega (arith, fewer, same);
+    printed = tt;
+    stopped = tt;
+  }
+
+  -- a step by which a statement comes to its end
+  pub finished_steps : (tables : Tables) (inputs : Given) (m : Machine T) (new : World T) (x : Bor Stmt) (left : ℕ) → Standing made meaning_of earlier m.stack m.world 0 (scopes_of m.stack.tasks) (next.Stmt x)
+      → Finishes made meaning_of later (view_stmt x.now) 0 m.world new m.turns left → Rebinds made meaning_of later m.world new
+      → Stepped made meaning_of later tables inputs (λ reading. outlook tables inputs reading m (next.Stmt x)) (ahead m (next.Stmt x)) (record { world = new; stack = m.stack; turns = left }) (step.Goes next.Done)
+  finished_steps tables inputs m new x left stands finishes rebinds = record {
+    comes = λ reading told read. finished_on tables inputs reading told m new left x (finishes.comes tables inputs (env_above m.stack.tasks here) reading told (env_place m.stack.tasks here) read);
+    standing = standing_rests made meaning_of room firm earlier later kept m.stack m.stack m.world new next.Done
+        (standing_whole made meaning_of earlier m.stack m.world (scopes_of m.stack.tasks) (next.Stmt x) (λ frames scopes whole. whole) stands) (rests_same (made later) m.stack next.Done stands.values refl)
+        (ap (λ f. length f.frames) rebinds.frames) rebinds.belongs rebinds.grows;
+    lowers = let fewer = finishes.fewer in omega (arith, fewer);
+    printed = tt;
+    stopped = tt;
+  }
+
+  -- nothing was done, and the machine stands in the later store
+  pub stands_unchanged : (stack : Kept T) (world same : World T) (pending : List ℕ) (count : ℕ) (move : Next) → same ≡ world → Standing made meaning_of earlier stack world count pending move → Standing made meaning_of later stack same count pending move
+  stands_unchanged stack world same pending count move is stands = subst (λ w. Standing made meaning_of later stack w count pending move) (sym is) (stands_later stack world pending count move stands)
+
+-- the machine is the same where its world is
+pub unchanged_steps : {S T : Type 0} (made : S → T → Type 0) (meaning_of : S → T → Label) (store : S) (tables : Tables) (inputs : Given) (m new : Machine T) (same : World T) (move : Next) (result : Result (Step T) OutOfMemory) → same ≡ m.world
+    → IfOk result (Stepped made meaning_of store tables inputs (λ reading. outlook tables inputs reading (record { world = same; stack = m.stack; turns = m.turns }) move) (ahead (record { world = same; stack = m.stack; turns = m.turns }) move) new)
+    → IfOk result (Stepped made meaning_of store tables inputs (λ reading. outlook tables inputs reading m move) (ahead m move) new)
+unchanged_steps made meaning_of store tables inputs m new same move result is stepped =
+    subst (λ w. IfOk result (Stepped made meaning_of store tables inputs (λ reading. outlook tables inputs reading (record { world = w; stack = m.stack; turns = m.turns }) move) (ahead (record { world = w; stack = m.stack; turns = m.turns }) move) new)) is stepped
+
+pub unchanged_grows : {T : Type 0} (world same new : World T) → same ≡ world → Grows same new → Grows world new
+unchanged_grows world same new is grows = subst (λ w. Grows w new) is grows

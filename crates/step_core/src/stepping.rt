@@ -29,11 +29,11 @@ use crate::steps::{Ending, Step, line_step, step_of};
 use flow_frames::FlowFault;
 use flow_policy::{Inputs, Policy};
 use flow_text::OutOfMemory;
-use js_ast::Expr;
+use js_ast::{Expr, ExprKind, Stmt};
 use origin_labels::Labels;
 use std::alloc::Global;
 use step_calls::call;
-use step_numbers::evaluate;
+use step_numbers::{assign, evaluate, finish};
 use step_work::{Direct, Next, Work};
 
 /// Does what is next. Want of memory ends the run, whatever is left of the machine.
@@ -86,9 +86,8 @@ fn stepped<'p, L: Labels>(
             call_function(alloc, labels, policy, inputs, machine, function, count)
         }
         Next::Expr(e) => begin_expr(alloc, labels, machine, e),
-        Next::Use(_, _) | Next::Stmt(_) | Next::Turn(_) => {
-            enter_part(alloc, labels, machine, next)
-        }
+        Next::Stmt(s) => begin_stmt(alloc, labels, machine, s),
+        Next::Use(_, _) | Next::Turn(_) => enter_part(alloc, labels, machine, next),
         Next::Null
         | Next::Bool(_)
         | Next::Number(_)
@@ -173,8 +172,28 @@ fn passed<'p, L: Labels>(
     Ok(Step::Goes(next))
 }
 
-// An expression of names and numbers comes to its value at once, and any other is entered.
+// An expression is evaluated at once, or entered.
 fn begin_expr<'p, L: Labels>(
+    alloc: Global,
+    labels: &mut L,
+    machine: &mut Machine<'p, L::Label>,
+    e: &'p Expr,
+) -> Result<Step<'p, L::Label>, OutOfMemory>
+    requires standing { Standing L.made L.meaning labels.old machine.old.stack machine.old.world 0 (scopes_of machine.old.stack.tasks) (next.Expr e) }
+    ensures stepped { (tables : Tables) (inputs : Given) → IfOk result (Stepped L.made L.meaning labels.new tables inputs (λ reading. outlook tables inputs reading machine.old (next.Expr e.entry)) (ahead machine.old (next.Expr e.entry)) machine.new) }
+    ensures grows { Grows machine.old.world machine.new.world }
+    ensures kept { IsKept L.made L.meaning L.room L.firm labels.old labels.new }
+{
+    match &*e.kind {
+        ExprKind::Assign { .. } | ExprKind::Postfix { .. } => {
+            begin_assignment(alloc, labels, machine, e)
+        }
+        _ => begin_value(alloc, labels, machine, e),
+    }
+}
+
+// An expression of names and numbers comes to its value at once, and any other is entered.
+fn begin_value<'p, L: Labels>(
     alloc: Global,
     labels: &mut L,
     machine: &mut Machine<'p, L::Label>,
@@ -191,6 +210,45 @@ fn begin_expr<'p, L: Labels>(
     machine.turns = found.turns;
     machine.stack.lay(found.value)?;
     Ok(Step::Goes(Next::Value))
+}
+
+// An assignment of a number to a name is done at once, and any other is entered.
+fn begin_assignment<'p, L: Labels>(
+    alloc: Global,
+    labels: &mut L,
+    machine: &mut Machine<'p, L::Label>,
+    e: &'p Expr,
+) -> Result<Step<'p, L::Label>, OutOfMemory>
+    requires standing { Standing L.made L.meaning labels.old machine.old.stack machine.old.world 0 (scopes_of machine.old.stack.tasks) (next.Expr e) }
+    ensures stepped { (tables : Tables) (inputs : Given) → IfOk result (Stepped L.made L.meaning labels.new tables inputs (λ reading. outlook tables inputs reading machine.old (next.Expr e.entry)) (ahead machine.old (next.Expr e.entry)) machine.new) }
+    ensures grows { Grows machine.old.world machine.new.world }
+    ensures kept { IsKept L.made L.meaning L.room L.firm labels.old labels.new }
+{
+    let Some(found) = assign(labels, &mut machine.world, OUTERMOST, machine.turns, e) else {
+        return enter_part(alloc, labels, machine, Next::Expr(e));
+    };
+    machine.turns = found.turns;
+    machine.stack.lay(found.value)?;
+    Ok(Step::Goes(Next::Value))
+}
+
+// A statement that is such an assignment is done at once, and any other is entered.
+fn begin_stmt<'p, L: Labels>(
+    alloc: Global,
+    labels: &mut L,
+    machine: &mut Machine<'p, L::Label>,
+    s: &'p Stmt,
+) -> Result<Step<'p, L::Label>, OutOfMemory>
+    requires standing { Standing L.made L.meaning labels.old machine.old.stack machine.old.world 0 (scopes_of machine.old.stack.tasks) (next.Stmt s) }
+    ensures stepped { (tables : Tables) (inputs : Given) → IfOk result (Stepped L.made L.meaning labels.new tables inputs (λ reading. outlook tables inputs reading machine.old (next.Stmt s.entry)) (ahead machine.old (next.Stmt s.entry)) machine.new) }
+    ensures grows { Grows machine.old.world machine.new.world }
+    ensures kept { IsKept L.made L.meaning L.room L.firm labels.old labels.new }
+{
+    let Some(left) = finish(labels, &mut machine.world, OUTERMOST, machine.turns, s) else {
+        return enter_part(alloc, labels, machine, Next::Stmt(s));
+    };
+    machine.turns = left;
+    Ok(Step::Goes(Next::Done))
 }
 
 // A part of the script is entered, which costs a turn, and without one the run ends.

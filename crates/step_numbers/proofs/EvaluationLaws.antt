@@ -47,10 +47,10 @@ found_first : {V : Type 0} (name : List ℕ) (i : ℕ) (b : Binding V) (o : Opti
 found_first name i b None behind is = absurd (none-some b is)
 found_first name i b (Some r) behind is = has_here i b (found name r.bindings) (first_with name (behind r)) is
 
-lookup_own : {V : Type 0} (name : List ℕ) (records : List (Record V)) (i : ℕ) (b : Binding V) → bound_in name (slice_get records i) ≡ Some b → lookup name records i ≡ Some i
+pub lookup_own : {V : Type 0} (name : List ℕ) (records : List (Record V)) (i : ℕ) (b : Binding V) → bound_in name (slice_get records i) ≡ Some b → lookup name records i ≡ Some i
 lookup_own name records i b is = found_first name i b (slice_get records i) _ is
 
-binding_of : {V : Type 0} (v : V) (o : Option (Binding V)) → Some v ≡ option_map (λ b. b.value) o → (P : Type 0) → ((b : Binding V) → o ≡ Some b → P) → P
+pub binding_of : {V : Type 0} (v : V) (o : Option (Binding V)) → Some v ≡ option_map (λ b. b.value) o → (P : Type 0) → ((b : Binding V) → o ≡ Some b → P) → P
 binding_of v None is P goes_on = absurd (none-some v (sym is))
 binding_of v (Some b) is P goes_on = goes_on b refl
 
@@ -72,7 +72,7 @@ module _ (tables : Tables) (inputs : inputs.Given) where
       (is_performed.some_left tables inputs (an_expr e at) (state_of reading w told n) n)
 
   -- a part that was asked for gave a value
-  asked_gave : (part : Part) (f : Val → State → Plan) (s t : State) (v : Val) → meaning tables inputs part s ≡ Goes v t → perform (meaning tables inputs) (Ask part s (with_result Value f)) ≡ perform (meaning tables inputs) (f v t)
+  pub asked_gave : (part : Part) (f : Val → State → Plan) (s t : State) (v : Val) → meaning tables inputs part s ≡ Goes v t → perform (meaning tables inputs) (Ask part s (with_result Value f)) ≡ perform (meaning tables inputs) (f v t)
   unfolding perform and_go
   asked_gave part f s t v h = ap (λ o. and_go o (λ c u. perform (meaning tables inputs) (with_result Value f c u))) h
 

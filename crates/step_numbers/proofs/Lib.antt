@@ -1,3 +1,4 @@
 pub mod NumberLaws
 pub mod EvaluationLaws
 pub mod ExactLaws
+pub mod AssignLaws

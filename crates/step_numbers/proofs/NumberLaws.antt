@@ -1,5 +1,5 @@
 -- What operators give of two numbers of the profile.
-use Rattle.std.proofs.Common.{refl, ap, ◌∙◌, ◌≡◌, ℤ, ◌+ℤ◌, not, int_lt, Some, Result, Ok, Err}
+use Rattle.std.proofs.Common.{refl, sym, ap, ◌∙◌, ◌≡◌, ℤ, ◌+ℤ◌, not, int_lt, Some, Result, Ok, Err}
 use Rattle.js_ast.specs.declared.operators.BinaryOperator.{BinaryOperator}
 use Rattle.js_number.specs.declared.int.LeftNumbers.{LeftNumbers}
 use Rattle.js_number.specs.declared.primitive.Primitive.TheVariants.{Num}
@@ -12,6 +12,9 @@ use Rattle.js_number.specs.Sum.{sum_of, summed}
 use Rattle.js_number.proofs.Answered.{answers}
 use Rattle.js_values.specs.declared.value.Value.TheVariants as value
 use Rattle.es_meaning.specs.Evaluation as es
+use Rattle.es_meaning.specs.Operators as es_operators
+use Rattle.es_meaning.specs.Operators.{a_primitive}
+use Rattle.js_ast.specs.declared.operators.UnaryOperator.TheVariants as unary_operator
 use Rattle.es_meaning.specs.Evaluation.{conversion_of}
 use Rattle.es_meaning.specs.Operators.{as_boolean, as_number, as_sum, binary_of, binary_of_primitives, both, of_numbers, to_number, turned}
 use Rattle.step_values.specs.Converted.{behind_number, converted, converted_by, kind_of}
@@ -50,3 +53,13 @@ less_given a b p q = ap as_boolean (less_of_both a b p q)
 
 pub turned_given : (a b : ℤ) → IsProfile a → IsProfile b → as_boolean (turned (is_less (Num a) (Num b))) ≡ Ok (prims.Bool (not (int_lt a b)))
 turned_given a b p q = ap (λ r. as_boolean (turned r)) (less_of_both a b p q)
+
+-- what an operator between numbers gives is the same without conversions
+pub between_numbers : (o : BinaryOperator) (a b n : ℤ) → IsProfile a → converted o (value.Primitive (Num a)) (value.Primitive (Num b)) ≡ Ok (Num n) → es_operators.binary_of o (value.Primitive (Num a)) (value.Primitive (Num b)) ≡ Ok (Num n)
+unfolding es_operators.binary_of
+between_numbers o a b n p is = sym (converts_numbers o a b p) ∙ is
+
+-- a number as a number is itself
+pub plus_number : (z : ℤ) → IsProfile z → es_operators.unary_of unary_operator.Plus (a_primitive (Num z)) ≡ Ok (Num z)
+unfolding es_operators.unary_of
+plus_number z p = ap as_number (kept z p)

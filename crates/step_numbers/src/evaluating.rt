@@ -23,7 +23,7 @@ use origin_labels::Labels;
 use step_world::World;
 
 // A deeper expression is evaluated node by node, so that each node is tried at most so many times.
-const DEPTH: u32 = 8;
+pub(crate) const DEPTH: u32 = 8;
 
 /// What an expression comes to.
 #[derive(Drop)]
@@ -35,11 +35,11 @@ pub struct Evaluated<T> {
 
 /// A number that an expression comes to.
 #[derive(Drop)]
-struct Counted<T> {
-    number: Int,
-    label: T,
+pub(crate) struct Counted<T> {
+    pub(crate) number: Int,
+    pub(crate) label: T,
     /// How many turns are left.
-    turns: u64,
+    pub(crate) turns: u64,
 }
 
 /// Evaluates an expression in a record, where it is made of names of that record, numbers, parentheses and operators between numbers, with one comparison outermost or none, it isn't deep, and there are turns for it. Nothing but the store of labels changes.
@@ -72,7 +72,7 @@ pub fn evaluate<L: Labels>(
     }
 }
 
-fn as_value<T>(counted: Option<Counted<T>>) -> Option<Evaluated<T>>
+pub(crate) fn as_value<T>(counted: Option<Counted<T>>) -> Option<Evaluated<T>>
     ensures { result ≡ option_map (λ c. record { value = labelled_number c.number c.label; turns = c.turns }) counted }
 {
     let counted = counted?;
@@ -121,7 +121,7 @@ fn comparison<L: Labels>(
 
 /// A number.
 #[tactic(auto, using(crate::proofs::ExactLaws::stays_out, js_ast::specs::declared::trees::ExprKind::TheViews::the_lemmas))]
-fn number<L: Labels>(
+pub(crate) fn number<L: Labels>(
     labels: &mut L,
     world: &World<L::Label>,
     at: EnvId,
@@ -179,7 +179,12 @@ fn number<L: Labels>(
 }
 
 /// The number that a name has in the record.
-fn named<T: Copy>(world: &World<T>, at: EnvId, turns: u64, name: &Text) -> Option<Counted<T>>
+pub(crate) fn named<T: Copy>(
+    world: &World<T>,
+    at: EnvId,
+    turns: u64,
+    name: &Text,
+) -> Option<Counted<T>>
     requires { at.0 < length world.now.records }
     ensures exact { option_map (λ c. (c.number, c.turns)) result ≡ named (option_map (λ b. b.value) (bound_in name.now (slice_get world.now.records at.0))) turns }
     ensures found { IfSome result (λ c. (Some (labelled_number c.number c.label) ≡ option_map (λ b. b.value) (bound_in name.now (slice_get world.now.records at.0))) × (c.turns ≡ turns)) }
@@ -196,7 +201,7 @@ fn named<T: Copy>(world: &World<T>, at: EnvId, turns: u64, name: &Text) -> Optio
 }
 
 /// What arithmetic gives of two numbers, with the turns that are left behind the second.
-fn joined<L: Labels>(
+pub(crate) fn joined<L: Labels>(
     labels: &mut L,
     operator: BinaryOperator,
     first: Counted<L::Label>,

@@ -3,6 +3,7 @@ ghost use Rattle.std.specs.List.{All};
 ghost use Rattle.flow_frames.specs.Held.{Belong};
 ghost use Rattle.js_values.specs.Readings.{HasValue};
 
+use crate::told::holds;
 use crate::works::{empty, name};
 use flow_frames::{Frames, Kind};
 use flow_text::OutOfMemory;
@@ -52,23 +53,24 @@ fn logical<L: Labels>(
     Ok((matches!(next, Next::Expr(_)), frames.len()))
 }
 
+// The left operand, whether the operator is `&&`, and whether the right operand is evaluated.
+const LOGICAL: &[(bool, bool, bool)] = &[
+    (true, true, true),
+    (false, true, false),
+    (true, false, false),
+    (false, false, true),
+];
+
+fn is_logical(alloc: Global, left: bool, and: bool, right: bool) -> Result<bool, OutOfMemory> {
+    let operand = name(alloc, "a")?;
+    Ok(logical(alloc, &mut Masks, &operand, left, and)? == (right, 2))
+}
+
 #[test]
-fn logical_operators(rt: HostRuntime) -> Result<(), Fail> {
-    let alloc = rt.alloc();
-    let right = name(alloc, "a")?;
-    let rows = [
-        (true, true, true),
-        (false, true, false),
-        (true, false, false),
-        (false, false, true),
-    ];
-    for (left, and, evaluated) in rows {
-        assert_eq!(rt;
-            logical(alloc, &mut Masks, &right, left, and)?,
-            (evaluated, 2)
-        );
+fn logical_operators(rt: HostRuntime) {
+    for (left, and, right) in LOGICAL {
+        assert!(rt; holds(is_logical(rt.alloc(), *left, *and, *right)));
     }
-    Ok(())
 }
 
 // Whether origin 0 decides that a run is in the frames.
@@ -160,38 +162,36 @@ fn asked<L: Labels>(
     Ok((matches!(next, Next::Turn(_)), is_secret))
 }
 
-#[test]
-fn branches_of_statements(rt: HostRuntime) -> Result<(), Fail> {
-    let alloc = rt.alloc();
+fn chooses(alloc: Global) -> Result<bool, OutOfMemory> {
+    let body = empty(alloc)?;
+    let secret = Masks.single(0)?;
+    Ok(chosen(alloc, &mut Masks, secret, &body, None)? == (false, 2, true))
+}
+
+fn chooses_the_other(alloc: Global) -> Result<bool, OutOfMemory> {
     let body = empty(alloc)?;
     let other = empty(alloc)?;
-    let mut labels = Masks;
-    let secret = labels.single(0)?;
-    assert_eq!(rt;
-        chosen(alloc, &mut labels, secret, &body, None)?,
-        (false, 2, true)
-    );
-    assert_eq!(rt;
-        chosen(alloc, &mut labels, secret, &body, Some(&other))?,
-        (true, 2, true)
-    );
-    Ok(())
+    let secret = Masks.single(0)?;
+    Ok(chosen(alloc, &mut Masks, secret, &body, Some(&other))? == (true, 2, true))
+}
+
+fn ends(alloc: Global) -> Result<bool, OutOfMemory> {
+    let secret = Masks.single(0)?;
+    Ok(ended(alloc, &mut Masks, secret)? == (true, 1))
+}
+
+fn asks(alloc: Global, holds: bool) -> Result<bool, OutOfMemory> {
+    let body = empty(alloc)?;
+    let secret = Masks.single(0)?;
+    Ok(asked(alloc, &mut Masks, secret, &body, holds)? == (holds, true))
 }
 
 #[test]
-fn ends_and_conditions(rt: HostRuntime) -> Result<(), Fail> {
+fn branches_and_conditions(rt: HostRuntime) {
     let alloc = rt.alloc();
-    let body = empty(alloc)?;
-    let mut labels = Masks;
-    let secret = labels.single(0)?;
-    assert_eq!(rt; ended(alloc, &mut labels, secret)?, (true, 1));
-    assert_eq!(rt;
-        asked(alloc, &mut labels, secret, &body, true)?,
-        (true, true)
-    );
-    assert_eq!(rt;
-        asked(alloc, &mut labels, secret, &body, false)?,
-        (false, true)
-    );
-    Ok(())
+    assert!(rt; holds(chooses(alloc)));
+    assert!(rt; holds(chooses_the_other(alloc)));
+    assert!(rt; holds(ends(alloc)));
+    assert!(rt; holds(asks(alloc, true)));
+    assert!(rt; holds(asks(alloc, false)));
 }

@@ -6,6 +6,7 @@ ghost use Rattle.origin_labels.specs.Stores.{IsKept};
 ghost use Rattle.flow_frames.specs.Held.{Belong, CatchByTry};
 ghost use Rattle.step_world.specs.Worlds.{Belongs};
 
+use crate::told::holds;
 use env_records::Envs;
 use flow_frames::{FlowFault, Frames, Kind, Rule};
 use flow_policy::{Inputs, Policy, read_inputs, read_policy};
@@ -24,7 +25,7 @@ const POLICY: &[u8] = b"origin A\norigin B\nin pin A\nin note -\nout all A,B\nou
 const INPUT: &[u8] = b"pin 1\nnote x\npin 2";
 
 // What is answered to a call: of a value, whether it has the text that is wanted, and whether its label holds A and B.
-#[derive(Clone, Copy, Debug, PartialEq, Eq)]
+#[derive(Clone, Copy, PartialEq, Eq)]
 enum Answer {
     Goes(bool, bool, bool),
     Throws,
@@ -209,7 +210,10 @@ fn labels_by<L: Labels>(
     }
 }
 
-const READS: [(bool, usize, &[&str], &str, Answer); 7] = [
+// Whether it is in a branch on origin A, how many lines were read, the arguments, and what `read` answers.
+type Read = (bool, usize, &'static [&'static str], &'static str, Answer);
+
+const READS: &[Read] = &[
     (false, 0, &["pin"], "1", Answer::Goes(true, true, false)),
     (true, 1, &["pin"], "2", Answer::Goes(true, true, false)),
     (
@@ -225,32 +229,34 @@ const READS: [(bool, usize, &[&str], &str, Answer); 7] = [
     (false, 0, &[], "", Answer::Leaves(Leaving::Channel)),
 ];
 
-// A branch on origin A, or on none, and what `read` answers in it.
-#[test]
-fn lines_of_channels(rt: HostRuntime) -> Result<(), Fail> {
-    let a = Masks.single(0).ok().ok_or("memory")?;
+fn is_read(alloc: Global, row: &Read) -> Result<bool, OutOfMemory> {
+    let a = Masks.single(0)?;
     let none = Masks.bottom();
-    let policy = read_policy(rt.alloc(), POLICY).ok().ok_or("policy")?;
-    let inputs = read_inputs(rt.alloc(), &policy, INPUT).ok().ok_or("input")?;
-    assert_eq!(rt; policy.origins().len(), 2);
-    for (branches, position, words, want, answer) in READS {
-        let context = if branches { a } else { none };
-        let told = reads(
-            rt.alloc(),
-            &mut Masks,
-            &policy,
-            &inputs,
-            context,
-            position,
-            words,
-            want,
-        );
-        assert_eq!(rt; told.ok(), Some(answer));
-    }
-    Ok(())
+    let context = if row.0 { a } else { none };
+    let Ok(policy) = read_policy(alloc, POLICY) else {
+        return Err(OutOfMemory);
+    };
+    let Ok(inputs) = read_inputs(alloc, &policy, INPUT) else {
+        return Err(OutOfMemory);
+    };
+    let _formed = policy.origins();
+    let told = reads(
+        alloc, &mut Masks, &policy, &inputs, context, row.1, row.2, row.3,
+    )?;
+    Ok(told == row.4)
 }
 
-const PRINTS: [(bool, &[&str], &str, Answer); 7] = [
+#[test]
+fn lines_of_channels(rt: HostRuntime) {
+    for row in READS {
+        assert!(rt; holds(is_read(rt.alloc(), row)));
+    }
+}
+
+// The same of `print`: whether the line is the one that is wanted, on the first channel, and whether need and label hold A.
+type Row = (bool, &'static [&'static str], &'static str, Answer);
+
+const PRINTS: &[Row] = &[
     (false, &["all", "x"], "x", Answer::Goes(true, false, false)),
     (true, &["all", "x"], "x", Answer::Goes(true, true, false)),
     (
@@ -265,22 +271,27 @@ const PRINTS: [(bool, &[&str], &str, Answer); 7] = [
     (false, &["all", "{}"], "", Answer::Leaves(Leaving::Unbuilt)),
 ];
 
-// The same of `print`: whether the line is the one that is wanted, on the first channel, and whether need and label hold A.
-#[test]
-fn lines_on_channels(rt: HostRuntime) -> Result<(), Fail> {
-    let a = Masks.single(0).ok().ok_or("memory")?;
+fn is_printed(alloc: Global, row: &Row) -> Result<bool, OutOfMemory> {
+    let a = Masks.single(0)?;
     let none = Masks.bottom();
-    let policy = read_policy(rt.alloc(), POLICY).ok().ok_or("policy")?;
-    assert_eq!(rt; policy.origins().len(), 2);
-    for (branches, words, want, answer) in PRINTS {
-        let context = if branches { a } else { none };
-        let told = prints(rt.alloc(), &mut Masks, &policy, context, words, want);
-        assert_eq!(rt; told.ok(), Some(answer));
-    }
-    Ok(())
+    let context = if row.0 { a } else { none };
+    let Ok(policy) = read_policy(alloc, POLICY) else {
+        return Err(OutOfMemory);
+    };
+    let _formed = policy.origins();
+    let told = prints(alloc, &mut Masks, &policy, context, row.1, row.2)?;
+    Ok(told == row.3)
 }
 
-const LABELS: [(bool, &[&str], &str, Answer); 6] = [
+#[test]
+fn lines_on_channels(rt: HostRuntime) {
+    for row in PRINTS {
+        assert!(rt; holds(is_printed(rt.alloc(), row)));
+    }
+}
+
+// Whether the arguments depend on A, and what `lbl` answers.
+const LABELS: &[Row] = &[
     (false, &["x"], "x", Answer::Goes(true, false, false)),
     (
         false,
@@ -299,17 +310,21 @@ const LABELS: [(bool, &[&str], &str, Answer); 6] = [
     (false, &["x", "{}"], "x", Answer::Leaves(Leaving::Origin)),
 ];
 
-// Whether the arguments depend on A, and what `lbl` answers.
-#[test]
-fn origins_of_values(rt: HostRuntime) -> Result<(), Fail> {
-    let a = Masks.single(0).ok().ok_or("memory")?;
+fn is_labelled(alloc: Global, row: &Row) -> Result<bool, OutOfMemory> {
+    let a = Masks.single(0)?;
     let none = Masks.bottom();
-    let policy = read_policy(rt.alloc(), POLICY).ok().ok_or("policy")?;
-    assert_eq!(rt; policy.origins().len(), 2);
-    for (depends, words, want, answer) in LABELS {
-        let label = if depends { a } else { none };
-        let told = labels_by(rt.alloc(), &mut Masks, &policy, label, words, want);
-        assert_eq!(rt; told.ok(), Some(answer));
+    let label = if row.0 { a } else { none };
+    let Ok(policy) = read_policy(alloc, POLICY) else {
+        return Err(OutOfMemory);
+    };
+    let _formed = policy.origins();
+    let told = labels_by(alloc, &mut Masks, &policy, label, row.1, row.2)?;
+    Ok(told == row.3)
+}
+
+#[test]
+fn origins_of_values(rt: HostRuntime) {
+    for row in LABELS {
+        assert!(rt; holds(is_labelled(rt.alloc(), row)));
     }
-    Ok(())
 }

@@ -1,7 +1,8 @@
 ghost use Rattle.std.specs.Prelude.{◌<◌, length};
 ghost use Rattle.js_values.specs.Readings.{HasRecords};
 
-use crate::names::start;
+use crate::names::make_world;
+use crate::told::holds;
 use crate::works::name;
 use flow_text::OutOfMemory;
 use js_ast::{BinaryOperator, Expr, ExprKind};
@@ -57,25 +58,44 @@ fn value_of<L: Labels>(
     Some((value, found.turns))
 }
 
+// `this - 2`
+fn difference(alloc: Global) -> Result<Expr, OutOfMemory> {
+    let this = name(alloc, "this")?;
+    between(alloc, this, BinaryOperator::Subtract, two(alloc)?)
+}
+
+// `2 < this - 2`
+fn comparison(alloc: Global) -> Result<Expr, OutOfMemory> {
+    let right = difference(alloc)?;
+    between(alloc, two(alloc)?, BinaryOperator::Less, right)
+}
+
+// What an expression comes to within so many turns.
+fn evaluates(alloc: Global, e: &Expr, turns: u64) -> Result<Option<(i64, u64)>, OutOfMemory> {
+    let (world, inner) = make_world(alloc, &Masks)?;
+    Ok(value_of(&mut Masks, &world, inner, turns, e))
+}
+
+fn is_difference(alloc: Global) -> Result<bool, OutOfMemory> {
+    let e = difference(alloc)?;
+    Ok(evaluates(alloc, &e, 3)? == Some((-2, 0)) && evaluates(alloc, &e, 2)?.is_none())
+}
+
+fn is_comparison(alloc: Global) -> Result<bool, OutOfMemory> {
+    let e = comparison(alloc)?;
+    Ok(evaluates(alloc, &e, 9)? == Some((0, 4)))
+}
+
+fn stays_out(alloc: Global) -> Result<bool, OutOfMemory> {
+    let e = name(alloc, "x")?;
+    Ok(evaluates(alloc, &e, 9)?.is_none())
+}
+
 // `this`, which is 0, has its binding in the record itself, and `x` in the one outside it.
 #[test]
-fn numbers_at_once(rt: HostRuntime) -> Result<(), Fail> {
+fn numbers_at_once(rt: HostRuntime) {
     let alloc = rt.alloc();
-    let (world, inner) = start(alloc, &Masks).ok_or("memory")?;
-    let difference = between(
-        alloc,
-        name(alloc, "this")?,
-        BinaryOperator::Subtract,
-        two(alloc)?,
-    )?;
-    let minus_two = value_of(&mut Masks, &world, inner, 3, &difference);
-    assert_eq!(rt; minus_two, Some((-2, 0)));
-    let too_few = value_of(&mut Masks, &world, inner, 2, &difference);
-    assert_eq!(rt; too_few, None);
-    let less = between(alloc, two(alloc)?, BinaryOperator::Less, difference)?;
-    let no = value_of(&mut Masks, &world, inner, 9, &less);
-    assert_eq!(rt; no, Some((0, 4)));
-    let outside = value_of(&mut Masks, &world, inner, 9, &name(alloc, "x")?);
-    assert_eq!(rt; outside, None);
-    Ok(())
+    assert!(rt; holds(is_difference(alloc)));
+    assert!(rt; holds(is_comparison(alloc)));
+    assert!(rt; holds(stays_out(alloc)));
 }

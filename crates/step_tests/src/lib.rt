@@ -10,4 +10,6 @@ mod evaluating;
 #[cfg(test)]
 mod names;
 #[cfg(test)]
+mod told;
+#[cfg(test)]
 mod works;

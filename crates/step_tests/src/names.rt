@@ -1,8 +1,9 @@
-ghost use Rattle.std.specs.Prelude.{◌≡◌, ◌<◌, ◌≤◌, IfSome, IfOk, OnOk, length};
+ghost use Rattle.std.specs.Prelude.{◌≡◌, ◌<◌, ◌≤◌, IfOk, OnOk, length};
 ghost use Rattle.origin_labels.specs.Stores.{IsKept};
 ghost use Rattle.js_values.specs.Readings.{HasHeap, HasRecords};
 ghost use Rattle.step_world.specs.Worlds.{Belongs, Grows};
 
+use crate::told::holds;
 use env_records::{Envs, records_belong};
 use flow_frames::{FlowFault, Frames, Kind, Rule};
 use flow_text::{OutOfMemory, Text};
@@ -16,7 +17,7 @@ use step_names::*;
 use step_world::{Came, Reference, World};
 
 // What an act comes to: a number, another value, an error with this prototype, or a stop.
-#[derive(Clone, Copy, Debug, PartialEq, Eq)]
+#[derive(Clone, Copy, PartialEq, Eq)]
 enum Answer {
     Gives(bool),
     Throws(Option<ObjId>),
@@ -69,7 +70,10 @@ fn two_records<L: Labels>(alloc: Global, labels: &L) -> Result<(Envs<L::Label>, 
 }
 
 // A world with these records, in the Root alone.
-fn make_world<L: Labels>(alloc: Global, labels: &L) -> Result<(World<L::Label>, EnvId), OutOfMemory>
+pub(crate) fn make_world<L: Labels>(
+    alloc: Global,
+    labels: &L,
+) -> Result<(World<L::Label>, EnvId), OutOfMemory>
     ensures there { IfOk result (λ pair. pair.1.0 < length pair.0.records) }
     ensures belongs { IfOk result (λ pair. Belongs L.made L.meaning labels.now pair.0) }
 {
@@ -83,16 +87,6 @@ fn make_world<L: Labels>(alloc: Global, labels: &L) -> Result<(World<L::Label>, 
         positions: Vec::new(alloc),
     };
     Ok((world, inner))
-}
-
-pub(crate) fn start<L: Labels>(alloc: Global, labels: &L) -> Option<(World<L::Label>, EnvId)>
-    ensures there { IfSome result (λ pair. pair.1.0 < length pair.0.records) }
-    ensures belongs { IfSome result (λ pair. Belongs L.made L.meaning labels.now pair.0) }
-{
-    match make_world(alloc, labels) {
-        Ok(pair) => Some(pair),
-        Err(_) => None,
-    }
 }
 
 // The prototype of an object, if the heap has it.
@@ -253,75 +247,82 @@ fn thrown_inside<L: Labels>(
     world: &mut World<L::Label>,
     kind: ErrorKind,
     cause: L::Label,
-) -> Option<(Answer, usize)>
+) -> Result<(Answer, usize), OutOfMemory>
     requires cause { L.made labels.old cause }
     requires belongs { Belongs L.made L.meaning labels.old world.old }
-    ensures belongs { IfSome result (λ told. Belongs L.made L.meaning labels.new world.new) }
+    ensures belongs { OnOk result (Belongs L.made L.meaning labels.new world.new) }
     ensures grows { Grows world.old world.new }
 {
-    enter(labels, world, Kind::Try, cause).ok()?;
-    enter(labels, world, Kind::Branch, cause).ok()?;
+    enter(labels, world, Kind::Try, cause)?;
+    enter(labels, world, Kind::Branch, cause)?;
     let answer = thrown(labels, world, kind, cause);
-    Some((answer, world.frames.len()))
+    Ok((answer, world.frames.len()))
 }
 
-#[test]
-fn names_have_values(rt: HostRuntime) -> Result<(), Fail> {
-    let alloc = rt.alloc();
-    let x = Text::spelled(alloc, "x").ok().ok_or("memory")?;
-    let y = Text::spelled(alloc, "y").ok().ok_or("memory")?;
-    let (mut world, inner) = start(alloc, &Masks).ok_or("memory")?;
-    let here = resolve(&world, inner, &x);
-    assert_eq!(rt; here.record, Some(EnvId(0)));
+fn names_have_values(alloc: Global) -> Result<bool, OutOfMemory> {
+    let x = Text::spelled(alloc, "x")?;
+    let (mut world, inner) = make_world(alloc, &Masks)?;
+    let here = resolve(&world, inner, &x).record == Some(EnvId(0));
     let value = got(alloc, &mut Masks, &mut world, inner, &x, number(0));
-    assert_eq!(rt; value, Answer::Gives(true));
+    Ok(here && value == Answer::Gives(true))
+}
+
+// A name without a value has a type, and is an error where it is read.
+fn names_are_unknown(alloc: Global) -> Result<bool, OutOfMemory> {
+    let y = Text::spelled(alloc, "y")?;
+    let (mut world, inner) = make_world(alloc, &Masks)?;
     let undefined = Value::Primitive(Primitive::Undefined);
     let unknown = asked(alloc, &Masks, &world, inner, &y, undefined);
-    assert_eq!(rt; unknown, Answer::Gives(true));
     let error = got(alloc, &mut Masks, &mut world, inner, &y, number(0));
-    assert_eq!(rt; error, Answer::Throws(Some(ObjId(5))));
-    Ok(())
+    Ok(unknown == Answer::Gives(true) && error == Answer::Throws(Some(ObjId(5))))
 }
 
-#[test]
-fn names_are_assigned(rt: HostRuntime) -> Result<(), Fail> {
-    let alloc = rt.alloc();
-    let x = Text::spelled(alloc, "x").ok().ok_or("memory")?;
-    let this = Text::spelled(alloc, "this").ok().ok_or("memory")?;
-    let (mut world, inner) = start(alloc, &Masks).ok_or("memory")?;
-    let one = assigned(alloc, &mut Masks, &mut world, inner, &x, 1);
-    assert_eq!(rt; one, Answer::Gives(true));
-    let value = got(alloc, &mut Masks, &mut world, inner, &x, number(1));
-    assert_eq!(rt; value, Answer::Gives(true));
-    let other = given(&mut Masks, &mut world, inner, &x, 2, 1);
-    assert_eq!(rt; other, Answer::Gives(true));
-    let value = got(alloc, &mut Masks, &mut world, inner, &x, number(2));
-    assert_eq!(rt; value, Answer::Gives(true));
-    let put_three = put(&mut Masks, &mut world, inner, &x, 3);
-    assert!(rt; put_three);
-    let value = got(alloc, &mut Masks, &mut world, inner, &x, number(3));
-    assert_eq!(rt; value, Answer::Gives(true));
+fn names_are_assigned(alloc: Global) -> Result<bool, OutOfMemory> {
+    let x = Text::spelled(alloc, "x")?;
+    let (mut world, inner) = make_world(alloc, &Masks)?;
+    let one = assigned(alloc, &mut Masks, &mut world, inner, &x, 1) == Answer::Gives(true);
+    let first = got(alloc, &mut Masks, &mut world, inner, &x, number(1)) == Answer::Gives(true);
+    let other = given(&mut Masks, &mut world, inner, &x, 2, 1) == Answer::Gives(true);
+    let second = got(alloc, &mut Masks, &mut world, inner, &x, number(2)) == Answer::Gives(true);
+    Ok(one && first && other && second)
+}
+
+fn names_are_put(alloc: Global) -> Result<bool, OutOfMemory> {
+    let x = Text::spelled(alloc, "x")?;
+    let this = Text::spelled(alloc, "this")?;
+    let (mut world, inner) = make_world(alloc, &Masks)?;
+    let three = put(&mut Masks, &mut world, inner, &x, 3);
+    let value = got(alloc, &mut Masks, &mut world, inner, &x, number(3)) == Answer::Gives(true);
     let error = assigned(alloc, &mut Masks, &mut world, inner, &this, 1);
-    assert_eq!(rt; error, Answer::Throws(Some(ObjId(7))));
-    Ok(())
+    Ok(three && value && error == Answer::Throws(Some(ObjId(7))))
+}
+
+fn errors_are_thrown(alloc: Global) -> Result<bool, OutOfMemory> {
+    let none = Masks.bottom();
+    let a = Masks.single(0)?;
+    let (mut world, _) = make_world(alloc, &Masks)?;
+    let error = thrown(&mut Masks, &mut world, ErrorKind::RangeError, none);
+    let stop = thrown(&mut Masks, &mut world, ErrorKind::RangeError, a);
+    Ok(error == Answer::Throws(Some(ObjId(4))) && stop == Answer::Stops(Rule::W9))
+}
+
+fn errors_are_caught(alloc: Global) -> Result<bool, OutOfMemory> {
+    let a = Masks.single(0)?;
+    let x = Text::spelled(alloc, "x")?;
+    let (mut world, inner) = make_world(alloc, &Masks)?;
+    let inside = thrown_inside(&mut Masks, &mut world, ErrorKind::EvalError, a)?;
+    let stop = assigned(alloc, &mut Masks, &mut world, inner, &x, 1);
+    Ok(inside == (Answer::Throws(Some(ObjId(3))), 2) && stop == Answer::Stops(Rule::W1))
 }
 
 #[test]
-fn errors_are_thrown(rt: HostRuntime) -> Result<(), Fail> {
+fn names(rt: HostRuntime) {
     let alloc = rt.alloc();
-    let none = Masks.bottom();
-    let a = Masks.single(0).ok().ok_or("memory")?;
-    let x = Text::spelled(alloc, "x").ok().ok_or("memory")?;
-    let (mut world, inner) = start(alloc, &Masks).ok_or("memory")?;
-    assert_eq!(rt; ErrorKind::UriError.prototype(), ObjId(8));
-    let error = thrown(&mut Masks, &mut world, ErrorKind::RangeError, none);
-    assert_eq!(rt; error, Answer::Throws(Some(ObjId(4))));
-    let stop = thrown(&mut Masks, &mut world, ErrorKind::RangeError, a);
-    assert_eq!(rt; stop, Answer::Stops(Rule::W9));
-    let inside = thrown_inside(&mut Masks, &mut world, ErrorKind::EvalError, a);
-    let caught = inside.ok_or("memory")?;
-    assert_eq!(rt; caught, (Answer::Throws(Some(ObjId(3))), 2));
-    let stop = assigned(alloc, &mut Masks, &mut world, inner, &x, 1);
-    assert_eq!(rt; stop, Answer::Stops(Rule::W1));
-    Ok(())
+    assert!(rt; holds(names_have_values(alloc)));
+    assert!(rt; holds(names_are_unknown(alloc)));
+    assert!(rt; holds(names_are_assigned(alloc)));
+    assert!(rt; holds(names_are_put(alloc)));
+    assert!(rt; holds(errors_are_thrown(alloc)));
+    assert!(rt; holds(errors_are_caught(alloc)));
+    assert!(rt; ErrorKind::UriError.prototype() == ObjId(8));
 }

@@ -1,3 +1,4 @@
+use crate::told::holds;
 use flow_frames::Frames;
 use flow_text::{OutOfMemory, Text};
 use js_ast::{BinaryOperator, Expr, ExprKind, ExprList, ForFirst, Stmt, StmtKind, StmtList};
@@ -70,12 +71,10 @@ fn operands(alloc: Global, e: &Expr) -> Option<(Option<usize>, Option<usize>)> {
     Some((name_length(first), name_length(second)))
 }
 
-#[test]
-fn operands_in_their_order(rt: HostRuntime) -> Result<(), Fail> {
-    let alloc = rt.alloc();
-    let e = sum(alloc, name(alloc, "a")?, name(alloc, "bb")?)?;
-    assert_eq!(rt; operands(alloc, &e), Some((Some(1), Some(2))));
-    Ok(())
+fn operands_in_their_order(alloc: Global) -> Result<bool, OutOfMemory> {
+    let a = name(alloc, "a")?;
+    let e = sum(alloc, a, name(alloc, "bb")?)?;
+    Ok(operands(alloc, &e) == Some((Some(1), Some(2))))
 }
 
 // Whether a statement of two is evaluated first, comes to its end, and the other one behind it.
@@ -97,14 +96,11 @@ fn follow(alloc: Global, list: &[Stmt]) -> Option<(bool, bool)> {
     Some((matches!(end, Next::Done), matches!(next, Next::Stmt(_))))
 }
 
-#[test]
-fn statements_in_their_order(rt: HostRuntime) -> Result<(), Fail> {
-    let alloc = rt.alloc();
+fn statements_in_their_order(alloc: Global) -> Result<bool, OutOfMemory> {
     let mut list = StmtList::new(alloc);
     list.push(empty(alloc)?)?;
     list.push(empty(alloc)?)?;
-    assert_eq!(rt; follow(alloc, list.items()), Some((true, true)));
-    Ok(())
+    Ok(follow(alloc, list.items()) == Some((true, true)))
 }
 
 // Whether the first of two arguments is evaluated, behind it the other one, and then the function is called with two.
@@ -140,14 +136,11 @@ fn called(alloc: Global, list: &[Expr]) -> Option<(bool, bool, bool)> {
     ))
 }
 
-#[test]
-fn arguments_in_their_order(rt: HostRuntime) -> Result<(), Fail> {
-    let alloc = rt.alloc();
+fn arguments_in_their_order(alloc: Global) -> Result<bool, OutOfMemory> {
     let mut list = ExprList::new(alloc);
     list.push(name(alloc, "a")?)?;
     list.push(name(alloc, "b")?)?;
-    assert_eq!(rt; called(alloc, list.items()), Some((true, true, true)));
-    Ok(())
+    Ok(called(alloc, list.items()) == Some((true, true, true)))
 }
 
 // A `for` with an empty body.
@@ -188,12 +181,10 @@ fn turns(alloc: Global, of: &Stmt) -> Option<(bool, bool, bool)> {
     ))
 }
 
-#[test]
-fn parts_of_a_loop(rt: HostRuntime) -> Result<(), Fail> {
-    let alloc = rt.alloc();
-    let of = looping(alloc, name(alloc, "b")?, Some(name(alloc, "a")?))?;
-    assert_eq!(rt; turns(alloc, &of), Some((true, true, true)));
-    Ok(())
+fn parts_of_a_loop(alloc: Global) -> Result<bool, OutOfMemory> {
+    let test = name(alloc, "b")?;
+    let of = looping(alloc, test, Some(name(alloc, "a")?))?;
+    Ok(turns(alloc, &of) == Some((true, true, true)))
 }
 
 // What a loop begins with, one that begins with a turn, and a turn, and how many frames there are then.
@@ -223,10 +214,17 @@ fn scopes(alloc: Global, of: &Stmt) -> Option<(bool, bool, bool, usize)> {
     ))
 }
 
-#[test]
-fn frames_of_loops(rt: HostRuntime) -> Result<(), Fail> {
-    let alloc = rt.alloc();
+fn frames_of_loops(alloc: Global) -> Result<bool, OutOfMemory> {
     let of = looping(alloc, name(alloc, "a")?, None)?;
-    assert_eq!(rt; scopes(alloc, &of), Some((true, true, true, 4)));
-    Ok(())
+    Ok(scopes(alloc, &of) == Some((true, true, true, 4)))
+}
+
+#[test]
+fn parts_in_their_order(rt: HostRuntime) {
+    let alloc = rt.alloc();
+    assert!(rt; holds(operands_in_their_order(alloc)));
+    assert!(rt; holds(statements_in_their_order(alloc)));
+    assert!(rt; holds(arguments_in_their_order(alloc)));
+    assert!(rt; holds(parts_of_a_loop(alloc)));
+    assert!(rt; holds(frames_of_loops(alloc)));
 }

@@ -27,3 +27,6 @@ returns-in-Null-clause-stepped g c = c.begin_work.ensures.stepped c.args.policy.
 
 pub returns-in-Use-clause-stepped : goal.returns-in-Use-clause-stepped
 returns-in-Use-clause-stepped g c = c.enter_part.ensures.stepped c.args.policy.now c.args.inputs.now
+
+pub returns-in-Stmt-clause-stepped : goal.returns-in-Stmt-clause-stepped
+returns-in-Stmt-clause-stepped g c = rw c.in-Stmt.is (c.begin_stmt.ensures.stepped c.args.policy.now c.args.inputs.now)

@@ -1,3 +1,4 @@
+use crate::told::holds;
 use flow_text::{OutOfMemory, Text};
 use js_ast::{
     Expr, ExprKind, Function, Ident, IdentList, Key, Program, Property, PropertyKind, PropertyList,
@@ -8,7 +9,7 @@ use std::alloc::Global;
 use std::test::*;
 
 // Orders of three nodes, right ones and wrong ones. Each is as good as none.
-const ORDERS: [&[usize]; 9] = [
+const ORDERS: &[&[usize]] = &[
     &[],
     &[0, 2, 1],
     &[0, 1, 2],
@@ -76,25 +77,55 @@ fn with_keys(alloc: Global, keys: &[u16], order: &[usize]) -> Result<Program, Ou
     program_of(alloc, StmtKind::Expr { expr, semi })
 }
 
+fn parameters_answer(
+    alloc: Global,
+    names: &[u16],
+    order: &[usize],
+    wanted: Result<(), EarlyFault>,
+) -> Result<bool, OutOfMemory> {
+    let program = with_parameters(alloc, names, order)?;
+    Ok(early(&program) == wanted)
+}
+
+fn keys_answer(
+    alloc: Global,
+    keys: &[u16],
+    order: &[usize],
+    wanted: Result<(), EarlyFault>,
+) -> Result<bool, OutOfMemory> {
+    let program = with_keys(alloc, keys, order)?;
+    Ok(early(&program) == wanted)
+}
+
+// Names of which the third is the first again, and different ones.
+const REPEATED: &[u16] = &[0x61, 0x62, 0x61];
+
+const DIFFERENT: &[u16] = &[0x61, 0x63, 0x62];
+
+fn parameters_are_told(alloc: Global, order: &[usize]) -> Result<bool, OutOfMemory> {
+    let fault = EarlyFault::RepeatedParameter { at: 2 };
+    Ok(
+        parameters_answer(alloc, REPEATED, order, Err(fault))?
+            && parameters_answer(alloc, DIFFERENT, order, Ok(()))?,
+    )
+}
+
+fn keys_are_told(alloc: Global, order: &[usize]) -> Result<bool, OutOfMemory> {
+    let fault = EarlyFault::RepeatedProperty { at: 2 };
+    Ok(
+        keys_answer(alloc, REPEATED, order, Err(fault))?
+            && keys_answer(alloc, DIFFERENT, order, Ok(()))?,
+    )
+}
+
+fn is_told(alloc: Global, order: &[usize]) -> Result<bool, OutOfMemory> {
+    Ok(parameters_are_told(alloc, order)? && keys_are_told(alloc, order)?)
+}
+
 // An order that nobody made, or a wrong one, hides no repeated name and makes none.
 #[test]
-fn orders_by_hand(rt: HostRuntime) -> Result<(), Fail> {
-    let alloc = rt.alloc();
+fn orders_by_hand(rt: HostRuntime) {
     for order in ORDERS {
-        let repeated = with_parameters(alloc, &[0x61, 0x62, 0x61], order)?;
-        assert_eq!(rt;
-            early(&repeated),
-            Err(EarlyFault::RepeatedParameter { at: 2 })
-        );
-        let different = with_parameters(alloc, &[0x61, 0x63, 0x62], order)?;
-        assert_eq!(rt; early(&different), Ok(()));
-        let repeated = with_keys(alloc, &[0x61, 0x62, 0x61], order)?;
-        assert_eq!(rt;
-            early(&repeated),
-            Err(EarlyFault::RepeatedProperty { at: 2 })
-        );
-        let different = with_keys(alloc, &[0x61, 0x63, 0x62], order)?;
-        assert_eq!(rt; early(&different), Ok(()));
+        assert!(rt; holds(is_told(rt.alloc(), *order)));
     }
-    Ok(())
 }

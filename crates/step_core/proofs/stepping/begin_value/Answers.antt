@@ -1,7 +1,7 @@
 use Rattle.step_work.specs.declared.work.Next.TheVariants as next
 use Rattle.step_work.specs.Kept.{scopes_of}
 use Rattle.step_core.proofs.AtOnce.{evaluated_steps, stands_later}
-use Rattle.step_core.proofs.stepping.begin_expr.Goals as goal
+use Rattle.step_core.proofs.stepping.begin_value.Goals as goal
 
 pub enter_part-requires-clause-standing : goal.enter_part-requires-clause-standing
 enter_part-requires-clause-standing g c =

@@ -1,0 +1,260 @@
+//! Names that are given numbers.
+
+ghost use Rattle.std.specs.Prelude.{◌≡◌, ◌≤◌, ◌<◌, ℕ, pos, Ok, Some, IfNone, IfSome, IsSome, length, slice_get};
+ghost use Rattle.origin_labels.specs.Stores.{IsKept};
+ghost use Rattle.js_ast.specs.declared.operators.AssignOperator.TheVariants as assign_operator;
+ghost use Rattle.js_ast.specs.declared.operators.UnaryOperator.TheVariants as unary_operator;
+ghost use Rattle.js_ast.specs.Trees as trees;
+ghost use Rattle.js_ast.specs.Views.{view_expr, view_stmt};
+ghost use Rattle.js_number.specs.declared.primitive.Primitive.TheVariants as prims;
+ghost use Rattle.js_values.specs.declared.value.Value.TheVariants as value;
+ghost use Rattle.js_values.specs.Records.{bound_in};
+ghost use Rattle.es_meaning.specs.Evaluation.{operator_of};
+ghost use Rattle.es_meaning.specs.Operators.{a_primitive, binary_of, unary_of};
+ghost use Rattle.step_world.specs.Worlds.{Belongs};
+ghost use Rattle.step_work.specs.Shapes.{step_of};
+ghost use Rattle.step_numbers.specs.Assigned.{Finishes, Gives, Puts, Rebinds};
+ghost use Rattle.step_numbers.specs.Evaluated.{labelled_number};
+
+use crate::evaluating::{Counted, DEPTH, Evaluated, as_value, joined, named, number};
+use crate::operators::combined;
+use flow_text::Text;
+use js_ast::{AssignOperator, BinaryOperator, Expr, ExprKind, PostfixOperator, Stmt, StmtKind};
+use js_number::{Int, Primitive};
+use js_values::{EnvId, Labelled, Value};
+use origin_labels::Labels;
+use step_world::World;
+
+/// Evaluates an expression in a record, where it gives a name of that record a number: what is assigned is made of names of that record, numbers, parentheses and arithmetic, it isn't deep, and there are turns for it. Where that would throw, stop the run or want memory, it isn't done, and nothing but the store of labels changes.
+pub fn assign<L: Labels>(
+    labels: &mut L,
+    world: &mut World<L::Label>,
+    at: EnvId,
+    turns: u64,
+    e: &Expr,
+) -> Option<Evaluated<L::Label>>
+    requires at { at.0 < length world.old.records }
+    requires belongs { Belongs L.made L.meaning labels.old world.old }
+    ensures gives { IfSome result (λ x. Gives L.made L.meaning labels.new (view_expr e.now) at.0 world.old world.new turns x.value x.turns) }
+    ensures unchanged { IfNone result (world.new ≡ world.old) }
+    ensures rebinds { Rebinds L.made L.meaning labels.new world.old world.new }
+    ensures kept { IsKept L.made L.meaning L.room L.firm labels.old labels.new }
+{
+    as_value(assigned(labels, world, at, turns, e))
+}
+
+/// The same, of an expression that gives such a number.
+fn assigned<L: Labels>(
+    labels: &mut L,
+    world: &mut World<L::Label>,
+    at: EnvId,
+    turns: u64,
+    e: &Expr,
+) -> Option<Counted<L::Label>>
+    requires at { at.0 < length world.old.records }
+    requires belongs { Belongs L.made L.meaning labels.old world.old }
+    ensures gives { IfSome result (λ c. Gives L.made L.meaning labels.new (view_expr e.now) at.0 world.old world.new turns (labelled_number c.number c.label) c.turns) }
+    ensures unchanged { IfNone result (world.new ≡ world.old) }
+    ensures rebinds { Rebinds L.made L.meaning labels.new world.old world.new }
+    ensures kept { IsKept L.made L.meaning L.room L.firm labels.old labels.new }
+{
+    if turns < 2 {
+        return None;
+    }
+    match &*e.kind {
+        ExprKind::Assign {
+            target,
+            operator: AssignOperator::Assign,
+            value,
+        } => assigned_value(labels, world, at, turns, target, value),
+        ExprKind::Assign {
+            target,
+            operator,
+            value,
+        } => updated_value(labels, world, at, turns, target, *operator, value),
+        ExprKind::Postfix { operand, operator } => {
+            counted_behind(labels, world, at, turns, operand, *operator)
+        }
+        _ => None,
+    }
+}
+
+/// Evaluates an expression statement in a record, where its expression is assigned so at once, and answers how many turns are left. It comes to its end.
+pub fn finish<L: Labels>(
+    labels: &mut L,
+    world: &mut World<L::Label>,
+    at: EnvId,
+    turns: u64,
+    s: &Stmt,
+) -> Option<u64>
+    requires at { at.0 < length world.old.records }
+    requires belongs { Belongs L.made L.meaning labels.old world.old }
+    ensures finishes { IfSome result (Finishes L.made L.meaning labels.new (view_stmt s.now) at.0 world.old world.new turns) }
+    ensures unchanged { IfNone result (world.new ≡ world.old) }
+    ensures rebinds { Rebinds L.made L.meaning labels.new world.old world.new }
+    ensures kept { IsKept L.made L.meaning L.room L.firm labels.old labels.new }
+{
+    if turns == 0 {
+        return None;
+    }
+    match &*s.kind {
+        StmtKind::Expr { expr, .. } => {
+            let given = assigned(labels, world, at, turns - 1, expr)?;
+            Some(given.turns)
+        }
+        _ => None,
+    }
+}
+
+/// `++` or `--` behind a name: the number is changed by one, and is what the expression gives.
+fn counted_behind<L: Labels>(
+    labels: &mut L,
+    world: &mut World<L::Label>,
+    at: EnvId,
+    turns: u64,
+    target: &Expr,
+    operator: PostfixOperator,
+) -> Option<Counted<L::Label>>
+    requires turns { 2 ≤ turns }
+    requires at { at.0 < length world.old.records }
+    requires belongs { Belongs L.made L.meaning labels.old world.old }
+    ensures gives { (place : ℕ) → IfSome result (λ c. Gives L.made L.meaning labels.new (trees.postfix place (view_expr target.now) operator) at.0 world.old world.new turns (labelled_number c.number c.label) c.turns) }
+    ensures unchanged { IfNone result (world.new ≡ world.old) }
+    ensures rebinds { Rebinds L.made L.meaning labels.new world.old world.new }
+    ensures kept { IsKept L.made L.meaning L.room L.firm labels.old labels.new }
+{
+    let name = name_of(target)?;
+    let old = named(world, at, turns - 2, name)?;
+    let more = one_more(step_of(operator), old.number)?;
+    put(labels, world, at, name, more, old.label)?;
+    Some(old)
+}
+
+/// The operator by which a number is changed by one.
+fn step_of(operator: PostfixOperator) -> BinaryOperator
+    ensures { result ≡ step_of operator }
+{
+    match operator {
+        PostfixOperator::Increment => BinaryOperator::Add,
+        PostfixOperator::Decrement => BinaryOperator::Subtract,
+    }
+}
+
+/// A number with one added or taken away, where that is a number of the profile.
+#[tactic(auto, using(crate::proofs::NumberLaws::between_numbers, crate::proofs::NumberLaws::plus_number))]
+fn one_more(operator: BinaryOperator, number: Int) -> Option<Int>
+    ensures counts { IfSome result (λ n. binary_of operator (value.Primitive (prims.Num number)) (value.Primitive (prims.Num (pos 1))) ≡ Ok (prims.Num n)) }
+    ensures plus { unary_of unary_operator.Plus (a_primitive (prims.Num number)) ≡ Ok (prims.Num number) }
+{
+    combined(operator, number, one())
+}
+
+/// The number one.
+fn one() -> Int
+    ensures { result ≡ pos 1 }
+{
+    Int::new(1).unwrap()
+}
+
+/// An assignment of a number to a name.
+fn assigned_value<L: Labels>(
+    labels: &mut L,
+    world: &mut World<L::Label>,
+    at: EnvId,
+    turns: u64,
+    target: &Expr,
+    value: &Expr,
+) -> Option<Counted<L::Label>>
+    requires turns { 2 ≤ turns }
+    requires at { at.0 < length world.old.records }
+    requires belongs { Belongs L.made L.meaning labels.old world.old }
+    ensures gives { (place : ℕ) → IfSome result (λ c. Gives L.made L.meaning labels.new (trees.assign place (view_expr target.now) assign_operator.Assign (view_expr value.now)) at.0 world.old world.new turns (labelled_number c.number c.label) c.turns) }
+    ensures unchanged { IfNone result (world.new ≡ world.old) }
+    ensures rebinds { Rebinds L.made L.meaning labels.new world.old world.new }
+    ensures kept { IsKept L.made L.meaning L.room L.firm labels.old labels.new }
+{
+    let name = name_of(target)?;
+    world.records.own(at, name)?;
+    let found = number(labels, world, at, turns - 2, DEPTH, value)?;
+    put(labels, world, at, name, found.number, found.label)?;
+    Some(found)
+}
+
+/// A compound assignment of a number to a name that has one.
+fn updated_value<L: Labels>(
+    labels: &mut L,
+    world: &mut World<L::Label>,
+    at: EnvId,
+    turns: u64,
+    target: &Expr,
+    operator: AssignOperator,
+    value: &Expr,
+) -> Option<Counted<L::Label>>
+    requires turns { 2 ≤ turns }
+    requires at { at.0 < length world.old.records }
+    requires belongs { Belongs L.made L.meaning labels.old world.old }
+    ensures gives { (place : ℕ) → IfSome result (λ c. Gives L.made L.meaning labels.new (trees.assign place (view_expr target.now) operator (view_expr value.now)) at.0 world.old world.new turns (labelled_number c.number c.label) c.turns) }
+    ensures unchanged { IfNone result (world.new ≡ world.old) }
+    ensures rebinds { Rebinds L.made L.meaning labels.new world.old world.new }
+    ensures kept { IsKept L.made L.meaning L.room L.firm labels.old labels.new }
+{
+    let by = operator_of(operator)?;
+    let name = name_of(target)?;
+    let old = named(world, at, turns - 2, name)?;
+    let operand = number(labels, world, at, turns - 2, DEPTH, value)?;
+    let given = joined(labels, by, old, operand)?;
+    put(labels, world, at, name, given.number, given.label)?;
+    Some(given)
+}
+
+/// The arithmetic of a compound assignment.
+fn operator_of(operator: AssignOperator) -> Option<BinaryOperator>
+    ensures { IfSome result (λ o. operator_of operator ≡ Some o) }
+{
+    match operator {
+        AssignOperator::Add => Some(BinaryOperator::Add),
+        AssignOperator::Subtract => Some(BinaryOperator::Subtract),
+        AssignOperator::Multiply => Some(BinaryOperator::Multiply),
+        AssignOperator::Remainder => Some(BinaryOperator::Remainder),
+        _ => None,
+    }
+}
+
+/// The name that an expression is.
+#[tactic(auto, using(js_ast::specs::declared::trees::ExprKind::TheViews::the_lemmas))]
+fn name_of(e: &Expr) -> Option<&Text>
+    ensures { IfSome result (λ name. view_expr e.now ≡ trees.name e.now.at name.now) }
+{
+    match &*e.kind {
+        ExprKind::Name(name) => Some(name),
+        _ => None,
+    }
+}
+
+/// Gives a name that is bound in the record a number, if that can be changed and its label includes the context (rule W1).
+fn put<L: Labels>(
+    labels: &mut L,
+    world: &mut World<L::Label>,
+    at: EnvId,
+    name: &Text,
+    number: Int,
+    label: L::Label,
+) -> Option<()>
+    requires bound { IsSome (bound_in name.now (slice_get world.old.records at.0)) }
+    requires label { L.made labels.old label }
+    requires belongs { Belongs L.made L.meaning labels.old world.old }
+    ensures puts { IfSome result (λ _. Puts L.made L.meaning labels.new at.0 name.now (labelled_number number label) world.old world.new) }
+    ensures unchanged { IfNone result (world.new ≡ world.old) }
+    ensures rebinds { Rebinds L.made L.meaning labels.new world.old world.new }
+    ensures kept { IsKept L.made L.meaning L.room L.firm labels.old labels.new }
+{
+    let context = world.frames.context(labels);
+    let value = Labelled {
+        value: Value::Primitive(Primitive::Num(number)),
+        label,
+    };
+    match world.records.assign(labels, at, name, context, value) {
+        Ok(()) => Some(()),
+        Err(_) => None,
+    }
+}
