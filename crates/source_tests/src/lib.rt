@@ -2,9 +2,13 @@
 #![tactic(auto)]
 
 #[cfg(test)]
+mod asking;
+#[cfg(test)]
 mod early;
 #[cfg(test)]
 mod expressions;
+#[cfg(test)]
+mod limits;
 #[cfg(test)]
 mod programs;
 #[cfg(test)]
