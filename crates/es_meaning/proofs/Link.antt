@@ -9,10 +9,10 @@ use Rattle.js_ast.specs.declared.operators.UnaryOperator.TheVariants as unary_op
 use Rattle.js_ast.specs.declared.operators.PostfixOperator.TheVariants as postfix_operator
 use Rattle.js_ast.specs.declared.operators.BinaryOperator.{BinaryOperator}
 use Rattle.js_ast.specs.declared.operators.BinaryOperator.TheVariants as binary_operator
-use Rattle.js_ast.specs.Trees.{Ident, Expr, name, number, string, this, null, boolean, paren, array, object, function, member, index, new_with, new_bare, call, postfix, unary, binary, conditional, assign, comma, Exprs, no_exprs, more_exprs, MaybeExpr, absent, present, First, first_expr, first_var, Block, block_of, Statement, block, var, empty, expression, if_then, if_else, do_while, while, for, for_in, continue, break, return, throw, switch, labelled, try_catch, try_finally, try_both, debugger, function_declaration, Statements, no_statements, more_statements}
+use Rattle.js_ast.specs.Trees.{Ident, Expr, name, number, string, this, null, boolean, paren, array, object, function, member, index, new_with, new_bare, call, postfix, unary, binary, conditional, assign, comma, Exprs, no_exprs, more_exprs, MaybeExpr, absent, present, value, getter, setter, Properties, no_properties, more_properties, Target, target_expr, target_var, First, first_expr, first_var, Block, block_of, Statement, block, var, empty, expression, if_then, if_else, do_while, while, for, for_in, continue, break, return, throw, switch, labelled, try_catch, try_finally, try_both, debugger, function_declaration, Statements, no_statements, more_statements}
 use Rattle.es_meaning.specs.Environments.{Env}
-use Rattle.es_meaning.specs.Operations.{Ty, One, Value, Res, Direct, Hint, number_hint, Ops, Use, assigned, updated_by, prefixed, postfixed, asked, Round, Rec}
-use Rattle.es_meaning.specs.Evaluation.{is_name, direct_of, operator_of, assigned_by, Conversion, unconverted, compared, numbers, primitives, conversion_of, takes_number, discard, give, enters, unary_done, binary_done, compared_left, primitive_left, number_left, binary_by, binary_values, unary_by, unary_value, assign_to, assign_giving, postfix_by, prefix_by, postfix_number, prefix_number, postfix_value, prefix_value, binary_right, and_right, or_right, choose_expr, comma_right, compound_done, compound_right, used, use_step, read_name, arguments, more_arguments, call_step, typeof_step, unary_step, binary_step, expr_step, variable_list, variables, more_variables, turn_test, tested_by, tested, updated, turned_by, turned_round, turn_step, loop, looped, looped_value, first_step, choose_stmt, choose_stmts, statements, more_statements_behind, block_step, stmt_step, step, Timed, ticking, eval, program_step}
+use Rattle.es_meaning.specs.Operations.{Ty, One, Value, Res, Direct, Act, object_of, base_needed, object_needed, has_key, Hint, number_hint, string_hint, Ops, Use, assigned, updated_by, prefixed, postfixed, asked, valued, deleted, given_text, Round, Visit, Rec}
+use Rattle.es_meaning.specs.Evaluation.{is_name, is_reference, keys_of, direct_of, operator_of, assigned_by, Conversion, unconverted, compared, numbers, keyed, primitives, conversion_of, takes_number, discard, give, enters, unary_done, binary_done, compared_left, primitive_left, number_left, has_left, has_right, binary_by, binary_values, unary_by, unary_value, assign_to, assign_giving, postfix_by, prefix_by, postfix_number, prefix_number, postfix_value, prefix_value, binary_right, and_right, or_right, choose_expr, comma_right, compound_done, compound_right, used, with_key, with_base, index_key, index_base, member_base, use_step, read_value, properties, more_values, arguments, more_arguments, call_step, typeof_step, delete_step, unary_step, binary_step, expr_step, variable_list, variables, more_variables, turn_test, tested_by, tested, updated, turned_by, turned_round, turn_step, loop, looped, looped_value, first_step, still_there, visits, visited, visit_body, target_step, visit_turn, visit_step, with_keys, enumerated, choose_stmt, choose_stmts, statements, more_statements_behind, block_step, stmt_step, step, Timed, ticking, eval, program_step}
 
 -- related results
 abbrev pub Rel : {W V V' : Type 0} → (W → V → V' → Type 0) → (t : Ty) → W → Res V t → Res V' t → Type 0
@@ -34,6 +34,9 @@ pub record Link (A B : Ops) : Type 1 where
   pub RP : W → ℕ → ℕ → Type 0
   pub RE : W → Env A.H → Env B.H → Type 0
   pub Lift : (t : Ty) → W → A.M t → B.M t → Type 0
+  -- the world inside a loop or a turn, from the one outside: of values nothing changes
+  pub Inside : W → W → Type 0
+  pub inside_v : {w w' : W} {a : A.V} {b : B.V} → Inside w w' → RV w a b → RV w' a b
   pub le_refl : (w : W) → Le w w
   pub le_trans : {u v w : W} → Le u v → Le v w → Le u w
   pub more_v : {w w' : W} {a : A.V} {b : B.V} → Le w w' → RV w a b → RV w' a b
@@ -53,23 +56,33 @@ pub record Link (A B : Ops) : Type 1 where
   pub binary : {w : W} (o : BinaryOperator) {v u : A.V} {v' u' : B.V} → RV w v v' → RV w u u' → Lift Value w (A.binary o v u) (B.binary o v' u')
   pub primitive : {w : W} (hint : Hint) {v : A.V} {v' : B.V} → RV w v v' → Lift Value w (A.primitive hint v) (B.primitive hint v')
   pub comparable : {w : W} {v u : A.V} {v' u' : B.V} → RV w v v' → RV w u u' → Lift Value w (A.comparable v u) (B.comparable v' u')
+  pub act : {w : W} (f : Act) {vs : List A.V} {us : List B.V} → Rels (RV w) vs us → Lift Value w (A.act f vs) (B.act f us)
   pub direct : {w : W} (f : Direct) {vs : List A.V} {us : List B.V} → Rels (RV w) vs us → Lift Value w (A.direct f vs) (B.direct f us)
   pub unbuilt : (t : Ty) (w : W) → Lift t w (A.unbuilt t) (B.unbuilt t)
-  -- names
+  -- references
   pub resolve : (t : Ty) {w : W} {i j : ℕ} (x : List ℕ) (k : A.N → A.M t) (k' : B.N → B.M t) → RP w i j
       → ((w' : W) → Le w w' → (n : A.N) (n' : B.N) → RN w' n n' → Lift t w' (k n) (k' n')) → Lift t w (A.resolve t i x k) (B.resolve t j x k')
-  pub get_name : {w : W} {n : A.N} {n' : B.N} (k : A.V → A.M Value) (k' : B.V → B.M Value) → RN w n n'
-      → ((w' : W) → Le w w' → (v : A.V) (v' : B.V) → RV w' v v' → Lift Value w' (k v) (k' v')) → Lift Value w (A.get_name n k) (B.get_name n' k')
-  pub typeof_name : {w : W} {n : A.N} {n' : B.N} (k : A.V → A.M Value) (k' : B.V → B.M Value) → RN w n n'
-      → ((w' : W) → Le w w' → (v : A.V) (v' : B.V) → RV w' v v' → Lift Value w' (k v) (k' v')) → Lift Value w (A.typeof_name n k) (B.typeof_name n' k')
-  pub put_name : {w : W} {n : A.N} {n' : B.N} {v : A.V} {v' : B.V} (k : A.V → A.M Value) (k' : B.V → B.M Value) → RN w n n' → RV w v v'
-      → ((w' : W) → Le w w' → (f : A.V) (f' : B.V) → RV w' f f' → Lift Value w' (k f) (k' f')) → Lift One w (A.put_name n v k) (B.put_name n' v' k')
+  pub get_value : {w : W} {n : A.N} {n' : B.N} (k : A.V → A.M Value) (k' : B.V → B.M Value) → RN w n n'
+      → ((w' : W) → Le w w' → (v : A.V) (v' : B.V) → RV w' v v' → Lift Value w' (k v) (k' v')) → Lift Value w (A.get_value n k) (B.get_value n' k')
+  pub typeof_value : {w : W} {n : A.N} {n' : B.N} (k : A.V → A.M Value) (k' : B.V → B.M Value) → RN w n n'
+      → ((w' : W) → Le w w' → (v : A.V) (v' : B.V) → RV w' v v' → Lift Value w' (k v) (k' v')) → Lift Value w (A.typeof_value n k) (B.typeof_value n' k')
+  pub put_value : {w : W} {n : A.N} {n' : B.N} {v : A.V} {v' : B.V} (k : A.V → A.M Value) (k' : B.V → B.M Value) → RN w n n' → RV w v v'
+      → ((w' : W) → Le w w' → (f : A.V) (f' : B.V) → RV w' f f' → Lift Value w' (k f) (k' f')) → Lift One w (A.put_value n v k) (B.put_value n' v' k')
+  pub property : {w : W} {v u : A.V} {v' u' : B.V} → RV w v v' → RV w u u' → RN w (A.property v u) (B.property v' u')
+  pub remove : {w : W} {n : A.N} {n' : B.N} → RN w n n' → Lift Value w (A.remove n) (B.remove n')
   -- scopes
   pub fork : (t : Ty) {w : W} {v : A.V} {v' : B.V} {m n : A.M t} {m' n' : B.M t} → RV w v v'
       → ((w' : W) → Le w w' → Lift t w' m m') → ((w' : W) → Le w w' → Lift t w' n n') → Lift t w (A.fork t v m n) (B.fork t v' m' n')
   pub round : {w : W} (turn : Bool) (labels : List (Option (List ℕ))) {e : Env A.H} {d : Env B.H} (k : Env A.H → A.M One) (k' : Env B.H → B.M One) → RE w e d
-      → ((w' : W) (e' : Env A.H) (d' : Env B.H) → RE w' e' d' → Lift One w' (k e') (k' d')) → Lift One w (A.round turn labels e k) (B.round turn labels d k')
+      → ((w' : W) → Inside w w' → (e' : Env A.H) (d' : Env B.H) → RE w' e' d' → Lift One w' (k e') (k' d')) → Lift One w (A.round turn labels e k) (B.round turn labels d k')
   pub again : {w : W} {v : A.V} {v' : B.V} {m n : A.M One} {m' n' : B.M One} → RV w v v' → Lift One w m m' → Lift One w n n' → Lift One w (A.again v m n) (B.again v' m' n')
+  pub keys : {w : W} {v : A.V} {v' : B.V} (k : List (List ℕ) → A.M One) (k' : List (List ℕ) → B.M One) → RV w v v'
+      → ((w' : W) → Le w w' → (keys : List (List ℕ)) → Lift One w' (k keys) (k' keys)) → Lift One w (A.keys v k) (B.keys v' k')
+
+-- turns of a `for in` over related values
+pub data Visits {V V' : Type 0} (R : V → V' → Type 0) : Visit V → Visit V' → Type 0 where
+  visits_of : {target : Target} {body : Statement} {a : V} {b : V'} {key : List ℕ} {others : List (List ℕ)} → R a b
+      → Visits R (record { target = target; body = body; object = a; key = key; others = others }) (record { target = target; body = body; object = b; key = key; others = others })
 
 module _ (A B : Ops) (K : Link A B) where
   -- linked meanings of parts
@@ -78,10 +91,17 @@ module _ (A B : Ops) (K : Link A B) where
     pub use_of : (use_as : Use) (e : Expr) (w : K.W) (i j : ℕ) → K.RP w i j → K.Lift Value w (R.use_of use_as e i) (Q.use_of use_as e j)
     pub stmt : (s : Statement) (w : K.W) (e : Env A.H) (d : Env B.H) → K.RE w e d → K.Lift One w (R.stmt s e) (Q.stmt s d)
     pub turn : (round : Round) (w : K.W) (e : Env A.H) (d : Env B.H) → K.RE w e d → K.Lift One w (R.turn round e) (Q.turn round d)
+    pub visit : (w : K.W) (v : Visit A.V) (u : Visit B.V) → Visits (K.RV w) v u → (e : Env A.H) (d : Env B.H) → K.RE w e d → K.Lift One w (R.visit v e) (Q.visit u d)
 
   more_rels : {w w' : K.W} {vs : List A.V} {us : List B.V} → K.Le w w' → Rels (K.RV w) vs us → Rels (K.RV w') vs us
   more_rels l nils = nils
   more_rels l (conses r q) = conses (K.more_v l r) (more_rels l q)
+
+  pub more_visits : {w w' : K.W} {v : Visit A.V} {u : Visit B.V} → K.Le w w' → Visits (K.RV w) v u → Visits (K.RV w') v u
+  more_visits l (visits_of r) = visits_of (K.more_v l r)
+
+  inside_visits : {w w' : K.W} {v : Visit A.V} {u : Visit B.V} → K.Inside w w' → Visits (K.RV w) v u → Visits (K.RV w') v u
+  inside_visits l (visits_of r) = visits_of (K.inside_v l r)
 
   one_more : {w : K.W} {vs : List A.V} {us : List B.V} {v : A.V} {u : B.V} → Rels (K.RV w) vs us → K.RV w v u → Rels (K.RV w) (vs ++ v ∷ []) (us ++ u ∷ [])
   one_more nils r = conses r nils
@@ -121,11 +141,20 @@ module _ (A B : Ops) (K : Link A B) where
   unfolding number_left
   number_left_linked o ru rv = K.bind Value Value _ _ (K.unary unary_operator.Plus rv) λ w1 l1 a b r. primitive_left_linked number_hint o (K.more_v l1 ru) r
 
+  pub has_left_linked : {w : K.W} {u v : A.V} {u' v' : B.V} → K.RV w u u' → K.RV w v v' → K.Lift Value w (has_left A u v) (has_left B u' v')
+  unfolding has_left
+  has_left_linked ru rv = K.act has_key (conses rv (conses ru nils))
+
+  pub has_right_linked : {w : K.W} {u v : A.V} {u' v' : B.V} → K.RV w v v' → K.RV w u u' → K.Lift Value w (has_right A v u) (has_right B v' u')
+  unfolding has_right
+  has_right_linked rv ru = K.bind Value Value _ _ (K.primitive string_hint rv) λ w1 l1 a b r. has_left_linked (K.more_v l1 ru) r
+
   binary_by_linked : (c : Conversion) (o : BinaryOperator) {w : K.W} {v u : A.V} {v' u' : B.V} → K.RV w v v' → K.RV w u u' → K.Lift Value w (binary_by A c o v u) (binary_by B c o v' u')
   binary_by_linked unconverted o rv ru = K.binary o rv ru
   binary_by_linked compared o rv ru = K.bind Value Value _ _ (K.comparable rv ru) λ w1 l1 a b r. compared_left_linked o (K.more_v l1 ru) r
   binary_by_linked (primitives hint) o rv ru = K.bind Value Value _ _ (K.primitive hint rv) λ w1 l1 a b r. primitive_left_linked hint o (K.more_v l1 ru) r
   binary_by_linked numbers o rv ru = K.bind Value Value _ _ (K.primitive number_hint rv) λ w1 l1 a b r. number_left_linked o (K.more_v l1 ru) r
+  binary_by_linked keyed o rv ru = K.bind Value Value _ _ (K.act object_needed (conses ru nils)) λ w1 l1 a b r. has_right_linked (K.more_v l1 rv) r
 
   pub binary_values_linked : (o : BinaryOperator) {w : K.W} {v u : A.V} {v' u' : B.V} → K.RV w v v' → K.RV w u u' → K.Lift Value w (binary_values A o v u) (binary_values B o v' u')
   unfolding binary_values
@@ -141,11 +170,11 @@ module _ (A B : Ops) (K : Link A B) where
 
   pub assign_to_linked : {w : K.W} {n : A.N} {n' : B.N} {v : A.V} {v' : B.V} → K.RN w n n' → K.RV w v v' → K.Lift Value w (assign_to A n v) (assign_to B n' v')
   unfolding assign_to
-  assign_to_linked rn rv = K.bind One Value _ _ (K.put_name _ _ rn rv λ w1 l1 f f' rf. enters_linked rf) λ w1 l1 u u' ru. give_linked (K.more_v l1 rv)
+  assign_to_linked rn rv = K.bind One Value _ _ (K.put_value _ _ rn rv λ w1 l1 f f' rf. enters_linked rf) λ w1 l1 u u' ru. give_linked (K.more_v l1 rv)
 
   pub assign_giving_linked : {w : K.W} {n : A.N} {n' : B.N} {a v : A.V} {a' v' : B.V} → K.RN w n n' → K.RV w a a' → K.RV w v v' → K.Lift Value w (assign_giving A n a v) (assign_giving B n' a' v')
   unfolding assign_giving
-  assign_giving_linked rn ra rv = K.bind One Value _ _ (K.put_name _ _ rn rv λ w1 l1 f f' rf. enters_linked rf) λ w1 l1 u u' ru. give_linked (K.more_v l1 ra)
+  assign_giving_linked rn ra rv = K.bind One Value _ _ (K.put_value _ _ rn rv λ w1 l1 f f' rf. enters_linked rf) λ w1 l1 u u' ru. give_linked (K.more_v l1 ra)
 
   pub postfix_by_linked : (o : BinaryOperator) {w : K.W} {n : A.N} {n' : B.N} {v : A.V} {v' : B.V} → K.RN w n n' → K.RV w v v' → K.Lift Value w (postfix_by A o n v) (postfix_by B o n' v')
   unfolding postfix_by
@@ -202,13 +231,40 @@ module _ (A B : Ops) (K : Link A B) where
     unfolding compound_right
     compound_right_linked o r p rn ra = K.bind Value Value _ _ (h.expr r _ _ _ p) λ w1 l1 v v' rv. compound_done_linked o (K.more_n l1 rn) (K.more_v l1 ra) rv
 
+    pub read_value_linked : {w : K.W} {n : A.N} {n' : B.N} → K.RN w n n' → K.Lift Value w (read_value A R n) (read_value B Q n')
+    unfolding read_value
+    read_value_linked rn = K.get_value _ _ rn λ w1 l1 f f' rf. enters_linked rf
+
     pub used_linked : (use_as : Use) {w : K.W} {i j : ℕ} {n : A.N} {n' : B.N} → K.RP w i j → K.RN w n n' → K.Lift Value w (used A R use_as i n) (used B Q use_as j n')
     unfolding used
     used_linked (assigned r) p rn = K.bind Value Value _ _ (h.expr r _ _ _ p) λ w1 l1 v v' rv. assign_to_linked (K.more_n l1 rn) rv
-    used_linked (updated_by o r) p rn = K.bind Value Value _ _ (K.get_name _ _ rn λ w1 l1 f f' rf. enters_linked rf) λ w1 l1 v v' rv. compound_right_linked o r (K.more_p l1 p) (K.more_n l1 rn) rv
-    used_linked (prefixed o) p rn = K.bind Value Value _ _ (K.get_name _ _ rn λ w1 l1 f f' rf. enters_linked rf) λ w1 l1 v v' rv. prefix_value_linked o (K.more_n l1 rn) rv
-    used_linked (postfixed o) p rn = K.bind Value Value _ _ (K.get_name _ _ rn λ w1 l1 f f' rf. enters_linked rf) λ w1 l1 v v' rv. postfix_value_linked o (K.more_n l1 rn) rv
-    used_linked asked p rn = K.bind Value Value _ _ (K.typeof_name _ _ rn λ w1 l1 f f' rf. enters_linked rf) λ w1 l1 v v' rv. unary_done_linked unary_operator.Typeof rv
+    used_linked (updated_by o r) p rn = K.bind Value Value _ _ (K.get_value _ _ rn λ w1 l1 f f' rf. enters_linked rf) λ w1 l1 v v' rv. compound_right_linked o r (K.more_p l1 p) (K.more_n l1 rn) rv
+    used_linked (prefixed o) p rn = K.bind Value Value _ _ (K.get_value _ _ rn λ w1 l1 f f' rf. enters_linked rf) λ w1 l1 v v' rv. prefix_value_linked o (K.more_n l1 rn) rv
+    used_linked (postfixed o) p rn = K.bind Value Value _ _ (K.get_value _ _ rn λ w1 l1 f f' rf. enters_linked rf) λ w1 l1 v v' rv. postfix_value_linked o (K.more_n l1 rn) rv
+    used_linked asked p rn = K.bind Value Value _ _ (K.typeof_value _ _ rn λ w1 l1 f f' rf. enters_linked rf) λ w1 l1 v v' rv. unary_done_linked unary_operator.Typeof rv
+    used_linked valued p rn = read_value_linked rn
+    used_linked deleted p rn = K.remove rn
+    used_linked (given_text text) {w = w} p rn = assign_to_linked rn (K.literal w (Str text))
+
+    pub with_key_linked : (use_as : Use) {w : K.W} {i j : ℕ} {b k : A.V} {b' k' : B.V} → K.RP w i j → K.RV w b b' → K.RV w k k' → K.Lift Value w (with_key A R use_as i b k) (with_key B Q use_as j b' k')
+    unfolding with_key
+    with_key_linked use_as p rb rk = used_linked use_as p (K.property rb rk)
+
+    pub with_base_linked : (use_as : Use) {w : K.W} {i j : ℕ} {k b : A.V} {k' b' : B.V} → K.RP w i j → K.RV w k k' → K.RV w b b' → K.Lift Value w (with_base A R use_as i k b) (with_base B Q use_as j k' b')
+    unfolding with_base
+    with_base_linked use_as p rk rb = K.bind Value Value _ _ (K.primitive string_hint rk) λ w1 l1 a a' r. with_key_linked use_as (K.more_p l1 p) (K.more_v l1 rb) r
+
+    pub index_key_linked : (use_as : Use) {w : K.W} {i j : ℕ} {b k : A.V} {b' k' : B.V} → K.RP w i j → K.RV w b b' → K.RV w k k' → K.Lift Value w (index_key A R use_as i b k) (index_key B Q use_as j b' k')
+    unfolding index_key
+    index_key_linked use_as p rb rk = K.bind Value Value _ _ (K.act base_needed (conses rb nils)) λ w1 l1 a a' r. with_base_linked use_as (K.more_p l1 p) (K.more_v l1 rk) r
+
+    pub index_base_linked : (use_as : Use) (n : Expr) {w : K.W} {i j : ℕ} {b : A.V} {b' : B.V} → K.RP w i j → K.RV w b b' → K.Lift Value w (index_base A R use_as n i b) (index_base B Q use_as n j b')
+    unfolding index_base
+    index_base_linked use_as n p rb = K.bind Value Value _ _ (h.expr n _ _ _ p) λ w1 l1 k k' rk. index_key_linked use_as (K.more_p l1 p) (K.more_v l1 rb) rk
+
+    pub member_base_linked : (use_as : Use) (text : List ℕ) {w : K.W} {i j : ℕ} {b : A.V} {b' : B.V} → K.RP w i j → K.RV w b b' → K.Lift Value w (member_base A R use_as text i b) (member_base B Q use_as text j b')
+    unfolding member_base
+    member_base_linked use_as text {w = w} p rb = index_key_linked use_as p rb (K.literal w (Str text))
 
     use_linked : (use_as : Use) (e : Expr) (w : K.W) (i j : ℕ) → K.RP w i j → K.Lift Value w (use_step A R use_as e i) (use_step B Q use_as e j)
     unfolding use_step
@@ -222,8 +278,8 @@ module _ (A B : Ops) (K : Link A B) where
     use_linked use_as (array there is final) w i j p = K.unbuilt Value w
     use_linked use_as (object there ps final) w i j p = K.unbuilt Value w
     use_linked use_as (function there f) w i j p = K.unbuilt Value w
-    use_linked use_as (member there e text) w i j p = K.unbuilt Value w
-    use_linked use_as (index there e n) w i j p = K.unbuilt Value w
+    use_linked use_as (member there e text) w i j p = K.bind Value Value _ _ (h.expr e w i j p) λ w1 l1 b b' rb. member_base_linked use_as text (K.more_p l1 p) rb
+    use_linked use_as (index there e n) w i j p = K.bind Value Value _ _ (h.expr e w i j p) λ w1 l1 b b' rb. index_base_linked use_as n (K.more_p l1 p) rb
     use_linked use_as (new_with there e fs) w i j p = K.unbuilt Value w
     use_linked use_as (new_bare there e) w i j p = K.unbuilt Value w
     use_linked use_as (call there e fs) w i j p = K.unbuilt Value w
@@ -233,10 +289,6 @@ module _ (A B : Ops) (K : Link A B) where
     use_linked use_as (conditional there c a b) w i j p = K.unbuilt Value w
     use_linked use_as (assign there l o r) w i j p = K.unbuilt Value w
     use_linked use_as (comma there l r) w i j p = K.unbuilt Value w
-
-    pub read_name_linked : {w : K.W} {n : A.N} {n' : B.N} → K.RN w n n' → K.Lift Value w (read_name A R n) (read_name B Q n')
-    unfolding read_name
-    read_name_linked rn = K.get_name _ _ rn λ w1 l1 f f' rf. enters_linked rf
 
     arguments_linked : (f : Direct) (es : Exprs) {w : K.W} {i j : ℕ} {vs : List A.V} {us : List B.V} → K.RP w i j → Rels (K.RV w) vs us → K.Lift Value w (arguments A R f vs es i) (arguments B Q f us es j)
     unfolding arguments
@@ -276,6 +328,18 @@ module _ (A B : Ops) (K : Link A B) where
     callee_linked (assign there l o r) at es w i j p = K.unbuilt Value w
     callee_linked (comma there l r) at es w i j p = K.unbuilt Value w
 
+    properties_linked : (act : Act) (ps : Properties) {w : K.W} {i j : ℕ} {vs : List A.V} {us : List B.V} → K.RP w i j → Rels (K.RV w) vs us → K.Lift Value w (properties A R act vs ps i) (properties B Q act us ps j)
+    unfolding properties
+    properties_linked act no_properties p rs = K.act act rs
+    properties_linked act (more_properties (value at key e) ps) p rs = K.bind Value Value _ _ (h.expr e _ _ _ p) λ w1 l1 v v' rv. properties_linked act ps (K.more_p l1 p) (one_more (more_rels l1 rs) rv)
+    properties_linked act (more_properties (getter at key f) ps) {w = w} p rs = K.unbuilt Value w
+    properties_linked act (more_properties (setter at key f) ps) {w = w} p rs = K.unbuilt Value w
+
+    pub more_values_linked : (act : Act) (ps : Properties) {w : K.W} {i j : ℕ} {vs : List A.V} {us : List B.V} {v : A.V} {v' : B.V} → K.RP w i j → Rels (K.RV w) vs us → K.RV w v v'
+        → K.Lift Value w (more_values A R act vs ps i v) (more_values B Q act us ps j v')
+    unfolding more_values
+    more_values_linked act ps p rs rv = properties_linked act ps p (one_more rs rv)
+
     unary_linked : (o : UnaryOperator) (e : Expr) (w : K.W) (i j : ℕ) → K.RP w i j → K.Lift Value w (A.bind Value Value (R.expr e i) (unary_value A o)) (B.bind Value Value (Q.expr e j) (unary_value B o))
     unary_linked o e w i j p = K.bind Value Value _ _ (h.expr e w i j p) λ w1 l1 v v' rv. unary_value_linked o rv
 
@@ -283,9 +347,13 @@ module _ (A B : Ops) (K : Link A B) where
     typeof_linked false e w i j p = unary_linked unary_operator.Typeof e w i j p
     typeof_linked true e w i j p = h.use_of asked e w i j p
 
+    delete_linked : (b : Bool) (e : Expr) (w : K.W) (i j : ℕ) → K.RP w i j → K.Lift Value w (delete_step A R b e i) (delete_step B Q b e j)
+    delete_linked false e w i j p = unary_linked unary_operator.Delete e w i j p
+    delete_linked true e w i j p = h.use_of deleted e w i j p
+
     unary_step_linked : (o : UnaryOperator) (e : Expr) (w : K.W) (i j : ℕ) → K.RP w i j → K.Lift Value w (unary_step A R o e i) (unary_step B Q o e j)
     unfolding unary_step
-    unary_step_linked unary_operator.Delete e w i j p = K.unbuilt Value w
+    unary_step_linked unary_operator.Delete e w i j p = delete_linked (is_reference e) e w i j p
     unary_step_linked unary_operator.Typeof e w i j p = typeof_linked (is_name e) e w i j p
     unary_step_linked unary_operator.Increment e w i j p = h.use_of (prefixed binary_operator.Add) e w i j p
     unary_step_linked unary_operator.Decrement e w i j p = h.use_of (prefixed binary_operator.Subtract) e w i j p
@@ -302,7 +370,7 @@ module _ (A B : Ops) (K : Link A B) where
     unfolding binary_step
     binary_step_linked l binary_operator.And r w i j p = K.bind Value Value _ _ (h.expr l w i j p) λ w1 l1 v v' rv. and_right_linked r (K.more_p l1 p) rv
     binary_step_linked l binary_operator.Or r w i j p = K.bind Value Value _ _ (h.expr l w i j p) λ w1 l1 v v' rv. or_right_linked r (K.more_p l1 p) rv
-    binary_step_linked l binary_operator.In r w i j p = K.unbuilt Value w
+    binary_step_linked l binary_operator.In r w i j p = binary_linked l binary_operator.In r w i j p
     binary_step_linked l binary_operator.Instanceof r w i j p = K.unbuilt Value w
     binary_step_linked l binary_operator.Multiply r w i j p = binary_linked l binary_operator.Multiply r w i j p
     binary_step_linked l binary_operator.Divide r w i j p = binary_linked l binary_operator.Divide r w i j p
@@ -326,18 +394,18 @@ module _ (A B : Ops) (K : Link A B) where
 
     expr_linked : (e : Expr) (w : K.W) (i j : ℕ) → K.RP w i j → K.Lift Value w (expr_step A R e i) (expr_step B Q e j)
     unfolding expr_step
-    expr_linked (name at text) w i j p = K.resolve Value text _ _ p λ w1 l1 n n' rn. read_name_linked rn
+    expr_linked (name at text) w i j p = K.resolve Value text _ _ p λ w1 l1 n n' rn. read_value_linked rn
     expr_linked (number at n) w i j p = K.ret_value (K.literal w (Num n))
     expr_linked (string at text v) w i j p = K.ret_value (K.literal w (Str v))
-    expr_linked (this at) w i j p = K.unbuilt Value w
+    expr_linked (this at) w i j p = K.resolve Value _ _ _ p λ w1 l1 n n' rn. read_value_linked rn
     expr_linked (null at) w i j p = K.ret_value (K.literal w Null)
     expr_linked (boolean at b) w i j p = K.ret_value (K.literal w (prims.Bool b))
     expr_linked (paren at e) w i j p = h.expr e w i j p
     expr_linked (array at is final) w i j p = K.unbuilt Value w
-    expr_linked (object at ps final) w i j p = K.unbuilt Value w
+    expr_linked (object at ps final) w i j p = properties_linked (object_of (keys_of ps)) ps p nils
     expr_linked (function at f) w i j p = K.unbuilt Value w
-    expr_linked (member at e text) w i j p = K.unbuilt Value w
-    expr_linked (index at e n) w i j p = K.unbuilt Value w
+    expr_linked (member at e text) w i j p = K.bind Value Value _ _ (h.expr e w i j p) λ w1 l1 b b' rb. member_base_linked valued text (K.more_p l1 p) rb
+    expr_linked (index at e n) w i j p = K.bind Value Value _ _ (h.expr e w i j p) λ w1 l1 b b' rb. index_base_linked valued n (K.more_p l1 p) rb
     expr_linked (new_with at e es) w i j p = K.unbuilt Value w
     expr_linked (new_bare at e) w i j p = K.unbuilt Value w
     expr_linked (call at e es) w i j p = callee_linked e at es w i j p
@@ -358,12 +426,12 @@ module _ (A B : Ops) (K : Link A B) where
     variables_linked ((ident, present e) ∷ ds) w i j p =
         K.resolve One ident.text _ _ p λ w1 l1 n n' rn.
         K.bind Value One _ _ (h.expr e w1 i j (K.more_p l1 p)) λ w2 l2 v v' rv.
-        K.bind One One _ _ (K.put_name _ _ (K.more_n l2 rn) rv λ w3 l3 f f' rf. enters_linked rf) λ w3 l3 u u' ru.
+        K.bind One One _ _ (K.put_value _ _ (K.more_n l2 rn) rv λ w3 l3 f f' rf. enters_linked rf) λ w3 l3 u u' ru.
         variables_linked ds w3 i j (K.more_p l3 (K.more_p l2 (K.more_p l1 p)))
 
     pub more_variables_linked : (ds : List (Ident × MaybeExpr)) {w : K.W} {i j : ℕ} {n : A.N} {n' : B.N} {v : A.V} {v' : B.V} → K.RP w i j → K.RN w n n' → K.RV w v v' → K.Lift One w (more_variables A R n ds i v) (more_variables B Q n' ds j v')
     unfolding more_variables
-    more_variables_linked ds p rn rv = K.bind One One _ _ (K.put_name _ _ rn rv λ w1 l1 f f' rf. enters_linked rf) λ w1 l1 u u' ru. variables_linked ds w1 _ _ (K.more_p l1 p)
+    more_variables_linked ds p rn rv = K.bind One One _ _ (K.put_value _ _ rn rv λ w1 l1 f f' rf. enters_linked rf) λ w1 l1 u u' ru. variables_linked ds w1 _ _ (K.more_p l1 p)
 
     pub turn_test_linked : (round : Round) {w : K.W} {e : Env A.H} {d : Env B.H} {v : A.V} {v' : B.V} → K.RE w e d → K.RV w v v' → K.Lift One w (turn_test A R round e v) (turn_test B Q round d v')
     unfolding turn_test
@@ -391,11 +459,11 @@ module _ (A B : Ops) (K : Link A B) where
 
     turn_linked : (round : Round) (w : K.W) (e : Env A.H) (d : Env B.H) → K.RE w e d → K.Lift One w (turn_step A R round e) (turn_step B Q round d)
     unfolding turn_step
-    turn_linked round w e d r = K.bind One One _ _ (K.round true round.labels _ _ r λ w1 e' d' r'. h.stmt round.body w1 e' d' r') λ w1 l1 u u' ru. turned_round_linked round (K.more_e l1 r)
+    turn_linked round w e d r = K.bind One One _ _ (K.round true round.labels _ _ r λ w1 l1 e' d' r'. h.stmt round.body w1 e' d' r') λ w1 l1 u u' ru. turned_round_linked round (K.more_e l1 r)
 
     pub loop_linked : (round : Round) {w : K.W} {e : Env A.H} {d : Env B.H} → K.RE w e d → K.Lift One w (loop A R round e) (loop B Q round d)
     unfolding loop
-    loop_linked round r = K.round false round.labels _ _ r λ w1 e' d' r'. tested_linked round r'
+    loop_linked round r = K.round false round.labels _ _ r λ w1 l1 e' d' r'. tested_linked round r'
 
     pub looped_linked : (round : Round) {w : K.W} {e : Env A.H} {d : Env B.H} → K.RE w e d → K.Lift One w (looped A R round e tt) (looped B Q round d tt)
     unfolding looped
@@ -410,6 +478,47 @@ module _ (A B : Ops) (K : Link A B) where
     first_linked (first_expr absent) round r = loop_linked round r
     first_linked (first_expr (present c)) round r = K.bind Value One _ _ (h.expr c _ _ _ (K.place_of r)) λ w1 l1 v v' rv. looped_value_linked round v v' (K.more_e l1 r)
     first_linked (first_var ds) round r = K.bind One One _ _ (variables_linked (variable_list ds) _ _ _ (K.place_of r)) λ w1 l1 u u' ru. looped_linked round (K.more_e l1 r)
+
+    still_there_linked : {w : K.W} {visit : Visit A.V} {visit' : Visit B.V} {e : Env A.H} {d : Env B.H} {rest : A.M One} {rest' : B.M One} {v : A.V} {v' : B.V} → Visits (K.RV w) visit visit' → K.RE w e d
+        → K.Lift One w rest rest' → K.RV w v v' → K.Lift One w (still_there A R visit e rest v) (still_there B Q visit' d rest' v')
+    unfolding still_there
+    still_there_linked {w = w} rs r l rv = K.again rv (h.visit w _ _ rs _ _ r) l
+
+    visits_linked : (target : Target) (s : Statement) (keys : List (List ℕ)) {w : K.W} {o : A.V} {o' : B.V} {e : Env A.H} {d : Env B.H} → K.RV w o o' → K.RE w e d
+        → K.Lift One w (visits A R target s o keys e) (visits B Q target s o' keys d)
+    unfolding visits
+    visits_linked target s [] {w = w} ro r = K.ret_one w
+    visits_linked target s (key ∷ others) {w = w} ro r = K.bind Value One _ _ (K.act has_key (conses (K.literal w (Str key)) (conses ro nils))) λ w1 l1 v v' rv.
+        still_there_linked (visits_of (K.more_v l1 ro)) (K.more_e l1 r) (visits_linked target s others (K.more_v l1 ro) (K.more_e l1 r)) rv
+
+    pub visited_linked : {w : K.W} {v : Visit A.V} {v' : Visit B.V} {e : Env A.H} {d : Env B.H} → Visits (K.RV w) v v' → K.RE w e d → K.Lift One w (visited A R v e tt) (visited B Q v' d tt)
+    unfolding visited
+    visited_linked (visits_of {target = target} {body = body} {others = others} ro) r = visits_linked target body others ro r
+
+    pub visit_body_linked : (s : Statement) {w : K.W} {e : Env A.H} {d : Env B.H} (v : A.V) (v' : B.V) → K.RE w e d → K.Lift One w (visit_body A R s e v) (visit_body B Q s d v')
+    unfolding visit_body
+    visit_body_linked s v v' r = h.stmt s _ _ _ r
+
+    target_linked : (target : Target) (text : List ℕ) {w : K.W} {i j : ℕ} → K.RP w i j → K.Lift Value w (target_step A R target text i) (target_step B Q target text j)
+    unfolding target_step
+    target_linked (target_expr e) text p = h.use_of (given_text text) e _ _ _ p
+    target_linked (target_var ident) text p = K.resolve Value ident.text _ _ p λ w1 l1 n n' rn. used_linked (given_text text) (K.more_p l1 p) rn
+
+    visit_turn_linked : {w : K.W} {v : Visit A.V} {v' : Visit B.V} {e : Env A.H} {d : Env B.H} → Visits (K.RV w) v v' → K.RE w e d → K.Lift One w (visit_turn A R v e) (visit_turn B Q v' d)
+    unfolding visit_turn
+    visit_turn_linked (visits_of {target = target} {body = body} {key = key} ro) r = K.bind Value One _ _ (target_linked target key (K.place_of r)) λ w1 l1 u u' ru. visit_body_linked body u u' (K.more_e l1 r)
+
+    visit_linked : (w : K.W) (v : Visit A.V) (u : Visit B.V) → Visits (K.RV w) v u → (e : Env A.H) (d : Env B.H) → K.RE w e d → K.Lift One w (visit_step A R v e) (visit_step B Q u d)
+    unfolding visit_step
+    visit_linked w v u rs e d r = K.bind One One _ _ (K.round true (None ∷ []) _ _ r λ w1 l1 e' d' r'. visit_turn_linked (inside_visits l1 rs) r') λ w1 l1 a b rab. visited_linked (more_visits l1 rs) (K.more_e l1 r)
+
+    with_keys_linked : (target : Target) (s : Statement) {w : K.W} {o : A.V} {o' : B.V} {e : Env A.H} {d : Env B.H} → K.RV w o o' → K.RE w e d → K.Lift One w (with_keys A R target s o e) (with_keys B Q target s o' d)
+    unfolding with_keys
+    with_keys_linked target s ro r = K.keys _ _ ro λ w1 l1 keys. visits_linked target s keys (K.more_v l1 ro) (K.more_e l1 r)
+
+    pub enumerated_linked : (target : Target) (s : Statement) {w : K.W} {e : Env A.H} {d : Env B.H} {o : A.V} {o' : B.V} → K.RE w e d → K.RV w o o' → K.Lift One w (enumerated A R target s e o) (enumerated B Q target s d o')
+    unfolding enumerated
+    enumerated_linked target s r ro = K.round false (None ∷ []) _ _ r λ w1 l1 e' d' r'. with_keys_linked target s (K.inside_v l1 ro) r'
 
     pub choose_stmt_linked : (s : Statement) {w : K.W} {e : Env A.H} {d : Env B.H} {v : A.V} {v' : B.V} → K.RE w e d → K.RV w v v' → K.Lift One w (choose_stmt A R s e v) (choose_stmt B Q s d v')
     unfolding choose_stmt
@@ -439,10 +548,10 @@ module _ (A B : Ops) (K : Link A B) where
     stmt_linked (expression at c semi) w e d r = K.bind Value One _ _ (h.expr c w _ _ (K.place_of r)) λ w1 l1 v v' rv. discard_linked rv
     stmt_linked (if_then at c s) w e d r = K.bind Value One _ _ (h.expr c w _ _ (K.place_of r)) λ w1 l1 v v' rv. choose_stmt_linked s (K.more_e l1 r) rv
     stmt_linked (if_else at c s t) w e d r = K.bind Value One _ _ (h.expr c w _ _ (K.place_of r)) λ w1 l1 v v' rv. choose_stmts_linked s t (K.more_e l1 r) rv
-    stmt_linked (do_while at s c semi) w e d r = K.round false (None ∷ []) _ _ r λ w1 e' d' r'. h.turn _ w1 e' d' r'
+    stmt_linked (do_while at s c semi) w e d r = K.round false (None ∷ []) _ _ r λ w1 l1 e' d' r'. h.turn _ w1 e' d' r'
     stmt_linked (while at c s) w e d r = loop_linked _ r
     stmt_linked (for at first test update s) w e d r = first_linked first _ r
-    stmt_linked (for_in at target c s) w e d r = K.unbuilt One w
+    stmt_linked (for_in at target c s) w e d r = K.bind Value One _ _ (h.expr c w _ _ (K.place_of r)) λ w1 l1 v v' rv. enumerated_linked target s (K.more_e l1 r) rv
     stmt_linked (continue at label semi) w e d r = K.unbuilt One w
     stmt_linked (break at label semi) w e d r = K.unbuilt One w
     stmt_linked (return at c semi) w e d r = K.unbuilt One w
@@ -456,7 +565,7 @@ module _ (A B : Ops) (K : Link A B) where
     stmt_linked (function_declaration at f) w e d r = K.unbuilt One w
 
     pub step_linked : Linked (step A R) (step B Q)
-    step_linked = record { expr = expr_linked; use_of = use_linked; stmt = stmt_linked; turn = turn_linked }
+    step_linked = record { expr = expr_linked; use_of = use_linked; stmt = stmt_linked; turn = turn_linked; visit = visit_linked }
 
 -- with turns
 module _ (A B : Timed) (K : Link A.ops B.ops) (tick : (w : K.W) → K.Lift One w A.tick B.tick) where
@@ -469,6 +578,7 @@ module _ (A B : Timed) (K : Link A.ops B.ops) (tick : (w : K.W) → K.Lift One w
         use_of = λ use_as e w i j p. K.bind One Value _ _ (tick w) λ w1 l1 u u' ru. h.use_of use_as e w1 i j (K.more_p l1 p);
         stmt = λ s w e d r. K.bind One One _ _ (tick w) λ w1 l1 u u' ru. h.stmt s w1 e d (K.more_e l1 r);
         turn = λ round w e d r. K.bind One One _ _ (tick w) λ w1 l1 u u' ru. h.turn round w1 e d (K.more_e l1 r);
+        visit = λ w v v' rs e d r. K.bind One One _ _ (tick w) λ w1 l1 u u' ru. h.visit w1 v v' (more_visits A.ops B.ops K l1 rs) e d (K.more_e l1 r);
       }
 
   -- to one depth
@@ -476,7 +586,7 @@ module _ (A B : Timed) (K : Link A.ops B.ops) (tick : (w : K.W) → K.Lift One w
     -- the parts
     pub linked : (n : ℕ) → Linked A.ops B.ops K (eval A n) (eval B n)
     unfolding eval
-    linked zero = record { expr = λ e w i j p. ended Value w; use_of = λ use_as e w i j p. ended Value w; stmt = λ s w e d r. ended One w; turn = λ round w e d r. ended One w }
+    linked zero = record { expr = λ e w i j p. ended Value w; use_of = λ use_as e w i j p. ended Value w; stmt = λ s w e d r. ended One w; turn = λ round w e d r. ended One w; visit = λ w v u rs e d r. ended One w }
     linked (suc n) = ticking_linked (eval A n) (eval B n) (linked n)
 
     -- and programs
@@ -489,7 +599,7 @@ module _ (A B : Timed) (K : Link A.ops B.ops) (tick : (w : K.W) → K.Lift One w
     -- the parts
     pub longer : (n m : ℕ) → n ≤ m → Linked A.ops B.ops K (eval A n) (eval B m)
     unfolding eval
-    longer zero m le = record { expr = λ e w i j p. ended Value w _; use_of = λ use_as e w i j p. ended Value w _; stmt = λ s w e d r. ended One w _; turn = λ round w e d r. ended One w _ }
+    longer zero m le = record { expr = λ e w i j p. ended Value w _; use_of = λ use_as e w i j p. ended Value w _; stmt = λ s w e d r. ended One w _; turn = λ round w e d r. ended One w _; visit = λ w v u rs e d r. ended One w _ }
     longer (suc n) zero le = absurd (omega arith)
     longer (suc n) (suc m) le = ticking_linked (eval A n) (eval B m) (longer n m (omega arith))
 

@@ -1,21 +1,26 @@
 -- With more turns a run that is over is the same.
-use Rattle.std.proofs.Common.{◌≡◌, ℕ, zero, suc, ◌+◌, ◌-◌, ◌≤◌, List, ◌∷◌, Bool, true, false, length, Option, Some, None, Result, Ok, Err, refl, ap₂, subst, arith}
+use Rattle.std.proofs.Common.{◌≡◌, ℕ, zero, suc, ◌+◌, ◌-◌, ◌≤◌, List, ◌∷◌, Bool, true, false, length, Option, Some, None, Result, Ok, Err, slice_get, refl, ap₂, subst, arith}
 use Rattle.flow_policy.specs.Policies.{Tables}
 use Rattle.flow_policy.specs.Inputs.{Given}
 use Rattle.js_number.specs.declared.primitive.Primitive.{Primitive}
 use Rattle.js_values.specs.declared.value.Value.{Value}
 use Rattle.js_values.specs.declared.value.Value.TheVariants as value
+use Rattle.js_values.specs.declared.property.Body.{Body}
+use Rattle.js_values.specs.declared.property.Body.TheVariants.{Data, Accessor}
+use Rattle.js_values.specs.Objects.{Property}
 use Rattle.js_values.specs.Records.{Binding}
+use Rattle.js_values.specs.Walks.{plain_chain, plain_find}
 use Rattle.js_ast.specs.Trees.{Statements}
 use Rattle.es_meaning.specs.Outcomes.{Halt, out_of_turns, halted, Outcome, Goes, Jumps, Ends, From, ret, and_then, ◌>>=◌}
 use Rattle.es_meaning.specs.Environments.{Env, with_around}
-use Rattle.es_meaning.specs.Operations.{Ty, One, Res, Direct, read, print, lbl, Ops}
+use Rattle.es_meaning.specs.Operations.{Ty, One, Res, Direct, read, print, lbl, upgs, upge, Act, object_of, base_needed, object_needed, has_key, Ops}
 use Rattle.es_meaning.specs.Operations.{Value as a_value}
 use Rattle.es_meaning.specs.Operators.{is_object, truth, converts_beside, unary_of, binary_of}
 use Rattle.es_meaning.specs.Evaluation.{program_step}
 use Rattle.es_meaning.specs.Laws.{MoreTurns}
-use Rattle.es_meaning.specs.Start.{ErrorKind}
-use Rattle.es_meaning.specs.Plain.{State, Jump, P, resolved, binding_at, given, unless_object, seen, throw_error, bound, bound_or_undefined, assigned, assigned_to, put_at, choose, spend, leaves_it, ended_round, read_channel, print_value, print_channel, label_by, direct, plain, timed, outermost_env, start, run_of, plain_run}
+use Rattle.es_meaning.specs.Objects.{Plan, writes, adds, refuses, calls, can_put, own_in}
+use Rattle.es_meaning.specs.Start.{ErrorKind, global_object}
+use Rattle.es_meaning.specs.Plain.{State, Jump, P, Place, in_record, on_global, nowhere, Reference, of_name, of_property, resolved, binding_at, given, unless_object, seen, throw_error, bound, held, found_globally, found, property_of, named, get_value, typeof_value, assigned, assigned_to, put_by, put_on, is_element_of, put, put_property, put_named, put_value, removed_if, removed_own, remove, make_object, needed, has, act, key_list, with_list, choose, spend, leaves_it, ended_round, read_channel, print_value, print_channel, label_by, raise_by, raise_of, raise_at, direct, plain, timed, outermost_env, start, run_of, plain_run}
 use Rattle.es_meaning.proofs.Link.{Rels, nils, conses, Rel, Link, program_longer}
 
 -- ---- turns
@@ -122,11 +127,50 @@ module _ (k : ℕ) where
   bound_on (Some b) = record { on = λ s. goes }
   bound_on None = record { on = λ s. (throw_on Value _).on s }
 
+  -- that of a property
+  held_on : (body : Body) → On Value (held body) (held body)
+  unfolding held
+  held_on (Data v) = record { on = λ s. goes }
+  held_on (Accessor get set) = record { on = λ s. ends }
+
+  -- of one that the global object has
+  globally_on : (f : Option (ℕ × Property)) → On Value (found_globally f) (found_globally f)
+  unfolding found_globally
+  globally_on (Some f) = record { on = λ s. (held_on f.1.body).on s }
+  globally_on None = record { on = λ s. (throw_on Value _).on s }
+
+  -- or that there may be
+  found_on : (f : Option (ℕ × Property)) → On Value (found f) (found f)
+  unfolding found
+  found_on (Some f) = record { on = λ s. (held_on f.1.body).on s }
+  found_on None = record { on = λ s. goes }
+
+  -- of a value
+  property_on : (v : Value) (key : List ℕ) → On Value (property_of v key) (property_of v key)
+  unfolding property_of
+  property_on (value.Primitive p) key = record { on = λ s. ends }
+  property_on (value.Object o) key = record { on = λ s. (found_on (plain_find key (plain_chain s.heap o.0))).on s }
+
+  -- the value of a name
+  named_on : (place : Place) (x : List ℕ) → On Value (named place x) (named place x)
+  unfolding named
+  named_on (in_record i) x = record { on = λ s. (bound_on (binding_at s.records i x)).on s }
+  named_on on_global x = record { on = λ s. (globally_on (plain_find x (plain_chain s.heap global_object.0))).on s }
+  named_on nowhere x = record { on = λ s. (throw_on Value _).on s }
+
+  -- of a reference
+  value_on : (n : Reference) → On Value (get_value n) (get_value n)
+  unfolding get_value
+  value_on (of_name x place) = named_on place x
+  value_on (of_property v key) = property_on v key
+
   -- or undefined
-  bound_or_undefined_on : (b : Option (Binding Value)) → On Value (bound_or_undefined b) (bound_or_undefined b)
-  unfolding bound_or_undefined
-  bound_or_undefined_on (Some b) = record { on = λ s. goes }
-  bound_or_undefined_on None = record { on = λ s. goes }
+  typeof_on : (n : Reference) → On Value (typeof_value n) (typeof_value n)
+  unfolding typeof_value
+  typeof_on (of_name x (in_record i)) = record { on = λ s. (value_on (of_name x (in_record i))).on s }
+  typeof_on (of_name x on_global) = record { on = λ s. (value_on (of_name x on_global)).on s }
+  typeof_on (of_name x nowhere) = record { on = λ s. goes }
+  typeof_on (of_property v key) = record { on = λ s. (value_on (of_property v key)).on s }
 
   -- a value for a binding
   assigned_on : (mutable : Bool) (x : List ℕ) (i : ℕ) (v : Value) → On (Unit {0}) (assigned mutable x i v) (assigned mutable x i v)
@@ -140,11 +184,84 @@ module _ (k : ℕ) where
   assigned_to_on (Some b) x i v = record { on = λ s. (assigned_on b.mutable x i v).on s }
   assigned_to_on None x i v = record { on = λ s. (throw_on (Unit {0}) _).on s }
 
-  -- or for a name
-  put_on : (place : Option ℕ) (x : List ℕ) (v : Value) → On (Unit {0}) (put_at place x v) (put_at place x v)
-  unfolding put_at
-  put_on None x v = record { on = λ s. (throw_on (Unit {0}) _).on s }
-  put_on (Some i) x v = record { on = λ s. (assigned_to_on (binding_at s.records (Some i) x) x i v).on s }
+  -- a put, as is planned
+  put_by_on : (plan : Plan) (o : ℕ) (key : List ℕ) (v : Value) → On (Unit {0}) (put_by plan o key v) (put_by plan o key v)
+  unfolding put_by
+  put_by_on writes o key v = record { on = λ s. goes }
+  put_by_on adds o key v = record { on = λ s. goes }
+  put_by_on refuses o key v = record { on = λ s. (throw_on (Unit {0}) _).on s }
+  put_by_on (calls f) o key v = record { on = λ s. ends }
+
+  put_on_on : (element : Bool) (o : ℕ) (key : List ℕ) (v : Value) → On (Unit {0}) (put_on element o key v) (put_on element o key v)
+  unfolding put_on
+  put_on_on true o key v = record { on = λ s. ends }
+  put_on_on false o key v = record { on = λ s. (put_by_on (can_put key (plain_chain s.heap o)) o key v).on s }
+
+  -- for an object, for a value, and for a name
+  put_object_on : (o : ℕ) (key : List ℕ) (v : Value) → On (Unit {0}) (put o key v) (put o key v)
+  unfolding put
+  put_object_on o key v = record { on = λ s. (put_on_on (is_element_of (slice_get s.heap o) key) o key v).on s }
+
+  put_property_on : (base : Value) (key : List ℕ) (v : Value) → On (Unit {0}) (put_property base key v) (put_property base key v)
+  unfolding put_property
+  put_property_on (value.Primitive p) key v = record { on = λ s. ends }
+  put_property_on (value.Object o) key v = record { on = λ s. (put_object_on o.0 key v).on s }
+
+  put_named_on : (place : Place) (x : List ℕ) (v : Value) → On (Unit {0}) (put_named place x v) (put_named place x v)
+  unfolding put_named
+  put_named_on (in_record i) x v = record { on = λ s. (assigned_to_on (binding_at s.records i x) x i v).on s }
+  put_named_on on_global x v = record { on = λ s. (put_object_on global_object.0 x v).on s }
+  put_named_on nowhere x v = record { on = λ s. (throw_on (Unit {0}) _).on s }
+
+  put_value_on : (n : Reference) (v : Value) → On (Unit {0}) (put_value n v) (put_value n v)
+  unfolding put_value
+  put_value_on (of_name x place) v = put_named_on place x v
+  put_value_on (of_property base key) v = put_property_on base key v
+
+  -- a deletion
+  removed_if_on : (configurable : Bool) (o : ℕ) (key : List ℕ) → On Value (removed_if configurable o key) (removed_if configurable o key)
+  unfolding removed_if
+  removed_if_on true o key = record { on = λ s. goes }
+  removed_if_on false o key = record { on = λ s. (throw_on Value _).on s }
+
+  removed_own_on : (p : Option Property) (o : ℕ) (key : List ℕ) → On Value (removed_own p o key) (removed_own p o key)
+  unfolding removed_own
+  removed_own_on None o key = record { on = λ s. goes }
+  removed_own_on (Some p) o key = record { on = λ s. (removed_if_on p.marks.configurable o key).on s }
+
+  remove_on : (n : Reference) → On Value (remove n) (remove n)
+  unfolding remove
+  remove_on (of_name x place) = record { on = λ s. ends }
+  remove_on (of_property (value.Primitive p) key) = record { on = λ s. ends }
+  remove_on (of_property (value.Object o) key) = record { on = λ s. (removed_own_on (own_in key (slice_get s.heap o.0)) o.0 key).on s }
+
+  -- acts
+  needed_on : (there : Bool) (v : Value) → On Value (needed there v) (needed there v)
+  unfolding needed
+  needed_on true v = record { on = λ s. goes }
+  needed_on false v = record { on = λ s. (throw_on Value _).on s }
+
+  has_on : (key : List ℕ) (v : Value) → On Value (has key v) (has key v)
+  unfolding has
+  has_on key (value.Primitive p) = record { on = λ s. ends }
+  has_on key (value.Object o) = record { on = λ s. goes }
+
+  make_on : (keys : List (List ℕ)) (vs : List Value) → On Value (make_object keys vs) (make_object keys vs)
+  unfolding make_object
+  make_on keys vs = record { on = λ s. goes }
+
+  act_on : (a : Act) (vs : List Value) → On Value (act a vs) (act a vs)
+  unfolding act
+  act_on (object_of keys) vs = make_on keys vs
+  act_on base_needed vs = needed_on _ _
+  act_on object_needed vs = needed_on _ _
+  act_on has_key vs = has_on _ _
+
+  -- the keys of a value
+  list_on : (list : Option (List (List ℕ))) (next last : List (List ℕ) → P (Unit {0})) → ((keys : List (List ℕ)) → On (Unit {0}) (next keys) (last keys)) → On (Unit {0}) (with_list list next) (with_list list last)
+  unfolding with_list
+  list_on None next last h = record { on = λ s. ends }
+  list_on (Some keys) next last h = record { on = λ s. (h keys).on s }
 
   -- what may leave a loop
   left_on : (b : Bool) (j : Jump) (s : State) → Longer {X = Unit {0}} out_of_turns (more_turns_in k) (choose b (Goes tt s) (Jumps j s)) (choose b (Goes tt (more_turns_in k s)) (Jumps j (more_turns_in k s)))
@@ -188,12 +305,30 @@ module _ (k : ℕ) where
     label_on None v = record { on = λ s. ends }
     label_on (Some os) v = record { on = λ s. goes }
 
+    -- labels are raised
+    raise_by_on : (os : Option (List ℕ)) → On Value (raise_by tables inputs os) (raise_by tables inputs os)
+    unfolding raise_by
+    raise_by_on None = record { on = λ s. ends }
+    raise_by_on (Some os) = record { on = λ s. goes }
+
+    raise_of_on : (there : Bool) (vs : List Value) → On Value (raise_of tables inputs there vs) (raise_of tables inputs there vs)
+    unfolding raise_of
+    raise_of_on true vs = record { on = λ s. (raise_by_on _).on s }
+    raise_of_on false vs = record { on = λ s. (throw_on Value _).on s }
+
+    raise_at_on : (there : Bool) (key : Value) (vs : List Value) → On Value (raise_at tables inputs there key vs) (raise_at tables inputs there key vs)
+    unfolding raise_at
+    raise_at_on true key vs = record { on = λ s. (bind_longer _ _ (unless_on _ key) (λ k. raise_by_on _)).on s }
+    raise_at_on false key vs = record { on = λ s. (throw_on Value _).on s }
+
     -- a function of the product
     direct_on : (f : Direct) (vs : List Value) → On Value (direct tables inputs f vs) (direct tables inputs f vs)
     unfolding direct
     direct_on read vs = read_on _
     direct_on print vs = print_on _ _
     direct_on lbl vs = label_on _ _
+    direct_on upgs vs = raise_of_on _ _
+    direct_on upge vs = raise_at_on _ _ _
 
     -- the unlabelled meaning, linked with itself
     pub lasting : Link (plain tables inputs) (plain tables inputs)
@@ -205,6 +340,8 @@ module _ (k : ℕ) where
       RP = λ w i j. i ≡ j;
       RE = λ w e d. e ≡ d;
       Lift = λ t w m n. On (Res Value t) m n;
+      Inside = λ v w. Unit {0};
+      inside_v = λ p r. r;
       le_refl = λ w. tt;
       le_trans = λ p q. tt;
       more_v = λ p r. r;
@@ -224,14 +361,18 @@ module _ (k : ℕ) where
           (at_equal (A.comparable v) (A.comparable v) q (unless_on (converts_beside v u) v));
       direct = λ f {vs = vs} r. at_equal (A.direct f) (A.direct f) (rels_equal r) (direct_on f vs);
       unbuilt = λ t w. record { on = λ s. ends };
-      resolve = λ t {w = w} {i = i} x f g p h. at_equal (λ j. A.resolve t j x f) (λ j. A.resolve t j x g) p (record { on = λ s. (h w tt (resolved s.records i x) (resolved s.records i x) refl).on s });
-      get_name = λ {n = n} f g r h. at_equal (λ m. A.get_name m f) (λ m. A.get_name m g) r (record { on = λ s. (bound_on (binding_at s.records n.place n.name)).on s });
-      typeof_name = λ {n = n} f g r h. at_equal (λ m. A.typeof_name m f) (λ m. A.typeof_name m g) r (record { on = λ s. (bound_or_undefined_on (binding_at s.records n.place n.name)).on s });
-      put_name = λ {n = n} {v = v} {v' = v'} f g r q h. at_equal (λ m. A.put_name m v f) (λ m. A.put_name m v' g) r (at_equal (λ x. A.put_name n x f) (λ x. A.put_name n x g) q (put_on n.place n.name v));
+      act = λ a {vs = vs} r. at_equal (A.act a) (A.act a) (rels_equal r) (act_on a vs);
+      resolve = λ t {w = w} {i = i} x f g p h. at_equal (λ j. A.resolve t j x f) (λ j. A.resolve t j x g) p (record { on = λ s. (h w tt (resolved s.records s.heap i x) (resolved s.records s.heap i x) refl).on s });
+      property = λ r q. ap₂ (λ v u. A.property v u) r q;
+      get_value = λ {n = n} f g r h. at_equal (λ m. A.get_value m f) (λ m. A.get_value m g) r (value_on n);
+      typeof_value = λ {n = n} f g r h. at_equal (λ m. A.typeof_value m f) (λ m. A.typeof_value m g) r (typeof_on n);
+      put_value = λ {n = n} {v = v} {v' = v'} f g r q h. at_equal (λ m. A.put_value m v f) (λ m. A.put_value m v' g) r (at_equal (λ x. A.put_value n x f) (λ x. A.put_value n x g) q (put_value_on n v));
+      remove = λ {n = n} r. at_equal A.remove A.remove r (remove_on n);
       fork = λ t {w = w} {v = v} {m = m} {n = n} {m' = m'} {n' = n'} r l q. at_equal (λ x. A.fork t x m n) (λ x. A.fork t x m' n') r (choose_longer (truth v) (l w tt) (q w tt));
       round = λ {w = w} turn labels {e = e} f g r h. at_equal (λ d. A.round turn labels d f) (λ d. A.round turn labels d g) r
-          (record { on = λ s. round_on (length e.around) _ _ ((h w (with_around turn labels tt e) (with_around turn labels tt e) refl).on s) });
+          (record { on = λ s. round_on (length e.around) _ _ ((h w tt (with_around turn labels tt e) (with_around turn labels tt e) refl).on s) });
       again = λ {v = v} {m = m} {n = n} {m' = m'} {n' = n'} r l q. at_equal (λ x. A.again x m n) (λ x. A.again x m' n') r (choose_longer (truth v) l q);
+      keys = λ {w = w} {v = v} f g r h. at_equal (λ x. A.keys x f) (λ x. A.keys x g) r (record { on = λ s. (list_on (key_list s.heap v) f g (λ keys. h w tt keys)).on s });
     }
 
     -- a program, to a depth and a larger one

@@ -10,9 +10,10 @@ use Rattle.js_ast.specs.declared.operators.BinaryOperator.{BinaryOperator}
 use Rattle.js_ast.specs.declared.operators.BinaryOperator.TheVariants as binary_operator
 use Rattle.js_ast.specs.declared.operators.AssignOperator.{AssignOperator}
 use Rattle.js_ast.specs.declared.operators.AssignOperator.TheVariants as assign_operator
-use Rattle.js_ast.specs.Trees.{Ident, Expr, name, number, string, null, boolean, paren, call, postfix, unary, binary, conditional, assign, comma, Exprs, no_exprs, more_exprs, MaybeExpr, absent, present, Declarations, one_declaration, more_declarations, First, first_expr, first_var, Block, block_of, Statement, block, var, empty, expression, if_then, if_else, do_while, while, for, debugger, Statements, no_statements, more_statements}
+use Rattle.js_ast.specs.Keys.{key_text}
+use Rattle.js_ast.specs.Trees.{Ident, Expr, name, number, string, this, null, boolean, paren, object, member, index, call, postfix, unary, binary, conditional, assign, comma, Exprs, no_exprs, more_exprs, MaybeExpr, absent, present, Property, value, getter, setter, Properties, no_properties, more_properties, Target, target_expr, target_var, Declarations, one_declaration, more_declarations, First, first_expr, first_var, Block, block_of, Statement, block, var, empty, expression, if_then, if_else, do_while, while, for, for_in, debugger, Statements, no_statements, more_statements}
 use Rattle.es_meaning.specs.Environments.{Env}
-use Rattle.es_meaning.specs.Operations.{Ty, One, Value, Res, Direct, read, print, lbl, Hint, no_hint, number_hint, Ops, Use, assigned, updated_by, prefixed, postfixed, asked, Round, Rec}
+use Rattle.es_meaning.specs.Operations.{Ty, One, Value, Res, Direct, read, print, lbl, upgs, upge, Act, object_of, base_needed, object_needed, has_key, Hint, no_hint, number_hint, string_hint, Ops, Use, assigned, updated_by, prefixed, postfixed, asked, valued, deleted, given_text, Round, Visit, Rec}
 
 -- whether it is a name, also in parentheses
 unfoldable pub is_name : Expr → Bool
@@ -20,12 +21,32 @@ is_name (name at text) = true
 is_name (paren at e) = is_name e
 is_name _ = false
 
+-- whether it is a reference (ECMA-262 8.7), also in parentheses
+unfoldable pub is_reference : Expr → Bool
+is_reference (name at text) = true
+is_reference (member at e text) = true
+is_reference (index at e n) = true
+is_reference (paren at e) = is_reference e
+is_reference _ = false
+
+-- the keys of an object's properties, in their order (ECMA-262 11.1.5)
+abbrev pub key_of : Property → List ℕ
+key_of (value at key e) = key_text key
+key_of (getter at key f) = key_text key
+key_of (setter at key f) = key_text key
+
+abbrev pub keys_of : Properties → List (List ℕ)
+keys_of no_properties = []
+keys_of (more_properties p ps) = key_of p ∷ keys_of ps
+
 -- the function of the product that a name calls
 unfoldable pub direct_of : List ℕ → Option Direct
 direct_of text =
     if same_name text (codes "read") then Some read else
     if same_name text (codes "print") then Some print else
-    if same_name text (codes "lbl") then Some lbl else None
+    if same_name text (codes "lbl") then Some lbl else
+    if same_name text (codes "upgs") then Some upgs else
+    if same_name text (codes "upge") then Some upge else None
 
 -- variables in their order
 abbrev pub variable_list : Declarations → List (Ident × MaybeExpr)
@@ -36,10 +57,10 @@ variable_list (more_declarations ident init ds) = (ident, init) ∷ variable_lis
 abbrev pub round_of : Statement → MaybeExpr → MaybeExpr → Round
 round_of s update test = record { labels = None ∷ []; body = s; update = update; test = test }
 
--- how an operator between two values converts them: not at all, as `==` does, both to primitive values first, or the left one to a number
--- before the right one to a primitive value (ECMA-262 11.5 to 11.10)
+-- how an operator between two values converts them: not at all, as `==` does, both to primitive values first, the left one to a number before
+-- the right one to a primitive value, or the left one to a key where the right one is an object (ECMA-262 11.5 to 11.10)
 pub data Conversion : Type 0 where
-  unconverted compared numbers : Conversion
+  unconverted compared numbers keyed : Conversion
   primitives : Hint → Conversion
 
 abbrev pub conversion_of : BinaryOperator → Conversion
@@ -64,7 +85,7 @@ conversion_of binary_operator.BitXor = numbers
 conversion_of binary_operator.BitOr = numbers
 conversion_of binary_operator.And = unconverted
 conversion_of binary_operator.Or = unconverted
-conversion_of binary_operator.In = unconverted
+conversion_of binary_operator.In = keyed
 conversion_of binary_operator.Instanceof = unconverted
 
 -- whether an operator in front of a value takes it as a number (ECMA-262 11.4)
@@ -130,11 +151,19 @@ module _ (O : Ops) where
   unfoldable pub number_left : BinaryOperator → O.V → O.V → O.M Value
   number_left o u v = O.bind Value Value (O.unary unary_operator.Plus v) (primitive_left number_hint o u)
 
+  -- whether an object has a key
+  unfoldable pub has_left : O.V → O.V → O.M Value
+  has_left u v = O.act has_key (v ∷ u ∷ [])
+
+  unfoldable pub has_right : O.V → O.V → O.M Value
+  has_right v u = O.bind Value Value (O.primitive string_hint v) (has_left u)
+
   abbrev pub binary_by : Conversion → BinaryOperator → O.V → O.V → O.M Value
   binary_by unconverted o v u = O.binary o v u
   binary_by compared o v u = O.bind Value Value (O.comparable v u) (compared_left o u)
   binary_by (primitives hint) o v u = O.bind Value Value (O.primitive hint v) (primitive_left hint o u)
   binary_by numbers o v u = O.bind Value Value (O.primitive number_hint v) (number_left o u)
+  binary_by keyed o v u = O.bind Value Value (O.act object_needed (u ∷ [])) (has_right v)
 
   unfoldable pub binary_values : BinaryOperator → O.V → O.V → O.M Value
   binary_values o v u = binary_by (conversion_of o) o v u
@@ -150,11 +179,11 @@ module _ (O : Ops) where
 
   -- the value is given to the reference, and is the result
   unfoldable pub assign_to : O.N → O.V → O.M Value
-  assign_to n v = O.bind One Value (O.put_name n v enters) (give v)
+  assign_to n v = O.bind One Value (O.put_value n v enters) (give v)
 
   -- the value is given to the reference, and the result is another
   unfoldable pub assign_giving : O.N → O.V → O.V → O.M Value
-  assign_giving n result v = O.bind One Value (O.put_name n v enters) (give result)
+  assign_giving n result v = O.bind One Value (O.put_value n v enters) (give result)
 
   -- `++` and `--` (ECMA-262 11.3, 11.4.4, 11.4.5): the old value as a number, and one more or less
   unfoldable pub postfix_by : BinaryOperator → O.N → O.V → O.M Value
@@ -205,22 +234,44 @@ module _ (O : Ops) where
     unfoldable pub compound_right : BinaryOperator → Expr → ℕ → O.N → O.V → O.M Value
     compound_right o r i n old = O.bind Value Value (R.expr r i) (compound_done o n old)
 
+    -- the value of a reference (ECMA-262 8.7.1)
+    unfoldable pub read_value : O.N → O.M Value
+    read_value n = O.get_value n enters
+
     -- what is done with a reference
     unfoldable pub used : Use → ℕ → O.N → O.M Value
     used (assigned r) i n = O.bind Value Value (R.expr r i) (assign_to n)
-    used (updated_by o r) i n = O.bind Value Value (O.get_name n enters) (compound_right o r i n)
-    used (prefixed o) i n = O.bind Value Value (O.get_name n enters) (prefix_value o n)
-    used (postfixed o) i n = O.bind Value Value (O.get_name n enters) (postfix_value o n)
-    used asked i n = O.bind Value Value (O.typeof_name n enters) (unary_done unary_operator.Typeof)
+    used (updated_by o r) i n = O.bind Value Value (O.get_value n enters) (compound_right o r i n)
+    used (prefixed o) i n = O.bind Value Value (O.get_value n enters) (prefix_value o n)
+    used (postfixed o) i n = O.bind Value Value (O.get_value n enters) (postfix_value o n)
+    used asked i n = O.bind Value Value (O.typeof_value n enters) (unary_done unary_operator.Typeof)
+    used valued i n = read_value n
+    used deleted i n = O.remove n
+    used (given_text text) i n = assign_to n (O.literal (Str text))
 
+    -- a property (ECMA-262 11.2.1): its base, whether that can have properties, its key, and then it is a reference
+    unfoldable pub with_key : Use → ℕ → O.V → O.V → O.M Value
+    with_key use_as i b k = used use_as i (O.property b k)
+
+    unfoldable pub with_base : Use → ℕ → O.V → O.V → O.M Value
+    with_base use_as i k b = O.bind Value Value (O.primitive string_hint k) (with_key use_as i b)
+
+    unfoldable pub index_key : Use → ℕ → O.V → O.V → O.M Value
+    index_key use_as i b k = O.bind Value Value (O.act base_needed (b ∷ [])) (with_base use_as i k)
+
+    unfoldable pub index_base : Use → Expr → ℕ → O.V → O.M Value
+    index_base use_as n i b = O.bind Value Value (R.expr n i) (index_key use_as i b)
+
+    unfoldable pub member_base : Use → List ℕ → ℕ → O.V → O.M Value
+    member_base use_as text i b = index_key use_as i b (O.literal (Str text))
+
+    -- a name, a property, or one of them in parentheses
     unfoldable pub use_step : Use → Expr → ℕ → O.M Value
     use_step use_as (name at text) i = O.resolve Value i text (used use_as i)
+    use_step use_as (member at e text) i = O.bind Value Value (R.expr e i) (member_base use_as text i)
+    use_step use_as (index at e n) i = O.bind Value Value (R.expr e i) (index_base use_as n i)
     use_step use_as (paren at e) i = R.use_of use_as e i
     use_step use_as _ i = O.unbuilt Value
-
-    -- a name as a value (ECMA-262 11.1.2)
-    unfoldable pub read_name : O.N → O.M Value
-    read_name n = O.get_name n enters
 
     -- ---- arguments (ECMA-262 11.2.4), from the left, and then the call
 
@@ -235,14 +286,29 @@ module _ (O : Ops) where
     call_step None es i = O.unbuilt Value
     call_step (Some f) es i = arguments f [] es i
 
+    -- ---- objects (ECMA-262 11.1.5): the values of their properties in their order, and then the object
+
+    unfoldable pub properties : Act → List O.V → Properties → ℕ → O.M Value
+    properties act vs no_properties i = O.act act vs
+    properties act vs (more_properties (value at key e) ps) i = O.bind Value Value (R.expr e i) (λ v. properties act (vs ++ v ∷ []) ps i)
+    properties act vs (more_properties _ ps) i = O.unbuilt Value
+
+    unfoldable pub more_values : Act → List O.V → Properties → ℕ → O.V → O.M Value
+    more_values act vs ps i v = properties act (vs ++ v ∷ []) ps i
+
     -- ---- expressions
 
     abbrev pub typeof_step : Bool → Expr → ℕ → O.M Value
     typeof_step false e i = O.bind Value Value (R.expr e i) (unary_value unary_operator.Typeof)
     typeof_step true e i = R.use_of asked e i
 
+    -- `delete` of what is no reference only evaluates it (ECMA-262 11.4.1)
+    abbrev pub delete_step : Bool → Expr → ℕ → O.M Value
+    delete_step false e i = O.bind Value Value (R.expr e i) (unary_value unary_operator.Delete)
+    delete_step true e i = R.use_of deleted e i
+
     unfoldable pub unary_step : UnaryOperator → Expr → ℕ → O.M Value
-    unary_step unary_operator.Delete e i = O.unbuilt Value
+    unary_step unary_operator.Delete e i = delete_step (is_reference e) e i
     unary_step unary_operator.Typeof e i = typeof_step (is_name e) e i
     unary_step unary_operator.Increment e i = R.use_of (prefixed binary_operator.Add) e i
     unary_step unary_operator.Decrement e i = R.use_of (prefixed binary_operator.Subtract) e i
@@ -251,17 +317,20 @@ module _ (O : Ops) where
     unfoldable pub binary_step : Expr → BinaryOperator → Expr → ℕ → O.M Value
     binary_step l binary_operator.And r i = O.bind Value Value (R.expr l i) (and_right r i)
     binary_step l binary_operator.Or r i = O.bind Value Value (R.expr l i) (or_right r i)
-    binary_step l binary_operator.In r i = O.unbuilt Value
     binary_step l binary_operator.Instanceof r i = O.unbuilt Value
     binary_step l o r i = O.bind Value Value (R.expr l i) (binary_right o r i)
 
     unfoldable pub expr_step : Expr → ℕ → O.M Value
-    expr_step (name at text) i = O.resolve Value i text read_name
+    expr_step (name at text) i = O.resolve Value i text read_value
     expr_step (number at n) i = O.ret Value (O.literal (Num n))
     expr_step (string at text v) i = O.ret Value (O.literal (Str v))
+    expr_step (this at) i = O.resolve Value i (codes "this") read_value
     expr_step (null at) i = O.ret Value (O.literal Null)
     expr_step (boolean at b) i = O.ret Value (O.literal (prims.Bool b))
     expr_step (paren at e) i = R.expr e i
+    expr_step (object at ps final) i = properties (object_of (keys_of ps)) [] ps i
+    expr_step (member at e text) i = O.bind Value Value (R.expr e i) (member_base valued text i)
+    expr_step (index at e n) i = O.bind Value Value (R.expr e i) (index_base valued n i)
     expr_step (call at (name there text) es) i = call_step (direct_of text) es i
     expr_step (postfix at e postfix_operator.Increment) i = R.use_of (postfixed binary_operator.Add) e i
     expr_step (postfix at e postfix_operator.Decrement) i = R.use_of (postfixed binary_operator.Subtract) e i
@@ -277,11 +346,11 @@ module _ (O : Ops) where
     unfoldable pub variables : List (Ident × MaybeExpr) → ℕ → O.M One
     variables [] i = O.ret One tt
     variables ((ident, absent) ∷ ds) i = variables ds i
-    variables ((ident, present e) ∷ ds) i = O.resolve One i ident.text (λ n. O.bind Value One (R.expr e i) (λ v. O.bind One One (O.put_name n v enters) (λ u. variables ds i)))
+    variables ((ident, present e) ∷ ds) i = O.resolve One i ident.text (λ n. O.bind Value One (R.expr e i) (λ v. O.bind One One (O.put_value n v enters) (λ u. variables ds i)))
 
     -- the value of an initialiser, and the variables behind it
     unfoldable pub more_variables : O.N → List (Ident × MaybeExpr) → ℕ → O.V → O.M One
-    more_variables n ds i v = O.bind One One (O.put_name n v enters) (λ u. variables ds i)
+    more_variables n ds i v = O.bind One One (O.put_value n v enters) (λ u. variables ds i)
 
     abbrev pub declarations : Declarations → ℕ → O.M One
     declarations ds i = variables (variable_list ds) i
@@ -328,6 +397,39 @@ module _ (O : Ops) where
     first_step (first_expr (present c)) round e = O.bind Value One (R.expr c e.place) (looped_value round e)
     first_step (first_var ds) round e = O.bind One One (declarations ds e.place) (looped round e)
 
+    -- ---- `for in` (ECMA-262 12.6.4): a turn for each key that is still there, in which the target is given the key, and then the body is done
+
+    unfoldable pub still_there : Visit O.V → Env O.H → O.M One → O.V → O.M One
+    still_there visit e rest v = O.again v (R.visit visit e) rest
+
+    unfoldable pub visits : Target → Statement → O.V → List (List ℕ) → Env O.H → O.M One
+    visits target s o [] e = O.ret One tt
+    visits target s o (key ∷ others) e =
+        O.bind Value One (O.act has_key (O.literal (Str key) ∷ o ∷ [])) (still_there (record { target = target; body = s; object = o; key = key; others = others }) e (visits target s o others e))
+
+    unfoldable pub visited : Visit O.V → Env O.H → Res O.V One → O.M One
+    visited visit e u = visits visit.target visit.body visit.object visit.others e
+
+    unfoldable pub visit_body : Statement → Env O.H → O.V → O.M One
+    visit_body s e v = R.stmt s e
+
+    -- the target is given a text
+    unfoldable pub target_step : Target → List ℕ → ℕ → O.M Value
+    target_step (target_expr e) text i = R.use_of (given_text text) e i
+    target_step (target_var ident) text i = O.resolve Value i ident.text (used (given_text text) i)
+
+    unfoldable pub visit_turn : Visit O.V → Env O.H → O.M One
+    visit_turn visit e = O.bind Value One (target_step visit.target visit.key e.place) (visit_body visit.body e)
+
+    unfoldable pub visit_step : Visit O.V → Env O.H → O.M One
+    visit_step visit e = O.bind One One (O.round true (None ∷ []) e (visit_turn visit)) (visited visit e)
+
+    unfoldable pub with_keys : Target → Statement → O.V → Env O.H → O.M One
+    with_keys target s o e = O.keys o (λ keys. visits target s o keys e)
+
+    unfoldable pub enumerated : Target → Statement → Env O.H → O.V → O.M One
+    enumerated target s e o = O.round false (None ∷ []) e (with_keys target s o)
+
     -- ---- statements
 
     unfoldable pub choose_stmt : Statement → Env O.H → O.V → O.M One
@@ -357,13 +459,14 @@ module _ (O : Ops) where
     stmt_step (do_while at s c semi) e = O.round false (None ∷ []) e (R.turn (round_of s absent (present c)))
     stmt_step (while at c s) e = loop (round_of s absent (present c)) e
     stmt_step (for at first test update s) e = first_step first (round_of s update test) e
+    stmt_step (for_in at target c s) e = O.bind Value One (R.expr c e.place) (enumerated target s e)
     stmt_step (debugger at semi) e = O.ret One tt
     stmt_step _ e = O.unbuilt One
 
     -- ---- parts
 
     abbrev pub step : Rec O
-    step = record { expr = expr_step; use_of = use_step; stmt = stmt_step; turn = turn_step }
+    step = record { expr = expr_step; use_of = use_step; stmt = stmt_step; turn = turn_step; visit = visit_step }
 
 -- Operations with a count of turns: to enter a part costs one.
 pub record Timed : Type 1 where
@@ -380,11 +483,12 @@ ticking T R = record {
   use_of = λ use_as e i. behind T.ops Value T.tick (R.use_of use_as e i);
   stmt = λ s e. behind T.ops One T.tick (R.stmt s e);
   turn = λ round e. behind T.ops One T.tick (R.turn round e);
+  visit = λ visit e. behind T.ops One T.tick (R.visit visit e);
 }
 
 -- n bounds how deep the parts go: nodes in nodes, and turns behind turns
 unfoldable pub eval : (T : Timed) → ℕ → Rec T.ops
-eval T zero = record { expr = λ e i. T.ended Value; use_of = λ use_as e i. T.ended Value; stmt = λ s e. T.ended One; turn = λ round e. T.ended One }
+eval T zero = record { expr = λ e i. T.ended Value; use_of = λ use_as e i. T.ended Value; stmt = λ s e. T.ended One; turn = λ round e. T.ended One; visit = λ visit e. T.ended One }
 eval T (suc n) = ticking T (step T.ops (eval T n))
 
 -- the statements of a program

@@ -2,6 +2,8 @@ pub mod Declared
 pub mod Environments
 pub mod Evaluation
 pub mod Laws
+pub mod ObjectRows
+pub mod Objects
 pub mod Operations
 pub mod Operators
 pub mod Outcomes

@@ -4,7 +4,7 @@ use Rattle.std.specs.Prelude.{ℕ, Bool, List, Option}
 use Rattle.js_number.specs.declared.primitive.Primitive.{Primitive}
 use Rattle.js_ast.specs.declared.operators.UnaryOperator.{UnaryOperator}
 use Rattle.js_ast.specs.declared.operators.BinaryOperator.{BinaryOperator}
-use Rattle.js_ast.specs.Trees.{Expr, Statement, MaybeExpr}
+use Rattle.js_ast.specs.Trees.{Expr, Statement, MaybeExpr, Target}
 use Rattle.es_meaning.specs.Environments.{Env}
 
 -- what a computation gives: nothing, or a value
@@ -23,10 +23,23 @@ pub data Direct : Type 0 where
   print : Direct
   -- joins origins to a value's label
   lbl : Direct
+  -- join origins to the structure label of an object, and to the existence label of one of its properties
+  upgs upge : Direct
+
+-- acts on values that enter no function
+pub data Act : Type 0 where
+  -- an object with properties of these keys is made of their values (ECMA-262 11.1.5)
+  object_of : List (List ℕ) → Act
+  -- the value, if it can have properties (ECMA-262 9.10), or an exception
+  base_needed : Act
+  -- the value, if it is an object, or an exception (ECMA-262 11.8.7)
+  object_needed : Act
+  -- whether the second, an object, or a prototype of it has the first as a key (ECMA-262 8.12.6)
+  has_key : Act
 
 -- which primitive value of an object is asked for (ECMA-262 9.1)
 pub data Hint : Type 0 where
-  no_hint number_hint : Hint
+  no_hint number_hint string_hint : Hint
 
 pub record Ops : Type 1 where
   -- values, references, what is known of a frame that a jump can reach, and computations
@@ -46,18 +59,23 @@ pub record Ops : Type 1 where
   -- a value converted to a primitive one (ECMA-262 9.1), and an operand of `==` converted to what it is compared as beside the other one (11.9.3)
   pub primitive : Hint → V → M Value
   pub comparable : V → V → M Value
+  pub act : Act → List V → M Value
   -- a function of the product, by its arguments
   pub direct : Direct → List V → M Value
   -- a part of the language that can't be run yet
   pub unbuilt : (t : Ty) → M t
-  -- ---- names
+  -- ---- references (ECMA-262 8.7)
   -- the reference that a name is at this moment, from a record on outwards (ECMA-262 10.3.1), is handed on
   pub resolve : (t : Ty) → ℕ → List ℕ → (N → M t) → M t
-  -- its value (ECMA-262 8.7.1), and its value for `typeof`, which is undefined where the name has no binding. A getter is entered as is said
-  pub get_name : N → (V → M Value) → M Value
-  pub typeof_name : N → (V → M Value) → M Value
+  -- a property of a value, whose key is a primitive value
+  pub property : V → V → N
+  -- its value (ECMA-262 8.7.1), and its value for `typeof`, which is undefined where a name has no binding. A getter is entered as is said
+  pub get_value : N → (V → M Value) → M Value
+  pub typeof_value : N → (V → M Value) → M Value
   -- it is given a value (ECMA-262 8.7.2). A setter is entered as is said
-  pub put_name : N → V → (V → M Value) → M One
+  pub put_value : N → V → (V → M Value) → M One
+  -- it is deleted (ECMA-262 11.4.1)
+  pub remove : N → M Value
   -- ---- scopes: those that a jump can reach hand the environment in which it can
   -- one of two computations, as a value chooses
   pub fork : (t : Ty) → V → M t → M t → M t
@@ -65,6 +83,8 @@ pub record Ops : Type 1 where
   pub round : Bool → List (Option (List ℕ)) → Env H → (Env H → M One) → M One
   -- a further turn of a loop or its end, as a value chooses
   pub again : V → M One → M One → M One
+  -- the keys that `for in` takes of a value (ECMA-262 12.6.4) are handed on, in the loop's frame
+  pub keys : V → (List (List ℕ) → M One) → M One
 
 -- what is done with a reference
 pub data Use : Type 0 where
@@ -77,6 +97,12 @@ pub data Use : Type 0 where
   postfixed : BinaryOperator → Use
   -- it is asked for its type
   asked : Use
+  -- it is asked for its value
+  valued : Use
+  -- it is deleted
+  deleted : Use
+  -- it is given a text
+  given_text : List ℕ → Use
 
 -- what a turn of a loop evaluates: its body, and behind it what its header changes, and its condition
 pub record Round : Type 0 where
@@ -84,6 +110,14 @@ pub record Round : Type 0 where
   pub body : Statement
   pub update : MaybeExpr
   pub test : MaybeExpr
+
+-- what a turn of a `for in` evaluates: its target, which is given the key, and its body. The other keys are left
+pub record Visit (V : Type 0) : Type 0 where
+  pub target : Target
+  pub body : Statement
+  pub object : V
+  pub key : List ℕ
+  pub others : List (List ℕ)
 
 -- the meaning of the parts of a node. To enter a part costs a turn
 pub record Rec (O : Ops) : Type 0 where
@@ -94,3 +128,4 @@ pub record Rec (O : Ops) : Type 0 where
   pub stmt : Statement → Env O.H → O.M One
   -- a turn of a loop, and those behind it
   pub turn : Round → Env O.H → O.M One
+  pub visit : Visit O.V → Env O.H → O.M One

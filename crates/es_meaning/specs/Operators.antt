@@ -123,7 +123,7 @@ unary_of_primitive unary_operator.Plus v = as_number (to_number v)
 unary_of_primitive unary_operator.Minus v = of_number (λ n. number (neg_ℤ n)) (to_number v)
 unary_of_primitive unary_operator.BitNot v = of_number (λ n. Ok (not_of n)) (to_number v)
 unary_of_primitive unary_operator.Not v = Ok (prims.Bool (not (boolean_of v)))
-unary_of_primitive unary_operator.Delete v = Err not_built
+unary_of_primitive unary_operator.Delete v = Ok (prims.Bool true)
 unary_of_primitive unary_operator.Increment v = Err not_built
 unary_of_primitive unary_operator.Decrement v = Err not_built
 
@@ -132,6 +132,7 @@ abbrev pub unary_of_object : UnaryOperator → Class → Given
 unary_of_object unary_operator.Void c = Ok Undefined
 unary_of_object unary_operator.Typeof c = Ok (Str (type_of_class c))
 unary_of_object unary_operator.Not c = Ok (prims.Bool false)
+unary_of_object unary_operator.Delete c = Ok (prims.Bool true)
 unary_of_object _ c = Err not_built
 
 unfoldable pub unary_of : UnaryOperator → Seen → Given

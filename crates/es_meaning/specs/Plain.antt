@@ -1,25 +1,32 @@
 -- The unlabelled meaning: the evaluator over values without labels.
-use Rattle.std.specs.Prelude.{ℕ, zero, suc, ◌+◌, List, [], ◌∷◌, ◌++◌, Bool, true, false, length, replicate, Option, Some, None, Result, Ok, Err, codes, slice_get, slice_index, slice_set, nat_eq}
+use Rattle.std.specs.Prelude.{ℕ, zero, suc, ◌+◌, List, [], ◌∷◌, ◌++◌, map, Bool, true, false, length, replicate, Option, Some, None, Result, Ok, Err, codes, slice_get, slice_index, slice_set, nat_eq}
 use Rattle.std.specs.List.{position}
 use Rattle.origin_labels.specs.Names.{same_name}
 use Rattle.flow_policy.specs.declared.policy.Channel.{Channel}
 use Rattle.flow_policy.specs.Policies.{Tables}
 use Rattle.flow_policy.specs.Inputs.{Given, given_on}
 use Rattle.js_number.specs.declared.primitive.Primitive.{Primitive}
-use Rattle.js_number.specs.declared.primitive.Primitive.TheVariants.{Undefined, Str}
+use Rattle.js_number.specs.declared.primitive.Primitive.TheVariants.{Undefined, Null, Str}
+use Rattle.js_number.specs.declared.primitive.Primitive.TheVariants as prims
 use Rattle.js_number.specs.Conversions.{text_of}
 use Rattle.js_values.specs.declared.value.Value.{Value}
 use Rattle.js_values.specs.declared.value.Value.TheVariants as value
-use Rattle.js_values.specs.Objects.{PlainObject}
-use Rattle.js_values.specs.Records.{Binding, Bindings, Record, found, rebound, lookup, bound_in}
+use Rattle.js_values.specs.declared.property.Body.{Body}
+use Rattle.js_values.specs.declared.property.Body.TheVariants.{Data, Accessor}
+use Rattle.js_values.specs.declared.inner.Class.TheVariants as class
+use Rattle.js_values.specs.Objects.{Property, PlainObject, plain as plain_inner, fresh_plain}
+use Rattle.js_values.specs.Records.{Binding, Record, rebound, lookup, bound_in}
+use Rattle.js_values.specs.Walks.{plain_chain, plain_find}
 use Rattle.js_ast.specs.Trees.{Statements}
 use Rattle.es_meaning.specs.Outcomes.{Exit, throws, leaves, Halt, left, out_of_turns, Ending, done, threw, halted, Outcome, Goes, Jumps, Ends, From, ret, ◌>>=◌}
 use Rattle.es_meaning.specs.Environments.{Env, with_around}
-use Rattle.es_meaning.specs.Operations.{Res, Direct, read, print, lbl, Ops}
+use Rattle.es_meaning.specs.Operations.{Res, Direct, read, print, lbl, upgs, upge, Act, object_of, base_needed, object_needed, has_key, Ops}
 use Rattle.es_meaning.specs.Operators.{Seen, a_primitive, an_object, is_object, truth, converts_beside, unary_of, binary_of, not_built}
 use Rattle.es_meaning.specs.Declared.{declared_statements}
 use Rattle.es_meaning.specs.Evaluation.{Timed, program_step}
-use Rattle.es_meaning.specs.Start.{id, ErrorKind, reference_error, type_error, start_heap, engine_error, shown}
+use Rattle.es_meaning.specs.Objects as objects
+use Rattle.es_meaning.specs.Objects.{Plan, writes, adds, refuses, calls, can_put, is_element, made_by_script, declared_by_script, defined_all, own_in, enumerable_keys}
+use Rattle.es_meaning.specs.Start.{id, ErrorKind, reference_error, type_error, object_prototype, global_object, start_heap, engine_error, shown}
 
 -- ---- what both meanings speak of
 
@@ -34,6 +41,10 @@ leaves_channels = codes "channel"
 
 abbrev pub leaves_origins : List ℕ
 leaves_origins = codes "origin"
+
+-- and by which it leaves where `for in` is asked for the keys of a primitive value, which would be wrapped in an object
+abbrev pub leaves_wrappers : List ℕ
+leaves_wrappers = codes "wrapper"
 
 -- an argument, or undefined where it is missing
 abbrev pub argument_or : {V : Type 0} → V → ℕ → List V → V
@@ -104,24 +115,31 @@ abbrev pub seen_of : {C : Type 0} → (C → Seen) → Option C → Seen
 seen_of look None = a_primitive Undefined
 seen_of look (Some c) = look c
 
--- ---- variables (ECMA-262 10.5): `undefined`, and those that the script declares, which are undefined at first
+-- ---- variables of the outermost code (ECMA-262 10.5): properties of the global object, undefined at first, but where it has one of the name
 
-abbrev pub unless_found : {V : Type 0} → Option (Binding V) → V → List ℕ → Bindings V → Bindings V
-unless_found (Some b) v name bindings = bindings
-unless_found None v name bindings = bindings ++ record { name = name; mutable = true; value = v } ∷ []
+abbrev pub unless_found : Option (ℕ × Property) → List ℕ → List PlainObject → List PlainObject
+unless_found None name heap = objects.add global_object.0 name undefined declared_by_script heap
+unless_found (Some f) name heap = heap
 
-abbrev pub with_name : {V : Type 0} → V → List ℕ → Bindings V → Bindings V
-with_name v name bindings = unless_found (found name bindings) v name bindings
+abbrev pub with_variable : List ℕ → List PlainObject → List PlainObject
+with_variable name heap = unless_found (plain_find name (plain_chain heap global_object.0)) name heap
 
-abbrev pub with_names : {V : Type 0} → V → List (List ℕ) → Bindings V → Bindings V
-with_names v [] bindings = bindings
-with_names v (name ∷ names) bindings = with_names v names (with_name v name bindings)
+abbrev pub with_variables : List (List ℕ) → List PlainObject → List PlainObject
+with_variables [] heap = heap
+with_variables (name ∷ names) heap = with_variables names (with_variable name heap)
 
--- the record of the outermost code: nothing is outside it
-abbrev pub outermost : {V : Type 0} → V → Statements → Record V
-outermost v program = record { outer = None; bindings = with_names v (declared_statements program) (record { name = codes "undefined"; mutable = false; value = v } ∷ []) }
+-- the objects that a run of a script starts with
+abbrev pub first_heap : Statements → List PlainObject
+first_heap program = with_variables (declared_statements program) start_heap
 
--- its statements are evaluated in it, and no jump can reach anything round them
+-- the record of the outermost code: nothing is outside it, and it has `this`
+abbrev pub this_name : List ℕ
+this_name = codes "this"
+
+abbrev pub outermost : {V : Type 0} → V → Record V
+outermost v = record { outer = None; bindings = record { name = this_name; mutable = false; value = v } ∷ [] }
+
+-- the statements of a script are evaluated in it, and no jump can reach anything round them
 abbrev pub outermost_env : {H : Type 0} → H → Env H
 outermost_env root = record { place = 0; call = root; around = [] }
 
@@ -133,17 +151,35 @@ with_value name v (Some r) records i = slice_set records i (record r { bindings 
 abbrev pub assigned_in : {V : Type 0} → List ℕ → V → List (Record V) → ℕ → List (Record V)
 assigned_in name v records i = with_value name v (slice_get records i) records i
 
--- a name, and the record that has it, if one has (ECMA-262 8.7)
-pub record Reference : Type 0 where
-  pub name : List ℕ
-  pub place : Option ℕ
+-- ---- references (ECMA-262 8.7): a name with the record that has it, or that the global object has, or nothing; or a key of a value
 
-abbrev pub resolved : {V : Type 0} → List (Record V) → ℕ → List ℕ → Reference
-resolved records i name = record { name = name; place = lookup name records i }
+pub data Place : Type 0 where
+  in_record : ℕ → Place
+  on_global nowhere : Place
 
-abbrev pub binding_at : {V : Type 0} → List (Record V) → Option ℕ → List ℕ → Option (Binding V)
-binding_at records None name = None
-binding_at records (Some i) name = bound_in name (slice_get records i)
+pub data Reference : Type 0 where
+  of_name : List ℕ → Place → Reference
+  of_property : Value → List ℕ → Reference
+
+-- a name that no record has is looked for along the global object
+abbrev pub place_beyond : {A : Type 0} → Option A → Place
+place_beyond None = nowhere
+place_beyond (Some f) = on_global
+
+abbrev pub place_from : {A : Type 0} → Option ℕ → Option A → Place
+place_from (Some i) beyond = in_record i
+place_from None beyond = place_beyond beyond
+
+abbrev pub resolved : List (Record Value) → List PlainObject → ℕ → List ℕ → Reference
+resolved records heap i name = of_name name (place_from (lookup name records i) (plain_find name (plain_chain heap global_object.0)))
+
+-- the key that a primitive value is (ECMA-262 9.8)
+abbrev pub key_text : Value → List ℕ
+key_text (value.Primitive p) = text_of p
+key_text (value.Object o) = []
+
+abbrev pub binding_at : {V : Type 0} → List (Record V) → ℕ → List ℕ → Option (Binding V)
+binding_at records i name = bound_in name (slice_get records i)
 
 -- ---- the plain state
 
@@ -182,16 +218,46 @@ seen heap (value.Object o) = seen_of (λ p. an_object p.class) (slice_get heap o
 unfoldable pub throw_error : {X : Type 0} → ErrorKind → P X
 throw_error kind s = Jumps (record { exit = throws; value = value.Object (id (length s.heap)) }) (record s { heap = s.heap ++ engine_error kind ∷ [] })
 
+-- ---- what is done with references
+
 -- the value of a binding, or an exception where there is none (ECMA-262 8.7.1, 10.2.1.1.4)
 unfoldable pub bound : Option (Binding Value) → P Value
 bound (Some b) s = Goes b.value s
 bound None s = throw_error reference_error s
 
-unfoldable pub bound_or_undefined : Option (Binding Value) → P Value
-bound_or_undefined (Some b) s = Goes b.value s
-bound_or_undefined None s = Goes undefined s
+-- that of a property (ECMA-262 8.12.3). Getters aren't built yet
+unfoldable pub held : Body → P Value
+held (Data v) s = Goes v s
+held (Accessor get set) s = Ends (left not_built) s
 
--- an assignment to a binding that can be changed, to one that can't, and to a name without one (ECMA-262 8.7.2, 10.2.1.1.3)
+-- of a name of the global object, or an exception where there is none (ECMA-262 10.2.1.2.4)
+unfoldable pub found_globally : Option (ℕ × Property) → P Value
+found_globally (Some f) s = held f.1.body s
+found_globally None s = throw_error reference_error s
+
+unfoldable pub found : Option (ℕ × Property) → P Value
+found (Some f) s = held f.1.body s
+found None s = Goes undefined s
+
+-- the properties of primitive values aren't built yet
+unfoldable pub property_of : Value → List ℕ → P Value
+property_of (value.Primitive p) key s = Ends (left not_built) s
+property_of (value.Object o) key s = found (plain_find key (plain_chain s.heap o.0)) s
+
+unfoldable pub named : Place → List ℕ → P Value
+named (in_record i) name s = bound (binding_at s.records i name) s
+named on_global name s = found_globally (plain_find name (plain_chain s.heap global_object.0)) s
+named nowhere name s = throw_error reference_error s
+
+unfoldable pub get_value : Reference → P Value
+get_value (of_name name place) = named place name
+get_value (of_property v key) = property_of v key
+
+unfoldable pub typeof_value : Reference → P Value
+typeof_value (of_name name nowhere) s = Goes undefined s
+typeof_value n s = get_value n s
+
+-- an assignment to a binding that can be changed, and to one that can't (ECMA-262 10.2.1.1.3)
 unfoldable pub assigned : Bool → List ℕ → ℕ → Value → P (Unit {0})
 assigned true name i v s = Goes tt (record s { records = assigned_in name v s.records i })
 assigned false name i v s = throw_error type_error s
@@ -200,9 +266,99 @@ unfoldable pub assigned_to : Option (Binding Value) → List ℕ → ℕ → Val
 assigned_to (Some b) name i v s = assigned b.mutable name i v s
 assigned_to None name i v s = throw_error reference_error s
 
-unfoldable pub put_at : Option ℕ → List ℕ → Value → P (Unit {0})
-put_at None name v s = throw_error reference_error s
-put_at (Some i) name v s = assigned_to (binding_at s.records (Some i) name) name i v s
+-- a put (ECMA-262 8.12.5). Setters, and elements of arrays, aren't built yet
+unfoldable pub put_by : Plan → ℕ → List ℕ → Value → P (Unit {0})
+put_by writes o key v s = Goes tt (record s { heap = objects.write o key v s.heap })
+put_by adds o key v s = Goes tt (record s { heap = objects.add o key v made_by_script s.heap })
+put_by refuses o key v s = throw_error type_error s
+put_by (calls f) o key v s = Ends (left not_built) s
+
+unfoldable pub put_on : Bool → ℕ → List ℕ → Value → P (Unit {0})
+put_on true o key v s = Ends (left not_built) s
+put_on false o key v s = put_by (can_put key (plain_chain s.heap o)) o key v s
+
+abbrev pub is_element_of : Option PlainObject → List ℕ → Bool
+is_element_of None key = false
+is_element_of (Some p) key = is_element p.class key
+
+unfoldable pub put : ℕ → List ℕ → Value → P (Unit {0})
+put o key v s = put_on (is_element_of (slice_get s.heap o) key) o key v s
+
+unfoldable pub put_property : Value → List ℕ → Value → P (Unit {0})
+put_property (value.Primitive p) key v s = Ends (left not_built) s
+put_property (value.Object o) key v s = put o.0 key v s
+
+unfoldable pub put_named : Place → List ℕ → Value → P (Unit {0})
+put_named (in_record i) name v s = assigned_to (binding_at s.records i name) name i v s
+put_named on_global name v s = put global_object.0 name v s
+put_named nowhere name v s = throw_error reference_error s
+
+unfoldable pub put_value : Reference → Value → P (Unit {0})
+put_value (of_name name place) v = put_named place name v
+put_value (of_property base key) v = put_property base key v
+
+-- a deletion (ECMA-262 8.12.7): a property that isn't configurable stays, and the engine throws
+unfoldable pub removed_if : Bool → ℕ → List ℕ → P Value
+removed_if true o key s = Goes (value.Primitive (prims.Bool true)) (record s { heap = objects.remove o key s.heap })
+removed_if false o key s = throw_error type_error s
+
+unfoldable pub removed_own : Option Property → ℕ → List ℕ → P Value
+removed_own None o key s = Goes (value.Primitive (prims.Bool true)) s
+removed_own (Some p) o key s = removed_if p.marks.configurable o key s
+
+-- names aren't deleted: a script that says so is refused
+unfoldable pub remove : Reference → P Value
+remove (of_property (value.Object o) key) s = removed_own (own_in key (slice_get s.heap o.0)) o.0 key s
+remove _ s = Ends (left not_built) s
+
+-- ---- acts
+
+-- an object with these keys and values (ECMA-262 11.1.5)
+abbrev pub data_property : Value → Property
+data_property v = record { body = Data v; marks = made_by_script }
+
+abbrev pub literal_object : List (List ℕ) → List Value → PlainObject
+literal_object keys vs = record (fresh_plain class.Object plain_inner (Some object_prototype)) { rows = defined_all keys (map data_property vs) [] }
+
+unfoldable pub make_object : List (List ℕ) → List Value → P Value
+make_object keys vs s = Goes (value.Object (id (length s.heap))) (record s { heap = s.heap ++ literal_object keys vs ∷ [] })
+
+-- whether a value can have properties (ECMA-262 9.10)
+abbrev pub is_coercible : Value → Bool
+is_coercible (value.Primitive Undefined) = false
+is_coercible (value.Primitive Null) = false
+is_coercible _ = true
+
+-- the value, or the engine throws
+unfoldable pub needed : Bool → Value → P Value
+needed true v s = Goes v s
+needed false v s = throw_error type_error s
+
+abbrev pub is_found : {A : Type 0} → Option A → Bool
+is_found None = false
+is_found (Some a) = true
+
+unfoldable pub has : List ℕ → Value → P Value
+has key (value.Primitive p) s = Ends (left not_built) s
+has key (value.Object o) s = Goes (value.Primitive (prims.Bool (is_found (plain_find key (plain_chain s.heap o.0))))) s
+
+-- the arguments are as many as the act takes
+unfoldable pub act : Act → List Value → P Value
+act (object_of keys) vs = make_object keys vs
+act base_needed vs = needed (is_coercible (argument_or undefined 0 vs)) (argument_or undefined 0 vs)
+act object_needed vs = needed (is_object (argument_or undefined 0 vs)) (argument_or undefined 0 vs)
+act has_key vs = has (key_text (argument_or undefined 0 vs)) (argument_or undefined 1 vs)
+
+-- the keys that `for in` takes of a value: none of undefined and null
+abbrev pub key_list : List PlainObject → Value → Option (List (List ℕ))
+key_list heap (value.Object o) = Some (enumerable_keys (plain_chain heap o.0))
+key_list heap (value.Primitive Undefined) = Some []
+key_list heap (value.Primitive Null) = Some []
+key_list heap (value.Primitive _) = None
+
+unfoldable pub with_list : {X : Type 0} → Option (List (List ℕ)) → (List (List ℕ) → P X) → P X
+with_list None next s = Ends (left leaves_wrappers) s
+with_list (Some keys) next s = next keys s
 
 -- a turn is spent
 unfoldable pub spend : ℕ → P (Unit {0})
@@ -237,10 +393,26 @@ module _ (tables : Tables) (inputs : Given) where
   label_by None v s = Ends (left leaves_origins) s
   label_by (Some origins) v s = Goes v s
 
+  -- the functions that raise labels have no further result. The first argument is an object, and the others name origins
+  unfoldable pub raise_by : Option (List ℕ) → P Value
+  raise_by None s = Ends (left leaves_origins) s
+  raise_by (Some origins) s = Goes undefined s
+
+  unfoldable pub raise_of : Bool → List Value → P Value
+  raise_of true vs s = raise_by (origins_of tables.origins vs) s
+  raise_of false vs s = throw_error type_error s
+
+  -- the conversion of an object to a key isn't built yet
+  unfoldable pub raise_at : Bool → Value → List Value → P Value
+  raise_at true key vs s = (unless_object (is_object key) key >>= λ k. raise_by (origins_of tables.origins vs)) s
+  raise_at false key vs s = throw_error type_error s
+
   unfoldable pub direct : Direct → List Value → P Value
   direct read vs = read_channel (channel_of tables.inputs (argument_or undefined 0 vs))
   direct print vs = print_channel (channel_of tables.outputs (argument_or undefined 0 vs)) (argument_or undefined 1 vs)
   direct lbl vs = label_by (origins_of tables.origins (others vs)) (argument_or undefined 0 vs)
+  direct upgs vs = raise_of (is_object (argument_or undefined 0 vs)) (others vs)
+  direct upge vs = raise_at (is_object (argument_or undefined 0 vs)) (argument_or undefined 1 vs) (others (others vs))
 
   abbrev pub plain : Ops
   plain = record {
@@ -255,22 +427,26 @@ module _ (tables : Tables) (inputs : Given) where
     binary = λ o v u. given (binary_of o v u);
     primitive = λ hint v. unless_object (is_object v) v;
     comparable = λ v u. unless_object (converts_beside v u) v;
+    act = act;
     direct = direct;
     unbuilt = λ t s. Ends (left not_built) s;
-    resolve = λ t i x k s. k (resolved s.records i x) s;
-    get_name = λ n k s. bound (binding_at s.records n.place n.name) s;
-    typeof_name = λ n k s. bound_or_undefined (binding_at s.records n.place n.name) s;
-    put_name = λ n v k. put_at n.place n.name v;
+    resolve = λ t i x k s. k (resolved s.records s.heap i x) s;
+    property = λ v k. of_property v (key_text k);
+    get_value = λ n k. get_value n;
+    typeof_value = λ n k. typeof_value n;
+    put_value = λ n v k. put_value n v;
+    remove = remove;
     fork = λ t v m n. choose (truth v) m n;
     round = λ turn labels e k s. ended_round (length e.around) (k (with_around turn labels tt e) s);
     again = λ v m n. choose (truth v) m n;
+    keys = λ v next s. with_list (key_list s.heap v) next s;
   }
 
   abbrev pub timed : Timed
   timed = record { ops = plain; tick = λ s. spend s.turns s; ended = λ t s. Ends out_of_turns s }
 
   abbrev pub start : Statements → ℕ → State
-  start program turns = record { heap = start_heap; records = outermost undefined program ∷ []; positions = replicate (length tables.inputs) 0; lines = []; turns = turns }
+  start program turns = record { heap = first_heap program; records = outermost (value.Object global_object) ∷ []; positions = replicate (length tables.inputs) 0; lines = []; turns = turns }
 
 -- the lines of a run and how it ends
 pub record Run : Type 0 where

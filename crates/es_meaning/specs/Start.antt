@@ -64,9 +64,16 @@ text_property text = record { body = Data (value.Primitive (Str text)); marks = 
 abbrev pub prototype_of_errors : ErrorKind → ObjId → PlainObject
 prototype_of_errors kind proto = record (fresh_plain class.Error plain (Some proto)) { rows = (codes "name", text_property (error_name kind)) ∷ (codes "message", text_property []) ∷ [] }
 
+-- `undefined` is a property of the global object that can't be changed (ECMA-262 15.1.1.3)
+abbrev pub fixed : Marks
+fixed = record { writable = false; enumerable = false; configurable = false }
+
+abbrev pub global : PlainObject
+global = record (fresh_plain class.Object plain (Some object_prototype)) { rows = (codes "undefined", record { body = Data (value.Primitive Undefined); marks = fixed }) ∷ [] }
+
 abbrev pub start_heap : List PlainObject
 start_heap = fresh_plain class.Object plain None
-    ∷ fresh_plain class.Object plain (Some object_prototype)
+    ∷ global
     ∷ prototype_of_errors error object_prototype
     ∷ prototype_of_errors eval_error (error_prototype error)
     ∷ prototype_of_errors range_error (error_prototype error)

@@ -2,6 +2,7 @@
 
 ghost use Rattle.es_meaning.specs.Laws.{MoreTurns};
 ghost use Rattle.es_meaning.specs.Rows.{WorkedRows};
+ghost use Rattle.es_meaning.specs.ObjectRows.{WorkedRows as ObjectRows};
 
 /// More turns change no run that ends otherwise than by their want.
 pub fn more_turns()
@@ -10,5 +11,6 @@ pub fn more_turns()
 
 /// Small scripts print what was worked out by hand.
 pub fn rows()
-    ensures { WorkedRows }
+    ensures scripts { WorkedRows }
+    ensures objects { ObjectRows }
 {}

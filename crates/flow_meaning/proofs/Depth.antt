@@ -10,7 +10,7 @@ use Rattle.es_meaning.specs.Plain.{outermost_env}
 use Rattle.flow_meaning.specs.Laws.{IsPerformed, performed_run}
 use Rattle.flow_meaning.specs.Scopes.{Val, Halt, as_plain, State, Jump}
 use Rattle.flow_meaning.specs.Tracked.{spend, labelled, timed, start, run_of, tracked_run}
-use Rattle.flow_meaning.specs.Planned.{Part, an_expr, a_use, a_stmt, a_turn, Completion, gave, jumped, Plan, Give, Ask, End, plan, program_plan, Ran, Evaluator, untyped, of_rec, and_go, completed, perform, meaning, program_meaning}
+use Rattle.flow_meaning.specs.Planned.{Part, an_expr, a_use, a_stmt, a_turn, a_visit, Completion, gave, jumped, Plan, Give, Ask, End, plan, program_plan, Ran, Evaluator, untyped, of_rec, and_go, completed, perform, meaning, program_meaning}
 use Rattle.flow_meaning.proofs.Steady.{with_turns}
 use Rattle.flow_meaning.proofs.Performing.{Keeps, perform_step, plan_keeps, perform_program, program_keeps}
 
@@ -79,10 +79,12 @@ module _ (tables : Tables) (inputs : Given) where
   none_left zero (a_use use_as e i) s = refl
   none_left zero (a_stmt stmt e) s = refl
   none_left zero (a_turn round e) s = refl
+  none_left zero (a_visit visit e) s = refl
   none_left (suc n) (an_expr e i) s = refl
   none_left (suc n) (a_use use_as e i) s = refl
   none_left (suc n) (a_stmt stmt e) s = refl
   none_left (suc n) (a_turn round e) s = refl
+  none_left (suc n) (a_visit visit e) s = refl
 
   -- and so it does out of depth
   no_depth : (part : Part) (s : State) → depth zero part s ≡ Ends (as_plain out_of_turns) s
@@ -91,6 +93,7 @@ module _ (tables : Tables) (inputs : Given) where
   no_depth (a_use use_as e i) s = refl
   no_depth (a_stmt stmt e) s = refl
   no_depth (a_turn round e) s = refl
+  no_depth (a_visit visit e) s = refl
 
   -- with a turn left it is the plan, performed with one level less
   turn_left : (n : ℕ) (part : Part) (s : State) (t : ℕ) → depth (suc n) part (with_turns (suc t) s) ≡ perform (depth n) (plan tables inputs part (with_turns t s))
@@ -99,6 +102,7 @@ module _ (tables : Tables) (inputs : Given) where
   turn_left n (a_use use_as e i) s t = sym (perform_step tables inputs (eval (timed tables inputs) n) (a_use use_as e i) (with_turns t s))
   turn_left n (a_stmt stmt e) s t = sym (perform_step tables inputs (eval (timed tables inputs) n) (a_stmt stmt e) (with_turns t s))
   turn_left n (a_turn round e) s t = sym (perform_step tables inputs (eval (timed tables inputs) n) (a_turn round e) (with_turns t s))
+  turn_left n (a_visit visit e) s t = sym (perform_step tables inputs (eval (timed tables inputs) n) (a_visit visit e) (with_turns t s))
 
   -- the plan itself changes no turns, whatever its parts mean
   keeps : (part : Part) (s : State) → Keeps s.turns (plan tables inputs part s)

@@ -1,5 +1,5 @@
 -- With more turns a monitored run that is over is the same.
-use Rattle.std.proofs.Common.{◌≡◌, ℕ, zero, suc, ◌-◌, ◌≤◌, Bool, true, false, length, nat_lt, refl, sym, subst}
+use Rattle.std.proofs.Common.{◌≡◌, ℕ, zero, suc, ◌-◌, ◌≤◌, Bool, true, false, List, length, Option, Some, None, nat_lt, refl, sym, ap₂, subst}
 use Rattle.origin_labels.specs.Label.{Label, bottom, union}
 use Rattle.flow_policy.specs.Policies.{Tables}
 use Rattle.flow_policy.specs.Inputs.{Given}
@@ -7,17 +7,18 @@ use Rattle.flow_frames.specs.declared.kind.Kind.{Kind}
 use Rattle.flow_frames.specs.declared.kind.Kind.TheVariants as kind
 use Rattle.js_ast.specs.Trees.{Statements}
 use Rattle.es_meaning.specs.Outcomes.{left, out_of_turns, halted, Outcome, Goes, Jumps, Ends, ret}
+use Rattle.prototype_walk.specs.KeyLists.{Keys}
 use Rattle.es_meaning.specs.Environments.{Env, with_around}
 use Rattle.es_meaning.specs.Operations.{Res, Ops}
 use Rattle.es_meaning.specs.Operators.{is_object, truth, converts_beside, binary_of, not_built}
 use Rattle.es_meaning.specs.Evaluation.{program_step}
-use Rattle.es_meaning.specs.Plain.{choose, resolved, outermost_env}
+use Rattle.es_meaning.specs.Plain.{choose, outermost_env}
 use Rattle.es_meaning.proofs.Link.{Link, program_longer}
 use Rattle.es_meaning.proofs.Longer.{beyond, few_beyond, beyond_few, Longer, wants, goes, jumps, ends, Lift, bind_longer, choose_longer, at_equal, equal_results, rels_equal}
 use Rattle.flow_meaning.specs.Laws.{MoreTurns}
 use Rattle.flow_meaning.specs.Scopes.{Val, Halt, as_plain, State, Jump, L, cut_to, pushed_on, Left, popped, scope, settled, round_kind}
-use Rattle.flow_meaning.specs.Tracked.{spend, labelled, timed, start, run_of, tracked_run}
-use Rattle.flow_meaning.proofs.Steady.{with_turns, left_with, Steady, Holds, holds, ret_steady, ends_steady, given_steady, unless_steady, raise_steady, unary_steady, get_name_steady, typeof_name_steady, put_steady, direct_steady}
+use Rattle.flow_meaning.specs.Tracked.{spend, resolved, key_list, with_list, labelled, timed, start, run_of, tracked_run}
+use Rattle.flow_meaning.proofs.Steady.{with_turns, left_with, Steady, Holds, holds, ret_steady, ends_steady, given_steady, unless_steady, raise_steady, unary_steady, value_steady, typeof_steady, put_steady, remove_steady, act_steady, direct_steady}
 
 -- the state with k more turns
 abbrev more_turns_in : ℕ → State → State
@@ -67,6 +68,12 @@ module _ (k : ℕ) where
   scope_on : {X : Type 0} (kind : Kind) (label : Label) {m n : ℕ → L X} → ((depth : ℕ) → On X (m depth) (n depth)) → On (Left X) (scope kind label m) (scope kind label n)
   scope_on kind label l = record { on = λ s. popped_on (length s.frames) ((l (length s.frames)).on (pushed_on kind label s)) }
 
+  -- the keys of a value
+  list_on : (list : Option Keys) (label : Label) (f g : List (List ℕ) → L (Unit {0})) → ((keys : List (List ℕ)) → On (Unit {0}) (f keys) (g keys)) → On (Unit {0}) (with_list list label f) (with_list list label g)
+  unfolding with_list
+  list_on None label f g h = record { on = λ s. ends }
+  list_on (Some list) label f g h = record { on = λ s. (bind_longer _ _ (act _ (raise_steady (union label list.walk))) (λ u. h list.keys)).on s }
+
   module _ (tables : Tables) (inputs : Given) where
     -- the labelled meaning
     abbrev A : Ops
@@ -82,6 +89,8 @@ module _ (k : ℕ) where
       RP = λ w i j. i ≡ j;
       RE = λ w e d. e ≡ d;
       Lift = λ t w m n. On (Res Val t) m n;
+      Inside = λ v w. Unit {0};
+      inside_v = λ p r. r;
       le_refl = λ w. tt;
       le_trans = λ p q. tt;
       more_v = λ p r. r;
@@ -101,16 +110,20 @@ module _ (k : ℕ) where
           (at_equal (A.comparable v) (A.comparable v) q (act _ (unless_steady (converts_beside v.value u.value) v)));
       direct = λ f {vs = vs} r. at_equal (A.direct f) (A.direct f) (rels_equal r) (act _ (direct_steady tables inputs f vs));
       unbuilt = λ t w. act _ (ends_steady (Res Val t) (left not_built));
-      resolve = λ t {w = w} {i = i} x f g p h. at_equal (λ j. A.resolve t j x f) (λ j. A.resolve t j x g) p (record { on = λ s. (h w tt (resolved s.records i x) (resolved s.records i x) refl).on s });
-      get_name = λ {n = n} f g r h. at_equal (λ m. A.get_name m f) (λ m. A.get_name m g) r (act _ (get_name_steady tables inputs n f));
-      typeof_name = λ {n = n} f g r h. at_equal (λ m. A.typeof_name m f) (λ m. A.typeof_name m g) r (act _ (typeof_name_steady tables inputs n f));
-      put_name = λ {n = n} {v = v} {v' = v'} f g r q h. at_equal (λ m. A.put_name m v f) (λ m. A.put_name m v' g) r (at_equal (λ x. A.put_name n x f) (λ x. A.put_name n x g) q (act _ (put_steady n.place n.name v)));
+      act = λ a {vs = vs} r. at_equal (A.act a) (A.act a) (rels_equal r) (act _ (act_steady a vs));
+      resolve = λ t {w = w} {i = i} x f g p h. at_equal (λ j. A.resolve t j x f) (λ j. A.resolve t j x g) p (record { on = λ s. (h w tt (resolved s.records s.heap i x) (resolved s.records s.heap i x) refl).on s });
+      property = λ r q. ap₂ (λ v u. A.property v u) r q;
+      get_value = λ {n = n} f g r h. at_equal (λ m. A.get_value m f) (λ m. A.get_value m g) r (act _ (value_steady n));
+      typeof_value = λ {n = n} f g r h. at_equal (λ m. A.typeof_value m f) (λ m. A.typeof_value m g) r (act _ (typeof_steady n));
+      put_value = λ {n = n} {v = v} {v' = v'} f g r q h. at_equal (λ m. A.put_value m v f) (λ m. A.put_value m v' g) r (at_equal (λ x. A.put_value n x f) (λ x. A.put_value n x g) q (act _ (put_steady n v)));
+      remove = λ {n = n} r. at_equal A.remove A.remove r (act _ (remove_steady n));
       fork = λ t {w = w} {v = v} {m = m} {n = n} {m' = m'} {n' = n'} r l q. at_equal (λ x. A.fork t x m n) (λ x. A.fork t x m' n') r
           (bind_longer _ _ (scope_on kind.Branch v.label (λ depth. choose_longer (truth v.value) (l w tt) (q w tt))) (λ c. act _ (ret_steady (settled t c))));
       round = λ {w = w} turn labels {e = e} f g r h. at_equal (λ d. A.round turn labels d f) (λ d. A.round turn labels d g) r
-          (bind_longer _ _ (scope_on (round_kind turn) bottom (λ depth. h w (with_around turn labels depth e) (with_around turn labels depth e) refl)) (λ c. act _ (ret_steady tt)));
+          (bind_longer _ _ (scope_on (round_kind turn) bottom (λ depth. h w tt (with_around turn labels depth e) (with_around turn labels depth e) refl)) (λ c. act _ (ret_steady tt)));
       again = λ {v = v} {m = m} {n = n} {m' = m'} {n' = n'} r l q. at_equal (λ x. A.again x m n) (λ x. A.again x m' n') r
           (bind_longer _ _ (act _ (raise_steady v.label)) (λ u. choose_longer (truth v.value) l q));
+      keys = λ {w = w} {v = v} f g r h. at_equal (λ x. A.keys x f) (λ x. A.keys x g) r (record { on = λ s. (list_on (key_list s.heap v.value) v.label f g (λ keys. h w tt keys)).on s });
     }
 
     -- a program, to a depth and a larger one

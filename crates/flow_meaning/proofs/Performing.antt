@@ -1,5 +1,5 @@
 -- Performing the plan of a part is the labelled step of the part.
-use Rattle.std.proofs.Common.{◌≡◌, ℕ, List, Option, Bool, true, false, length, nat_lt, refl, ◌∙◌, ap, subst}
+use Rattle.std.proofs.Common.{◌≡◌, ℕ, List, Option, Some, None, Bool, true, false, length, nat_lt, refl, ◌∙◌, ap, ap₂, subst}
 use Rattle.origin_labels.specs.Label.{Label, bottom, union}
 use Rattle.flow_policy.specs.Policies.{Tables}
 use Rattle.flow_policy.specs.Inputs.{Given}
@@ -8,16 +8,18 @@ use Rattle.flow_frames.specs.declared.kind.Kind.TheVariants as kind
 use Rattle.js_ast.specs.Trees.{Statements}
 use Rattle.es_meaning.specs.Outcomes.{left, Outcome, Goes, Jumps, Ends, ret, and_then, ◌>>=◌}
 use Rattle.es_meaning.specs.Environments.{Env, with_around}
-use Rattle.es_meaning.specs.Operations.{Ty, One, Value, Res, Ops, Rec}
+use Rattle.es_meaning.specs.Operations.{Ty, One, Value, Res, Ops, Visit, Rec}
 use Rattle.es_meaning.specs.Operators.{is_object, truth, converts_beside, binary_of, not_built}
 use Rattle.es_meaning.specs.Evaluation.{step, statements}
-use Rattle.es_meaning.specs.Plain.{choose, resolved, outermost_env}
-use Rattle.es_meaning.proofs.Link.{Link, Linked, step_linked, statements_linked}
+use Rattle.es_meaning.specs.Plain.{choose, outermost_env}
+use Rattle.prototype_walk.specs.KeyLists.{Keys}
+use Rattle.es_meaning.proofs.Link.{Visits, visits_of, Link, Linked, step_linked, statements_linked}
 use Rattle.es_meaning.proofs.Longer.{equal_results, rels_equal}
 use Rattle.flow_meaning.specs.Scopes.{Val, Halt, State, Jump, L, cut_to, pushed_on, Left, popped, scope, settled, round_kind, raise}
-use Rattle.flow_meaning.specs.Tracked.{labelled}
-use Rattle.flow_meaning.specs.Planned.{Part, an_expr, a_use, a_stmt, a_turn, Completion, gave, jumped, Plan, Give, Ask, End, Then, and_plan, with_result, as_plan, outcome_of, end_branch, end_round, planned, asking, plan, program_plan, Ran, Evaluator, untyped, and_go, completed, perform, of_rec}
-use Rattle.flow_meaning.proofs.Steady.{Steady, Holds, holds, ret_steady, ends_steady, given_steady, unless_steady, raise_steady, unary_steady, get_name_steady, typeof_name_steady, put_steady, direct_steady}
+use Rattle.flow_meaning.specs.Tracked as tracked
+use Rattle.flow_meaning.specs.Tracked.{resolved, key_list, labelled}
+use Rattle.flow_meaning.specs.Planned.{Part, an_expr, a_use, a_stmt, a_turn, a_visit, Completion, gave, jumped, Plan, Give, Ask, End, Then, and_plan, with_result, as_plan, outcome_of, end_branch, end_round, with_list, planned, asking, plan, program_plan, Ran, Evaluator, untyped, and_go, completed, perform, of_rec}
+use Rattle.flow_meaning.proofs.Steady.{Steady, Holds, holds, ret_steady, ends_steady, given_steady, unless_steady, raise_steady, unary_steady, value_steady, typeof_steady, put_steady, remove_steady, act_steady, direct_steady}
 
 -- ---- no part of a plan but what it asks for changes the turns
 
@@ -194,6 +196,15 @@ module _ (tables : Tables) (inputs : Given) (Q : Rec (labelled tables inputs)) w
   unfolding end_round
   round_performed turn labels e {m} {n} l = scope_performed One One (round_kind turn) bottom (λ c. tt) {m = λ depth. m (with_around turn labels depth e)} {n = λ depth. n (with_around turn labels depth e)} (λ depth. l (with_around turn labels depth e))
 
+  -- the keys of a value
+  list_performed : (list : Option Keys) (label : Label) (f : List (List ℕ) → State → Plan) (g : List (List ℕ) → L (Unit {0})) → ((keys : List (List ℕ)) → Lift One (f keys) (g keys))
+      → Lift One (with_list list label f) (tracked.with_list list label g)
+  unfolding with_list tracked.with_list perform
+  list_performed None label f g h = record { same = λ s. refl; keeps = λ s. tt }
+  list_performed (Some list) label f g h =
+      let l = bind_performed One One (λ u. f list.keys) (λ u. g list.keys) (act One (raise (union label list.walk)) (raise_steady (union label list.walk))) (λ u. h list.keys) in
+      record { same = λ s. l.same s; keeps = λ s. l.keeps s }
+
   -- the plans and the labelled meaning, linked
   pub performed : Link (planned tables inputs) (labelled tables inputs)
   performed = record {
@@ -204,6 +215,8 @@ module _ (tables : Tables) (inputs : Given) (Q : Rec (labelled tables inputs)) w
     RP = λ w i j. i ≡ j;
     RE = λ w e d. e ≡ d;
     Lift = λ t w m n. Lift t m n;
+    Inside = λ v w. Unit {0};
+    inside_v = λ p r. r;
     le_refl = λ w. tt;
     le_trans = λ p q. tt;
     more_v = λ p r. r;
@@ -223,21 +236,29 @@ module _ (tables : Tables) (inputs : Given) (Q : Rec (labelled tables inputs)) w
         (at_equal (A.comparable v u) (B.comparable v) q (act Value (B.comparable v u) (unless_steady (converts_beside v.value u.value) v)));
     direct = λ f {vs = vs} r. at_equal (A.direct f vs) (B.direct f) (rels_equal r) (act Value (B.direct f vs) (direct_steady tables inputs f vs));
     unbuilt = λ t w. act t (B.unbuilt t) (ends_steady (Res Val t) (left not_built));
+    act = λ a {vs = vs} r. at_equal (A.act a vs) (B.act a) (rels_equal r) (act Value (B.act a vs) (act_steady a vs));
     resolve = λ t {w = w} {i = i} x f g p h. at_equal (A.resolve t i x f) (λ j. B.resolve t j x g) p
-        (record { same = λ s. (h w tt (resolved s.records i x) (resolved s.records i x) refl).same s; keeps = λ s. (h w tt (resolved s.records i x) (resolved s.records i x) refl).keeps s });
-    get_name = λ {n = n} f g r h. at_equal (A.get_name n f) (λ m. B.get_name m g) r (act Value (B.get_name n (B.ret Value)) (get_name_steady tables inputs n (B.ret Value)));
-    typeof_name = λ {n = n} f g r h. at_equal (A.typeof_name n f) (λ m. B.typeof_name m g) r (act Value (B.typeof_name n (B.ret Value)) (typeof_name_steady tables inputs n (B.ret Value)));
-    put_name = λ {n = n} {v = v} {v' = v'} f g r q h. at_equal (A.put_name n v f) (λ m. B.put_name m v' g) r
-        (at_equal (A.put_name n v f) (λ x. B.put_name n x g) q (act One (B.put_name n v (B.ret Value)) (put_steady n.place n.name v)));
+        (record { same = λ s. (h w tt (resolved s.records s.heap i x) (resolved s.records s.heap i x) refl).same s; keeps = λ s. (h w tt (resolved s.records s.heap i x) (resolved s.records s.heap i x) refl).keeps s });
+    property = λ r q. ap₂ (λ v u. A.property v u) r q;
+    get_value = λ {n = n} f g r h. at_equal (A.get_value n f) (λ m. B.get_value m g) r (act Value (B.get_value n (B.ret Value)) (value_steady n));
+    typeof_value = λ {n = n} f g r h. at_equal (A.typeof_value n f) (λ m. B.typeof_value m g) r (act Value (B.typeof_value n (B.ret Value)) (typeof_steady n));
+    put_value = λ {n = n} {v = v} {v' = v'} f g r q h. at_equal (A.put_value n v f) (λ m. B.put_value m v' g) r
+        (at_equal (A.put_value n v f) (λ x. B.put_value n x g) q (act One (B.put_value n v (B.ret Value)) (put_steady n v)));
+    remove = λ {n = n} r. at_equal (A.remove n) B.remove r (act Value (B.remove n) (remove_steady n));
     fork = λ t {w = w} {v = v} {m = m} {n = n} {m' = m'} {n' = n'} r l k. at_equal (A.fork t v m n) (λ x. B.fork t x m' n') r (fork_performed t v (l w tt) (k w tt));
-    round = λ {w = w} turn labels {e = e} f g r h. at_equal (A.round turn labels e f) (λ d. B.round turn labels d g) r (round_performed turn labels e (λ d. h w d d refl));
+    round = λ {w = w} turn labels {e = e} f g r h. at_equal (A.round turn labels e f) (λ d. B.round turn labels d g) r (round_performed turn labels e (λ d. h w tt d d refl));
     again = λ {v = v} {m = m} {n = n} {m' = m'} {n' = n'} r l k. at_equal (A.again v m n) (λ x. B.again x m' n') r
         (bind_performed One One _ _ (act One (raise v.label) (raise_steady v.label)) (λ u. choose_performed (truth v.value) l k));
+    keys = λ {w = w} {v = v} f g r h. at_equal (A.keys v f) (λ x. B.keys x g) r
+        (record { same = λ s. (list_performed (key_list s.heap v.value) v.label f g (λ keys. h w tt keys)).same s; keeps = λ s. (list_performed (key_list s.heap v.value) v.label f g (λ keys. h w tt keys)).keeps s });
   }
 
   -- a part that is asked for
   asked : (t : Ty) (part : Part) (n : L (Res Val t)) → ((s : State) → evaluator part s ≡ untyped t (n s)) → Lift t (λ s. Ask part s Give) n
   asked t part n h = record { same = λ s. perform_asked evaluator part s ∙ h s; keeps = λ s. (refl, λ c t. refl) }
+
+  visits_equal : {v u : Visit Val} → Visits (λ (x : Val) (y : Val). x ≡ y) v u → v ≡ u
+  visits_equal (visits_of {target = target} {body = body} {key = key} {others = others} e) = ap (λ o. record { target = target; body = body; object = o; key = key; others = others }) e
 
   -- asking for the parts, and their meaning
   asking_linked : Linked (planned tables inputs) (labelled tables inputs) performed (asking tables inputs) Q
@@ -247,6 +268,7 @@ module _ (tables : Tables) (inputs : Given) (Q : Rec (labelled tables inputs)) w
     use_of = λ use_as e w i j p. at_equal (λ s. Ask (a_use use_as e i) s Give) (Q.use_of use_as e) p (asked Value (a_use use_as e i) (Q.use_of use_as e i) (λ s. refl));
     stmt = λ stmt w e d r. at_equal (λ s. Ask (a_stmt stmt e) s Give) (Q.stmt stmt) r (asked One (a_stmt stmt e) (Q.stmt stmt e) (λ s. refl));
     turn = λ round w e d r. at_equal (λ s. Ask (a_turn round e) s Give) (Q.turn round) r (asked One (a_turn round e) (Q.turn round e) (λ s. refl));
+    visit = λ w v u rs e d r. at_equal (λ s. Ask (a_visit v e) s Give) (Q.visit u) r (at_equal (λ s. Ask (a_visit v e) s Give) (λ x. Q.visit x e) (visits_equal rs) (asked One (a_visit v e) (Q.visit v e) (λ s. refl)));
   }
 
   -- the steps of all parts
@@ -260,6 +282,7 @@ module _ (tables : Tables) (inputs : Given) (Q : Rec (labelled tables inputs)) w
   perform_step (a_use use_as e i) s = (steps_linked.use_of use_as e tt i i refl).same s
   perform_step (a_stmt stmt e) s = (steps_linked.stmt stmt tt e e refl).same s
   perform_step (a_turn round e) s = (steps_linked.turn round tt e e refl).same s
+  perform_step (a_visit visit e) s = (steps_linked.visit tt visit visit (visits_of refl) e e refl).same s
 
   -- and changes no turns
   pub plan_keeps : (part : Part) (s : State) → Keeps s.turns (plan tables inputs part s)
@@ -268,6 +291,7 @@ module _ (tables : Tables) (inputs : Given) (Q : Rec (labelled tables inputs)) w
   plan_keeps (a_use use_as e i) s = (steps_linked.use_of use_as e tt i i refl).keeps s
   plan_keeps (a_stmt stmt e) s = (steps_linked.stmt stmt tt e e refl).keeps s
   plan_keeps (a_turn round e) s = (steps_linked.turn round tt e e refl).keeps s
+  plan_keeps (a_visit visit e) s = (steps_linked.visit tt visit visit (visits_of refl) e e refl).keeps s
 
   -- that of a program
   program_performed : (program : Statements) → Lift One (program_plan tables inputs program) (statements (labelled tables inputs) Q program (outermost_env 0))

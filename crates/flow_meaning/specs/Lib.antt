@@ -1,5 +1,6 @@
 pub mod Erased
 pub mod Laws
+pub mod ObjectRows
 pub mod Planned
 pub mod Rows
 pub mod Scopes

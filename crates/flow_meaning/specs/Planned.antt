@@ -1,20 +1,21 @@
 -- The planned reading: what a node does up to the next part that is evaluated, and then, as a function of how that part completes. A machine
 -- whose pending work is such functions does what the labelled meaning says.
-use Rattle.std.specs.Prelude.{ℕ, length}
+use Rattle.std.specs.Prelude.{ℕ, List, length, Option, Some, None}
 use Rattle.flow_policy.specs.Policies.{Tables}
 use Rattle.flow_policy.specs.Inputs.{Given}
 use Rattle.flow_frames.specs.declared.kind.Kind.TheVariants as kind
-use Rattle.origin_labels.specs.Label.{bottom}
+use Rattle.origin_labels.specs.Label.{Label, bottom, union}
+use Rattle.prototype_walk.specs.KeyLists.{Keys}
 use Rattle.js_ast.specs.Trees.{Expr, Statement, Statements}
-use Rattle.es_meaning.specs.Outcomes.{Outcome, Goes, Jumps, Ends, ret, and_then}
+use Rattle.es_meaning.specs.Outcomes.{left, Outcome, Goes, Jumps, Ends, ret, and_then}
 use Rattle.es_meaning.specs.Environments.{Env, with_around}
-use Rattle.es_meaning.specs.Operations.{Ty, One, Value, Res, Ops, Use, Round, Rec}
+use Rattle.es_meaning.specs.Operations.{Ty, One, Value, Res, Ops, Use, Round, Visit, Rec}
 use Rattle.es_meaning.specs.Operators.{truth}
 use Rattle.es_meaning.specs.Evaluation.{step, statements, eval}
-use Rattle.es_meaning.specs.Plain.{undefined, choose, resolved, outermost_env}
+use Rattle.es_meaning.specs.Plain.{undefined, choose, leaves_wrappers, outermost_env}
 use Rattle.flow_meaning.specs.Erased.{unlabelled}
-use Rattle.flow_meaning.specs.Scopes.{Val, Halt, State, Jump, pushed_on, popped, settled, round_kind, raise}
-use Rattle.flow_meaning.specs.Tracked.{labelled, timed, start}
+use Rattle.flow_meaning.specs.Scopes.{Val, Halt, as_plain, State, Jump, pushed_on, popped, settled, round_kind, raise}
+use Rattle.flow_meaning.specs.Tracked.{resolved, key_list, labelled, timed, start}
 
 -- what costs a turn to enter
 pub data Part : Type 0 where
@@ -22,6 +23,7 @@ pub data Part : Type 0 where
   a_use : Use → Expr → ℕ → Part
   a_stmt : Statement → Env ℕ → Part
   a_turn : Round → Env ℕ → Part
+  a_visit : Visit Val → Env ℕ → Part
 
 -- how a part completes
 pub data Completion : Type 0 where
@@ -72,6 +74,11 @@ end_branch t depth c s = as_plan t (and_then (popped depth (outcome_of t c s)) (
 unfoldable pub end_round : ℕ → Then
 end_round depth c s = as_plan One (and_then (popped depth (outcome_of One c s)) (λ l. ret tt))
 
+-- the keys of a value raise the loop's frame
+unfoldable pub with_list : Option Keys → Label → (List (List ℕ) → State → Plan) → State → Plan
+with_list None label next s = End (as_plain (left leaves_wrappers)) s
+with_list (Some list) label next s = and_plan (as_plan One (raise (union label list.walk) s)) (with_result One (λ u. next list.keys))
+
 module _ (tables : Tables) (inputs : Given) where
   abbrev pub planned : Ops
   planned = record {
@@ -86,15 +93,19 @@ module _ (tables : Tables) (inputs : Given) where
     binary = λ o v u s. as_plan Value ((labelled tables inputs).binary o v u s);
     primitive = λ hint v s. as_plan Value ((labelled tables inputs).primitive hint v s);
     comparable = λ v u s. as_plan Value ((labelled tables inputs).comparable v u s);
+    act = λ a vs s. as_plan Value ((labelled tables inputs).act a vs s);
     direct = λ f vs s. as_plan Value ((labelled tables inputs).direct f vs s);
     unbuilt = λ t s. as_plan t ((labelled tables inputs).unbuilt t s);
-    resolve = λ t i x k s. k (resolved s.records i x) s;
-    get_name = λ n k s. as_plan Value ((labelled tables inputs).get_name n ((labelled tables inputs).ret Value) s);
-    typeof_name = λ n k s. as_plan Value ((labelled tables inputs).typeof_name n ((labelled tables inputs).ret Value) s);
-    put_name = λ n v k s. as_plan One ((labelled tables inputs).put_name n v ((labelled tables inputs).ret Value) s);
+    resolve = λ t i x k s. k (resolved s.records s.heap i x) s;
+    property = (labelled tables inputs).property;
+    get_value = λ n k s. as_plan Value ((labelled tables inputs).get_value n ((labelled tables inputs).ret Value) s);
+    typeof_value = λ n k s. as_plan Value ((labelled tables inputs).typeof_value n ((labelled tables inputs).ret Value) s);
+    put_value = λ n v k s. as_plan One ((labelled tables inputs).put_value n v ((labelled tables inputs).ret Value) s);
+    remove = λ n s. as_plan Value ((labelled tables inputs).remove n s);
     fork = λ t v m n s. and_plan (choose (truth v.value) m n (pushed_on kind.Branch v.label s)) (end_branch t (length s.frames));
     round = λ turn labels e k s. and_plan (k (with_around turn labels (length s.frames) e) (pushed_on (round_kind turn) bottom s)) (end_round (length s.frames));
     again = λ v m n s. and_plan (as_plan One (raise v.label s)) (with_result One (λ u. choose (truth v.value) m n));
+    keys = λ v next s. with_list (key_list s.heap v.value) v.label next s;
   }
 
   -- a part is asked for, and its completion is given
@@ -104,6 +115,7 @@ module _ (tables : Tables) (inputs : Given) where
     use_of = λ use_as e i s. Ask (a_use use_as e i) s Give;
     stmt = λ stmt e s. Ask (a_stmt stmt e) s Give;
     turn = λ round e s. Ask (a_turn round e) s Give;
+    visit = λ visit e s. Ask (a_visit visit e) s Give;
   }
 
   -- the plan of a part: the evaluator's step
@@ -112,6 +124,7 @@ module _ (tables : Tables) (inputs : Given) where
   plan (a_use use_as e i) = (step planned asking).use_of use_as e i
   plan (a_stmt stmt e) = (step planned asking).stmt stmt e
   plan (a_turn round e) = (step planned asking).turn round e
+  plan (a_visit visit e) = (step planned asking).visit visit e
 
   -- that of a program's statements
   unfoldable pub program_plan : Statements → State → Plan
@@ -150,6 +163,7 @@ module _ (tables : Tables) (inputs : Given) where
   of_rec R (a_use use_as e i) s = untyped Value (R.use_of use_as e i s)
   of_rec R (a_stmt stmt e) s = untyped One (R.stmt stmt e s)
   of_rec R (a_turn round e) s = untyped One (R.turn round e s)
+  of_rec R (a_visit visit e) s = untyped One (R.visit visit e s)
 
   -- the meaning of a part: each level costs a turn, so the turns bound the depth
   unfoldable pub meaning : Evaluator

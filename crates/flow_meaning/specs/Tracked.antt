@@ -5,27 +5,41 @@ use Rattle.flow_policy.specs.declared.policy.Channel.{Channel}
 use Rattle.flow_policy.specs.Policies.{Tables}
 use Rattle.flow_policy.specs.Inputs.{Given}
 use Rattle.flow_frames.specs.declared.kind.Kind.TheVariants as kind
-use Rattle.flow_frames.specs.declared.faults.Rule.TheVariants.{W1, W11, W12}
+use Rattle.flow_frames.specs.declared.faults.Rule.{Rule}
+use Rattle.flow_frames.specs.declared.faults.Rule.TheVariants.{W1, W2, W11, W12}
 use Rattle.flow_frames.specs.Frames.{context}
 use Rattle.flow_frames.specs.Changes.{pushed}
 use Rattle.js_number.specs.declared.primitive.Primitive.{Primitive}
+use Rattle.js_number.specs.declared.primitive.Primitive.TheVariants.{Undefined, Null}
+use Rattle.js_number.specs.declared.primitive.Primitive.TheVariants as prims
 use Rattle.js_number.specs.Conversions.{text_of}
 use Rattle.js_values.specs.declared.value.Value.{Value}
 use Rattle.js_values.specs.declared.value.Value.TheVariants as value
+use Rattle.js_values.specs.declared.property.Body.{Body}
+use Rattle.js_values.specs.declared.property.Body.TheVariants.{Data, Accessor}
+use Rattle.js_values.specs.declared.property.Slot.{Slot}
 use Rattle.js_values.specs.declared.inner.Class.TheVariants as class
 use Rattle.js_values.specs.declared.inner.Inner.TheVariants.{Plain}
-use Rattle.js_values.specs.Objects.{Object, fresh_object}
-use Rattle.js_values.specs.Records.{Binding}
+use Rattle.js_values.specs.Objects.{Object, own, fresh_object}
+use Rattle.js_values.specs.Records.{Binding, lookup, Record}
+use Rattle.js_values.specs.Walks.{Found, find, object_chain}
+use Rattle.object_heap.specs.Acts as heap_acts
+use Rattle.object_heap.specs.Acts.{Acted}
+use Rattle.prototype_walk.specs.declared.plan.PutPlan.{PutPlan}
+use Rattle.prototype_walk.specs.declared.plan.PutPlan.TheVariants.{Write, Add, Setter, Refused}
+use Rattle.prototype_walk.specs.Plans.{can_put}
+use Rattle.prototype_walk.specs.KeyLists.{Keys, keys}
 use Rattle.js_ast.specs.Trees.{Statements}
 use Rattle.es_meaning.specs.Outcomes as es
 use Rattle.es_meaning.specs.Outcomes.{throws, left, out_of_turns, Ending, done, threw, halted, Outcome, Goes, Jumps, Ends, ret, ◌>>=◌}
-use Rattle.es_meaning.specs.Operations.{Res, Direct, read, print, lbl, Ops}
+use Rattle.es_meaning.specs.Operations.{Res, Direct, read, print, lbl, upgs, upge, Act, object_of, base_needed, object_needed, has_key, Ops}
 use Rattle.es_meaning.specs.Operators.{Seen, a_primitive, an_object, is_object, converts_beside, unary_of, binary_of, not_built}
 use Rattle.es_meaning.specs.Evaluation.{Timed, program_step}
-use Rattle.es_meaning.specs.Start.{id, ErrorKind, reference_error, type_error, error_prototype, start_heap, shown}
-use Rattle.es_meaning.specs.Plain.{undefined, leaves_channels, leaves_origins, argument_or, others, channel_of, origins_of, value_read, positions_behind, line_at, channel_name, seen_of, outermost, outermost_env, assigned_in, Reference, resolved, binding_at}
+use Rattle.es_meaning.specs.Objects.{is_element, made_by_script, defined_all}
+use Rattle.es_meaning.specs.Start.{id, ErrorKind, reference_error, type_error, object_prototype, global_object, error_prototype, shown}
+use Rattle.es_meaning.specs.Plain.{undefined, leaves_channels, leaves_origins, leaves_wrappers, argument_or, others, channel_of, origins_of, value_read, positions_behind, line_at, channel_name, seen_of, first_heap, outermost, outermost_env, assigned_in, Place, in_record, on_global, nowhere, place_from, key_text, binding_at, is_coercible, is_found}
 use Rattle.flow_meaning.specs.Erased.{erased_heap, unlabelled, unlabelled_heap}
-use Rattle.flow_meaning.specs.Scopes.{Val, joined, LabelledLine, Halt, as_plain, State, Jump, L, under, jump, fork, round, again}
+use Rattle.flow_meaning.specs.Scopes.{Val, joined, LabelledLine, Halt, as_plain, stopped, State, Jump, L, under, raise, jump, fork, round, again}
 
 abbrev pub ends : {X : Type 0} → es.Halt → L X
 ends halt s = Ends (as_plain halt) s
@@ -62,13 +76,62 @@ unfoldable pub seen : List (Object Label) → Value → Seen
 seen heap (value.Primitive v) = a_primitive v
 seen heap (value.Object o) = seen_of (λ p. an_object p.class) (slice_get heap o.0)
 
+-- ---- references (ECMA-262 8.7): a name, where it stands, and on what that depends; or a base, a key and the key's label
+
+pub data Reference : Type 0 where
+  of_name : List ℕ → Place → Label → Reference
+  of_property : Val → List ℕ → Label → Reference
+
+-- that a name stands in a record depends on nothing, and else it depends on the walk along the global object
+abbrev pub walk_from : Option ℕ → Label → Label
+walk_from (Some i) walk = bottom
+walk_from None walk = walk
+
+abbrev pub global_walk : List (Object Label) → List ℕ → Found
+global_walk heap name = find name (object_chain heap global_object.0)
+
+abbrev pub resolved : List (Record Val) → List (Object Label) → ℕ → List ℕ → Reference
+resolved records heap i name = of_name name (place_from (lookup name records i) (global_walk heap name).at) (walk_from (lookup name records i) (global_walk heap name).walk)
+
+-- ---- the value of a reference
+
 unfoldable pub bound : Option (Binding Val) → L Val
 bound (Some b) s = Goes b.value s
 bound None s = throw_error reference_error bottom s
 
-unfoldable pub bound_or_undefined : Option (Binding Val) → L Val
-bound_or_undefined (Some b) s = Goes b.value s
-bound_or_undefined None s = Goes (unlabelled undefined) s
+-- what a property holds. Getters aren't built yet
+unfoldable pub held : Label → Body → L Val
+held label (Data v) s = Goes (record { value = v; label = label }) s
+held label (Accessor get set) s = ends (left not_built) s
+
+-- the value of a name of the global object depends on the walk to it, also as the name was resolved, and has the property's value label besides
+unfoldable pub found_globally : Label → Option (ℕ × Slot Label) → L Val
+found_globally walk (Some f) s = held (union walk f.1.label) f.1.body s
+found_globally walk None s = throw_error reference_error walk s
+
+-- that of a property depends on the base, the key and the walk
+unfoldable pub found : Label → Option (ℕ × Slot Label) → L Val
+found place (Some f) s = held (union place f.1.label) f.1.body s
+found place None s = Goes (record { value = undefined; label = place }) s
+
+unfoldable pub property_of : Label → Value → List ℕ → L Val
+property_of label (value.Primitive p) key s = ends (left not_built) s
+property_of label (value.Object o) key s = let walk = find key (object_chain s.heap o.0) in found (union label walk.walk) walk.at s
+
+unfoldable pub named : Place → Label → List ℕ → L Val
+named (in_record i) walk name s = bound (binding_at s.records i name) s
+named on_global walk name s = let here = global_walk s.heap name in found_globally (union walk here.walk) here.at s
+named nowhere walk name s = throw_error reference_error walk s
+
+unfoldable pub get_value : Reference → L Val
+get_value (of_name name place walk) = named place walk name
+get_value (of_property v key label) = property_of (union v.label label) v.value key
+
+unfoldable pub typeof_value : Reference → L Val
+typeof_value (of_name name nowhere walk) s = Goes (record { value = undefined; label = walk }) s
+typeof_value n s = get_value n s
+
+-- ---- it is given a value
 
 abbrev pub rebinds : List ℕ → ℕ → Val → L (Unit {0})
 rebinds name i v s = Goes tt (record s { records = assigned_in name v s.records i })
@@ -82,9 +145,110 @@ unfoldable pub assigned_to : Option (Binding Val) → List ℕ → ℕ → Val �
 assigned_to (Some b) name i v s = assigned b.mutable b.value.label name i v s
 assigned_to None name i v s = throw_error reference_error bottom s
 
-unfoldable pub put_at : Option ℕ → List ℕ → Val → L (Unit {0})
-put_at None name v s = throw_error reference_error bottom s
-put_at (Some i) name v s = assigned_to (binding_at s.records (Some i) name) name i v s
+-- what an act on the heap comes to
+unfoldable pub acted : {X : Type 0} → X → Acted (List (Object Label)) → L X
+acted x (Ok heap) s = Goes x (record s { heap = heap })
+acted x (Err stop) s = Ends (stopped stop.rule stop.need stop.have) s
+
+-- a put: the property has another value by the rule, W1 for a name and W2 for a member, or is added by W3. The need is the context, the labels of base
+-- and key, and the walk; a refusal is caused by the last three. Setters aren't built yet
+unfoldable pub put_by : PutPlan Label → Rule → ℕ → List ℕ → Label → Val → L (Unit {0})
+put_by (Write walk) rule o key label v s = acted tt (heap_acts.write rule o key (union (context s.frames) (union label walk)) v s.heap) s
+put_by (Add walk) rule o key label v s = acted tt (heap_acts.add o key (union (context s.frames) (union label walk)) (Data v.value) v.label made_by_script s.heap) s
+put_by (Refused walk) rule o key label v s = throw_error type_error (union label walk) s
+put_by (Setter at walk) rule o key label v s = ends (left not_built) s
+
+-- elements of arrays aren't built yet
+unfoldable pub put_on : Bool → Rule → ℕ → List ℕ → Label → Val → L (Unit {0})
+put_on true rule o key label v s = ends (left not_built) s
+put_on false rule o key label v s = put_by (can_put key (object_chain s.heap o)) rule o key label v s
+
+abbrev pub is_element_of : Option (Object Label) → List ℕ → Bool
+is_element_of None key = false
+is_element_of (Some p) key = is_element p.class key
+
+unfoldable pub put : Rule → ℕ → List ℕ → Label → Val → L (Unit {0})
+put rule o key label v s = put_on (is_element_of (slice_get s.heap o) key) rule o key label v s
+
+unfoldable pub put_property : Label → Value → List ℕ → Val → L (Unit {0})
+put_property label (value.Primitive p) key v s = ends (left not_built) s
+put_property label (value.Object o) key v s = put W2 o.0 key label v s
+
+unfoldable pub put_named : Place → Label → List ℕ → Val → L (Unit {0})
+put_named (in_record i) walk name v s = assigned_to (binding_at s.records i name) name i v s
+put_named on_global walk name v s = put W1 global_object.0 name bottom v s
+put_named nowhere walk name v s = throw_error reference_error walk s
+
+unfoldable pub put_value : Reference → Val → L (Unit {0})
+put_value (of_name name place walk) v = put_named place walk name v
+put_value (of_property base key label) v = put_property (union base.label label) base.value key v
+
+-- ---- it is deleted, by rules W4 and W5. That the object has the property depends on its existence label, and that it hasn't on the structure label
+
+abbrev pub truth_of : Bool → Label → Val
+truth_of b label = record { value = value.Primitive (prims.Bool b); label = label }
+
+unfoldable pub removed_if : Bool → Label → ℕ → List ℕ → L Val
+removed_if true place o key s = acted (truth_of true place) (heap_acts.remove o key (union (context s.frames) place) s.heap) s
+removed_if false place o key s = throw_error type_error place s
+
+unfoldable pub removed_own : Option (Slot Label) → Label → Label → ℕ → List ℕ → L Val
+removed_own None label structure o key s = Goes (truth_of true (union label structure)) s
+removed_own (Some p) label structure o key s = removed_if p.marks.configurable (union label p.existence) o key s
+
+-- of an object that there may be
+unfoldable pub removed_in : Option (Object Label) → Label → ℕ → List ℕ → L Val
+removed_in None label o key s = Goes (truth_of true label) s
+removed_in (Some p) label o key s = removed_own (own key p.rows) label p.structure o key s
+
+unfoldable pub remove_property : Label → Value → List ℕ → L Val
+remove_property label (value.Primitive p) key s = ends (left not_built) s
+remove_property label (value.Object o) key s = removed_in (slice_get s.heap o.0) label o.0 key s
+
+unfoldable pub remove : Reference → L Val
+remove (of_name name place walk) s = ends (left not_built) s
+remove (of_property base key label) s = remove_property (union base.label label) base.value key s
+
+-- ---- acts on values that enter no function
+
+-- an object's link, its structure, its properties and their values depend on the context
+abbrev pub data_slot : Label → Val → Slot Label
+data_slot label v = record { body = Data v.value; label = union v.label label; existence = label; marks = made_by_script }
+
+abbrev pub literal_object : List (List ℕ) → List Val → Label → Object Label
+literal_object keys vs label = record (fresh_object class.Object Plain (Some object_prototype) label label) { rows = defined_all keys (map (data_slot label) vs) [] }
+
+unfoldable pub make_object : List (List ℕ) → List Val → L Val
+make_object keys vs s = Goes (unlabelled (value.Object (id (length s.heap)))) (record s { heap = s.heap ++ literal_object keys vs (context s.frames) ∷ [] })
+
+unfoldable pub needed : Bool → Val → L Val
+needed true v s = Goes v s
+needed false v s = throw_error type_error v.label s
+
+unfoldable pub has : Label → List ℕ → Value → L Val
+has label key (value.Primitive p) s = ends (left not_built) s
+has label key (value.Object o) s = let walk = find key (object_chain s.heap o.0) in Goes (truth_of (is_found walk.at) (union label walk.walk)) s
+
+-- what an object itself has of a key depends on its existence label, or on the structure label where it hasn't any
+abbrev pub own_test : Option (Slot Label) → Label → Label
+own_test None structure = structure
+own_test (Some s) structure = s.existence
+
+abbrev pub own_walk : List ℕ → Option (Object Label) → Label
+own_walk key None = bottom
+own_walk key (Some p) = own_test (own key p.rows) p.structure
+
+-- the keys that `for in` takes of a value, and on what they depend besides
+abbrev pub key_list : List (Object Label) → Value → Option Keys
+key_list heap (value.Object o) = Some (keys (object_chain heap o.0))
+key_list heap (value.Primitive Undefined) = Some (record { keys = []; walk = bottom })
+key_list heap (value.Primitive Null) = Some (record { keys = []; walk = bottom })
+key_list heap (value.Primitive _) = None
+
+-- they raise the loop's frame
+unfoldable pub with_list : Option Keys → Label → (List (List ℕ) → L (Unit {0})) → L (Unit {0})
+with_list None label next s = ends (left leaves_wrappers) s
+with_list (Some list) label next s = (raise (union label list.walk) >>= λ u. next list.keys) s
 
 unfoldable pub spend : ℕ → L (Unit {0})
 spend zero s = ends out_of_turns s
@@ -106,6 +270,12 @@ argument n vs = argument_or (unlabelled undefined) n vs
 abbrev pub labels_of : List Val → Label
 labels_of [] = bottom
 labels_of (v ∷ vs) = union v.label (labels_of vs)
+
+unfoldable pub act : Act → List Val → L Val
+act (object_of keys) vs = make_object keys vs
+act base_needed vs = needed (is_coercible (argument 0 vs).value) (argument 0 vs)
+act object_needed vs = needed (is_object (argument 0 vs).value) (argument 0 vs)
+act has_key vs = has (union (argument 0 vs).label (argument 1 vs).label) (key_text (argument 0 vs).value) (argument 1 vs).value
 
 module _ (tables : Tables) (inputs : Given) where
   abbrev pub reads : ℕ → Label → L Val
@@ -133,10 +303,35 @@ module _ (tables : Tables) (inputs : Given) where
   label_by None names v s = ends (left leaves_origins) s
   label_by (Some origins) names v s = Goes (joined (union names (label_of origins)) v) s
 
+  -- `upgs` asks rule W7 and `upge` W8, with the labels of all arguments in the need, and of the property's own test
+  unfoldable pub raise_structure : Option (List ℕ) → Label → ℕ → L Val
+  raise_structure None label o s = ends (left leaves_origins) s
+  raise_structure (Some origins) label o s = acted (record { value = undefined; label = label }) (heap_acts.raise_structure o (union (context s.frames) label) (label_of origins) s.heap) s
+
+  unfoldable pub raise_existence : Option (List ℕ) → Label → ℕ → List ℕ → L Val
+  raise_existence None label o key s = ends (left leaves_origins) s
+  raise_existence (Some origins) label o key s =
+      acted (record { value = undefined; label = label }) (heap_acts.raise_existence o key (union (context s.frames) (union label (own_walk key (slice_get s.heap o)))) (label_of origins) s.heap) s
+
+  abbrev pub names_in : List Val → Option (List ℕ)
+  names_in names = origins_of tables.origins (map (λ v. v.value) names)
+
+  -- the first argument is an object
+  unfoldable pub raise_of : Value → Label → List Val → L Val
+  raise_of (value.Primitive p) label names s = throw_error type_error label s
+  raise_of (value.Object o) label names s = raise_structure (names_in names) (union label (labels_of names)) o.0 s
+
+  -- the conversion of an object to a key isn't built yet
+  unfoldable pub raise_at : Value → Label → Val → List Val → L Val
+  raise_at (value.Primitive p) label key names s = throw_error type_error label s
+  raise_at (value.Object o) label key names s = (unless_object (is_object key.value) key >>= λ k. raise_existence (names_in names) (union label (union k.label (labels_of names))) o.0 (key_text k.value)) s
+
   unfoldable pub direct : Direct → List Val → L Val
   direct read vs = read_channel (channel_of tables.inputs (argument 0 vs).value) (argument 0 vs).label
   direct print vs = print_channel (channel_of tables.outputs (argument 0 vs).value) (argument 0 vs).label (argument 1 vs)
   direct lbl vs = label_by (origins_of tables.origins (map (λ v. v.value) (others vs))) (labels_of (others vs)) (argument 0 vs)
+  direct upgs vs = raise_of (argument 0 vs).value (argument 0 vs).label (others vs)
+  direct upge vs = raise_at (argument 0 vs).value (argument 0 vs).label (argument 1 vs) (others (others vs))
 
   abbrev pub labelled : Ops
   labelled = record {
@@ -151,15 +346,19 @@ module _ (tables : Tables) (inputs : Given) where
     binary = λ o v u. given (union v.label u.label) (binary_of o v.value u.value);
     primitive = λ hint v. unless_object (is_object v.value) v;
     comparable = λ v u. unless_object (converts_beside v.value u.value) v;
+    act = act;
     direct = direct;
     unbuilt = λ t. ends (left not_built);
-    resolve = λ t i x k s. k (resolved s.records i x) s;
-    get_name = λ n k s. bound (binding_at s.records n.place n.name) s;
-    typeof_name = λ n k s. bound_or_undefined (binding_at s.records n.place n.name) s;
-    put_name = λ n v k. put_at n.place n.name v;
+    resolve = λ t i x k s. k (resolved s.records s.heap i x) s;
+    property = λ v k. of_property v (key_text k.value) k.label;
+    get_value = λ n k. get_value n;
+    typeof_value = λ n k. typeof_value n;
+    put_value = λ n v k. put_value n v;
+    remove = remove;
     fork = fork;
     round = round;
     again = again;
+    keys = λ v next s. with_list (key_list s.heap v.value) v.label next s;
   }
 
   abbrev pub timed : Timed
@@ -168,8 +367,8 @@ module _ (tables : Tables) (inputs : Given) where
   abbrev pub start : Statements → ℕ → State
   start program turns = record {
     frames = pushed kind.Root bottom ∷ [];
-    heap = unlabelled_heap start_heap;
-    records = outermost (unlabelled undefined) program ∷ [];
+    heap = unlabelled_heap (first_heap program);
+    records = outermost (unlabelled (value.Object global_object)) ∷ [];
     positions = replicate (length tables.inputs) 0;
     lines = [];
     turns = turns;

@@ -1,6 +1,7 @@
 //! The laws of the meaning, as functions that do nothing.
 
 ghost use Rattle.flow_meaning.specs.Laws.{MoreTurns, IsPerformed};
+ghost use Rattle.flow_meaning.specs.ObjectRows.{WorkedRows as ObjectRows};
 ghost use Rattle.flow_meaning.specs.Rows.{WorkedRows};
 
 /// More turns change no run that ends otherwise than by their want.
@@ -15,5 +16,6 @@ pub fn performed()
 
 /// Small scripts print, or are stopped, as was worked out by hand.
 pub fn rows()
-    ensures { WorkedRows }
+    ensures scripts { WorkedRows }
+    ensures objects { ObjectRows }
 {}

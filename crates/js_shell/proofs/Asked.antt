@@ -8,7 +8,7 @@ use Rattle.flow_policy.specs.Inputs.{Given}
 use Rattle.js_ast.specs.Trees.{Statements}
 use Rattle.js_shell.specs.declared.refusals.Refusal.{Refusal}
 use Rattle.js_shell.specs.declared.refusals.Refusal.TheVariants as refusal
-use Rattle.js_shell.specs.Sources.{SourceFault, long_source, source_utf8, bad_source, HasProgram, IsScriptOf, RefusesProgram, RefusesSource}
+use Rattle.js_shell.specs.Sources.{SourceFault, long_source, source_utf8, bad_source, IsScriptOf, RefusesProgram, RefusesSource}
 use Rattle.js_shell.specs.Replies.{IsProgramAt, HasNoProgram, HasScript, HasNoScript, RefusesScript, source_reply, HasNoPolicy, HasNoInput, IsReply, FileFault, too_long, bad_line, policy_reply, input_reply, Paths, Command, run, check, script_path, Reaches, command_of, refuses_script, refuses_policy, refuses_input, reaches_script, reaches_policy, reaches_input}
 use Rattle.js_shell.specs.Accepting.{OfFiles, Takes, TakesProgram, TakesScript, AcceptsSource, AcceptsProgram, AcceptsScript, AcceptsPolicy, AcceptsInput, a_run, a_check, Accepts}
 

@@ -1,5 +1,5 @@
 -- What a labelled run keeps of its lines: each is on an output channel. The operations, linked with themselves, keep it.
-use Rattle.std.proofs.Common.{◌≡◌, ℕ, zero, suc, ◌+◌, ◌<◌, Bool, true, false, nat_lt, List, [], ◌∷◌, ◌++◌, length, map, get_or, Option, Some, None, Result, Ok, Err, slice_get, refl, sym, ap, subst, ◌∙◌, inl, inr, arith}
+use Rattle.std.proofs.Common.{◌≡◌, ℕ, zero, suc, ◌<◌, Bool, true, false, nat_lt, List, [], ◌∷◌, ◌++◌, length, get_or, Option, Some, None, Result, Ok, Err, slice_get, refl, sym, ap, subst, ◌∙◌, inl, inr, arith}
 use Rattle.std.specs.Prelude.{is_some}
 use Rattle.std.specs.List.{list_all, find, position}
 use Rattle.std.proofs.lemmas.Bool.{and_parts, and_from}
@@ -14,25 +14,33 @@ use Rattle.flow_policy.proofs.ViewLaws.{named_is}
 use Rattle.flow_frames.specs.declared.kind.Kind.{Kind}
 use Rattle.flow_frames.specs.declared.kind.Kind.TheVariants as kind
 use Rattle.flow_frames.specs.declared.faults.Rule.{Rule}
-use Rattle.flow_frames.specs.declared.faults.Rule.TheVariants.{W1, W9, W11, W12}
+use Rattle.flow_frames.specs.declared.faults.Rule.TheVariants.{W1, W2, W9, W11, W12}
 use Rattle.js_number.specs.declared.primitive.Primitive.{Primitive}
 use Rattle.js_number.specs.declared.primitive.Primitive.TheVariants as prims
 use Rattle.js_values.specs.declared.value.Value.{Value}
 use Rattle.js_values.specs.declared.value.Value.TheVariants as value
+use Rattle.js_values.specs.declared.property.Body.{Body}
+use Rattle.js_values.specs.declared.property.Body.TheVariants.{Data, Accessor}
+use Rattle.js_values.specs.declared.property.Slot.{Slot}
+use Rattle.js_values.specs.Objects.{Object}
 use Rattle.js_values.specs.Records.{Binding}
+use Rattle.object_heap.specs.Acts.{Acted}
+use Rattle.prototype_walk.specs.declared.plan.PutPlan.{PutPlan}
+use Rattle.prototype_walk.specs.declared.plan.PutPlan.TheVariants.{Write, Add, Setter, Refused}
+use Rattle.prototype_walk.specs.KeyLists.{Keys}
 use Rattle.js_ast.specs.Trees.{Statements}
 use Rattle.es_meaning.specs.Outcomes as es
 use Rattle.es_meaning.specs.Outcomes.{left, out_of_turns, Outcome, Goes, Jumps, Ends, ret, and_then, ◌>>=◌}
 use Rattle.es_meaning.specs.Environments.{Env, with_around}
-use Rattle.es_meaning.specs.Operations.{Ty, One, Res, Direct, read, print, lbl}
+use Rattle.es_meaning.specs.Operations.{Ty, One, Res, Direct, read, print, lbl, upgs, upge, Act, object_of, base_needed, object_needed, has_key}
 use Rattle.es_meaning.specs.Operations.{Value as a_value}
 use Rattle.es_meaning.specs.Operators.{is_object, truth, converts_beside, unary_of, binary_of, not_built}
 use Rattle.es_meaning.specs.Evaluation.{program_step}
 use Rattle.es_meaning.specs.Start.{ErrorKind}
-use Rattle.es_meaning.specs.Plain.{others, choose, resolved, binding_at, outermost_env, channel_of, channel_name, name_at, number_of_channel, origins_of}
+use Rattle.es_meaning.specs.Plain.{leaves_wrappers, choose, key_text, binding_at, outermost_env, channel_of, channel_name, name_at, number_of_channel, Place, in_record, on_global, nowhere}
 use Rattle.es_meaning.proofs.Link.{Rel, Link, program_linked}
-use Rattle.flow_meaning.specs.Scopes.{Val, LabelledLine, Halt, as_plain, State, Jump, L, guard, under, raise, jump_to, jump, cut_to, pushed_on, caught, Left, popped, scope, settled, fork, round_kind, round, again}
-use Rattle.flow_meaning.specs.Tracked.{ends, with_error, throw_error, given, unless_object, seen, bound, bound_or_undefined, assigned, assigned_to, put_at, spend, argument, labels_of, read_channel, print_value, print_channel, label_by, direct, labelled, timed, start, run_of, tracked_run}
+use Rattle.flow_meaning.specs.Scopes.{Val, LabelledLine, Halt, State, Jump, L, guard, raise, jump_to, jump, cut_to, pushed_on, Left, popped, scope, settled, fork, round_kind, round, again}
+use Rattle.flow_meaning.specs.Tracked.{ends, with_error, throw_error, given, unless_object, seen, Reference, of_name, of_property, resolved, bound, held, found_globally, found, property_of, named as value_named, get_value, typeof_value, assigned, assigned_to, acted, put_by, put_on, put, put_property, put_named, put_value, removed_if, removed_own, removed_in, remove_property, remove, make_object, needed, has, key_list, with_list, act, spend, argument, read_channel, print_value, print_channel, label_by, raise_structure, raise_existence, raise_of, raise_at, names_in, direct, labelled, timed, start, run_of, tracked_run}
 use Rattle.low_equal.specs.Runs.{state_of}
 
 -- ---- names of output channels
@@ -199,11 +207,46 @@ module _ (tables : Tables) (inputs : Given) where
   bound_keeps (Some b) s h = h
   bound_keeps None s h = throw_keeps _ _ _ s h
 
-  -- or undefined
-  bound_or_undefined_keeps : (o : Option (Binding Val)) (s : State) → AreNamed tables s.lines → Keeps (bound_or_undefined o s)
-  unfolding bound_or_undefined
-  bound_or_undefined_keeps (Some b) s h = h
-  bound_or_undefined_keeps None s h = h
+  -- of a property
+  held_keeps : (label : Label) (b : Body) (s : State) → AreNamed tables s.lines → Keeps (held label b s)
+  unfolding held
+  held_keeps label (Data v) s h = h
+  held_keeps label (Accessor get set) s h = h
+
+  found_globally_keeps : (walk : Label) (o : Option (ℕ × Slot Label)) (s : State) → AreNamed tables s.lines → Keeps (found_globally walk o s)
+  unfolding found_globally
+  found_globally_keeps walk (Some f) s h = held_keeps _ f.1.body s h
+  found_globally_keeps walk None s h = throw_keeps _ _ _ s h
+
+  found_keeps : (label : Label) (o : Option (ℕ × Slot Label)) (s : State) → AreNamed tables s.lines → Keeps (found label o s)
+  unfolding found
+  found_keeps label (Some f) s h = held_keeps _ f.1.body s h
+  found_keeps label None s h = h
+
+  property_keeps : (label : Label) (v : Value) (key : List ℕ) (s : State) → AreNamed tables s.lines → Keeps (property_of label v key s)
+  unfolding property_of
+  property_keeps label (value.Primitive p) key s h = h
+  property_keeps label (value.Object o) key s h = found_keeps _ _ s h
+
+  -- of a name
+  name_keeps : (place : Place) (walk : Label) (name : List ℕ) (s : State) → AreNamed tables s.lines → Keeps (value_named place walk name s)
+  unfolding value_named
+  name_keeps (in_record i) walk name s h = bound_keeps (binding_at s.records i name) s h
+  name_keeps on_global walk name s h = found_globally_keeps _ _ s h
+  name_keeps nowhere walk name s h = throw_keeps _ _ _ s h
+
+  -- of a reference
+  value_keeping : (n : Reference) → Keeping (get_value n)
+  unfolding get_value
+  value_keeping (of_name name place walk) = record { keeps = λ s h. name_keeps place walk name s h }
+  value_keeping (of_property v key label) = record { keeps = λ s h. property_keeps _ v.value key s h }
+
+  typeof_keeping : (n : Reference) → Keeping (typeof_value n)
+  unfolding typeof_value
+  typeof_keeping (of_name name (in_record i) walk) = value_keeping (of_name name (in_record i) walk)
+  typeof_keeping (of_name name on_global walk) = value_keeping (of_name name on_global walk)
+  typeof_keeping (of_name name nowhere walk) = record { keeps = λ s h. h }
+  typeof_keeping (of_property v key label) = value_keeping (of_property v key label)
 
   -- a value for a binding
   assigned_keeps : (mutable : Bool) (have : Label) (name : List ℕ) (i : ℕ) (v : Val) (s : State) → AreNamed tables s.lines → Keeps (assigned mutable have name i v s)
@@ -217,11 +260,98 @@ module _ (tables : Tables) (inputs : Given) where
   assigned_to_keeps (Some b) name i v s h = assigned_keeps b.mutable b.value.label name i v s h
   assigned_to_keeps None name i v s h = throw_keeps _ _ _ s h
 
-  -- or for a name
-  put_keeping : (place : Option ℕ) (name : List ℕ) (v : Val) → Keeping (put_at place name v)
-  unfolding put_at
-  put_keeping None name v = record { keeps = λ s h. throw_keeps _ _ _ s h }
-  put_keeping (Some i) name v = record { keeps = λ s h. assigned_to_keeps (binding_at s.records (Some i) name) name i v s h }
+  -- an act on the heap
+  acted_keeps : {X : Type 0} (x : X) (a : Acted (List (Object Label))) (s : State) → AreNamed tables s.lines → Keeps (acted x a s)
+  unfolding acted
+  acted_keeps x (Ok heap) s h = h
+  acted_keeps x (Err stop) s h = h
+
+  -- a put
+  put_by_keeps : (plan : PutPlan Label) (rule : Rule) (o : ℕ) (key : List ℕ) (label : Label) (v : Val) (s : State) → AreNamed tables s.lines → Keeps (put_by plan rule o key label v s)
+  unfolding put_by
+  put_by_keeps (Write walk) rule o key label v s h = acted_keeps tt _ s h
+  put_by_keeps (Add walk) rule o key label v s h = acted_keeps tt _ s h
+  put_by_keeps (Refused walk) rule o key label v s h = throw_keeps _ _ _ s h
+  put_by_keeps (Setter at walk) rule o key label v s h = h
+
+  put_on_keeps : (b : Bool) (rule : Rule) (o : ℕ) (key : List ℕ) (label : Label) (v : Val) (s : State) → AreNamed tables s.lines → Keeps (put_on b rule o key label v s)
+  unfolding put_on
+  put_on_keeps true rule o key label v s h = h
+  put_on_keeps false rule o key label v s h = put_by_keeps _ rule o key label v s h
+
+  put_keeps : (rule : Rule) (o : ℕ) (key : List ℕ) (label : Label) (v : Val) (s : State) → AreNamed tables s.lines → Keeps (put rule o key label v s)
+  unfolding put
+  put_keeps rule o key label v s h = put_on_keeps _ rule o key label v s h
+
+  put_property_keeps : (label : Label) (base : Value) (key : List ℕ) (v : Val) (s : State) → AreNamed tables s.lines → Keeps (put_property label base key v s)
+  unfolding put_property
+  put_property_keeps label (value.Primitive p) key v s h = h
+  put_property_keeps label (value.Object o) key v s h = put_keeps W2 o.0 key label v s h
+
+  put_named_keeps : (place : Place) (walk : Label) (name : List ℕ) (v : Val) (s : State) → AreNamed tables s.lines → Keeps (put_named place walk name v s)
+  unfolding put_named
+  put_named_keeps (in_record i) walk name v s h = assigned_to_keeps (binding_at s.records i name) name i v s h
+  put_named_keeps on_global walk name v s h = put_keeps W1 _ name bottom v s h
+  put_named_keeps nowhere walk name v s h = throw_keeps _ _ _ s h
+
+  put_keeping : (n : Reference) (v : Val) → Keeping (put_value n v)
+  unfolding put_value
+  put_keeping (of_name name place walk) v = record { keeps = λ s h. put_named_keeps place walk name v s h }
+  put_keeping (of_property base key label) v = record { keeps = λ s h. put_property_keeps _ base.value key v s h }
+
+  -- a deletion
+  removed_if_keeps : (b : Bool) (place : Label) (o : ℕ) (key : List ℕ) (s : State) → AreNamed tables s.lines → Keeps (removed_if b place o key s)
+  unfolding removed_if
+  removed_if_keeps true place o key s h = acted_keeps _ _ s h
+  removed_if_keeps false place o key s h = throw_keeps _ _ _ s h
+
+  removed_own_keeps : (p : Option (Slot Label)) (label structure : Label) (o : ℕ) (key : List ℕ) (s : State) → AreNamed tables s.lines → Keeps (removed_own p label structure o key s)
+  unfolding removed_own
+  removed_own_keeps None label structure o key s h = h
+  removed_own_keeps (Some p) label structure o key s h = removed_if_keeps _ _ o key s h
+
+  removed_in_keeps : (p : Option (Object Label)) (label : Label) (o : ℕ) (key : List ℕ) (s : State) → AreNamed tables s.lines → Keeps (removed_in p label o key s)
+  unfolding removed_in
+  removed_in_keeps None label o key s h = h
+  removed_in_keeps (Some p) label o key s h = removed_own_keeps _ label p.structure o key s h
+
+  remove_property_keeps : (label : Label) (base : Value) (key : List ℕ) (s : State) → AreNamed tables s.lines → Keeps (remove_property label base key s)
+  unfolding remove_property
+  remove_property_keeps label (value.Primitive p) key s h = h
+  remove_property_keeps label (value.Object o) key s h = removed_in_keeps _ label o.0 key s h
+
+  remove_keeping : (n : Reference) → Keeping (remove n)
+  unfolding remove
+  remove_keeping (of_name name place walk) = record { keeps = λ s h. h }
+  remove_keeping (of_property base key label) = record { keeps = λ s h. remove_property_keeps _ base.value key s h }
+
+  -- acts on values that enter no function
+  needed_keeps : (b : Bool) (v : Val) (s : State) → AreNamed tables s.lines → Keeps (needed b v s)
+  unfolding needed
+  needed_keeps true v s h = h
+  needed_keeps false v s h = throw_keeps _ _ _ s h
+
+  has_keeps : (label : Label) (key : List ℕ) (v : Value) (s : State) → AreNamed tables s.lines → Keeps (has label key v s)
+  unfolding has
+  has_keeps label key (value.Primitive p) s h = h
+  has_keeps label key (value.Object o) s h = h
+
+  made_keeps : (keys : List (List ℕ)) (vs : List Val) (s : State) → AreNamed tables s.lines → Keeps (make_object keys vs s)
+  unfolding make_object
+  made_keeps keys vs s h = h
+
+  act_keeping : (a : Act) (vs : List Val) → Keeping (act a vs)
+  unfolding act
+  act_keeping (object_of keys) vs = record { keeps = λ s h. made_keeps keys vs s h }
+  act_keeping base_needed vs = record { keeps = λ s h. needed_keeps _ (argument 0 vs) s h }
+  act_keeping object_needed vs = record { keeps = λ s h. needed_keeps _ (argument 0 vs) s h }
+  act_keeping has_key vs = record { keeps = λ s h. has_keeps _ _ (argument 1 vs).value s h }
+
+  -- the keys of a value
+  list_keeping : (list : Option Keys) (label : Label) (f : List (List ℕ) → L (Unit {0})) → ((ks : List (List ℕ)) → Keeping (f ks)) → Keeping (with_list list label f)
+  unfolding with_list
+  list_keeping None label f h = halts_keeping (left leaves_wrappers)
+  list_keeping (Some list) label f h = record { keeps = λ s k. (bind_keeping (λ u. f list.keys) (raise_keeping (union label list.walk)) (λ u. h list.keys)).keeps s k }
 
   -- a turn is spent
   spend_keeps : (n : ℕ) (s : State) → AreNamed tables s.lines → Keeps (spend n s)
@@ -255,12 +385,36 @@ module _ (tables : Tables) (inputs : Given) where
   label_keeping None names v = halts_keeping _
   label_keeping (Some os) names v = record { keeps = λ s h. h }
 
+  -- the structure of an object is raised
+  structure_keeping : (os : Option (List ℕ)) (label : Label) (o : ℕ) → Keeping (raise_structure tables inputs os label o)
+  unfolding raise_structure
+  structure_keeping None label o = halts_keeping _
+  structure_keeping (Some os) label o = record { keeps = λ s h. acted_keeps _ _ s h }
+
+  raise_of_keeping : (v : Value) (label : Label) (names : List Val) → Keeping (raise_of tables inputs v label names)
+  unfolding raise_of
+  raise_of_keeping (value.Primitive p) label names = record { keeps = λ s h. throw_keeps _ _ _ s h }
+  raise_of_keeping (value.Object o) label names = record { keeps = λ s h. (structure_keeping (names_in tables inputs names) _ o.0).keeps s h }
+
+  -- or the existence of a property
+  existence_keeping : (os : Option (List ℕ)) (label : Label) (o : ℕ) (key : List ℕ) → Keeping (raise_existence tables inputs os label o key)
+  unfolding raise_existence
+  existence_keeping None label o key = halts_keeping _
+  existence_keeping (Some os) label o key = record { keeps = λ s h. acted_keeps _ _ s h }
+
+  raise_at_keeping : (v : Value) (label : Label) (key : Val) (names : List Val) → Keeping (raise_at tables inputs v label key names)
+  unfolding raise_at
+  raise_at_keeping (value.Primitive p) label key names = record { keeps = λ s h. throw_keeps _ _ _ s h }
+  raise_at_keeping (value.Object o) label key names = record { keeps = λ s h. (bind_keeping _ (unless_keeping (is_object key.value) key) (λ k. existence_keeping (names_in tables inputs names) _ o.0 (key_text k.value))).keeps s h }
+
   -- a function of the product
   direct_keeping : (f : Direct) (vs : List Val) → Keeping (direct tables inputs f vs)
   unfolding direct
   direct_keeping read vs = read_keeping _ _
   direct_keeping print vs = print_keeping _ _ _ (channel_there tables (argument 0 vs).value)
   direct_keeping lbl vs = label_keeping _ _ _
+  direct_keeping upgs vs = raise_of_keeping _ _ _
+  direct_keeping upge vs = raise_at_keeping _ _ _ _
 
   -- ---- the operations
 
@@ -279,6 +433,8 @@ module _ (tables : Tables) (inputs : Given) where
     RP = λ w i j. Unit {0};
     RE = λ w e d. Unit {0};
     Lift = λ t w m n. Keeping m;
+    Inside = λ v w. Unit {0};
+    inside_v = λ p r. tt;
     le_refl = λ w. tt;
     le_trans = λ p q. tt;
     more_v = λ p r. tt;
@@ -294,15 +450,19 @@ module _ (tables : Tables) (inputs : Given) where
     binary = λ o {v = v} {u = u} r q. given_keeping (union v.label u.label) (binary_of o v.value u.value);
     primitive = λ hint {v = v} r. unless_keeping (is_object v.value) v;
     comparable = λ {v = v} {u = u} r q. unless_keeping (converts_beside v.value u.value) v;
+    act = λ a {vs = vs} rs. act_keeping a vs;
     direct = λ f {vs = vs} rs. direct_keeping f vs;
     unbuilt = λ t w. halts_keeping (left not_built);
-    resolve = λ t {i = i} x f g p h. record { keeps = λ s k. (h tt tt (resolved s.records i x) (resolved s.records i x) tt).keeps s k };
-    get_name = λ {n = n} f g r h. record { keeps = λ s k. bound_keeps (binding_at s.records n.place n.name) s k };
-    typeof_name = λ {n = n} f g r h. record { keeps = λ s k. bound_or_undefined_keeps (binding_at s.records n.place n.name) s k };
-    put_name = λ {n = n} {v = v} f g r q h. put_keeping n.place n.name v;
+    resolve = λ t {i = i} x f g p h. record { keeps = λ s k. (h tt tt (resolved s.records s.heap i x) (resolved s.records s.heap i x) tt).keeps s k };
+    property = λ r q. tt;
+    get_value = λ {n = n} f g r h. value_keeping n;
+    typeof_value = λ {n = n} f g r h. typeof_keeping n;
+    put_value = λ {n = n} {v = v} f g r q h. put_keeping n v;
+    remove = λ {n = n} r. remove_keeping n;
     fork = λ t {v = v} r h k. fork_keeping t v (h tt tt) (k tt tt);
-    round = λ turn labels {e = e} f g r h. round_keeping turn labels e f (λ d. h tt d d tt);
+    round = λ turn labels {e = e} f g r h. round_keeping turn labels e f (λ d. h tt tt d d tt);
     again = λ {v = v} r h k. again_keeping v h k;
+    keys = λ {v = v} f g r h. record { keeps = λ s k. (list_keeping (key_list s.heap v.value) v.label f (λ ks. h tt tt ks)).keeps s k };
   }
 
   -- a program

@@ -1,13 +1,9 @@
 -- The loop of a report over the names of origins.
-use Rattle.std.proofs.Common.{◌≡◌, ℕ, zero, suc, ◌+◌, ◌<◌, ◌≤◌, Bool, true, false, List, [], ◌∷◌, ◌++◌, length, map, take, get_or, Some, slice_get, slice_index_or, refl, sym, ap, ap₂, subst, ◌∙◌, arith, append_assoc, append-nil, length-take}
-use Rattle.std.specs.List.{All, filter, join_with_byte, range_with_len}
-use Rattle.std.proofs.lemmas.List.{take_more, map_push, map-id, get_or-take, get_or_default, length-map}
-use Rattle.std.proofs.lemmas.List.Elements.{All-filter, filter-append}
-use Rattle.std.proofs.lemmas.List.FromFn.{map-range_with_len_more, get_or-range_with_len, length-range_with_len}
-use Rattle.std.proofs.lemmas.List.Kept.{AllPairs-from_increasing}
+use Rattle.std.proofs.Common.{◌≡◌, ℕ, zero, suc, ◌+◌, ◌<◌, ◌≤◌, List, [], ◌∷◌, ◌++◌, length, map, take, get_or, Some, slice_get, slice_index_or, refl, sym, ap, ap₂, ◌∙◌, arith, append_assoc, length-take}
+use Rattle.std.specs.List.{join_with_byte}
+use Rattle.std.proofs.lemmas.List.{take_more, map_push, length-map}
 use Rattle.std.proofs.lemmas.Option.{get_or_from_slice_get}
 use Rattle.flow_text.specs.Utf8.{utf8_of}
-use Rattle.origin_labels.specs.Label.{Label, IsLabel}
 
 -- ---- names with commas between
 

@@ -1,8 +1,8 @@
 -- What is shown of a value that leaves a script stands on one line.
-use Rattle.std.proofs.Common.{◌≡◌, ℕ, zero, suc, ◌+◌, ◌<◌, ◌%◌, ◌/◌, Bool, true, false, cond, not, nat_lt, ◌==◌, ◌&&◌, List, [], ◌∷◌, ◌++◌, pos, negsuc, ℤ, Option, Some, None, refl, sym, ap, subst, ◌∙◌, codes, arith, slice_get}
+use Rattle.std.proofs.Common.{◌≡◌, ℕ, zero, suc, ◌+◌, ◌<◌, ◌%◌, ◌/◌, Bool, true, false, cond, not, nat_lt, ◌==◌, List, [], ◌∷◌, ◌++◌, pos, negsuc, ℤ, Option, Some, None, refl, sym, ap, ◌∙◌, codes, arith, slice_get}
 use Rattle.std.specs.List.{list_all}
 use Rattle.std.specs.Fmt.{decimal, signed_decimal, digits, digits_onto, digit_glyph}
-use Rattle.std.proofs.lemmas.Bool.{and_parts, and_from, lt-ltb, ne_eqb}
+use Rattle.std.proofs.lemmas.Bool.{and_from, lt-ltb, ne_eqb}
 use Rattle.std.proofs.lemmas.List.Folds.{list_all-append}
 use Rattle.flow_text.specs.Utf8.{utf8_of}
 use Rattle.flow_text.specs.Written.{escaped}
@@ -20,7 +20,7 @@ use Rattle.js_values.specs.declared.property.Body.{Body}
 use Rattle.js_values.specs.declared.property.Body.TheVariants.{Data, Accessor}
 use Rattle.js_values.specs.Objects.{Property, PlainObject}
 use Rattle.js_values.specs.Walks.{plain_chain, plain_find}
-use Rattle.es_meaning.specs.Outcomes.{Ending, threw, Outcome, Goes, Jumps, Ends}
+use Rattle.es_meaning.specs.Outcomes.{threw, Outcome, Goes, Jumps, Ends}
 use Rattle.es_meaning.specs.Evaluation.{program_step}
 use Rattle.es_meaning.specs.Plain.{outermost_env}
 use Rattle.es_meaning.specs.Start.{shown, shown_primitive, shown_name, shown_body, shown_found, shown_class, class_name}

@@ -1,7 +1,5 @@
 -- What the bytes of a source are: a program, or none for one fault; and a script, or none for one fault.
-use Rattle.std.proofs.Common.{◌≡◌, ℕ, List, length, Bool, true, false, Option, Some, None, Result, Ok, Err, refl, sym, ap, subst, ◌∙◌, inl, inr, ◌⊎◌}
-use Rattle.std.specs.Prelude.{nat_lt, if◌then◌else◌}
-use Rattle.flow_text.specs.Utf8.{text_of_utf8}
+use Rattle.std.proofs.Common.{◌≡◌, ℕ, List, length, Option, Some, None, Result, Ok, Err, refl, sym, ap, subst, ◌∙◌, inl, inr, ◌⊎◌}
 use Rattle.flow_text.specs.Places.{place_of}
 use Rattle.js_ast.specs.declared.token.Token.{Token}
 use Rattle.js_ast.specs.Trees.{Statements}
@@ -19,7 +17,7 @@ use Rattle.js_early.specs.EarlyErrors.{early_error}
 use Rattle.js_unbuilt.specs.Unbuilt.{first_unbuilt}
 use Rattle.js_shell.specs.declared.refusals.SourceKind.{SourceKind}
 use Rattle.js_shell.specs.declared.refusals.SourceKind.TheVariants as kind
-use Rattle.js_shell.specs.Sources.{SourceFault, long_source, source_utf8, bad_source, source_text, source_limit, read_source, scan_kind, parse_kind, early_kind, HasTokens, HasProgram, IsScriptOf, RefusesProgram, has_no_text, has_no_tokens, is_no_program, has_early_error, RefusesSource, refuses_program, unbuilt}
+use Rattle.js_shell.specs.Sources.{SourceFault, bad_source, source_text, scan_kind, parse_kind, early_kind, HasTokens, HasProgram, IsScriptOf, RefusesProgram, has_no_text, has_no_tokens, is_no_program, has_early_error, RefusesSource, refuses_program, unbuilt}
 use Rattle.js_shell.specs.Promises.{IsProgramOnce, IsProgramOrRefused}
 
 pub ok_is : {X E : Type 0} (x y : X) (r : Result X E) → r ≡ Ok x → r ≡ Ok y → x ≡ y

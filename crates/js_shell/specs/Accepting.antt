@@ -27,7 +27,7 @@ use Rattle.js_shell.specs.declared.sources.Source.{Source}
 use Rattle.js_shell.specs.declared.refusals.SourceKind.{SourceKind}
 use Rattle.js_shell.specs.declared.refusals.Refusal.{Refusal}
 use Rattle.js_shell.specs.declared.refusals.Refusal.TheVariants as refusal
-use Rattle.js_shell.specs.Sources.{SourceFault, long_source, source_utf8, bad_source, source_limit, source_text, HasTokens, HasProgram, IsScriptOf, RefusesProgram, RefusesSource, scan_kind, parse_kind, early_kind}
+use Rattle.js_shell.specs.Sources.{SourceFault, long_source, source_utf8, bad_source, source_limit, source_text, HasProgram, IsScriptOf, RefusesProgram, RefusesSource, scan_kind, parse_kind, early_kind}
 use Rattle.js_shell.specs.Replies.{Task, IsAsked, IsChecked, IsProgramAt, HasNoProgram, HasScript, HasNoScript, HasPolicy, HasNoPolicy, HasInput, HasNoInput, too_long, bad_line, Reply, IsReply, read_fault_report, accepted_report, usage_reply, source_reply, policy_reply, input_reply}
 
 -- what is said of the files, where the store tells them

@@ -94,6 +94,7 @@ fn leaving_name(why: Leaving) -> &'static [u8]
         Leaving::String => b"string",
         Leaving::Channel => b"channel",
         Leaving::Origin => b"origin",
+        Leaving::Wrapper => b"wrapper",
         Leaving::Unbuilt => b"unbuilt",
     }
 }

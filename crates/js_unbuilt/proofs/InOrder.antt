@@ -6,15 +6,16 @@ use Rattle.std.specs.Option.{is_none}
 use Rattle.std.proofs.lemmas.List.Elements.{All-nil, All-cons, All-append, All-head, All-tail, All-weaker}
 use Rattle.js_ast.specs.declared.token.Token.{Token}
 use Rattle.js_ast.specs.Words.{Word}
-use Rattle.js_ast.specs.Trees.{Ident, Semi, Expr, name, number, string, null, boolean, paren, call, postfix, unary, binary, conditional, assign, comma, at_of, Exprs, no_exprs, more_exprs, MaybeExpr, absent, present, Declarations, one_declaration, more_declarations, First, first_expr, first_var, block_of, Statement, block, var, empty, expression, if_then, if_else, do_while, while, for, for_in, continue, break, return, throw, switch, labelled, try_catch, try_finally, try_both, debugger, function_declaration, Statements, no_statements, more_statements}
-use Rattle.js_ast.specs.Grammar.{Part, ◌⨾◌, nothing, place_of as first_place, At, OnLine, Takes, ReadsIdent, Ends, StartsExpression, last_initialiser, Reads, ReadsExprs, ReadsMaybe, ReadsInitialiser, ReadsDeclarations, ReadsFirst, ReadsStatement, ReadsStatements}
+use Rattle.js_ast.specs.Trees.{Ident, Semi, Expr, name, number, string, this, null, boolean, paren, object, member, index, call, postfix, unary, binary, conditional, assign, comma, at_of, Exprs, no_exprs, more_exprs, MaybeExpr, absent, present, Property, value, getter, setter, Properties, no_properties, more_properties, Declarations, one_declaration, more_declarations, First, first_expr, first_var, Target, target_expr, target_var, block_of, Statement, block, var, empty, expression, if_then, if_else, do_while, while, for, for_in, continue, break, return, throw, switch, labelled, try_catch, try_finally, try_both, debugger, function_declaration, Statements, no_statements, more_statements}
+use Rattle.js_ast.specs.Grammar.{Part, ◌⨾◌, nothing, place_of as first_place, At, OnLine, Takes, ReadsIdent, FinalComma, Ends, StartsExpression, last_initialiser, Reads, ReadsExprs, ReadsMaybe, ReadsProperty, ReadsProperties, ReadsInitialiser, ReadsDeclarations, ReadsFirst, ReadsTarget, ReadsStatement, ReadsStatements}
 use Rattle.js_list_parser.proofs.Begins.{reads_place}
 use Rattle.js_list_parser.proofs.Lengths.{Shortens, ident_shortens, expr_shortens, statement_shortens}
-use Rattle.js_list_parser.proofs.Fronts.{Fronts, nothing_fixed, takes_fixed, end_loose, expr_fixed, statement_loose}
+use Rattle.js_list_parser.proofs.Fronts.{Fronts, nothing_fixed, takes_fixed, name_fixed, key_fixed, end_loose, expr_fixed, property_fixed, statement_loose}
 use Rattle.js_faults.specs.Directives.{directive_in}
-use Rattle.es_meaning.specs.Evaluation.{is_name}
-use Rattle.js_unbuilt.specs.Unbuilt.{place_of, is_reserved, is_callee, takes_operand, is_built, unless, unbuilt_ident, unbuilt_expr, unbuilt_exprs, unbuilt_maybe, unbuilt_declarations, unbuilt_first, unbuilt_statement, unbuilt_statements, least_of, least}
-use Rattle.js_unbuilt.specs.Looking.{first_in}
+use Rattle.es_meaning.specs.Evaluation.{is_reference}
+use Rattle.js_unbuilt.specs.Unbuilt.{place_of, is_reserved, is_callee, takes_operand, is_built, are_values, takes_keys, unless, unbuilt_ident, unbuilt_expr, unbuilt_exprs, unbuilt_properties, unbuilt_maybe, unbuilt_declarations, unbuilt_first, unbuilt_target, unbuilt_statement, unbuilt_statements, least_of, least}
+use Rattle.js_unbuilt.specs.Looking.{first_in, unbuilt_property}
+use Rattle.js_unbuilt.proofs.Looked.{properties_step}
 
 -- ---- tokens
 
@@ -150,6 +151,10 @@ token {w} = passing (takes_fixed w)
 no_token : Stands nothing []
 no_token = passing nothing_fixed
 
+final_comma : (final : Bool) → Stands (FinalComma final) []
+final_comma true = token
+final_comma false = no_token
+
 recast : {p : Part} {xs ys : List ℕ} → xs ≡ ys → Stands p xs → Stands p ys
 recast {p} e f = subst (λ (ats : List ℕ). Stands p ats) e f
 
@@ -201,21 +206,25 @@ module _ (e : Expr) where
   in_node b f = node b (reads_place e) (expr_shortens e) f
 
 mutual
-  unfolding unbuilt_expr unbuilt_exprs
+  unfolding unbuilt_expr unbuilt_exprs unbuilt_properties
 
   expr : (e : Expr) → Stands (Reads e) (unbuilt_expr e)
   expr (name at text) = leaf (not (is_reserved text)) (reads_place (name at text)) (expr_shortens (name at text)) (at_place token)
   expr (number at i) = at_place token
   expr (string at text v) = at_place token
+  expr (this at) = at_place token
   expr (null at) = at_place token
   expr (boolean at b) = at_place token
   expr (paren at e) = at_place (between (expr e))
+  expr (object at ps final) = in_node (object at ps final) (are_values ps) (at_place (between (properties ps final)))
+  expr (member at e text) = at_place (ahead (expr e) (then token (passing (name_fixed text))))
+  expr (index at e n) = at_place (both (expr e) (between (expr n)))
   expr (call at e es) = in_node (call at e es) (is_callee e) (at_place (then (passing (expr_fixed e)) (between (exprs es))))
-  expr (postfix at e o) = in_node (postfix at e o) (is_name e) (at_place (ahead (expr e) (on_line token)))
+  expr (postfix at e o) = in_node (postfix at e o) (is_reference e) (at_place (ahead (expr e) (on_line token)))
   expr (unary at o e) = in_node (unary at o e) (takes_operand o e) (at_place (then token (expr e)))
   expr (binary at l o r) = in_node (binary at l o r) (is_built o) (at_place (both (expr l) (then token (expr r))))
   expr (conditional at e a b) = at_place (both (expr e) (then token (both (expr a) (then token (expr b)))))
-  expr (assign at l o r) = in_node (assign at l o r) (is_name l) (at_place (both (expr l) (then token (expr r))))
+  expr (assign at l o r) = in_node (assign at l o r) (is_reference l) (at_place (both (expr l) (then token (expr r))))
   expr (comma at l r) = at_place (both (expr l) (then token (expr r)))
   expr e = in_node e false (passing (expr_fixed e))
 
@@ -223,6 +232,16 @@ mutual
   exprs no_exprs = no_token
   exprs (more_exprs e no_exprs) = recast (sym (append-nil (unbuilt_expr e))) (expr e)
   exprs (more_exprs e (more_exprs f es)) = both (expr e) (then token (exprs (more_exprs f es)))
+
+  property : (p : Property) → Stands (ReadsProperty p) (unbuilt_property p)
+  property (value at k e) = at_place (then (passing (key_fixed k)) (then token (expr e)))
+  property (getter at k f) = passing (property_fixed (getter at k f))
+  property (setter at k f) = passing (property_fixed (setter at k f))
+
+  properties : (ps : Properties) (final : Bool) → Stands (ReadsProperties ps final) (unbuilt_properties ps)
+  properties no_properties final = no_token
+  properties (more_properties p no_properties) final = recast (sym (append-nil (unbuilt_property p)) ∙ sym (properties_step p no_properties)) (ahead (property p) (final_comma final))
+  properties (more_properties p (more_properties q ps)) final = recast (sym (properties_step p (more_properties q ps))) (both (property p) (then token (properties (more_properties q ps) final)))
 
 maybe : (e : MaybeExpr) → Stands (ReadsMaybe e) (unbuilt_maybe e)
 maybe absent = no_token
@@ -239,6 +258,10 @@ declarations (more_declarations i init ds) = recast (append_assoc (unbuilt_ident
 first : (f : First) → Stands (ReadsFirst f) (unbuilt_first f)
 first (first_expr e) = maybe e
 first (first_var ds) = then token (declarations ds)
+
+target : (t : Target) → Stands (ReadsTarget t) (unbuilt_target t)
+target (target_expr e) = expr e
+target (target_var i) = then token (ident i)
 
 -- a statement stands where its first token begins
 statement_place : (t : Statement) → IsPlace (place_of t) (ReadsStatement t)
@@ -282,6 +305,9 @@ mutual
   statement (while at e t) = at_place (then token (both (between (expr e)) (statement t)))
   statement (for at f test step t) =
       at_place (then token (recast (header (unbuilt_first f) (unbuilt_maybe test) (unbuilt_maybe step) (unbuilt_statement t)) (both (between (both (first f) (then token (both (maybe test) (then token (maybe step)))))) (statement t))))
+  statement (for_in at g e t) =
+      node (takes_keys g) (statement_place (for_in at g e t)) (statement_shortens (for_in at g e t))
+      (at_place (then token (recast (append_assoc (unbuilt_target g) (unbuilt_expr e) (unbuilt_statement t)) (both (between (both (target g) (then token (expr e)))) (statement t)))))
   statement (debugger at semi) = at_place (then token (end None semi))
   statement t = node false (statement_place t) (statement_shortens t) (passing (statement_loose t))
 

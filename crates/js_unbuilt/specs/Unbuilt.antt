@@ -6,9 +6,9 @@ use Rattle.js_ast.specs.declared.operators.UnaryOperator.{UnaryOperator}
 use Rattle.js_ast.specs.declared.operators.UnaryOperator.TheVariants as unary_operator
 use Rattle.js_ast.specs.declared.operators.BinaryOperator.{BinaryOperator}
 use Rattle.js_ast.specs.declared.operators.BinaryOperator.TheVariants as binary_operator
-use Rattle.js_ast.specs.Trees.{Ident, Expr, name, number, string, null, boolean, paren, call, postfix, unary, binary, conditional, assign, comma, at_of, Exprs, no_exprs, more_exprs, MaybeExpr, absent, present, Declarations, one_declaration, more_declarations, First, first_expr, first_var, block_of, Statement, block, var, empty, expression, if_then, if_else, do_while, while, for, for_in, continue, break, return, throw, switch, labelled, try_catch, try_finally, try_both, debugger, function_declaration, Statements, no_statements, more_statements}
+use Rattle.js_ast.specs.Trees.{Ident, Expr, name, number, string, this, null, boolean, paren, object, member, index, call, postfix, unary, binary, conditional, assign, comma, at_of, Exprs, no_exprs, more_exprs, MaybeExpr, absent, present, value, getter, setter, Properties, no_properties, more_properties, Target, target_expr, target_var, Declarations, one_declaration, more_declarations, First, first_expr, first_var, block_of, Statement, block, var, empty, expression, if_then, if_else, do_while, while, for, for_in, continue, break, return, throw, switch, labelled, try_catch, try_finally, try_both, debugger, function_declaration, Statements, no_statements, more_statements}
 use Rattle.js_faults.specs.Directives.{directive_in}
-use Rattle.es_meaning.specs.Evaluation.{is_name, direct_of}
+use Rattle.es_meaning.specs.Evaluation.{is_reference, direct_of}
 
 -- the place of a statement's first token
 abbrev pub place_of : Statement → ℕ
@@ -49,16 +49,26 @@ is_callee _ = false
 
 -- operators in front of this operand are built
 abbrev pub takes_operand : UnaryOperator → Expr → Bool
-takes_operand unary_operator.Delete e = false
-takes_operand unary_operator.Increment e = is_name e
-takes_operand unary_operator.Decrement e = is_name e
+takes_operand unary_operator.Increment e = is_reference e
+takes_operand unary_operator.Decrement e = is_reference e
 takes_operand _ e = true
 
 -- operators between operands are built
 abbrev pub is_built : BinaryOperator → Bool
-is_built binary_operator.In = false
 is_built binary_operator.Instanceof = false
 is_built _ = true
+
+-- each property of an object is a value: getters and setters aren't built
+abbrev pub are_values : Properties → Bool
+are_values no_properties = true
+are_values (more_properties (value at key e) ps) = are_values ps
+are_values (more_properties (getter at key f) ps) = false
+are_values (more_properties (setter at key f) ps) = false
+
+-- a `for in` with this target is built
+abbrev pub takes_keys : Target → Bool
+takes_keys (target_expr e) = is_reference e
+takes_keys (target_var ident) = true
 
 -- a place, unless what stands there is built
 abbrev pub unless : Bool → ℕ → List ℕ
@@ -76,21 +86,32 @@ unfoldable mutual
   unbuilt_expr (name at text) = unless (not (is_reserved text)) at
   unbuilt_expr (number at n) = []
   unbuilt_expr (string at text v) = []
+  unbuilt_expr (this at) = []
   unbuilt_expr (null at) = []
   unbuilt_expr (boolean at b) = []
   unbuilt_expr (paren at e) = unbuilt_expr e
+  unbuilt_expr (object at ps final) = unless (are_values ps) at ++ unbuilt_properties ps
+  unbuilt_expr (member at e text) = unbuilt_expr e
+  unbuilt_expr (index at e n) = unbuilt_expr e ++ unbuilt_expr n
   unbuilt_expr (call at e es) = unless (is_callee e) at ++ unbuilt_exprs es
-  unbuilt_expr (postfix at e o) = unless (is_name e) at ++ unbuilt_expr e
+  unbuilt_expr (postfix at e o) = unless (is_reference e) at ++ unbuilt_expr e
   unbuilt_expr (unary at o e) = unless (takes_operand o e) at ++ unbuilt_expr e
   unbuilt_expr (binary at l o r) = unless (is_built o) at ++ (unbuilt_expr l ++ unbuilt_expr r)
   unbuilt_expr (conditional at c a b) = unbuilt_expr c ++ (unbuilt_expr a ++ unbuilt_expr b)
-  unbuilt_expr (assign at l o r) = unless (is_name l) at ++ (unbuilt_expr l ++ unbuilt_expr r)
+  unbuilt_expr (assign at l o r) = unless (is_reference l) at ++ (unbuilt_expr l ++ unbuilt_expr r)
   unbuilt_expr (comma at l r) = unbuilt_expr l ++ unbuilt_expr r
   unbuilt_expr e = at_of e ∷ []
 
   pub unbuilt_exprs : Exprs → List ℕ
   unbuilt_exprs no_exprs = []
   unbuilt_exprs (more_exprs e es) = unbuilt_expr e ++ unbuilt_exprs es
+
+  -- those of the values of properties
+  pub unbuilt_properties : Properties → List ℕ
+  unbuilt_properties no_properties = []
+  unbuilt_properties (more_properties (value at key e) ps) = unbuilt_expr e ++ unbuilt_properties ps
+  unbuilt_properties (more_properties (getter at key f) ps) = unbuilt_properties ps
+  unbuilt_properties (more_properties (setter at key f) ps) = unbuilt_properties ps
 
 abbrev pub unbuilt_maybe : MaybeExpr → List ℕ
 unbuilt_maybe absent = []
@@ -104,6 +125,11 @@ abbrev pub unbuilt_first : First → List ℕ
 unbuilt_first (first_expr e) = unbuilt_maybe e
 unbuilt_first (first_var ds) = unbuilt_declarations ds
 
+-- what a `for in` gives its keys to
+abbrev pub unbuilt_target : Target → List ℕ
+unbuilt_target (target_expr e) = unbuilt_expr e
+unbuilt_target (target_var ident) = unbuilt_ident ident
+
 -- the same of statements. An upgrade directive isn't built
 unfoldable mutual
   pub unbuilt_statement : Statement → List ℕ
@@ -116,6 +142,7 @@ unfoldable mutual
   unbuilt_statement (do_while at s e semi) = unbuilt_statement s ++ unbuilt_expr e
   unbuilt_statement (while at e s) = unbuilt_expr e ++ unbuilt_statement s
   unbuilt_statement (for at first test step s) = unbuilt_first first ++ (unbuilt_maybe test ++ (unbuilt_maybe step ++ unbuilt_statement s))
+  unbuilt_statement (for_in at target e s) = unless (takes_keys target) at ++ (unbuilt_target target ++ (unbuilt_expr e ++ unbuilt_statement s))
   unbuilt_statement (debugger at semi) = []
   unbuilt_statement s = place_of s ∷ []
 

@@ -7,16 +7,16 @@ ghost use Rattle.std.specs.Option.{is_none};
 ghost use Rattle.js_ast.specs.declared.token.Token.{Token};
 ghost use Rattle.js_ast.specs.Grammar.{SpellsProgram};
 ghost use Rattle.js_ast.specs.Nodes.{nodes_of};
-ghost use Rattle.js_ast.specs.Views.{view_ident, view_expr, view_exprs, view_maybe_expr, view_declaration, view_declarations, view_first, view_stmt, view_stmts, view_program};
+ghost use Rattle.js_ast.specs.Views.{view_ident, view_expr, view_exprs, view_maybe_expr, view_property, view_properties, view_declaration, view_declarations, view_first, view_target, view_stmt, view_stmts, view_program};
 ghost use Rattle.js_faults.specs.Directives.{directive_in};
-ghost use Rattle.es_meaning.specs.Evaluation.{is_name};
-ghost use Rattle.js_unbuilt.specs.Unbuilt.{is_reserved, is_called, is_callee, takes_operand, is_built, unless, unbuilt_ident, unbuilt_expr, unbuilt_exprs, unbuilt_maybe, unbuilt_declarations, unbuilt_first, unbuilt_statement, unbuilt_statements, first_unbuilt};
-ghost use Rattle.js_unbuilt.specs.Looking.{first_in, or_next, unbuilt_head};
+ghost use Rattle.es_meaning.specs.Evaluation.{is_reference};
+ghost use Rattle.js_unbuilt.specs.Unbuilt.{is_reserved, is_callee, takes_operand, is_built, are_values, takes_keys, unless, unbuilt_ident, unbuilt_expr, unbuilt_exprs, unbuilt_properties, unbuilt_maybe, unbuilt_declarations, unbuilt_first, unbuilt_target, unbuilt_statement, unbuilt_statements, first_unbuilt};
+ghost use Rattle.js_unbuilt.specs.Looking.{first_in, or_next, is_value, unbuilt_property, unbuilt_head};
 
 use flow_text::Text;
 use js_ast::{
-    BinaryOperator, Declaration, Declarations, Expr, ExprKind, ExprList, ForFirst, Ident, Program,
-    Stmt, StmtKind, StmtList, UnaryOperator,
+    BinaryOperator, Declaration, Declarations, Expr, ExprKind, ExprList, ForFirst, ForTarget,
+    Ident, Program, Property, PropertyKind, PropertyList, Stmt, StmtKind, StmtList, UnaryOperator,
 };
 
 // `read`, `print`, `lbl`, `upgs` and `upge`
@@ -43,34 +43,25 @@ fn is_reserved(text: &Text) -> bool
         || text == UPGE.as_slice()
 }
 
-/// The name of a function of the product that can be called.
-#[tactic(auto, unfolding(es_meaning::specs::Evaluation::direct_of))]
-fn is_called(text: &Text) -> bool
-    ensures { result ≡ is_called text.now }
-{
-    let text = text.units();
-    text == READ.as_slice() || text == PRINT.as_slice() || text == LBL.as_slice()
-}
-
 /// What can be called: a function of the product, by its name.
-#[tactic(auto, unfolding(crate::specs::Unbuilt::is_callee))]
+#[tactic(auto, using(crate::proofs::Looked::called_reserved), unfolding(crate::specs::Unbuilt::is_callee))]
 fn is_callee(e: &Expr) -> bool
     ensures { result ≡ is_callee (view_expr e.now) }
 {
     match &*e.kind {
-        ExprKind::Name(text) => is_called(text),
+        ExprKind::Name(text) => is_reserved(text),
         _ => false,
     }
 }
 
-/// Whether it is a name, also in parentheses.
-#[tactic(auto, unfolding(es_meaning::specs::Evaluation::is_name))]
-fn is_name(e: &Expr) -> bool
-    ensures { result ≡ is_name (view_expr e.now) }
+/// Whether it is a reference (ECMA-262 8.7), also in parentheses.
+#[tactic(auto, unfolding(es_meaning::specs::Evaluation::is_reference))]
+fn is_reference(e: &Expr) -> bool
+    ensures { result ≡ is_reference (view_expr e.now) }
 {
     match &*e.kind {
-        ExprKind::Name(_) => true,
-        ExprKind::Paren(inner) => is_name(inner),
+        ExprKind::Name(_) | ExprKind::Member { .. } | ExprKind::Index { .. } => true,
+        ExprKind::Paren(inner) => is_reference(inner),
         _ => false,
     }
 }
@@ -79,8 +70,7 @@ fn takes_operand(operator: UnaryOperator, operand: &Expr) -> bool
     ensures { result ≡ takes_operand operator (view_expr operand.now) }
 {
     match operator {
-        UnaryOperator::Delete => false,
-        UnaryOperator::Increment | UnaryOperator::Decrement => is_name(operand),
+        UnaryOperator::Increment | UnaryOperator::Decrement => is_reference(operand),
         _ => true,
     }
 }
@@ -88,7 +78,29 @@ fn takes_operand(operator: UnaryOperator, operand: &Expr) -> bool
 fn is_built(operator: BinaryOperator) -> bool
     ensures { result ≡ is_built operator }
 {
-    !matches!(operator, BinaryOperator::In | BinaryOperator::Instanceof)
+    !matches!(operator, BinaryOperator::Instanceof)
+}
+
+fn is_value(property: &Property) -> bool
+    ensures { result ≡ is_value (view_property property.now) }
+{
+    matches!(property.kind, PropertyKind::Value(_))
+}
+
+#[tactic(auto, using(crate::proofs::Looked::all_values))]
+fn are_values(list: &PropertyList) -> bool
+    ensures { result ≡ are_values (view_properties (nodes_of list.now)) }
+{
+    list.items().iter().all(|property| is_value(property))
+}
+
+fn takes_keys(target: &ForTarget) -> bool
+    ensures { result ≡ takes_keys (view_target target.now) }
+{
+    match target {
+        ForTarget::Expr(e) => is_reference(e),
+        ForTarget::Var(_) => true,
+    }
 }
 
 /// Whether a statement of this expression is an upgrade directive.
@@ -140,17 +152,26 @@ fn in_ident(ident: &Ident) -> Option<usize>
 }
 
 #[cycle(walk)]
-#[tactic(auto, using(crate::proofs::Looked::first_append, crate::proofs::Looked::none_behind, js_ast::proofs::ViewLaws::held_exprs, js_ast::specs::declared::trees::ExprKind::TheViews::the_lemmas), unfolding(crate::specs::Unbuilt::unbuilt_expr))]
+#[tactic(auto, using(crate::proofs::Looked::first_append, crate::proofs::Looked::none_behind, js_ast::proofs::ViewLaws::held_exprs, js_ast::proofs::ViewLaws::held_properties, js_ast::specs::declared::trees::ExprKind::TheViews::the_lemmas), unfolding(crate::specs::Unbuilt::unbuilt_expr))]
 fn in_expr(e: &Expr) -> Option<usize>
     ensures { result ≡ first_in (unbuilt_expr (view_expr e.now)) }
 {
     match &*e.kind {
-        ExprKind::Number(_) | ExprKind::String { .. } | ExprKind::Null | ExprKind::Bool(_) => None,
+        ExprKind::Number(_)
+        | ExprKind::String { .. }
+        | ExprKind::This
+        | ExprKind::Null
+        | ExprKind::Bool(_) => None,
         ExprKind::Name(text) => where_built(!is_reserved(text), e.at, None),
         ExprKind::Paren(inner) => in_expr(inner),
+        ExprKind::Object { properties, .. } => {
+            where_built(are_values(properties), e.at, in_properties(properties))
+        }
+        ExprKind::Member { base, .. } => in_expr(base),
+        ExprKind::Index { base, index } => first_of(in_expr(base), in_expr(index)),
         ExprKind::Call { callee, args } => where_built(is_callee(callee), e.at, in_exprs(args)),
         ExprKind::Postfix { operand, .. } => {
-            where_built(is_name(operand), e.at, in_expr(operand))
+            where_built(is_reference(operand), e.at, in_expr(operand))
         }
         ExprKind::Unary { operator, operand } => {
             where_built(takes_operand(*operator, operand), e.at, in_expr(operand))
@@ -166,7 +187,7 @@ fn in_expr(e: &Expr) -> Option<usize>
         ),
         ExprKind::Assign { target, value, .. } => {
             where_built(
-                is_name(target),
+                is_reference(target),
                 e.at,
                 first_of(in_expr(target), in_expr(value)),
             )
@@ -175,13 +196,7 @@ fn in_expr(e: &Expr) -> Option<usize>
         ExprKind::Conditional { test, then, other } => {
             first_of_three(in_expr(test), in_expr(then), in_expr(other))
         }
-        ExprKind::This
-        | ExprKind::Array { .. }
-        | ExprKind::Object { .. }
-        | ExprKind::Function(_)
-        | ExprKind::Member { .. }
-        | ExprKind::Index { .. }
-        | ExprKind::New { .. } => Some(e.at),
+        ExprKind::Array { .. } | ExprKind::Function(_) | ExprKind::New { .. } => Some(e.at),
     }
 }
 
@@ -191,6 +206,31 @@ fn in_exprs(list: &ExprList) -> Option<usize>
 {
     'exprs: for e in list.items() {
         let found = in_expr(e);
+        if found.is_some() {
+            return found;
+        }
+    }
+    None
+}
+
+/// The first place in the value of a property.
+#[cycle(walk)]
+#[tactic(auto, unfolding(crate::specs::Unbuilt::unbuilt_expr))]
+fn in_property(property: &Property) -> Option<usize>
+    ensures { result ≡ first_in (unbuilt_property (view_property property.now)) }
+{
+    match &property.kind {
+        PropertyKind::Value(e) => in_expr(e),
+        PropertyKind::Getter(_) | PropertyKind::Setter(_) => None,
+    }
+}
+
+#[cycle(walk)]
+fn in_properties(list: &PropertyList) -> Option<usize>
+    ensures { result ≡ first_in (unbuilt_properties (view_properties (nodes_of list.now))) }
+{
+    'properties: for property in list.items() {
+        let found = in_property(property);
         if found.is_some() {
             return found;
         }
@@ -240,6 +280,15 @@ fn in_first(first: &ForFirst) -> Option<usize>
     }
 }
 
+fn in_target(target: &ForTarget) -> Option<usize>
+    ensures { result ≡ first_in (unbuilt_target (view_target target.now)) }
+{
+    match target {
+        ForTarget::Expr(e) => in_expr(e),
+        ForTarget::Var(name) => in_ident(name),
+    }
+}
+
 /// The first place in an expression that is a statement.
 #[tactic(auto, using(crate::proofs::Looked::first_append))]
 fn in_expression(at: usize, e: &Expr) -> Option<usize>
@@ -254,6 +303,18 @@ fn in_header(first: &ForFirst, test: &Option<Expr>, update: &Option<Expr>) -> Op
     ensures { result ≡ first_in (unbuilt_first (view_first first.now) ++ (unbuilt_maybe (view_maybe_expr test.now) ++ unbuilt_maybe (view_maybe_expr update.now))) }
 {
     first_of_three(in_first(first), in_maybe(test), in_maybe(update))
+}
+
+/// The first place in the header of a `for` with `in`.
+#[tactic(auto, using(crate::proofs::Looked::first_append))]
+fn in_keys(at: usize, target: &ForTarget, object: &Expr) -> Option<usize>
+    ensures { result ≡ first_in (unless (takes_keys (view_target target.now)) at ++ (unbuilt_target (view_target target.now) ++ unbuilt_expr (view_expr object.now))) }
+{
+    where_built(
+        takes_keys(target),
+        at,
+        first_of(in_target(target), in_expr(object)),
+    )
 }
 
 /// The first place in what stands in front of a statement's own statements, or the statement's where it isn't built.
@@ -275,6 +336,7 @@ fn in_head(s: &Stmt) -> Option<usize>
             update,
             ..
         } => in_header(first, test, update),
+        StmtKind::ForIn { target, object, .. } => in_keys(s.at, target, object),
         _ => Some(s.at),
     }
 }
@@ -300,6 +362,7 @@ fn in_statement(s: &Stmt) -> Option<usize>
         StmtKind::DoWhile { body, test, .. } => first_of(in_statement(body), in_expr(test)),
         StmtKind::While { body, .. } => first_of(head, in_statement(body)),
         StmtKind::For { body, .. } => first_of(head, in_statement(body)),
+        StmtKind::ForIn { body, .. } => first_of(head, in_statement(body)),
         _ => head,
     }
 }

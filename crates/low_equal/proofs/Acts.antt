@@ -1,11 +1,11 @@
 -- Each act on values, names and frames: where it isn't seen, and in two runs.
-use Rattle.std.proofs.Common.{◌≡◌, ℕ, zero, suc, ◌<◌, ◌≤◌, List, [], ◌∷◌, ◌++◌, length, Bool, true, false, Option, Some, None, Result, Ok, Err, nat_eq, ⊎_elim, refl, sym, ◌∙◌, ap, ap₂, subst, true≢false, arith}
+use Rattle.std.proofs.Common.{◌≡◌, ℕ, zero, suc, ◌<◌, ◌≤◌, List, [], ◌∷◌, ◌++◌, length, Bool, true, false, Option, Result, Ok, Err, nat_eq, ⊎_elim, refl, sym, ◌∙◌, ap, ap₂, subst, true≢false, arith}
 use Rattle.std.proofs.lemmas.Bool.{eqb-true, eq-eqb}
 use Rattle.std.proofs.lemmas.Option.{same_Some}
-use Rattle.origin_labels.specs.Label.{Label, bottom, union, within}
+use Rattle.origin_labels.specs.Label.{Label, union, within}
 use Rattle.flow_policy.specs.Policies.{Tables}
 use Rattle.flow_frames.specs.declared.faults.Rule.{Rule}
-use Rattle.flow_frames.specs.declared.faults.Rule.TheVariants.{W1, W9}
+use Rattle.flow_frames.specs.declared.faults.Rule.TheVariants.{W9}
 use Rattle.flow_frames.specs.Frames.{Frame, context, inside}
 use Rattle.flow_frames.specs.Held.{meant_at}
 use Rattle.flow_frames.specs.Rules.{jump_need}
@@ -13,29 +13,26 @@ use Rattle.js_number.specs.declared.primitive.Primitive.{Primitive}
 use Rattle.js_values.specs.declared.ids.ObjId.{ObjId}
 use Rattle.js_values.specs.declared.value.Value.{Value}
 use Rattle.js_values.specs.Objects.{Object}
-use Rattle.js_values.specs.Records.{Binding}
 use Rattle.js_ast.specs.declared.operators.UnaryOperator.{UnaryOperator}
 use Rattle.js_ast.specs.declared.operators.BinaryOperator.{BinaryOperator}
 use Rattle.es_meaning.specs.Outcomes.{out_of_turns, Goes, Jumps}
 use Rattle.es_meaning.specs.Operators.{an_object, unary_of, binary_of, binary_with_object}
 use Rattle.es_meaning.specs.Start.{ErrorKind, error, eval_error, range_error, reference_error, syntax_error, type_error, uri_error, error_prototype, start_heap}
-use Rattle.es_meaning.specs.Plain.{undefined, seen_of, Reference, binding_at, assigned_in}
-use Rattle.flow_meaning.specs.Erased.{unlabelled}
-use Rattle.flow_meaning.specs.Scopes.{Val, joined, as_plain, State, Jump, L, guard, cut_to, raised_in, raise, reached, jump_to, jump}
-use Rattle.flow_meaning.specs.Tracked.{engine_error, with_error, error_jump, throw_error, given, unless_object, seen as seen_in, bound, bound_or_undefined, rebinds, assigned, assigned_to, put_at, spend}
+use Rattle.es_meaning.specs.Plain.{seen_of}
+use Rattle.flow_meaning.specs.Scopes.{Val, as_plain, State, Jump, L, guard, cut_to, raised_in, raise, reached, jump_to, jump}
+use Rattle.flow_meaning.specs.Tracked.{engine_error, with_error, error_jump, throw_error, given, unless_object, seen as seen_in, spend}
 use Rattle.low_equal.specs.Observed.{Sees, Hides, view, IsSeen, IsHidden, Front}
 use Rattle.low_equal.specs.LowEqual as low
 use Rattle.low_equal.specs.LowEqual.{Pairing, Extends, Alike, seen, hidden, SameValue, primitives, objects, SameObject, both, Agree, plains, no_rows, seen_shape, ObjectsAgree, Both, IsFormed, no_keys, HeapsAgree, ScopesAgree, LowEqual}
 use Rattle.low_equal.specs.Runs.{state_of, Same, Still, Fits, Confined, JumpsAgree, InStep, go, apart, Lockstep}
 use Rattle.low_equal.specs.Runs as runs
 use Rattle.low_equal.specs.Laws.{Nothing}
-use Rattle.low_equal.proofs.Labels.{not_both, sees_or_hides, sees_second, hides_second, sees_bottom, hides_within, sees_within}
+use Rattle.low_equal.proofs.Labels.{not_both, sees_or_hides, sees_second, sees_within}
 use Rattle.low_equal.proofs.Views.{take_some, take_shorter, seen_take, seen_meant, take_stays, last_raised, raised_last, length_raised, top_stays, tops_hidden, seen_top}
-use Rattle.low_equal.proofs.Agreement.{extends_refl, alike_map, alike_join, value_more, agree_more, records_more, agree_joined, both_map}
+use Rattle.low_equal.proofs.Agreement.{extends_refl, alike_map, alike_join, value_more, agree_more, records_more, both_map}
 use Rattle.low_equal.proofs.Heaps.{pair_new, with_objects, extends_objects, start_stands, new_left, new_both}
-use Rattle.low_equal.proofs.Scopes.{PlacesAgree, nowhere, somewhere, ReferencesAgree, FoundAgree, missing, there, binding_agree, assigned_left, assigned_both}
 use Rattle.low_equal.proofs.Lines.{front_refl, lines_refl, positions_refl}
-use Rattle.low_equal.proofs.States.{low_sym, low_frames, low_heap, low_records, low_turns, low_seen, same_frames, same_context, low_cut, same_with, same_turns}
+use Rattle.low_equal.proofs.States.{low_sym, low_frames, low_heap, low_turns, low_seen, same_frames, same_context, low_cut, same_with, same_turns}
 use Rattle.low_equal.proofs.Steps.{still_goes, still_jumps, still_ends, still_after, conf_ret, conf_ends, step_more, ends_first, ends_second}
 
 module _ (observer : Label) (tables : Tables) where
@@ -103,7 +100,7 @@ module _ (observer : Label) (tables : Tables) where
   }
 
   -- in a seen context a hidden cause always stops: no label there includes it
-  hidden_cause : (depth : ℕ) (cause : Label) (s : State) → Hides observer cause → IsSeen observer s → within (jump_need s.frames depth cause) (meant_at s.frames depth) ≡ false
+  pub hidden_cause : (depth : ℕ) (cause : Label) (s : State) → Hides observer cause → IsSeen observer s → within (jump_need s.frames depth cause) (meant_at s.frames depth) ≡ false
   hidden_cause depth cause s h v = go (within (jump_need s.frames depth cause) (meant_at s.frames depth)) refl
     where
       go : (b : Bool) → within (jump_need s.frames depth cause) (meant_at s.frames depth) ≡ b → b ≡ false
@@ -183,7 +180,7 @@ module _ (observer : Label) (tables : Tables) where
       δ : Pairing
       δ = with_objects γ (length s.heap) (length t.heap)
 
-  thrown_both : {X : Type 0} (P : Pairing → X → X → Type 0) {γ : Pairing} (kind : ErrorKind) {l m : Label} (s t : State) → Alike observer l m (Unit {0}) → LowEqual observer tables γ s t → IsSeen observer s → InStep observer tables P γ (throw_error kind l s) (throw_error kind m t)
+  pub thrown_both : {X : Type 0} (P : Pairing → X → X → Type 0) {γ : Pairing} (kind : ErrorKind) {l m : Label} (s t : State) → Alike observer l m (Unit {0}) → LowEqual observer tables γ s t → IsSeen observer s → InStep observer tables P γ (throw_error kind l s) (throw_error kind m t)
   unfolding throw_error
   thrown_both P {γ} kind {l} s t (seen p e u) r v = subst (λ x. InStep observer tables P γ (throw_error kind l s) (throw_error kind x t)) e
       (step_more observer tables P (extends_objects γ (length s.heap) (length t.heap))
@@ -326,126 +323,3 @@ module _ (observer : Label) (tables : Tables) where
 
   pub lock_unless : {β : Pairing} (b c : Bool) {v u : Val} → Agree observer β v u → Lockstep observer tables (Agree observer) β (unless_object b v) (unless_object c u)
   lock_unless b c a = record { steps = λ γ e s t r w. unless_after b c s t (agree_more observer e a) r w }
-
-  -- ---- names
-
-  no_cause : Alike observer bottom bottom (Unit {0})
-  no_cause = seen (sees_bottom observer) refl tt
-
-  pub undefined_agree : {γ : Pairing} → Agree observer γ (unlabelled undefined) (unlabelled undefined)
-  undefined_agree = seen (sees_bottom observer) refl primitives
-
-  conf_bound : (b : Option (Binding Val)) → Confined observer tables (bound b)
-  unfolding bound
-  conf_bound (Some b) = conf_ret observer tables b.value
-  conf_bound None = record { still = λ s. (conf_throw {X = Val} reference_error bottom).still s; fits = λ s. (conf_throw {X = Val} reference_error bottom).fits s; adds = λ s. (conf_throw {X = Val} reference_error bottom).adds s }
-
-  pub conf_get : (n : Reference) → Confined observer tables (λ s. bound (binding_at s.records n.place n.name) s)
-  conf_get n = record { still = λ s. (conf_bound (binding_at s.records n.place n.name)).still s; fits = λ s. (conf_bound (binding_at s.records n.place n.name)).fits s; adds = λ s. (conf_bound (binding_at s.records n.place n.name)).adds s }
-
-  bound_after : {γ : Pairing} {b c : Option (Binding Val)} (s t : State) → FoundAgree observer γ b c → LowEqual observer tables γ s t → IsSeen observer s → InStep observer tables (Agree observer) γ (bound b s) (bound c t)
-  unfolding bound
-  bound_after s t missing r w = thrown_both (Agree observer) reference_error s t no_cause r w
-  bound_after s t (there a) r w = go _ (extends_refl _) r w a
-
-  -- a name's places, with more pairs
-  places_more : {β γ : Pairing} {i j : Option ℕ} → Extends β γ → PlacesAgree β i j → PlacesAgree γ i j
-  places_more h nowhere = nowhere
-  places_more h (somewhere p) = somewhere (h.records _ _ p)
-
-  pub references_more : {β γ : Pairing} {n m : Reference} → Extends β γ → ReferencesAgree β n m → ReferencesAgree γ n m
-  references_more h r = record { name = r.name; place = places_more h r.place }
-
-  found_both : {γ : Pairing} {n m : Reference} (s t : State) → ReferencesAgree γ n m → LowEqual observer tables γ s t → FoundAgree observer γ (binding_at s.records n.place n.name) (binding_at t.records m.place m.name)
-  found_both {γ} {n} {m} s t q r = subst (λ x. FoundAgree observer γ (binding_at s.records n.place n.name) (binding_at t.records m.place x)) q.name (binding_agree observer γ n.name r.records q.place)
-
-  pub lock_get : {β : Pairing} {n m : Reference} → ReferencesAgree β n m → Lockstep observer tables (Agree observer) β (λ s. bound (binding_at s.records n.place n.name) s) (λ s. bound (binding_at s.records m.place m.name) s)
-  lock_get q = record { steps = λ γ e s t r w. bound_after s t (found_both s t (references_more e q) r) r w }
-
-  conf_or_undefined : (b : Option (Binding Val)) → Confined observer tables (bound_or_undefined b)
-  unfolding bound_or_undefined
-  conf_or_undefined (Some b) = conf_ret observer tables b.value
-  conf_or_undefined None = conf_ret observer tables (unlabelled undefined)
-
-  pub conf_typeof : (n : Reference) → Confined observer tables (λ s. bound_or_undefined (binding_at s.records n.place n.name) s)
-  conf_typeof n = record { still = λ s. (conf_or_undefined (binding_at s.records n.place n.name)).still s; fits = λ s. (conf_or_undefined (binding_at s.records n.place n.name)).fits s; adds = λ s. (conf_or_undefined (binding_at s.records n.place n.name)).adds s }
-
-  or_undefined_after : {γ : Pairing} {b c : Option (Binding Val)} (s t : State) → FoundAgree observer γ b c → LowEqual observer tables γ s t → IsSeen observer s → InStep observer tables (Agree observer) γ (bound_or_undefined b s) (bound_or_undefined c t)
-  unfolding bound_or_undefined
-  or_undefined_after s t missing r w = go _ (extends_refl _) r w undefined_agree
-  or_undefined_after s t (there a) r w = go _ (extends_refl _) r w a
-
-  pub lock_typeof : {β : Pairing} {n m : Reference} → ReferencesAgree β n m → Lockstep observer tables (Agree observer) β (λ s. bound_or_undefined (binding_at s.records n.place n.name) s) (λ s. bound_or_undefined (binding_at s.records m.place m.name) s)
-  lock_typeof q = record { steps = λ γ e s t r w. or_undefined_after s t (found_both s t (references_more e q) r) r w }
-
-  -- ---- assignments
-
-  conf_thrown : (kind : ErrorKind) → Confined observer tables {X = Unit {0}} (throw_error kind bottom)
-  conf_thrown kind = conf_throw kind bottom
-
-  -- of a binding that stands in the state
-  still_assigned : (mutable : Bool) (b : Binding Val) (name : List ℕ) (i : ℕ) (v : Val) (s : State) → IsHidden observer s → binding_at s.records (Some i) name ≡ Some b → Still observer tables s (assigned mutable b.value.label name i v s)
-  unfolding assigned
-  still_assigned true b name i v s p e = still_guard (within (context s.frames) b.value.label) W1 _ _ (rebinds name i (joined (context s.frames) v)) s
-      (λ w. still_goes observer tables (record s { records = assigned_in name (joined (context s.frames) v) s.records i })
-      (record { looks = λ β u r. low_records observer tables r (assigned_left observer β name (joined (context s.frames) v) i b (hides_second observer v.label (context s.frames) p) e (hides_within observer (context s.frames) b.value.label w p) r.records); frames = refl }) refl refl)
-  still_assigned false b name i v s p e = (conf_thrown type_error).still s p
-
-  still_put : (o : Option (Binding Val)) (name : List ℕ) (i : ℕ) (v : Val) (s : State) → IsHidden observer s → binding_at s.records (Some i) name ≡ o → Still observer tables s (assigned_to o name i v s)
-  unfolding assigned_to
-  still_put (Some b) name i v s p e = still_assigned b.mutable b name i v s p e
-  still_put None name i v s p e = (conf_thrown reference_error).still s p
-
-  fits_assigned : (mutable : Bool) (l : Label) (name : List ℕ) (i : ℕ) (v : Val) (s : State) → Fits (length s.frames) (assigned mutable l name i v s)
-  unfolding assigned
-  fits_assigned true l name i v s = fits_guard (within (context s.frames) l) W1 _ _ (rebinds name i (joined (context s.frames) v)) (length s.frames) s (omega arith)
-  fits_assigned false l name i v s = (conf_thrown type_error).fits s
-
-  adds_assigned : (mutable : Bool) (l : Label) (name : List ℕ) (i : ℕ) (v : Val) (s : State) → Front s.lines (state_of (assigned mutable l name i v s)).lines
-  unfolding assigned
-  adds_assigned true l name i v s = adds_guard (within (context s.frames) l) W1 _ _ (rebinds name i (joined (context s.frames) v)) s (front_refl s.lines)
-  adds_assigned false l name i v s = (conf_thrown type_error).adds s
-
-  fits_put : (o : Option (Binding Val)) (name : List ℕ) (i : ℕ) (v : Val) (s : State) → Fits (length s.frames) (assigned_to o name i v s)
-  unfolding assigned_to
-  fits_put (Some b) name i v s = fits_assigned b.mutable b.value.label name i v s
-  fits_put None name i v s = (conf_thrown reference_error).fits s
-
-  adds_put : (o : Option (Binding Val)) (name : List ℕ) (i : ℕ) (v : Val) (s : State) → Front s.lines (state_of (assigned_to o name i v s)).lines
-  unfolding assigned_to
-  adds_put (Some b) name i v s = adds_assigned b.mutable b.value.label name i v s
-  adds_put None name i v s = (conf_thrown reference_error).adds s
-
-  pub conf_put : (place : Option ℕ) (name : List ℕ) (v : Val) → Confined observer tables (put_at place name v)
-  unfolding put_at
-  conf_put None name v = record { still = λ s. (conf_thrown reference_error).still s; fits = λ s. (conf_thrown reference_error).fits s; adds = λ s. (conf_thrown reference_error).adds s }
-  conf_put (Some i) name v = record {
-    still = λ s p. still_put (binding_at s.records (Some i) name) name i v s p refl;
-    fits = λ s. fits_put (binding_at s.records (Some i) name) name i v s;
-    adds = λ s. adds_put (binding_at s.records (Some i) name) name i v s;
-  }
-
-  assigned_after : {γ : Pairing} (mutable : Bool) (l m : Label) (name : List ℕ) (i j : ℕ) {v u : Val} (s t : State) → γ.records i j ≡ true → Agree observer γ v u → LowEqual observer tables γ s t → IsSeen observer s
-      → InStep observer tables Nothing γ (assigned mutable l name i v s) (assigned mutable m name j u t)
-  unfolding assigned
-  assigned_after {γ} true l m name i j {v} {u} s t p a r w =
-      after_guard Nothing (within (context s.frames) l) (within (context t.frames) m) W1 _ _ _ _ (rebinds name i (joined (context s.frames) v)) (rebinds name j (joined (context t.frames) u)) s t r (front_refl s.lines) (front_refl t.lines)
-      (λ x y. go γ (extends_refl γ) (low_records observer tables r (assigned_both observer γ name i j (agree_joined observer (seen w (same_context observer tables r w) tt) a) p r.records)) w tt)
-  assigned_after false l m name i j s t p a r w = thrown_both Nothing type_error s t no_cause r w
-
-  put_after : {γ : Pairing} {b c : Option (Binding Val)} (name : List ℕ) {i j : ℕ} {v u : Val} (s t : State) → FoundAgree observer γ b c → γ.records i j ≡ true → Agree observer γ v u → LowEqual observer tables γ s t → IsSeen observer s
-      → InStep observer tables Nothing γ (assigned_to b name i v s) (assigned_to c name j u t)
-  unfolding assigned_to
-  put_after name s t missing p a r w = thrown_both Nothing reference_error s t no_cause r w
-  put_after name {i} {j} s t (there {mutable = x} {v = v} {u = u} q) p a r w = assigned_after x v.label u.label name i j s t p a r w
-
-  place_after : {γ : Pairing} (name : List ℕ) {i j : Option ℕ} {v u : Val} (s t : State) → PlacesAgree γ i j → Agree observer γ v u → LowEqual observer tables γ s t → IsSeen observer s → InStep observer tables Nothing γ (put_at i name v s) (put_at j name u t)
-  unfolding put_at
-  place_after name s t nowhere a r w = thrown_both Nothing reference_error s t no_cause r w
-  place_after {γ} name s t (somewhere p) a r w = put_after name s t (binding_agree observer γ name r.records (somewhere p)) p a r w
-
-  pub lock_put : {β : Pairing} {n m : Reference} {v u : Val} → ReferencesAgree β n m → Agree observer β v u → Lockstep observer tables Nothing β (put_at n.place n.name v) (put_at m.place m.name u)
-  lock_put {n = n} {m = m} {v = v} {u = u} q a = record {
-    steps = λ γ e s t r w. subst (λ x. InStep observer tables Nothing γ (put_at n.place n.name v s) (put_at m.place x u t)) q.name
-        (place_after n.name s t (places_more e q.place) (agree_more observer e a) r w);
-  }

@@ -1,5 +1,5 @@
 -- Performing a plan only adds lines, behind those that the state has. The plans are linked with themselves, by this alone.
-use Rattle.std.proofs.Common.{◌≡◌, ℕ, List, ◌∷◌, ◌++◌, Bool, true, false, length, nat_lt, refl, sym, ap, subst}
+use Rattle.std.proofs.Common.{◌≡◌, ℕ, List, ◌∷◌, ◌++◌, Option, Some, None, Bool, true, false, length, nat_lt, refl, sym, ap, subst}
 use Rattle.origin_labels.specs.Label.{Label, bottom, union}
 use Rattle.flow_policy.specs.Policies.{Tables}
 use Rattle.flow_policy.specs.Inputs.{Given}
@@ -9,17 +9,23 @@ use Rattle.es_meaning.specs.Outcomes.{left, Outcome, Goes, Jumps, Ends, ret, and
 use Rattle.es_meaning.specs.Environments.{with_around}
 use Rattle.es_meaning.specs.Operations.{Ty, One, Value, Res}
 use Rattle.es_meaning.specs.Operators.{is_object, truth, converts_beside, binary_of, not_built}
-use Rattle.es_meaning.specs.Plain.{choose, resolved}
+use Rattle.es_meaning.specs.Plain.{leaves_wrappers, choose}
+use Rattle.prototype_walk.specs.KeyLists.{Keys}
 use Rattle.es_meaning.proofs.Link.{Rel, Link, Linked}
 use Rattle.flow_meaning.specs.Scopes.{Val, LabelledLine, Halt, as_plain, State, Jump, L, cut_to, pushed_on, Left, popped, settled, round_kind}
+use Rattle.flow_meaning.specs.Tracked.{resolved, key_list}
 use Rattle.flow_meaning.specs.Laws.{performed_run}
-use Rattle.flow_meaning.specs.Planned.{Part, an_expr, a_use, a_stmt, a_turn, Completion, gave, jumped, Plan, Give, Ask, End, Then, and_plan, with_result, as_plan, outcome_of, end_branch, end_round, planned, asking, Ran, untyped, and_go, completed, perform, meaning}
+use Rattle.flow_meaning.specs.Planned.{Part, an_expr, a_use, a_stmt, a_turn, a_visit, Completion, gave, jumped, Plan, Give, Ask, End, Then, and_plan, with_result, as_plan, outcome_of, end_branch, end_round, with_list, planned, asking, Ran, untyped, and_go, completed, perform, meaning}
 use Rattle.flow_meaning.proofs.Performing.{perform_and, perform_asked}
 use Rattle.low_equal.specs.Observed.{Front, empty, longer}
 use Rattle.low_equal.specs.Runs.{state_of, Confined}
 use Rattle.low_equal.proofs.Lines.{front_refl, front_trans}
 use Rattle.low_equal.proofs.Steps.{conf_ends}
-use Rattle.low_equal.proofs.Acts.{conf_raise, conf_given, conf_unary, conf_unless, conf_get, conf_typeof, conf_put}
+use Rattle.low_equal.proofs.Acts.{conf_raise, conf_given, conf_unary, conf_unless}
+use Rattle.low_equal.proofs.References.{conf_value, conf_typeof}
+use Rattle.low_equal.proofs.Puts.{conf_put}
+use Rattle.low_equal.proofs.Deletions.{conf_remove}
+use Rattle.low_equal.proofs.ObjectActs.{conf_act}
 use Rattle.low_equal.proofs.Directs.{conf_direct}
 use Rattle.low_equal.proofs.Observing.{confinement}
 
@@ -78,6 +84,7 @@ module _ (tables : Tables) (inputs : Given) where
   meaning_adds (a_use use_as e i) s = confined_adds Value ((confinement bottom tables inputs s.turns).use_of use_as e i) s
   meaning_adds (a_stmt stmt e) s = confined_adds One ((confinement bottom tables inputs s.turns).stmt stmt e) s
   meaning_adds (a_turn round e) s = confined_adds One ((confinement bottom tables inputs s.turns).turn round e) s
+  meaning_adds (a_visit visit e) s = confined_adds One ((confinement bottom tables inputs s.turns).visit visit e) s
 
   -- a part that is asked for
   pub ask_adds : (part : Part) (s : State) → Adds s (Ask part s Give)
@@ -154,6 +161,12 @@ module _ (tables : Tables) (inputs : Given) where
       → Adding (λ s. and_plan (m (length s.frames) (pushed_on kind label s)) (next (length s.frames)))
   scope_adding kind label next {m} l h = record { adds = λ s. and_adds s (m (length s.frames) (pushed_on kind label s)) (next (length s.frames)) ((l (length s.frames)).adds (pushed_on kind label s)) (h (length s.frames)) }
 
+  -- the keys of a value
+  pub list_adding : (list : Option Keys) (label : Label) (f : List (List ℕ) → State → Plan) → ((ks : List (List ℕ)) → Adding (f ks)) → Adding (with_list list label f)
+  unfolding with_list
+  list_adding None label f h = record { adds = λ s. end_adds (as_plain (left leaves_wrappers)) s }
+  list_adding (Some list) label f h = record { adds = λ s. (bind_adding One One (λ u. f list.keys) (act_adding One (conf_raise bottom tables (union label list.walk))) (λ u. h list.keys)).adds s }
+
   -- ---- the operations
 
   -- any result
@@ -171,6 +184,8 @@ module _ (tables : Tables) (inputs : Given) where
     RP = λ w i j. Unit {0};
     RE = λ w e d. Unit {0};
     Lift = λ t w m n. Adding m;
+    Inside = λ v w. Unit {0};
+    inside_v = λ p r. tt;
     le_refl = λ w. tt;
     le_trans = λ p q. tt;
     more_v = λ p r. tt;
@@ -188,13 +203,17 @@ module _ (tables : Tables) (inputs : Given) where
     comparable = λ {v = v} {u = u} r q. act_adding Value (conf_unless bottom tables (converts_beside v.value u.value) v);
     direct = λ f {vs = vs} r. act_adding Value (conf_direct bottom tables inputs f vs);
     unbuilt = λ t w. act_adding t (conf_ends bottom tables (as_plain (left not_built)));
-    resolve = λ t {i = i} x f g p h. record { adds = λ s. (h tt tt (resolved s.records i x) (resolved s.records i x) tt).adds s };
-    get_name = λ {n = n} f g r h. act_adding Value (conf_get bottom tables n);
-    typeof_name = λ {n = n} f g r h. act_adding Value (conf_typeof bottom tables n);
-    put_name = λ {n = n} {v = v} f g r q h. act_adding One (conf_put bottom tables n.place n.name v);
+    act = λ a {vs = vs} r. act_adding Value (conf_act bottom tables a vs);
+    resolve = λ t {i = i} x f g p h. record { adds = λ s. (h tt tt (resolved s.records s.heap i x) (resolved s.records s.heap i x) tt).adds s };
+    property = λ r q. tt;
+    get_value = λ {n = n} f g r h. act_adding Value (conf_value bottom tables n);
+    typeof_value = λ {n = n} f g r h. act_adding Value (conf_typeof bottom tables n);
+    put_value = λ {n = n} {v = v} f g r q h. act_adding One (conf_put bottom tables n v);
+    remove = λ {n = n} r. act_adding Value (conf_remove bottom tables n);
     fork = λ t {v = v} r l k. scope_adding kind.Branch v.label (end_branch t) (λ depth. choose_adding (truth v.value) (l tt tt) (k tt tt)) (branch_adds t);
-    round = λ turn labels {e = e} f g r h. scope_adding (round_kind turn) bottom end_round (λ depth. h tt (with_around turn labels depth e) (with_around turn labels depth e) tt) round_adds;
+    round = λ turn labels {e = e} f g r h. scope_adding (round_kind turn) bottom end_round (λ depth. h tt tt (with_around turn labels depth e) (with_around turn labels depth e) tt) round_adds;
     again = λ {v = v} r l k. bind_adding One One _ (act_adding One (conf_raise bottom tables v.label)) (λ u. choose_adding (truth v.value) l k);
+    keys = λ {v = v} f g r h. record { adds = λ s. (list_adding (key_list s.heap v.value) v.label f (λ ks. h tt tt ks)).adds s };
   }
 
   -- asking for the parts
@@ -205,4 +224,5 @@ module _ (tables : Tables) (inputs : Given) where
     use_of = λ use_as e w i j p. record { adds = λ s. ask_adds (a_use use_as e i) s };
     stmt = λ stmt w e d r. record { adds = λ s. ask_adds (a_stmt stmt e) s };
     turn = λ round w e d r. record { adds = λ s. ask_adds (a_turn round e) s };
+    visit = λ w v u rs e d r. record { adds = λ s. ask_adds (a_visit v e) s };
   }

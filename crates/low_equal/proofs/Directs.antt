@@ -1,5 +1,5 @@
 -- The functions of the product, which read and print lines and join origins: where they aren't seen, and in two runs.
-use Rattle.std.proofs.Common.{◌≡◌, ℕ, zero, suc, List, [], ◌∷◌, ◌++◌, length, map, false, Option, Some, None, slice_get, slice_index, ◌⊎◌, inl, inr, le_refl, refl, sym, ◌∙◌, ap, ap₂, subst}
+use Rattle.std.proofs.Common.{◌≡◌, ℕ, List, [], ◌∷◌, ◌++◌, length, map, false, Option, Some, None, slice_get, slice_index, ◌⊎◌, inl, inr, le_refl, refl, sym, ◌∙◌, ap, ap₂, subst}
 use Rattle.origin_labels.specs.Label.{Label, union, within, label_of}
 use Rattle.flow_policy.specs.declared.policy.Channel.{Channel}
 use Rattle.flow_policy.specs.Policies.{Tables, channel_named}
@@ -12,22 +12,24 @@ use Rattle.js_number.specs.Conversions.{text_of}
 use Rattle.js_values.specs.declared.value.Value.{Value}
 use Rattle.js_values.specs.declared.value.Value.TheVariants as value
 use Rattle.es_meaning.specs.Outcomes.{Goes}
-use Rattle.es_meaning.specs.Operations.{Direct, read, print, lbl}
+use Rattle.es_meaning.specs.Operations.{Direct, read, print, lbl, upgs, upge}
 use Rattle.es_meaning.specs.Plain.{others, channel_of, origin_of, and_origin, origins_of, value_read, positions_behind, line_at, channel_name, name_at}
 use Rattle.es_meaning.proofs.Link.{Rels, nils, conses}
 use Rattle.flow_meaning.specs.Scopes.{Val, joined, LabelledLine, State}
 use Rattle.flow_meaning.specs.Tracked.{label_at, channel_label, argument, labels_of, reads, read_channel, prints, print_value, print_channel, label_by, direct}
 use Rattle.low_equal.specs.Observed.{Sees, Hides, IsSeen, on_seen_channel, Front, SameLines}
-use Rattle.low_equal.specs.LowEqual.{Pairing, Extends, Alike, seen, hidden, SameValue, primitives, objects, Agree, LowEqual}
+use Rattle.low_equal.specs.LowEqual.{Pairing, Alike, seen, hidden, SameValue, primitives, objects, Agree, LowEqual}
 use Rattle.low_equal.specs.Runs.{state_of, Confined, InStep, go, Lockstep}
 use Rattle.low_equal.proofs.Labels.{sees_or_hides, sees_union, hides_first, hides_second, sees_bottom, hides_within}
 use Rattle.std.proofs.lemmas.Option.{same_Some}
-use Rattle.low_equal.proofs.Agreement.{extends_refl, alike_refl, alike_same, alike_join, agree_more, agree_joined}
+use Rattle.low_equal.proofs.Agreement.{extends_refl, alike_refl, alike_same, alike_join, agree_joined}
 use Rattle.low_equal.proofs.Lines.{front_refl, front_more, lines_refl, lines_sym, lines_trans, lines_hidden, lines_both, length_behind, positions_refl, positions_sym, positions_trans, positions_hidden, positions_both}
 use Rattle.low_equal.proofs.States.{same_context, low_positions, low_lines}
 use Rattle.low_equal.proofs.Steps.{still_live, conf_ret, conf_ends, ends_first, ends_second}
 use Rattle.low_equal.proofs.Acts.{adds_guard, conf_under, after_guard}
 use Rattle.low_equal.proofs.Channels.{Stands, stands}
+use Rattle.low_equal.proofs.ObjectActs.{argument_agree, rels_more}
+use Rattle.low_equal.proofs.Raises.{conf_raise_of, conf_raise_at, raise_of_after, raise_at_after}
 
 -- a channel stands where a number was found
 abbrev AreStanding : List Channel → Option ℕ → Type 0
@@ -261,12 +263,6 @@ module _ (observer : Label) (tables : Tables) where
 
   -- ---- arguments
 
-  -- arguments of lists that agree
-  argument_agree : {γ : Pairing} (n : ℕ) {vs us : List Val} → Rels (Agree observer γ) vs us → Agree observer γ (argument n vs) (argument n us)
-  argument_agree n nils = seen (sees_bottom observer) refl primitives
-  argument_agree zero (conses a r) = a
-  argument_agree (suc n) (conses a r) = argument_agree n r
-
   -- and what stands behind the first
   others_agree : {γ : Pairing} {vs us : List Val} → Rels (Agree observer γ) vs us → Rels (Agree observer γ) (others vs) (others us)
   others_agree nils = nils
@@ -284,10 +280,6 @@ module _ (observer : Label) (tables : Tables) where
   lists nils = seen (sees_bottom observer) refl refl
   lists (conses a r) = alike_join observer (λ x y. ap₂ and_origin (origin_same x) y) a (lists r)
 
-  rels_more : {β γ : Pairing} {vs us : List Val} → Extends β γ → Rels (Agree observer β) vs us → Rels (Agree observer γ) vs us
-  rels_more h nils = nils
-  rels_more h (conses a r) = conses (agree_more observer h a) (rels_more h r)
-
   -- ---- all of them
 
   -- each function
@@ -296,14 +288,18 @@ module _ (observer : Label) (tables : Tables) where
   conf_direct inputs read vs = conf_read inputs (channel_of tables.inputs (argument 0 vs).value) (stands tables.inputs (argument 0 vs).value) (argument 0 vs).label
   conf_direct inputs print vs = conf_print inputs (channel_of tables.outputs (argument 0 vs).value) (stands tables.outputs (argument 0 vs).value) (argument 0 vs).label (argument 1 vs)
   conf_direct inputs lbl vs = conf_label inputs (origins_in (others vs)) (labels_of (others vs)) (argument 0 vs)
+  conf_direct inputs upgs vs = conf_raise_of observer tables inputs _ _ _
+  conf_direct inputs upge vs = conf_raise_at observer tables inputs _ _ _ _
 
   -- each function in two runs
   direct_after : {γ : Pairing} (first second : Given) → AgreeOn observer tables first second → (f : Direct) {vs us : List Val} → Rels (Agree observer γ) vs us → (s t : State) → LowEqual observer tables γ s t → IsSeen observer s
       → InStep observer tables (Agree observer) γ (direct tables first f vs s) (direct tables second f us t)
   unfolding direct
-  direct_after first second agree read q s t r w = read_after first second agree s t (argument_agree 0 q) r w
-  direct_after first second agree print q s t r w = print_after first second s t (argument_agree 0 q) (argument_agree 1 q) r w
-  direct_after first second agree lbl {vs} {us} q s t r w = label_after first second (origins_in (others vs)) (origins_in (others us)) (labels_of (others vs)) (labels_of (others us)) (lists (others_agree q)) (argument_agree 0 q) s t r w
+  direct_after first second agree read q s t r w = read_after first second agree s t (argument_agree observer tables 0 q) r w
+  direct_after first second agree print q s t r w = print_after first second s t (argument_agree observer tables 0 q) (argument_agree observer tables 1 q) r w
+  direct_after first second agree lbl {vs} {us} q s t r w = label_after first second (origins_in (others vs)) (origins_in (others us)) (labels_of (others vs)) (labels_of (others us)) (lists (others_agree q)) (argument_agree observer tables 0 q) s t r w
+  direct_after first second agree upgs {vs} {us} q s t r w = raise_of_after observer tables first second (others vs) (others us) s t (argument_agree observer tables 0 q) (lists (others_agree q)) r w
+  direct_after first second agree upge {vs} {us} q s t r w = raise_at_after observer tables first second (others (others vs)) (others (others us)) s t (argument_agree observer tables 0 q) (argument_agree observer tables 1 q) (lists (others_agree (others_agree q))) r w
 
   pub lock_direct : {β : Pairing} (first second : Given) → AgreeOn observer tables first second → (f : Direct) {vs us : List Val} → Rels (Agree observer β) vs us → Lockstep observer tables (Agree observer) β (direct tables first f vs) (direct tables second f us)
-  lock_direct first second agree f q = record { steps = λ γ e s t r w. direct_after first second agree f (rels_more e q) s t r w }
+  lock_direct first second agree f q = record { steps = λ γ e s t r w. direct_after first second agree f (rels_more observer tables e q) s t r w }

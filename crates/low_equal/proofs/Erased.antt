@@ -470,7 +470,11 @@ pub round_lifts : {w : List Mark} (n : ℕ) (k : Kind) → is_try k ≡ false �
     → Lift One w (scope k bottom f >>= λ c. ret tt) (λ s. ended_round n (g s))
 round_lifts n k e f g h = record { yields = λ s r. round_yields (scope_pops (rounds n) k bottom e f g h s r); extends = λ s. ended_extends n s.lines (g s) (h.extends s) }
 
+-- labels are joined to the innermost frame, which is nothing without labels
+pub raise_lifts : {w : List Mark} (label : Label) → Lift One w (raise label) (ret tt)
+unfolding raise
+raise_lifts label = record { yields = λ s r. goes (raised_shaped (innermost s.frames) label r); extends = goes_extends tt }
+
 -- a condition raises the innermost frame, and then one of two
 pub again_lifts : {w : List Mark} (v : Val) (b : Bool) {m n : L (Unit {0})} {m' n' : P (Unit {0})} → Lift One w m m' → Lift One w n n' → Lift One w (raise v.label >>= λ u. choose b m n) (choose b m' n')
-unfolding raise
-again_lifts v b h k = let l = choose_lifts b h k in record { yields = λ s r. l.yields (raised_in v.label s) (raised_shaped (innermost s.frames) v.label r); extends = l.extends }
+again_lifts {w} v b {m} {n} {m'} {n'} h k = bind_lifts One One w (λ u. choose b m n) (λ u. choose b m' n') (raise_lifts v.label) (λ u. choose_lifts b h k)

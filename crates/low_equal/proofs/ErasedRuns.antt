@@ -1,11 +1,11 @@
 -- Erasure: the operations with labels and those without are linked, and so are the runs of a script.
-use Rattle.std.proofs.Common.{◌≡◌, ℕ, suc, ◌≤◌, Bool, true, false, nat_eq, List, [], ◌∷◌, length, replicate, Option, Some, None, refl, sym, ◌∙◌, ap, subst, eqb-true, eq-eqb, arith}
-use Rattle.std.specs.Option.{option_map}
+use Rattle.std.proofs.Common.{◌≡◌, ℕ, suc, ◌≤◌, Bool, true, false, nat_eq, List, [], ◌∷◌, length, Option, refl, sym, ◌∙◌, ap, ap₂, subst, eqb-true, eq-eqb, arith}
+use Rattle.origin_labels.specs.Label.{bottom}
 use Rattle.flow_policy.specs.Policies.{Tables}
 use Rattle.flow_policy.specs.Inputs.{Given}
 use Rattle.flow_frames.specs.Kinds.{is_try}
 use Rattle.js_values.specs.declared.value.Value.{Value}
-use Rattle.js_values.specs.Records.{Binding, Bindings, found}
+use Rattle.js_values.specs.Objects.{PlainObject}
 use Rattle.js_ast.specs.Trees.{Statements}
 use Rattle.es_meaning.specs.Outcomes as es
 use Rattle.es_meaning.specs.Outcomes.{Exit, returns, leaves, left, out_of_turns, Outcome, Goes, Jumps, Ends, ret, ◌>>=◌}
@@ -14,12 +14,10 @@ use Rattle.es_meaning.specs.Operations.{Ty, One, Res, Ops}
 use Rattle.es_meaning.specs.Operations.{Value as a_value}
 use Rattle.es_meaning.specs.Operators.{is_object, truth, converts_beside, binary_of, not_built}
 use Rattle.es_meaning.specs.Evaluation.{program_step}
-use Rattle.es_meaning.specs.Declared.{declared_statements}
-use Rattle.es_meaning.specs.Start.{start_heap}
 use Rattle.es_meaning.specs.Plain as plain
-use Rattle.es_meaning.specs.Plain.{State, P, undefined, choose, resolved, ended_round, unless_found, with_name, with_names, outermost_env, plain_run}
+use Rattle.es_meaning.specs.Plain.{State, P, ended_round, outermost_env, plain_run}
 use Rattle.es_meaning.proofs.Link.{Rel, Link, program_linked}
-use Rattle.flow_meaning.specs.Erased.{erased_bindings, unlabelled}
+use Rattle.flow_meaning.specs.Erased.{erased_heap, erased_records, unlabelled}
 use Rattle.flow_meaning.specs.Scopes as scopes
 use Rattle.flow_meaning.specs.Scopes.{Val, Halt, L, round_kind}
 use Rattle.flow_meaning.specs.Tracked as tracked
@@ -27,7 +25,8 @@ use Rattle.flow_meaning.specs.Tracked.{tracked_run}
 use Rattle.low_equal.specs.Erasure.{Erases, goes_on, IsErasing}
 use Rattle.low_equal.specs.Erasure as erasure
 use Rattle.low_equal.proofs.Erased.{erased_result, erased, lines_behind, Mark, passes, rounds, aim, Shaped, cond_true, cond_false, by_test, Yields, goes, jumps, ends, stops, Lift, ret_lifts, bind_lifts, fork_lifts, round_lifts, again_lifts}
-use Rattle.low_equal.proofs.ErasedActs.{erased_binding, found_erased, resolved_erased, given_lifts, unary_lifts, unless_lifts, get_name_lifts, typeof_name_lifts, put_lifts, spend_lifts, ends_lifts, values_are, direct_lifts}
+use Rattle.low_equal.proofs.ErasedHeaps.{first_heap_erased}
+use Rattle.low_equal.proofs.ErasedActs.{erased_reference, resolved_erased, given_lifts, unary_lifts, unless_lifts, get_value_lifts, typeof_value_lifts, put_value_lifts, remove_lifts, spend_lifts, ends_lifts, values_are, act_lifts, keys_lifts, direct_lifts}
 
 -- a value, and what is left of it without its label
 abbrev Same : List Mark → Val → Value → Type 0
@@ -37,6 +36,17 @@ Same w v r = v.value ≡ r
 same_result : (t : Ty) (w : List Mark) (a : Res Val t) → Rel Same t w a (erased_result t a)
 same_result One w a = tt
 same_result a_value w a = refl
+
+-- each unlabelled reference is that of a labelled one
+labelled_reference : plain.Reference → tracked.Reference
+labelled_reference (plain.of_name name place) = tracked.of_name name place bottom
+labelled_reference (plain.of_property v key) = tracked.of_property (unlabelled v) key bottom
+
+-- without its labels, that labelled reference is the unlabelled one
+labelled_reference_is : (n : plain.Reference) → erased_reference (labelled_reference n) ≡ n
+unfolding labelled_reference
+labelled_reference_is (plain.of_name name place) = refl
+labelled_reference_is (plain.of_property v key) = refl
 
 -- the unlabelled computation of equal values
 at_equal : {A : Type 0} {t : Ty} {w : List Mark} {m : L (Res Val t)} {a b : A} (n : A → P (Res Value t)) → a ≡ b → Lift t w m (n a) → Lift t w m (n b)
@@ -108,10 +118,11 @@ module _ (tables : Tables) (inputs : Given) where
   B = plain.plain tables inputs
 
   -- a name is resolved
-  resolve_lifts : (t : Ty) {w : List Mark} (i : ℕ) (x : List ℕ) (f : plain.Reference → L (Res Val t)) (g : plain.Reference → P (Res Value t)) → ((n : plain.Reference) → Lift t w (f n) (g n)) → Lift t w (A.resolve t i x f) (B.resolve t i x g)
-  resolve_lifts t {w} i x f g h = record {
-    yields = λ s r. subst (λ n. Yields t w (f (resolved s.records i x) s) (g n (erased s))) (sym (resolved_erased s.records i x)) ((h (resolved s.records i x)).yields s r);
-    extends = λ s. (h (resolved s.records i x)).extends s;
+  resolve_lifts : (t : Ty) {w : List Mark} (i : ℕ) (x : List ℕ) (f : tracked.Reference → L (Res Val t)) (g : plain.Reference → P (Res Value t)) → ((n : tracked.Reference) (m : plain.Reference) → erased_reference n ≡ m → Lift t w (f n) (g m))
+      → Lift t w (A.resolve t i x f) (B.resolve t i x g)
+  resolve_lifts t i x f g h = record {
+    yields = λ s r. (h (tracked.resolved s.records s.heap i x) (plain.resolved (erased_records s.records) (erased_heap s.heap) i x) (sym (resolved_erased s.records s.heap i x))).yields s r;
+    extends = λ s. let n = plain.resolved s.records s.heap i x in (h (labelled_reference n) n (labelled_reference_is n)).extends s;
   }
 
   -- a loop or a turn
@@ -127,10 +138,12 @@ module _ (tables : Tables) (inputs : Given) where
     W = List Mark;
     Le = SameAims;
     RV = Same;
-    RN = λ w n m. n ≡ m;
+    RN = λ w n m. erased_reference n ≡ m;
     RP = λ w i j. i ≡ j;
     RE = Reaches;
     Lift = Lift;
+    Inside = λ v w. Unit {0};
+    inside_v = λ l r. r;
     le_refl = λ w j. refl;
     le_trans = λ p q j. q j ∙ p j;
     more_v = λ l r. r;
@@ -148,13 +161,17 @@ module _ (tables : Tables) (inputs : Given) where
     comparable = λ {v} {u} {v'} {u'} r q. at_equal (λ x. B.comparable x u') r (at_equal (λ x. B.comparable v.value x) q (unless_lifts (converts_beside v.value u.value) v));
     direct = λ f {vs} rs. at_equal (B.direct f) (values_are rs) (direct_lifts tables inputs f vs);
     unbuilt = λ t w. ends_lifts (left not_built);
-    resolve = λ t {w} {i} x f g p h. at_equal (λ j. B.resolve t j x g) p (resolve_lifts t i x f g (λ n. h w (λ j. refl) n n refl));
-    get_name = λ {n = n} f g r h. at_equal (λ m. B.get_name m g) r (get_name_lifts n);
-    typeof_name = λ {n = n} f g r h. at_equal (λ m. B.typeof_name m g) r (typeof_name_lifts n);
-    put_name = λ {n = n} {v = v} {v' = v'} f g r q h. at_equal (λ m. B.put_name m v' g) r (at_equal (λ x. B.put_name n x g) q (put_lifts n.place n.name v));
+    act = λ f {vs} rs. at_equal (B.act f) (values_are rs) (act_lifts f vs);
+    resolve = λ t {w} {i} x f g p h. at_equal (λ j. B.resolve t j x g) p (resolve_lifts t i x f g (h w (λ j. refl)));
+    property = λ {v = v} r q. ap₂ (λ x y. B.property x y) r q;
+    get_value = λ {n = n} f g r h. at_equal (λ m. B.get_value m g) r (get_value_lifts n);
+    typeof_value = λ {n = n} f g r h. at_equal (λ m. B.typeof_value m g) r (typeof_value_lifts n);
+    put_value = λ {n = n} {v = v} {v' = v'} f g r q h. at_equal (λ m. B.put_value m v' g) r (at_equal (λ x. B.put_value (erased_reference n) x g) q (put_value_lifts n v));
+    remove = λ {n = n} r. at_equal B.remove r (remove_lifts n);
     fork = λ t {w = w} {v = v} {m' = m'} {n' = n'} r h k. at_equal (λ x. B.fork t x m' n') r (fork_lifts t v (truth v.value) (h (passes ∷ w) (λ j. refl)) (k (passes ∷ w) (λ j. refl)));
-    round = round_link;
+    round = λ turn labels f g r h. round_link turn labels f g r (λ w. h w tt);
     again = λ {v = v} {m' = m'} {n' = n'} r h k. at_equal (λ x. B.again x m' n') r (again_lifts v (truth v.value) h k);
+    keys = λ {w = w} {v = v} f g r h. at_equal (λ x. B.keys x g) r (keys_lifts v f g (h w (λ j. refl)));
   }
 
   -- a script's runs
@@ -164,29 +181,9 @@ module _ (tables : Tables) (inputs : Given) where
 
 -- ---- the start
 
--- bindings, with one more where none was found, without labels
-unless_found_erased : (o : Option (Binding Val)) (name : List ℕ) (bindings : Bindings Val)
-    → erased_bindings (unless_found o (unlabelled undefined) name bindings) ≡ unless_found (option_map erased_binding o) undefined name (erased_bindings bindings)
-unless_found_erased (Some b) name bindings = refl
-unless_found_erased None name bindings = pushed bindings
-  where
-    pushed : (bindings : Bindings Val) → erased_bindings (unless_found None (unlabelled undefined) name bindings) ≡ unless_found None undefined name (erased_bindings bindings)
-    pushed [] = refl
-    pushed (b ∷ bindings) = ap (λ bs. erased_binding b ∷ bs) (pushed bindings)
-
--- a further variable where there is none of the name yet, without labels
-with_name_erased : (name : List ℕ) (bindings : Bindings Val) → erased_bindings (with_name (unlabelled undefined) name bindings) ≡ with_name undefined name (erased_bindings bindings)
-with_name_erased name bindings = unless_found_erased (found name bindings) name bindings ∙ ap (λ o. unless_found o undefined name (erased_bindings bindings)) (sym (found_erased name bindings))
-
--- further variables, without labels
-with_names_erased : (names : List (List ℕ)) (bindings : Bindings Val) → erased_bindings (with_names (unlabelled undefined) names bindings) ≡ with_names undefined names (erased_bindings bindings)
-with_names_erased [] bindings = refl
-with_names_erased (name ∷ names) bindings = with_names_erased names (with_name (unlabelled undefined) name bindings) ∙ ap (with_names undefined names) (with_name_erased name bindings)
-
 -- a run with labels starts as one without
 start_erased : (tables : Tables) (inputs : Given) (program : Statements) (turns : ℕ) → erased (tracked.start tables inputs program turns) ≡ plain.start tables inputs program turns
-start_erased tables inputs program turns =
-    ap (λ (bs : Bindings Value). record { heap = start_heap; records = record { outer = None; bindings = bs } ∷ []; positions = replicate (length tables.inputs) 0; lines = []; turns = turns }) (with_names_erased (declared_statements program) _)
+start_erased tables inputs program turns = ap (λ (heap : List PlainObject). record (plain.start tables inputs program turns) { heap = heap }) (first_heap_erased program)
 
 -- in the Root
 start_shaped : (tables : Tables) (inputs : Given) (program : Statements) (turns : ℕ) → Shaped [] (tracked.start tables inputs program turns).frames

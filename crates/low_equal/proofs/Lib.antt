@@ -1,19 +1,33 @@
 mod Acts
+mod Additions
 pub mod Adding
 mod Agreement
+mod Changes
 mod Channels
+mod DeclaredHeaps
+mod DeclaredLabels
 mod DeclaredRuns
+mod Deletions
 mod Directs
 mod Erased
 mod ErasedActs
+mod ErasedHeaps
 mod ErasedRuns
+mod HeapActs
 mod Heaps
 mod Labels
 pub mod Lines
+mod ObjectActs
 mod Observing
+mod Plans
+mod Puts
+mod Raises
+mod References
+mod Rows
 mod Runs
 mod Scopes
 mod Starts
 mod States
 mod Steps
 mod Views
+mod Walks

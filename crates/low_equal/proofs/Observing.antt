@@ -1,5 +1,5 @@
 -- Two labelled readings are linked by what an observer can tell: in worlds in which the runs are in step, and in that in which each goes by itself.
-use Rattle.std.proofs.Common.{◌≡◌, ℕ, zero, suc, List, [], ◌∷◌, Bool, true, false, Option, refl, ap, subst}
+use Rattle.std.proofs.Common.{◌≡◌, ℕ, zero, suc, List, [], ◌∷◌, Bool, true, false, Option, refl, ◌∙◌, ap, ap₂, subst}
 use Rattle.origin_labels.specs.Label.{Label, bottom}
 use Rattle.flow_policy.specs.Policies.{Tables}
 use Rattle.flow_policy.specs.Inputs.{Given}
@@ -9,27 +9,30 @@ use Rattle.js_values.specs.declared.value.Value.{Value}
 use Rattle.js_values.specs.declared.value.Value.TheVariants as value
 use Rattle.es_meaning.specs.Outcomes.{ret, ◌>>=◌}
 use Rattle.es_meaning.specs.Environments.{Env, with_around}
-use Rattle.es_meaning.specs.Operations.{Ty, One, Res}
+use Rattle.es_meaning.specs.Operations.{Ty, One, Res, Visit}
 use Rattle.es_meaning.specs.Operations.{Value as a_value}
 use Rattle.es_meaning.specs.Operators.{is_object, truth, converts_beside}
 use Rattle.js_ast.specs.Trees.{Statements}
 use Rattle.es_meaning.specs.Evaluation.{eval, program_step}
-use Rattle.es_meaning.specs.Plain.{choose, Reference, resolved}
+use Rattle.es_meaning.specs.Plain.{choose}
 use Rattle.es_meaning.proofs.Link as link
-use Rattle.es_meaning.proofs.Link.{Rel, Rels, nils, conses, Link, Linked, linked, ticking_linked, statements_linked}
+use Rattle.es_meaning.proofs.Link.{Rel, Rels, nils, conses, Visits, visits_of, Link, Linked, linked, ticking_linked, statements_linked}
 use Rattle.flow_meaning.specs.Erased.{unlabelled}
 use Rattle.flow_meaning.specs.Scopes.{Val, L, Came, Left, given_by, settled, fork, round_kind, round, again}
-use Rattle.flow_meaning.specs.Tracked.{labelled, timed}
+use Rattle.flow_meaning.specs.Tracked.{Reference, resolved, key_list, with_list, labelled, timed}
 use Rattle.low_equal.specs.Observed.{Sees}
 use Rattle.low_equal.specs.LowEqual.{Pairing, Extends, seen, hidden, SameValue, primitives, objects, Agree}
 use Rattle.low_equal.specs.Runs.{Confined, Lockstep}
-use Rattle.low_equal.specs.Laws.{EnvsAgree, Nothing, IsConfining, IsLockstep}
+use Rattle.low_equal.specs.Laws.{EnvsAgree, VisitsAgree, Nothing, IsConfining, IsLockstep}
 use Rattle.low_equal.proofs.Labels.{hides_second, sees_bottom}
-use Rattle.low_equal.proofs.Agreement.{extends_refl, extends_trans, agree_more, agree_joined, agree_seen, label_alike}
-use Rattle.low_equal.proofs.Scopes.{ReferencesAgree, resolved_agree}
+use Rattle.low_equal.proofs.Agreement.{extends_refl, extends_trans, alike_map, agree_more, agree_joined, agree_seen, label_alike}
+use Rattle.low_equal.proofs.References.{ReferencesAgree, properties, references_more, resolved_agree, undefined_agree, conf_value, lock_value, conf_typeof, lock_typeof}
+use Rattle.low_equal.proofs.Puts.{conf_put, lock_put}
+use Rattle.low_equal.proofs.Deletions.{conf_remove, lock_remove}
+use Rattle.low_equal.proofs.ObjectActs.{key_same, conf_act, lock_act, conf_keys, lock_keys}
 use Rattle.low_equal.proofs.Lines.{front_refl}
 use Rattle.low_equal.proofs.Steps.{CameAgree, both_ended, both_caught, LeftAgree, conf_ret, conf_ends, conf_bind, conf_scope, lock_ret, lock_bind, lock_scope, ends_first, ends_second}
-use Rattle.low_equal.proofs.Acts.{conf_jump, conf_raise, lock_raise, conf_tick, lock_tick, conf_given, conf_unary, lock_unary, lock_binary, conf_unless, lock_unless, conf_get, lock_get, conf_typeof, lock_typeof, conf_put, lock_put, references_more, undefined_agree}
+use Rattle.low_equal.proofs.Acts.{conf_jump, conf_raise, lock_raise, conf_tick, lock_tick, conf_given, conf_unary, lock_unary, lock_binary, conf_unless, lock_unless}
 use Rattle.low_equal.proofs.Directs.{conf_direct, lock_direct}
 
 -- the runs are in step, with these pairs; or each goes by itself
@@ -124,7 +127,7 @@ module _ (observer : Label) (tables : Tables) where
   value_in : {w : World} {v u : Val} {β : Pairing} → Le w (Together β) → Related (Agree observer) w v u → Agree observer β v u
   value_in e r = related_in (more_related (λ β γ h q. agree_more observer h q) e r)
 
-  reference_in : {w : World} {n m : Reference} {β : Pairing} → Le w (Together β) → Related ReferencesAgree w n m → ReferencesAgree β n m
+  reference_in : {w : World} {n m : Reference} {β : Pairing} → Le w (Together β) → Related (ReferencesAgree observer) w n m → ReferencesAgree observer β n m
   reference_in e r = related_in (more_related (λ β γ h q. references_more observer tables h q) e r)
 
   place_in : {w : World} {i j : ℕ} {β : Pairing} → Le w (Together β) → Related PairedRecords w i j → β.records i j ≡ true
@@ -184,16 +187,16 @@ module _ (observer : Label) (tables : Tables) where
       more_left a_value a b g z = agree_more observer g z
 
   round_link : {w : World} (turn : Bool) (labels : List (Option (List ℕ))) {e d : Env ℕ} (k k' : Env ℕ → L (Unit {0})) → Related EnvsAgree w e d
-      → ((w' : World) (e' d' : Env ℕ) → Related EnvsAgree w' e' d' → Lift One w' (k e') (k' d')) → Lift One w (round turn labels e k) (round turn labels d k')
+      → ((w' : World) → Le w w' → (e' d' : Env ℕ) → Related EnvsAgree w' e' d' → Lift One w' (k e') (k' d')) → Lift One w (round turn labels e k) (round turn labels d k')
   round_link {w} turn labels {e} {d} k k' r h =
-      let c : (n : ℕ) → Confined observer tables (k (with_around turn labels n e)) = λ n. (h Apart (with_around turn labels n e) (with_around turn labels n e) any).left in
-      let c' : (n : ℕ) → Confined observer tables (k' (with_around turn labels n d)) = λ n. (h Apart (with_around turn labels n d) (with_around turn labels n d) any).right in
+      let c : (n : ℕ) → Confined observer tables (k (with_around turn labels n e)) = λ n. (h Apart parts (with_around turn labels n e) (with_around turn labels n e) any).left in
+      let c' : (n : ℕ) → Confined observer tables (k' (with_around turn labels n d)) = λ n. (h Apart parts (with_around turn labels n d) (with_around turn labels n d) any).right in
       let f : Left (Unit {0}) → L (Unit {0}) = λ x. ret tt in
       lift w (conf_bind observer tables f (conf_scope observer tables (round_kind turn) bottom c) (λ x. conf_ret observer tables tt)) (conf_bind observer tables f (conf_scope observer tables (round_kind turn) bottom c') (λ x. conf_ret observer tables tt))
       (λ β l. let q = env_in l r in
       lock_bind observer tables (LeftAgree observer tables Nothing) Nothing f f
       (lock_scope observer tables Nothing (round_kind turn) (seen (sees_bottom observer) refl tt) c c'
-      (λ p n. (h (Together β) (with_around turn labels n e) (with_around turn labels n d) (related (record { place = q.place; call = q.call; around = ap (λ x. record { labels = labels; turn = turn; to = n } ∷ x) q.around }))).step))
+      (λ p n. (h (Together β) l (with_around turn labels n e) (with_around turn labels n d) (related (record { place = q.place; call = q.call; around = ap (λ x. record { labels = labels; turn = turn; to = n } ∷ x) q.around }))).step))
       (λ x. conf_ret observer tables tt) (λ x. conf_ret observer tables tt) (λ γ x a b z. lock_ret observer tables Nothing γ (λ δ g. tt)))
 
   again_link : {w : World} {v u : Val} {m n m' n' : L (Unit {0})} → Related (Agree observer) w v u → Lift One w m m' → Lift One w n n' → Lift One w (again v m n) (again u m' n')
@@ -205,20 +208,29 @@ module _ (observer : Label) (tables : Tables) where
       lock_bind observer tables (λ γ a b. truth v.value ≡ truth u.value) Nothing _ _ (lock_raise observer tables (truth v.value ≡ truth u.value) (label_alike observer q) (truth_seen q)) (λ a. c) (λ a. d)
       (λ γ x a b p. pick One (truth v.value) (truth u.value) γ (lock_of (le_along e (grows x)) l) (lock_of (le_along e (grows x)) k) p))
 
+  -- ---- the keys of a value
+
+  keys_link : {w : World} {v u : Val} (k k' : List (List ℕ) → L (Unit {0})) → Related (Agree observer) w v u → ((w' : World) → Le w w' → (ks : List (List ℕ)) → Lift One w' (k ks) (k' ks))
+      → Lift One w (λ s. with_list (key_list s.heap v.value) v.label k s) (λ s. with_list (key_list s.heap u.value) u.label k' s)
+  keys_link {w} {v} {u} k k' r h =
+      let c : (ks : List (List ℕ)) → Confined observer tables (k ks) = λ ks. (h Apart parts ks).left in
+      let d : (ks : List (List ℕ)) → Confined observer tables (k' ks) = λ ks. (h Apart parts ks).right in
+      lift w (conf_keys observer tables v k c) (conf_keys observer tables u k' d) (λ β e. lock_keys observer tables k k' (value_in e r) c d (λ ks. lock_of (le_itself (Together β)) (h (Together β) e ks)))
+
   -- ---- names
 
   resolve_link : (t : Ty) {w : World} {i j : ℕ} (x : List ℕ) (k k' : Reference → L (Res Val t)) → Related PairedRecords w i j
-      → ((w' : World) → Le w w' → (n n' : Reference) → Related ReferencesAgree w' n n' → Lift t w' (k n) (k' n')) → Lift t w (λ s. k (resolved s.records i x) s) (λ s. k' (resolved s.records j x) s)
+      → ((w' : World) → Le w w' → (n n' : Reference) → Related (ReferencesAgree observer) w' n n' → Lift t w' (k n) (k' n')) → Lift t w (λ s. k (resolved s.records s.heap i x) s) (λ s. k' (resolved s.records s.heap j x) s)
   resolve_link t {w} {i} {j} x k k' r h =
       let c : (n : Reference) → Confined observer tables (k n) = λ n. (h Apart parts n n any).left in
       let d : (n : Reference) → Confined observer tables (k' n) = λ n. (h Apart parts n n any).right in
       lift w
-      (record { still = λ s p. (c (resolved s.records i x)).still s p; fits = λ s. (c (resolved s.records i x)).fits s; adds = λ s. (c (resolved s.records i x)).adds s })
-      (record { still = λ s p. (d (resolved s.records j x)).still s p; fits = λ s. (d (resolved s.records j x)).fits s; adds = λ s. (d (resolved s.records j x)).adds s })
+      (record { still = λ s p. (c (resolved s.records s.heap i x)).still s p; fits = λ s. (c (resolved s.records s.heap i x)).fits s; adds = λ s. (c (resolved s.records s.heap i x)).adds s })
+      (record { still = λ s p. (d (resolved s.records s.heap j x)).still s p; fits = λ s. (d (resolved s.records s.heap j x)).fits s; adds = λ s. (d (resolved s.records s.heap j x)).adds s })
       (λ β e. record {
         steps = λ γ g s u l v.
-            let a = resolved_agree observer γ x {i = i} {j = j} l.records (g.records i j (place_in e r)) in
-            (h (Together γ) (le_along e (grows g)) (resolved s.records i x) (resolved u.records j x) (related a)).step.steps γ (extends_refl γ) s u l v;
+            let a = resolved_agree observer tables x {i = i} {j = j} l (g.records i j (place_in e r)) in
+            (h (Together γ) (le_along e (grows g)) (resolved s.records s.heap i x) (resolved u.records u.heap j x) (related a)).step.steps γ (extends_refl γ) s u l v;
       })
 
   module _ (first second : Given) (agree : policy.Agree observer tables first second) where
@@ -228,10 +240,12 @@ module _ (observer : Label) (tables : Tables) where
       W = World;
       Le = Le;
       RV = Related (Agree observer);
-      RN = Related ReferencesAgree;
+      RN = Related (ReferencesAgree observer);
       RP = Related PairedRecords;
       RE = Related EnvsAgree;
       Lift = Lift;
+      Inside = Le;
+      inside_v = λ l r. more_related (λ β γ h q. agree_more observer h q) l r;
       le_refl = le_itself;
       le_trans = le_along;
       more_v = λ l r. more_related (λ β γ h q. agree_more observer h q) l r;
@@ -251,17 +265,25 @@ module _ (observer : Label) (tables : Tables) where
       direct = λ {w = w} f r. lift w (conf_direct observer tables first f _) (conf_direct observer tables second f _) (λ β e. lock_direct observer tables first second agree f (rels_in e r));
       unbuilt = λ t w. lift w (conf_ends observer tables _) (conf_ends observer tables _) (λ β e. record { steps = λ γ d s u r v. ends_first observer tables (Results t) r (front_refl u.lines) });
       resolve = resolve_link;
-      get_name = λ {w = w} {n = n} {n' = m} k k' r h. lift w (conf_get observer tables n) (conf_get observer tables m) (λ β e. lock_get observer tables (reference_in e r));
-      typeof_name = λ {w = w} {n = n} {n' = m} k k' r h. lift w (conf_typeof observer tables n) (conf_typeof observer tables m) (λ β e. lock_typeof observer tables (reference_in e r));
-      put_name = λ {w = w} {n = n} {n' = m} {v = v} {v' = u} k k' r q h. lift w (conf_put observer tables n.place n.name v) (conf_put observer tables m.place m.name u) (λ β e. lock_put observer tables (reference_in e r) (value_in e q));
+      act = λ {w = w} a {vs = vs} {us = us} r. lift w (conf_act observer tables a vs) (conf_act observer tables a us) (λ β e. lock_act observer tables a (rels_in e r));
+      property = λ r q. property_in r q;
+      get_value = λ {w = w} {n = n} {n' = m} k k' r h. lift w (conf_value observer tables n) (conf_value observer tables m) (λ β e. lock_value observer tables (reference_in e r));
+      typeof_value = λ {w = w} {n = n} {n' = m} k k' r h. lift w (conf_typeof observer tables n) (conf_typeof observer tables m) (λ β e. lock_typeof observer tables (reference_in e r));
+      put_value = λ {w = w} {n = n} {n' = m} {v = v} {v' = u} k k' r q h. lift w (conf_put observer tables n v) (conf_put observer tables m u) (λ β e. lock_put observer tables (reference_in e r) (value_in e q));
+      remove = λ {w = w} {n = n} {n' = m} r. lift w (conf_remove observer tables n) (conf_remove observer tables m) (λ β e. lock_remove observer tables (reference_in e r));
       fork = fork_link;
       round = round_link;
       again = again_link;
+      keys = keys_link;
     }
       where
         place_of_env : {w : World} {e d : Env ℕ} → Related EnvsAgree w e d → Related PairedRecords w e.place d.place
         place_of_env (related r) = related r.place
         place_of_env any = any
+
+        property_in : {w : World} {v u v' u' : Val} → Related (Agree observer) w v v' → Related (Agree observer) w u u' → Related (ReferencesAgree observer) w ((labelled tables first).property v u) ((labelled tables second).property v' u')
+        property_in (related r) (related q) = related (properties r (alike_map observer (key_same observer tables) q))
+        property_in any any = any
 
         literal_in : (w : World) (v : Rattle.js_number.specs.declared.primitive.Primitive.Primitive) → Related (Agree observer) w (unlabelled (value.Primitive v)) (unlabelled (value.Primitive v))
         literal_in (Together β) v = related (seen (sees_bottom observer) refl primitives)
@@ -285,6 +307,10 @@ module _ (observer : Label) (tables : Tables) where
     unfolding observed
     evals n = linked (timed tables first) (timed tables second) observed ticks out_of n
 
+-- a turn of a `for in` over any value
+any_visit : {observer : Label} (v : Visit Val) → Visits (Related (Agree observer) Apart) v v
+any_visit v = visits_of any
+
 -- the same input on both sides
 same_input : (observer : Label) (tables : Tables) (inputs : Given) → policy.Agree observer tables inputs inputs
 same_input observer tables inputs i c at p = refl
@@ -304,6 +330,7 @@ module _ (observer : Label) (tables : Tables) (first second : Given) (agree : po
         use_of = λ use_as e w i j p. first_ended observer tables first second agree w (h.use_of use_as e Apart j j any).right;
         stmt = λ s w e d r. first_ended observer tables first second agree w (h.stmt s Apart d d any).right;
         turn = λ round w e d r. first_ended observer tables first second agree w (h.turn round Apart d d any).right;
+        visit = λ w v u rs e d r. first_ended observer tables first second agree w (h.visit Apart u u (any_visit u) d d any).right;
       }
   linked_at (suc n) zero =
       let h = alone first (suc n) in
@@ -312,6 +339,7 @@ module _ (observer : Label) (tables : Tables) (first second : Given) (agree : po
         use_of = λ use_as e w i j p. second_ended observer tables first second agree w (h.use_of use_as e Apart i i any).left;
         stmt = λ s w e d r. second_ended observer tables first second agree w (h.stmt s Apart e e any).left;
         turn = λ round w e d r. second_ended observer tables first second agree w (h.turn round Apart e e any).left;
+        visit = λ w v u rs e d r. second_ended observer tables first second agree w (h.visit Apart v v (any_visit v) e e any).left;
       }
   linked_at (suc n) (suc m) = ticking_linked (timed tables first) (timed tables second) (observed observer tables first second agree) (ticks observer tables first second agree) (eval (timed tables first) n) (eval (timed tables second) m) (linked_at n m)
 
@@ -334,6 +362,7 @@ confinement observer tables inputs n =
       use_of = λ use_as e i. (h.use_of use_as e Apart i i any).left;
       stmt = λ s e. (h.stmt s Apart e e any).left;
       turn = λ round e. (h.turn round Apart e e any).left;
+      visit = λ v e. (h.visit Apart v v (any_visit v) e e any).left;
       jump = λ cause j. conf_jump observer tables cause j;
       discard = λ v. (link.discard_linked A A K {w = Apart} {v = v} {v' = v} any).left;
       give = λ v. (link.give_linked A A K {w = Apart} {v = v} {v' = v} any).left;
@@ -343,6 +372,8 @@ confinement observer tables inputs n =
       compared_left = λ o u v. (link.compared_left_linked A A K o {w = Apart} {u = u} {v = v} {u' = u} {v' = v} any any).left;
       primitive_left = λ hint o u v. (link.primitive_left_linked A A K hint o {w = Apart} {u = u} {v = v} {u' = u} {v' = v} any any).left;
       number_left = λ o u v. (link.number_left_linked A A K o {w = Apart} {u = u} {v = v} {u' = u} {v' = v} any any).left;
+      has_left = λ u v. (link.has_left_linked A A K {w = Apart} {u = u} {v = v} {u' = u} {v' = v} any any).left;
+      has_right = λ v u. (link.has_right_linked A A K {w = Apart} {u = u} {v = v} {u' = u} {v' = v} any any).left;
       binary_values = λ o v u. (link.binary_values_linked A A K o {w = Apart} {v = v} {u = u} {v' = v} {u' = u} any any).left;
       assign_to = λ r v. (link.assign_to_linked A A K {w = Apart} {n = r} {n' = r} {v = v} {v' = v} any any).left;
       assign_giving = λ r a v. (link.assign_giving_linked A A K {w = Apart} {n = r} {n' = r} {a = a} {v = v} {a' = a} {v' = v} any any any).left;
@@ -360,7 +391,13 @@ confinement observer tables inputs n =
       compound_done = λ o r a v. (link.compound_done_linked A A K R R h o {w = Apart} {n = r} {n' = r} {a = a} {v = v} {a' = a} {v' = v} any any any).left;
       compound_right = λ o e i r a. (link.compound_right_linked A A K R R h o e {w = Apart} {i = i} {j = i} {n = r} {n' = r} {a = a} {a' = a} any any any).left;
       used = λ use_as i r. (link.used_linked A A K R R h use_as {w = Apart} {i = i} {j = i} {n = r} {n' = r} any any).left;
-      read_name = λ r. (link.read_name_linked A A K R R h {w = Apart} {n = r} {n' = r} any).left;
+      read_value = λ r. (link.read_value_linked A A K R R h {w = Apart} {n = r} {n' = r} any).left;
+      with_key = λ use_as i b k. (link.with_key_linked A A K R R h use_as {w = Apart} {i = i} {j = i} {b = b} {k = k} {b' = b} {k' = k} any any any).left;
+      with_base = λ use_as i k b. (link.with_base_linked A A K R R h use_as {w = Apart} {i = i} {j = i} {k = k} {b = b} {k' = k} {b' = b} any any any).left;
+      index_key = λ use_as i b k. (link.index_key_linked A A K R R h use_as {w = Apart} {i = i} {j = i} {b = b} {k = k} {b' = b} {k' = k} any any any).left;
+      index_base = λ use_as e i b. (link.index_base_linked A A K R R h use_as e {w = Apart} {i = i} {j = i} {b = b} {b' = b} any any).left;
+      member_base = λ use_as text i b. (link.member_base_linked A A K R R h use_as text {w = Apart} {i = i} {j = i} {b = b} {b' = b} any any).left;
+      more_values = λ act vs ps i v. (link.more_values_linked A A K R R h act ps {w = Apart} {i = i} {j = i} {vs = vs} {us = vs} {v = v} {v' = v} any (any_list vs) any).left;
       more_arguments = λ f vs es i v. (link.more_arguments_linked A A K R R h f es {w = Apart} {i = i} {j = i} {vs = vs} {us = vs} {v = v} {v' = v} any (any_list vs) any).left;
       more_variables = λ r ds i v. (link.more_variables_linked A A K R R h ds {w = Apart} {i = i} {j = i} {n = r} {n' = r} {v = v} {v' = v} any any any).left;
       turn_test = λ round e v. (link.turn_test_linked A A K R R h round {w = Apart} {e = e} {d = e} {v = v} {v' = v} any any).left;
@@ -368,6 +405,9 @@ confinement observer tables inputs n =
       turned_round = λ round e. (link.turned_round_linked A A K R R h round {w = Apart} {e = e} {d = e} any).left;
       looped = λ round e. (link.looped_linked A A K R R h round {w = Apart} {e = e} {d = e} any).left;
       looped_value = λ round e v. (link.looped_value_linked A A K R R h round {w = Apart} {e = e} {d = e} v v any).left;
+      visited = λ v e. (link.visited_linked A A K R R h {w = Apart} {v = v} {v' = v} {e = e} {d = e} (any_visit v) any).left;
+      visit_body = λ s e v. (link.visit_body_linked A A K R R h s {w = Apart} {e = e} {d = e} v v any).left;
+      enumerated = λ target s e v. (link.enumerated_linked A A K R R h target s {w = Apart} {e = e} {d = e} {o = v} {o' = v} any any).left;
       choose_stmt = λ s e v. (link.choose_stmt_linked A A K R R h s {w = Apart} {e = e} {d = e} {v = v} {v' = v} any any).left;
       choose_stmts = λ s t e v. (link.choose_stmts_linked A A K R R h s t {w = Apart} {e = e} {d = e} {v = v} {v' = v} any any).left;
       statements = λ ss e. (link.statements_linked A A K R R h ss {w = Apart} {e = e} {d = e} any).left;
@@ -379,6 +419,15 @@ confinement observer tables inputs n =
 
 -- ---- lockstep, of parts
 
+same_visit : {observer : Label} {β : Pairing} {v u : Visit Val} → VisitsAgree observer β v u → record { target = v.target; body = v.body; object = u.object; key = v.key; others = v.others } ≡ u
+same_visit {v = v} {u = u} a =
+    ap (λ t. record { target = t; body = v.body; object = u.object; key = v.key; others = v.others }) a.target
+    ∙ ap (λ b. record { target = u.target; body = b; object = u.object; key = v.key; others = v.others }) a.body
+    ∙ ap₂ (λ k o. record { target = u.target; body = u.body; object = u.object; key = k; others = o }) a.key a.others
+
+visits_related : {observer : Label} {β : Pairing} {v u : Visit Val} → VisitsAgree observer β v u → Visits (Related (Agree observer) (Together β)) v u
+visits_related {observer} {β} {v} {u} a = subst (λ x. Visits (Related (Agree observer) (Together β)) v x) (same_visit a) (visits_of {a = v.object} {b = u.object} (related a.object))
+
 pub lockstep : IsLockstep
 unfolding observed
 lockstep observer tables first second n agree =
@@ -388,4 +437,5 @@ lockstep observer tables first second n agree =
       use_of = λ use_as e β i j p. (h.use_of use_as e (Together β) i j (related p)).step;
       stmt = λ s β e d r. (h.stmt s (Together β) e d (related r)).step;
       turn = λ round β e d r. (h.turn round (Together β) e d (related r)).step;
+      visit = λ v u β rs e d r. (h.visit (Together β) v u (visits_related rs) e d (related r)).step;
     }

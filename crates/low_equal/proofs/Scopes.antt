@@ -8,7 +8,7 @@ use Rattle.js_values.specs.declared.ids.EnvId.{EnvId}
 use Rattle.js_values.specs.Chains.{beginning, onwards, chain_within}
 use Rattle.js_values.specs.Records.{Binding, Bindings, Record, found, rebound, if_has, first_with, lookup, bound_in}
 use Rattle.std.specs.Option.{option_map}
-use Rattle.es_meaning.specs.Plain.{with_value, assigned_in, Reference, resolved, binding_at}
+use Rattle.es_meaning.specs.Plain.{with_value, assigned_in, binding_at}
 use Rattle.flow_meaning.specs.Scopes.{Val}
 use Rattle.low_equal.specs.Observed.{Hides}
 use Rattle.low_equal.specs.LowEqual.{Pairing, seen, hidden, SameRecord, outermost, within, Agree, BindingsAgree, no_bindings, bindings, RecordsAgree, Both, both_stand, AreNested, ScopesAgree}
@@ -29,15 +29,11 @@ set_other (x ∷ xs) zero (suc j) a n = refl
 set_other (x ∷ xs) (suc i) zero a n = refl
 set_other (x ∷ xs) (suc i) (suc j) a n = set_other xs i j a (λ e. n (ap suc e))
 
--- ---- references: of one name, and of no record or of paired ones
+-- ---- the place of a name: no record, or paired ones
 
 pub data PlacesAgree (β : Pairing) : Option ℕ → Option ℕ → Type 0 where
   nowhere : PlacesAgree β None None
   somewhere : {i j : ℕ} → β.records i j ≡ true → PlacesAgree β (Some i) (Some j)
-
-pub record ReferencesAgree (β : Pairing) (n m : Reference) : Type 0 where
-  pub name : n.name ≡ m.name
-  pub place : PlacesAgree β n.place m.place
 
 -- what is found for a name
 pub data FoundAgree (observer : Label) (β : Pairing) : Option (Binding Val) → Option (Binding Val) → Type 0 where
@@ -68,9 +64,8 @@ module _ (observer : Label) where
     pub bound_agree : (name : List ℕ) {r q : Option (Record Val)} → Both (RecordsAgree observer β) r q → FoundAgree observer β (bound_in name r) (bound_in name q)
     bound_agree name (both_stand x) = found_agree name x.bindings
 
-    pub binding_agree : {rs qs : List (Record Val)} (name : List ℕ) {i j : Option ℕ} → ScopesAgree observer β rs qs → PlacesAgree β i j → FoundAgree observer β (binding_at rs i name) (binding_at qs j name)
-    binding_agree name r nowhere = missing
-    binding_agree name r (somewhere p) = bound_agree name (r.paired _ _ p)
+    pub binding_agree : {rs qs : List (Record Val)} (name : List ℕ) {i j : ℕ} → ScopesAgree observer β rs qs → β.records i j ≡ true → FoundAgree observer β (binding_at rs i name) (binding_at qs j name)
+    binding_agree name r p = bound_agree name (r.paired _ _ p)
 
     has_agree : {i j : ℕ} {b c : Option (Binding Val)} {o p : Option ℕ} → β.records i j ≡ true → FoundAgree observer β b c → PlacesAgree β o p → PlacesAgree β (if_has i b o) (if_has j c p)
     has_agree p missing q = q
@@ -104,9 +99,6 @@ module _ (observer : Label) where
 
       pub lookup_agree : (i j : ℕ) → β.records i j ≡ true → PlacesAgree β (lookup name rs i) (lookup name qs j)
       lookup_agree i j p = round_agree (suc i) (suc j) i j (omega arith) (omega arith) p
-
-    pub resolved_agree : {rs qs : List (Record Val)} (name : List ℕ) {i j : ℕ} → ScopesAgree observer β rs qs → β.records i j ≡ true → ReferencesAgree β (resolved rs i name) (resolved qs j name)
-    resolved_agree {rs} {qs} name {i} {j} r p = record { name = refl; place = lookup_agree rs qs r name i j p }
 
     -- ---- names are given values
 
@@ -178,7 +170,7 @@ module _ (observer : Label) where
     assigned_at name v rs i b e = ap (λ o. with_value name v o rs i) e
 
     -- a name whose value is hidden is given a hidden one, on one side
-    pub assigned_left : {rs qs : List (Record Val)} (name : List ℕ) (v : Val) (i : ℕ) (b : Binding Val) → Hides observer v.label → binding_at rs (Some i) name ≡ Some b → Hides observer b.value.label
+    pub assigned_left : {rs qs : List (Record Val)} (name : List ℕ) (v : Val) (i : ℕ) (b : Binding Val) → Hides observer v.label → binding_at rs i name ≡ Some b → Hides observer b.value.label
         → ScopesAgree observer β rs qs → ScopesAgree observer β (assigned_in name v rs i) qs
     assigned_left {rs} {qs} name v i b h e k r = go (slice_get rs i) refl e
       where

@@ -1,5 +1,5 @@
 -- Two runs of one script begin in states that an observer can't tell apart.
-use Rattle.std.proofs.Common.{◌≡◌, ℕ, zero, suc, ◌<◌, List, [], ◌∷◌, ◌++◌, length, true, nat_eq, nat_lt, ◌&&◌, Option, Some, None, slice_get, refl, sym, ◌∙◌, ap, subst, true≢false, arith}
+use Rattle.std.proofs.Common.{◌≡◌, ℕ, zero, suc, ◌<◌, List, [], ◌∷◌, length, Bool, true, false, cond, nat_eq, nat_lt, ◌&&◌, Option, Some, None, slice_get, set, refl, sym, ◌∙◌, ap, subst, true≢false, arith}
 use Rattle.std.proofs.lemmas.Bool.{lt-ltb, ltb-true, and_parts, and_from, eqb-true, eq-eqb}
 use Rattle.std.proofs.lemmas.Option.{same_Some}
 use Rattle.origin_labels.specs.Label.{Label, bottom}
@@ -8,19 +8,29 @@ use Rattle.flow_policy.specs.Inputs.{Given}
 use Rattle.flow_frames.specs.Frames.{context}
 use Rattle.js_values.specs.declared.ids.ObjId.{ObjId}
 use Rattle.js_values.specs.declared.inner.Class.TheVariants as class
-use Rattle.js_values.specs.Objects.{Object, plain, fresh_plain}
-use Rattle.js_values.specs.Records.{Binding, Bindings, Record, found}
+use Rattle.js_values.specs.Chains.{beginning, onwards, chain_within}
+use Rattle.js_values.specs.Objects.{Rows, Property, PlainObject, Object, plain, fresh_plain, number_of, own, with_row}
+use Rattle.js_values.specs.Records.{Record}
+use Rattle.js_values.specs.Walks.{plain_chain, plain_found_at, plain_find}
+use Rattle.js_values.specs.declared.value.Value.TheVariants as value
+use Rattle.std.specs.Option.{option_map}
 use Rattle.js_ast.specs.Trees.{Statements}
-use Rattle.es_meaning.specs.Start.{ErrorKind, error, eval_error, range_error, reference_error, syntax_error, type_error, uri_error, object_prototype, error_prototype, prototype_of_errors, start_heap}
-use Rattle.es_meaning.specs.Plain.{undefined, unless_found, with_names, outermost, outermost_env}
+use Rattle.es_meaning.specs.Start.{ErrorKind, error, eval_error, range_error, reference_error, syntax_error, type_error, uri_error, object_prototype, global_object, error_prototype, prototype_of_errors, start_heap}
+use Rattle.es_meaning.specs.Objects as acts
+use Rattle.es_meaning.specs.Objects.{declared_by_script}
+use Rattle.js_values.specs.declared.property.Body.TheVariants.{Data}
+use Rattle.origin_labels.specs.Names.{same_name}
+use Rattle.es_meaning.specs.Plain.{undefined, unless_found, with_variable, with_variables, outermost, outermost_env}
 use Rattle.es_meaning.specs.Declared.{declared_statements}
-use Rattle.flow_meaning.specs.Erased.{unlabelled, unlabelled_object, unlabelled_heap}
+use Rattle.flow_meaning.specs.Erased.{unlabelled, unlabelled_rows, unlabelled_object, unlabelled_heap}
 use Rattle.flow_meaning.specs.Scopes.{Val}
 use Rattle.flow_meaning.specs.Tracked.{start}
 use Rattle.low_equal.specs.Observed.{Sees}
-use Rattle.low_equal.specs.LowEqual.{Pairing, IsOneToOne, Alike, seen, primitives, SameObject, neither, both, outermost as no_outer, Agree, data_bodies, no_rows, row, plains, ObjectsAgree, seen_shape, BindingsAgree, no_bindings, bindings, RecordsAgree, Both, both_stand, nowhere, elsewhere, AreDistinct, no_keys, one_more, IsFormed, AreFormed, AreNested, LowEqual}
+use Rattle.low_equal.specs.LowEqual.{Pairing, IsOneToOne, Alike, seen, primitives, objects, SameObject, neither, both, outermost as no_outer, data_bodies, RowsAgree, no_rows, row, plains, ShapesAgree, ObjectsAgree, seen_shape, hidden_shape, no_bindings, bindings, RecordsAgree, HeapsAgree, Both, both_stand, nowhere, elsewhere, AreDistinct, no_keys, one_more, IsFormed, AreFormed, AreNested, LowEqual}
 use Rattle.low_equal.specs.Laws.{EnvsAgree}
 use Rattle.low_equal.proofs.Labels.{sees_bottom}
+use Rattle.low_equal.proofs.Rows.{own_absent, distinct_with_row, with_row_both}
+use Rattle.low_equal.proofs.HeapActs.{StaysFormed, objects_agree, set_both}
 use Rattle.low_equal.proofs.Heaps.{none_some}
 use Rattle.low_equal.proofs.Lines.{lines_refl, positions_refl}
 use Rattle.low_equal.proofs.Views.{sees_none, sees_whole}
@@ -28,6 +38,13 @@ use Rattle.low_equal.proofs.Views.{sees_none, sees_whole}
 -- the objects that a run starts with, and the record of the outermost code, stand for themselves
 abbrev pub at_start : Pairing
 at_start = record { objects = λ i j. nat_eq i j && nat_lt i (length start_heap); records = λ i j. nat_eq i 0 && nat_eq j 0 }
+
+-- a variable that was declared
+abbrev variable : Property
+variable = record { body = Data undefined; marks = declared_by_script }
+
+abbrev with_variable_in : List ℕ → PlainObject → PlainObject
+with_variable_in name p = acts.with_rows p (with_row name variable p.rows)
 
 abbrev starting : List (Object Label)
 starting = unlabelled_heap start_heap
@@ -67,7 +84,7 @@ module _ (observer : Label) where
 
   start_agrees : (o : ℕ) → o < length start_heap → Both (ObjectsAgree observer at_start) (slice_get starting o) (slice_get starting o)
   start_agrees zero h = both_stand (bare_agrees None neither)
-  start_agrees (suc zero) h = both_stand (bare_agrees (Some object_prototype) (both refl))
+  start_agrees (suc zero) h = both_stand (record { class = refl; inner = plains; links = unlabelled_seen _ (both refl); shapes = seen_shape (sees_bottom observer) refl refl (row (unlabelled_seen _ (refl, data_bodies (unlabelled_seen _ primitives))) no_rows) })
   start_agrees (suc (suc zero)) h = both_stand (errors_agree error object_prototype refl)
   start_agrees (suc (suc (suc zero))) h = both_stand (errors_agree eval_error (error_prototype error) refl)
   start_agrees (suc (suc (suc (suc zero)))) h = both_stand (errors_agree range_error (error_prototype error) refl)
@@ -97,7 +114,7 @@ formed_at n x p e f = subst (IsFormed n) (same_Some x p e) f
 
 start_formed : AreFormed starting
 start_formed zero p e = formed_at zero _ p e (bare_formed zero None (λ q d. absurd (none_some q d)))
-start_formed (suc zero) p e = formed_at 1 _ p e (bare_formed 1 (Some object_prototype) (λ q d. subst (λ (x : ObjId). x.0 < 1) (same_Some object_prototype q d) (omega arith)))
+start_formed (suc zero) p e = formed_at 1 _ p e (record { below = λ q d. subst (λ (x : ObjId). x.0 < 1) (same_Some object_prototype q d) (omega arith); distinct = one_more nowhere no_keys })
 start_formed (suc (suc zero)) p e = formed_at 2 _ p e (errors_formed 2 error object_prototype (omega arith))
 start_formed (suc (suc (suc zero))) p e = formed_at 3 _ p e (errors_formed 3 eval_error (error_prototype error) (omega arith))
 start_formed (suc (suc (suc (suc zero)))) p e = formed_at 4 _ p e (errors_formed 4 range_error (error_prototype error) (omega arith))
@@ -107,26 +124,80 @@ start_formed (suc (suc (suc (suc (suc (suc (suc zero))))))) p e = formed_at 7 _ 
 start_formed (suc (suc (suc (suc (suc (suc (suc (suc zero)))))))) p e = formed_at 8 _ p e (errors_formed 8 uri_error (error_prototype error) (omega arith))
 start_formed (suc (suc (suc (suc (suc (suc (suc (suc (suc n))))))))) p e = absurd (none_some p e)
 
+-- ---- the variables of the outermost code are properties of the global object
+
+get_unlabelled : (h : List PlainObject) (o : ℕ) → slice_get (unlabelled_heap h) o ≡ option_map unlabelled_object (slice_get h o)
+get_unlabelled [] o = refl
+get_unlabelled (p ∷ h) zero = refl
+get_unlabelled (p ∷ h) (suc o) = get_unlabelled h o
+
+set_unlabelled : (h : List PlainObject) (o : ℕ) (p : PlainObject) → unlabelled_heap (set h o p) ≡ set (unlabelled_heap h) o (unlabelled_object p)
+set_unlabelled [] o p = refl
+set_unlabelled (q ∷ h) zero p = refl
+set_unlabelled (q ∷ h) (suc o) p = ap (λ x. unlabelled_object q ∷ x) (set_unlabelled h o p)
+
+rows_unlabelled : (key : List ℕ) (p : Property) (rows : Rows Property) → unlabelled_rows (with_row key p rows) ≡ with_row key (record { body = p.body; label = bottom; existence = bottom; marks = p.marks }) (unlabelled_rows rows)
+rows_unlabelled key p [] = refl
+rows_unlabelled key p (r ∷ rows) = ap (λ x. (r.0, record { body = r.1.body; label = bottom; existence = bottom; marks = r.1.marks }) ∷ x) (rows_unlabelled key p rows)
+
+own_unlabelled : (key : List ℕ) (rows : Rows Property) → own key rows ≡ None → own key (unlabelled_rows rows) ≡ None
+own_unlabelled key [] e = refl
+own_unlabelled key (r ∷ rows) e = by_test (same_name r.0 key) e (own_unlabelled key rows)
+  where
+    by_test : (b : Bool) → cond b (Some r.1) (own key rows) ≡ None → (own key rows ≡ None → own key (unlabelled_rows rows) ≡ None)
+        → cond b (Some (record { body = r.1.body; label = bottom; existence = bottom; marks = r.1.marks })) (own key (unlabelled_rows rows)) ≡ None
+    by_test true e h = absurd (none_some _ (sym e))
+    by_test false e h = h e
+
+-- an object in which nothing is found along its prototypes hasn't the key
+own_none : (o : ℕ) (found : Option Property) (rest : Option (ℕ × Property)) → plain_found_at o found rest ≡ None → found ≡ None
+own_none o None rest e = refl
+own_none o (Some p) rest e = absurd (none_some _ (sym e))
+
+module _ (observer : Label) where
+  abbrev Itself : List PlainObject → Type 0
+  Itself h = HeapsAgree observer at_start (unlabelled_heap h) (unlabelled_heap h)
+
+  variable_rows : (name : List ℕ) (rs : Rows Property) → RowsAgree observer at_start (unlabelled_rows rs) (unlabelled_rows rs) → RowsAgree observer at_start (unlabelled_rows (with_row name variable rs)) (unlabelled_rows (with_row name variable rs))
+  variable_rows name rs a = subst (λ x. RowsAgree observer at_start x x) (sym (rows_unlabelled name variable rs)) (with_row_both observer name (seen (sees_bottom observer) refl (refl, data_bodies (seen (sees_bottom observer) refl primitives))) a)
+
+  variable_shapes : (name : List ℕ) (p : PlainObject) → ShapesAgree observer at_start (unlabelled_object p) (unlabelled_object p) → ShapesAgree observer at_start (unlabelled_object (with_variable_in name p)) (unlabelled_object (with_variable_in name p))
+  variable_shapes name p (seen_shape a e x rows) = seen_shape a e x (variable_rows name p.rows rows)
+  variable_shapes name p (hidden_shape a b rows) = absurd (true≢false (sym (sees_bottom observer) ∙ a))
+
+  variable_kept : (name : List ℕ) (p : PlainObject) → own name p.rows ≡ None → StaysFormed (unlabelled_object (with_variable_in name p)) (unlabelled_object p)
+  variable_kept name p none = record {
+    distinct = λ d. subst AreDistinct (sym (rows_unlabelled name variable p.rows)) (distinct_with_row name _ (own_absent name (unlabelled_rows p.rows) (own_unlabelled name p.rows none)) d);
+    proto = refl;
+  }
+
+  variable_put : (name : List ℕ) (h : List PlainObject) (p : PlainObject) → slice_get h global_object.0 ≡ Some p → own name p.rows ≡ None → Itself h → Itself (set h global_object.0 (with_variable_in name p))
+  variable_put name h p at none r =
+      let here : slice_get (unlabelled_heap h) global_object.0 ≡ Some (unlabelled_object p) = get_unlabelled h global_object.0 ∙ ap (option_map unlabelled_object) at in
+      let a = objects_agree observer r (r.starts global_object.0 (omega arith)) here here in
+      let kept = variable_kept name p none in
+      subst (λ x. HeapsAgree observer at_start x x) (sym (set_unlabelled h global_object.0 (with_variable_in name p)))
+      (set_both observer global_object.0 global_object.0 (unlabelled_object (with_variable_in name p)) (unlabelled_object (with_variable_in name p)) (unlabelled_object p) (unlabelled_object p) (r.starts global_object.0 (omega arith)) here here
+      (record { class = a.class; inner = a.inner; links = a.links; shapes = variable_shapes name p a.shapes }) kept kept r)
+
+  variable_at : (name : List ℕ) (h : List PlainObject) (x : Option PlainObject) → slice_get h global_object.0 ≡ x
+      → plain_find name (beginning global_object.0 x (λ p. onwards (number_of p.proto) (chain_within (λ q. number_of q.proto) h global_object.0))) ≡ None → Itself h → Itself (acts.replaced x global_object.0 (with_variable_in name) h)
+  variable_at name h None at none r = r
+  variable_at name h (Some p) at none r = variable_put name h p at (own_none _ _ _ none) r
+
+  variable_itself : (name : List ℕ) (h : List PlainObject) (f : Option (ℕ × Property)) → plain_find name (plain_chain h global_object.0) ≡ f → Itself h → Itself (unless_found f name h)
+  variable_itself name h None e r = variable_at name h (slice_get h global_object.0) refl e r
+  variable_itself name h (Some f) e r = r
+
+  variables_itself : (names : List (List ℕ)) (h : List PlainObject) → Itself h → Itself (with_variables names h)
+  variables_itself [] h r = r
+  variables_itself (name ∷ names) h r = variables_itself names (with_variable name h) (variable_itself name h (plain_find name (plain_chain h global_object.0)) refl r)
+
 -- ---- the record of the outermost code
 
 module _ (observer : Label) where
-  undefined_agrees : Agree observer at_start (unlabelled undefined) (unlabelled undefined)
-  undefined_agrees = seen (sees_bottom observer) refl primitives
-
-  append_agrees : {bs cs ds es : Bindings Val} → BindingsAgree observer at_start bs cs → BindingsAgree observer at_start ds es → BindingsAgree observer at_start (bs ++ ds) (cs ++ es)
-  append_agrees no_bindings q = q
-  append_agrees (bindings a r) q = bindings a (append_agrees r q)
-
-  unless_agrees : (o : Option (Binding Val)) (name : List ℕ) {bs : Bindings Val} → BindingsAgree observer at_start bs bs → BindingsAgree observer at_start (unless_found o (unlabelled undefined) name bs) (unless_found o (unlabelled undefined) name bs)
-  unless_agrees (Some b) name r = r
-  unless_agrees None name r = append_agrees r (bindings undefined_agrees no_bindings)
-
-  names_agree : (names : List (List ℕ)) {bs : Bindings Val} → BindingsAgree observer at_start bs bs → BindingsAgree observer at_start (with_names (unlabelled undefined) names bs) (with_names (unlabelled undefined) names bs)
-  names_agree [] r = r
-  names_agree (name ∷ names) {bs = bs} r = names_agree names (unless_agrees (found name bs) name r)
-
-  outermost_agrees : (program : Statements) → RecordsAgree observer at_start (outermost (unlabelled undefined) program) (outermost (unlabelled undefined) program)
-  outermost_agrees program = record { outer = no_outer; bindings = names_agree (declared_statements program) (bindings undefined_agrees no_bindings) }
+  outermost_agrees : RecordsAgree observer at_start (outermost (unlabelled (value.Object global_object))) (outermost (unlabelled (value.Object global_object)))
+  outermost_agrees = record { outer = no_outer; bindings = bindings (seen (sees_bottom observer) refl (objects refl)) no_bindings }
 
   records_paired : (r : Record Val) → RecordsAgree observer at_start r r → (i j : ℕ) → at_start.records i j ≡ true → Both (RecordsAgree observer at_start) (slice_get (r ∷ []) i) (slice_get (r ∷ []) j)
   records_paired r a i j p =
@@ -145,12 +216,12 @@ module _ (observer : Label) where
     some = omega arith;
     counts = refl;
     frames = refl;
-    heap = record { starts = is_start; paired = start_paired observer; one_to_one = one_start; left = start_formed; right = start_formed };
+    heap = variables_itself observer (declared_statements program) start_heap (record { starts = is_start; paired = start_paired observer; one_to_one = one_start; left = start_formed; right = start_formed });
     records = record {
-      paired = records_paired (outermost (unlabelled undefined) program) (outermost_agrees program);
+      paired = records_paired (outermost (unlabelled (value.Object global_object))) outermost_agrees;
       one_to_one = one_record;
-      left = outermost_nested (outermost (unlabelled undefined) program) refl;
-      right = outermost_nested (outermost (unlabelled undefined) program) refl;
+      left = outermost_nested (outermost (unlabelled (value.Object global_object))) refl;
+      right = outermost_nested (outermost (unlabelled (value.Object global_object))) refl;
     };
     positions = positions_refl observer tables _;
     lines = lines_refl observer tables [];

@@ -6,15 +6,14 @@ use Rattle.flow_policy.specs.Inputs.{Given}
 use Rattle.flow_policy.specs.Observed as policy
 use Rattle.js_ast.specs.declared.operators.UnaryOperator.{UnaryOperator}
 use Rattle.js_ast.specs.declared.operators.BinaryOperator.{BinaryOperator}
-use Rattle.js_ast.specs.Trees.{Ident, Expr, Exprs, MaybeExpr, Statement, Statements}
+use Rattle.js_ast.specs.Trees.{Ident, Expr, Exprs, MaybeExpr, Properties, Target, Statement, Statements}
 use Rattle.es_meaning.specs.Outcomes.{Ending, done, threw, halted}
 use Rattle.es_meaning.specs.Environments.{Env}
-use Rattle.es_meaning.specs.Operations.{Direct, Hint, Use, Round}
+use Rattle.es_meaning.specs.Operations.{Direct, Act, Hint, Use, Round, Visit}
 use Rattle.es_meaning.specs.Evaluation as part
 use Rattle.es_meaning.specs.Evaluation.{eval}
-use Rattle.es_meaning.specs.Plain.{Reference}
 use Rattle.flow_meaning.specs.Scopes.{Val, LabelledLine, Halt, Jump, jump}
-use Rattle.flow_meaning.specs.Tracked.{labelled, timed, tracked_run}
+use Rattle.flow_meaning.specs.Tracked.{Reference, labelled, timed, tracked_run}
 use Rattle.low_equal.specs.Observed.{seen_lines, labelled_lines, Front}
 use Rattle.low_equal.specs.LowEqual.{Pairing, Agree}
 use Rattle.low_equal.specs.Runs.{Confined, Lockstep}
@@ -26,6 +25,7 @@ pub record IsConfined (observer : Label) (tables : Tables) (inputs : Given) (n :
   pub use_of : (use_as : Use) (e : Expr) (i : ℕ) → Confined observer tables ((eval (timed tables inputs) n).use_of use_as e i)
   pub stmt : (s : Statement) (e : Env ℕ) → Confined observer tables ((eval (timed tables inputs) n).stmt s e)
   pub turn : (round : Round) (e : Env ℕ) → Confined observer tables ((eval (timed tables inputs) n).turn round e)
+  pub visit : (visit : Visit Val) (e : Env ℕ) → Confined observer tables ((eval (timed tables inputs) n).visit visit e)
   -- a jump
   pub jump : (cause : Label) (j : Jump) → Confined observer tables {X = Unit {0}} (jump cause j)
   -- what is done with values
@@ -37,6 +37,8 @@ pub record IsConfined (observer : Label) (tables : Tables) (inputs : Given) (n :
   pub compared_left : (o : BinaryOperator) (u v : Val) → Confined observer tables (part.compared_left (labelled tables inputs) o u v)
   pub primitive_left : (hint : Hint) (o : BinaryOperator) (u v : Val) → Confined observer tables (part.primitive_left (labelled tables inputs) hint o u v)
   pub number_left : (o : BinaryOperator) (u v : Val) → Confined observer tables (part.number_left (labelled tables inputs) o u v)
+  pub has_left : (u v : Val) → Confined observer tables (part.has_left (labelled tables inputs) u v)
+  pub has_right : (v u : Val) → Confined observer tables (part.has_right (labelled tables inputs) v u)
   pub binary_values : (o : BinaryOperator) (v u : Val) → Confined observer tables (part.binary_values (labelled tables inputs) o v u)
   pub assign_to : (r : Reference) (v : Val) → Confined observer tables (part.assign_to (labelled tables inputs) r v)
   pub assign_giving : (r : Reference) (a v : Val) → Confined observer tables (part.assign_giving (labelled tables inputs) r a v)
@@ -55,7 +57,13 @@ pub record IsConfined (observer : Label) (tables : Tables) (inputs : Given) (n :
   pub compound_done : (o : BinaryOperator) (r : Reference) (a v : Val) → Confined observer tables (part.compound_done (labelled tables inputs) (eval (timed tables inputs) n) o r a v)
   pub compound_right : (o : BinaryOperator) (e : Expr) (i : ℕ) (r : Reference) (a : Val) → Confined observer tables (part.compound_right (labelled tables inputs) (eval (timed tables inputs) n) o e i r a)
   pub used : (use_as : Use) (i : ℕ) (r : Reference) → Confined observer tables (part.used (labelled tables inputs) (eval (timed tables inputs) n) use_as i r)
-  pub read_name : (r : Reference) → Confined observer tables (part.read_name (labelled tables inputs) (eval (timed tables inputs) n) r)
+  pub read_value : (r : Reference) → Confined observer tables (part.read_value (labelled tables inputs) (eval (timed tables inputs) n) r)
+  pub with_key : (use_as : Use) (i : ℕ) (b k : Val) → Confined observer tables (part.with_key (labelled tables inputs) (eval (timed tables inputs) n) use_as i b k)
+  pub with_base : (use_as : Use) (i : ℕ) (k b : Val) → Confined observer tables (part.with_base (labelled tables inputs) (eval (timed tables inputs) n) use_as i k b)
+  pub index_key : (use_as : Use) (i : ℕ) (b k : Val) → Confined observer tables (part.index_key (labelled tables inputs) (eval (timed tables inputs) n) use_as i b k)
+  pub index_base : (use_as : Use) (e : Expr) (i : ℕ) (b : Val) → Confined observer tables (part.index_base (labelled tables inputs) (eval (timed tables inputs) n) use_as e i b)
+  pub member_base : (use_as : Use) (text : List ℕ) (i : ℕ) (b : Val) → Confined observer tables (part.member_base (labelled tables inputs) (eval (timed tables inputs) n) use_as text i b)
+  pub more_values : (act : Act) (vs : List Val) (ps : Properties) (i : ℕ) (v : Val) → Confined observer tables (part.more_values (labelled tables inputs) (eval (timed tables inputs) n) act vs ps i v)
   pub more_arguments : (f : Direct) (vs : List Val) (es : Exprs) (i : ℕ) (v : Val) → Confined observer tables (part.more_arguments (labelled tables inputs) (eval (timed tables inputs) n) f vs es i v)
   -- and of statements
   pub more_variables : (r : Reference) (ds : List (Ident × MaybeExpr)) (i : ℕ) (v : Val) → Confined observer tables (part.more_variables (labelled tables inputs) (eval (timed tables inputs) n) r ds i v)
@@ -64,6 +72,9 @@ pub record IsConfined (observer : Label) (tables : Tables) (inputs : Given) (n :
   pub turned_round : (round : Round) (e : Env ℕ) → Confined observer tables (part.turned_round (labelled tables inputs) (eval (timed tables inputs) n) round e tt)
   pub looped : (round : Round) (e : Env ℕ) → Confined observer tables (part.looped (labelled tables inputs) (eval (timed tables inputs) n) round e tt)
   pub looped_value : (round : Round) (e : Env ℕ) (v : Val) → Confined observer tables (part.looped_value (labelled tables inputs) (eval (timed tables inputs) n) round e v)
+  pub visited : (visit : Visit Val) (e : Env ℕ) → Confined observer tables (part.visited (labelled tables inputs) (eval (timed tables inputs) n) visit e tt)
+  pub visit_body : (s : Statement) (e : Env ℕ) (v : Val) → Confined observer tables (part.visit_body (labelled tables inputs) (eval (timed tables inputs) n) s e v)
+  pub enumerated : (target : Target) (s : Statement) (e : Env ℕ) (v : Val) → Confined observer tables (part.enumerated (labelled tables inputs) (eval (timed tables inputs) n) target s e v)
   pub choose_stmt : (s : Statement) (e : Env ℕ) (v : Val) → Confined observer tables (part.choose_stmt (labelled tables inputs) (eval (timed tables inputs) n) s e v)
   pub choose_stmts : (s t : Statement) (e : Env ℕ) (v : Val) → Confined observer tables (part.choose_stmts (labelled tables inputs) (eval (timed tables inputs) n) s t e v)
   pub statements : (ss : Statements) (e : Env ℕ) → Confined observer tables (part.statements (labelled tables inputs) (eval (timed tables inputs) n) ss e)
@@ -78,6 +89,14 @@ pub record EnvsAgree (β : Pairing) (e d : Env ℕ) : Type 0 where
   pub call : e.call ≡ d.call
   pub around : e.around ≡ d.around
 
+-- turns of a `for in` over values that agree
+pub record VisitsAgree (observer : Label) (β : Pairing) (v u : Visit Val) : Type 0 where
+  pub target : v.target ≡ u.target
+  pub body : v.body ≡ u.body
+  pub object : Agree observer β v.object u.object
+  pub key : v.key ≡ u.key
+  pub others : v.others ≡ u.others
+
 abbrev pub Nothing : Pairing → Unit {0} → Unit {0} → Type 0
 Nothing β a b = Unit {0}
 
@@ -90,6 +109,8 @@ pub record InLockstep (observer : Label) (tables : Tables) (first second : Given
       → Lockstep observer tables Nothing β ((eval (timed tables first) n).stmt s e) ((eval (timed tables second) n).stmt s d)
   pub turn : (round : Round) (β : Pairing) (e d : Env ℕ) → EnvsAgree β e d
       → Lockstep observer tables Nothing β ((eval (timed tables first) n).turn round e) ((eval (timed tables second) n).turn round d)
+  pub visit : (v u : Visit Val) (β : Pairing) → VisitsAgree observer β v u → (e d : Env ℕ) → EnvsAgree β e d
+      → Lockstep observer tables Nothing β ((eval (timed tables first) n).visit v e) ((eval (timed tables second) n).visit u d)
 
 abbrev pub IsLockstep : Type 0
 IsLockstep = (observer : Label) (tables : Tables) (first second : Given) (n : ℕ) → policy.Agree observer tables first second

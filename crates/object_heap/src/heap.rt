@@ -6,14 +6,14 @@ ghost use Rattle.origin_labels.specs.Stores.{IsKept};
 ghost use Rattle.flow_frames.specs.Stops.{IsStop};
 ghost use Rattle.js_values.specs.Objects.{fresh_object};
 ghost use Rattle.js_values.specs.Readings.{HasHeap, HasInner, read_heap, read_value};
-ghost use Rattle.object_heap.specs.Acts.{new_object, write, set_body, set_attributes, raise_existence, add, remove, raise_structure, prevent_extensions};
+ghost use Rattle.object_heap.specs.Acts.{act_on, overwrite_own, new_object, write, set_body, set_attributes, raise_existence, add, remove, raise_structure, prevent_extensions};
 ghost use Rattle.object_heap.specs.Answers.{Acts};
 ghost use Rattle.object_heap.specs.Formed.{IsFormed, own_in, row_in, target_of, IsShape, IsInner};
 
 use crate::object::Object;
 use crate::shape::Shape;
 use flow_frames::{FlowFault, Rule};
-use flow_text::OutOfMemory;
+use flow_text::{OutOfMemory, Text};
 use js_values::{Body, Class, Inner, Key, Labelled, Marks, ObjId, Slot};
 use origin_labels::Labels;
 use std::alloc::Global;
@@ -101,7 +101,15 @@ impl<T: Copy> Heap<T> {
         requires { o.0 < length self.now }
         ensures { option_map (λ s. s.now) result ≡ own_in key.now (slice_get self.now o.0) }
     {
-        self.object(o).own(key)
+        self.own_named(o, key.text())
+    }
+
+    /// The property of an object with the key of a text.
+    pub fn own_named(&self, o: ObjId, name: &Text) -> Option<&Slot<T>>
+        requires { o.0 < length self.now }
+        ensures { option_map (λ s. s.now) result ≡ own_in name.now (slice_get self.now o.0) }
+    {
+        self.object(o).own(name)
     }
 
     /// The property of an object at a place, with its key.
@@ -132,14 +140,32 @@ impl<T: Copy> Heap<T> {
         ensures kept { IsKept L.made L.meaning L.room L.firm labels.old labels.new }
         ensures firm { L.firm labels.old ≡ true → IfErr result IsStop }
     {
-        self.objects[o.0 as usize].overwrite(
-            labels,
-            rule,
-            key,
-            need,
-            Body::Data(value.value),
-            value.label,
-        )?;
+        self.write_named(labels, rule, o, key.text(), need, value)?;
+        Ok(())
+    }
+
+    /// The same for the key of a text.
+    pub fn write_named<L: Labels<Label = T>>(
+        &mut self,
+        labels: &mut L,
+        rule: Rule,
+        o: ObjId,
+        name: &Text,
+        need: T,
+        value: Labelled<T>,
+    ) -> Result<(), FlowFault<T>>
+        requires present { IsSome (own_in name.now (slice_get self.old o.0)) }
+        requires need { L.made labels.old need }
+        requires value { L.made labels.old value.label }
+        requires belongs { HasHeap (L.made labels.old) self.old }
+        ensures acts { Acts L.made L.meaning labels.new read_heap (λ reading. write rule o.0 name.now (reading need) (read_value reading value)) self.old self.new result }
+        ensures length { length self.new ≡ length self.old }
+        ensures belongs { HasHeap (L.made labels.new) self.new }
+        ensures kept { IsKept L.made L.meaning L.room L.firm labels.old labels.new }
+        ensures firm { L.firm labels.old ≡ true → IfErr result IsStop }
+    {
+        let body = Body::Data(value.value);
+        self.overwrite(labels, rule, o, name, need, body, value.label)?;
         Ok(())
     }
 
@@ -185,7 +211,7 @@ impl<T: Copy> Heap<T> {
         ensures kept { IsKept L.made L.meaning L.room L.firm labels.old labels.new }
         ensures firm { L.firm labels.old ≡ true → IfErr result IsStop }
     {
-        self.objects[o.0 as usize].overwrite(labels, Rule::W2, key, need, body, label)?;
+        self.overwrite(labels, Rule::W2, o, key.text(), need, body, label)?;
         Ok(())
     }
 
@@ -297,6 +323,31 @@ impl<T: Copy> Heap<T> {
         ensures firm { IfErr result IsStop }
     {
         self.objects[o.0 as usize].prevent_extensions(labels, need)?;
+        Ok(())
+    }
+
+    /// Gives a property another body, with the label of that (rules W1 and W2).
+    fn overwrite<L: Labels<Label = T>>(
+        &mut self,
+        labels: &mut L,
+        rule: Rule,
+        o: ObjId,
+        name: &Text,
+        need: T,
+        body: Body,
+        label: T,
+    ) -> Result<(), FlowFault<T>>
+        requires present { IsSome (own_in name.now (slice_get self.old o.0)) }
+        requires need { L.made labels.old need }
+        requires label { L.made labels.old label }
+        requires belongs { HasHeap (L.made labels.old) self.old }
+        ensures acts { Acts L.made L.meaning labels.new read_heap (λ reading. act_on o.0 (overwrite_own rule name.now (reading need) body (reading label))) self.old self.new result }
+        ensures length { length self.new ≡ length self.old }
+        ensures belongs { HasHeap (L.made labels.new) self.new }
+        ensures kept { IsKept L.made L.meaning L.room L.firm labels.old labels.new }
+        ensures firm { L.firm labels.old ≡ true → IfErr result IsStop }
+    {
+        self.objects[o.0 as usize].overwrite(labels, rule, name, need, body, label)?;
         Ok(())
     }
 

@@ -18,7 +18,7 @@ use crate::arrays::{LENGTH, element_of, is_past, length_above};
 use crate::row::{Row, check};
 use crate::shape::Shape;
 use flow_frames::{FlowFault, Rule};
-use flow_text::OutOfMemory;
+use flow_text::{OutOfMemory, Text};
 use js_values::{Body, Class, Inner, Key, Marks, ObjId, Slot};
 use origin_labels::Labels;
 use std::alloc::Global;
@@ -88,10 +88,10 @@ impl<T: Copy> Object<T> {
     }
 
     /// The property with a key.
-    pub(crate) fn own(&self, key: &Key) -> Option<&Slot<T>>
-        ensures { option_map (λ s. s.now) result ≡ own key.now self.now.rows }
+    pub(crate) fn own(&self, name: &Text) -> Option<&Slot<T>>
+        ensures { option_map (λ s. s.now) result ≡ own name.now self.now.rows }
     {
-        let place = self.place(key.text().units())?;
+        let place = self.place(name.units())?;
         Some(self.slot(place))
     }
 
@@ -149,7 +149,15 @@ impl<T: Copy> Object<T> {
         requires { IsSome (own key.now self.now.rows) }
         ensures { StandsAt key.now self.now.rows result }
     {
-        self.place(key.text().units()).unwrap()
+        self.present_named(key.text())
+    }
+
+    /// The same for the key of a text.
+    fn present_named(&self, name: &Text) -> usize
+        requires { IsSome (own name.now self.now.rows) }
+        ensures { StandsAt name.now self.now.rows result }
+    {
+        self.place(name.units()).unwrap()
     }
 
     /// Gives a property another body, with the label of that (rules W1 and W2).
@@ -157,22 +165,22 @@ impl<T: Copy> Object<T> {
         &mut self,
         labels: &mut L,
         rule: Rule,
-        key: &Key,
+        name: &Text,
         need: T,
         body: Body,
         label: T,
     ) -> Result<(), FlowFault<T>>
-        requires present { IsSome (own key.now self.old.rows) }
+        requires present { IsSome (own name.now self.old.rows) }
         requires need { L.made labels.old need }
         requires label { L.made labels.old label }
         requires belongs { HasObject (L.made labels.old) self.old }
-        ensures acts { Acts L.made L.meaning labels.new read_object (λ reading. overwrite_own rule key.now (reading need) body (reading label)) self.old self.new result }
+        ensures acts { Acts L.made L.meaning labels.new read_object (λ reading. overwrite_own rule name.now (reading need) body (reading label)) self.old self.new result }
         ensures belongs { HasObject (L.made labels.new) self.new }
         ensures leads { LeadsAs self.old self.new }
         ensures kept { IsKept L.made L.meaning L.room L.firm labels.old labels.new }
         ensures firm { L.firm labels.old ≡ true → IfErr result IsStop }
     {
-        let place = self.present(key);
+        let place = self.present_named(name);
         let have = self.value_label(labels, place)?;
         check(labels, rule, need, have)?;
         let label = labels.join(label, need)?;

@@ -12,5 +12,5 @@ pub use enumeration::keys;
 pub use found::Found;
 pub use key_list::KeyList;
 pub use plan::PutPlan;
-pub use put::can_put;
-pub use walk::find;
+pub use put::{can_put, can_put_named};
+pub use walk::{find, find_named, find_slot_named};

@@ -8,8 +8,8 @@ ghost use Rattle.prototype_walk.specs.Plans.{can_put, own_plan, inherited_plan, 
 ghost use Rattle.prototype_walk.specs.Answers.{IsPlan};
 
 use crate::plan::PutPlan;
-use crate::walk::{join, walk_to};
-use flow_text::OutOfMemory;
+use crate::walk::{find_slot_named, join};
+use flow_text::{OutOfMemory, Text};
 use js_values::{Body, Key, ObjId, Slot};
 use object_heap::Heap;
 use origin_labels::Labels;
@@ -29,12 +29,29 @@ pub fn can_put<T: Copy, L: Labels<Label = T>>(
     ensures kept { IsKept L.made L.meaning L.room L.firm labels.old labels.new }
     ensures firm { L.firm labels.old ≡ true → IsOk result }
 {
+    can_put_named(heap, labels, o, key.text())
+}
+
+/// The same for the key of a text.
+pub fn can_put_named<T: Copy, L: Labels<Label = T>>(
+    heap: &Heap<T>,
+    labels: &mut L,
+    o: ObjId,
+    name: &Text,
+) -> Result<PutPlan<T>, OutOfMemory>
+    requires there { o.0 < length heap.now }
+    requires other { IsNoElement name.now (slice_get heap.now o.0) }
+    requires belongs { HasHeap (L.made labels.old) heap.now }
+    ensures plan { IfOk result (IsPlan L.made L.meaning labels.new (λ reading. can_put name.now (object_chain (read_heap reading heap.now) o.0))) }
+    ensures kept { IsKept L.made L.meaning L.room L.firm labels.old labels.new }
+    ensures firm { L.firm labels.old ≡ true → IsOk result }
+{
     let count = heap.len();
     prove!(o.0 < count);
-    if let Some(slot) = heap.own(o, key) {
+    if let Some(slot) = heap.own_named(o, name) {
         return plan_own(labels, o, slot);
     }
-    let (place, walk) = walk_to(heap, labels, o, key)?;
+    let (place, walk) = find_slot_named(heap, labels, o, name)?;
     let extensible = heap.shape(o).extensible;
     match place {
         Some((at, slot)) => plan_inherited(labels, extensible, at, slot, walk),

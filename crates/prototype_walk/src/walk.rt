@@ -8,7 +8,7 @@ ghost use Rattle.js_values.specs.Readings.{HasHeap};
 ghost use Rattle.prototype_walk.specs.Answers.{Means, IsPlace, IsFound};
 
 use crate::found::Found;
-use flow_text::OutOfMemory;
+use flow_text::{OutOfMemory, Text};
 use js_values::{Key, ObjId, Slot};
 use object_heap::{Heap, Shape};
 use origin_labels::Labels;
@@ -27,21 +27,37 @@ pub fn find<T: Copy, L: Labels<Label = T>>(
     ensures kept { IsKept L.made L.meaning L.room L.firm labels.old labels.new }
     ensures firm { L.firm labels.old ≡ true → IsOk result }
 {
-    let (place, walk) = walk_to(heap, labels, o, key)?;
+    find_named(heap, labels, o, key.text())
+}
+
+/// The same for the key of a text.
+pub fn find_named<T: Copy, L: Labels<Label = T>>(
+    heap: &Heap<T>,
+    labels: &mut L,
+    o: ObjId,
+    name: &Text,
+) -> Result<Found<T>, OutOfMemory>
+    requires there { o.0 < length heap.now }
+    requires belongs { HasHeap (L.made labels.old) heap.now }
+    ensures found { IfOk result (IsFound L.made L.meaning labels.new heap.now o.0 name.now) }
+    ensures kept { IsKept L.made L.meaning L.room L.firm labels.old labels.new }
+    ensures firm { L.firm labels.old ≡ true → IsOk result }
+{
+    let (place, walk) = find_slot_named(heap, labels, o, name)?;
     let at = place.map(|(at, _)| at);
     Ok(Found { at, walk })
 }
 
-/// The property that the key names with the object that has it, and the label of the walk to it.
-pub(crate) fn walk_to<'h, T: Copy, L: Labels<Label = T>>(
+/// The property that the key of a text names with the object that has it, and the label of the walk to it.
+pub fn find_slot_named<'h, T: Copy, L: Labels<Label = T>>(
     heap: &'h Heap<T>,
     labels: &mut L,
     o: ObjId,
-    key: &Key,
+    name: &Text,
 ) -> Result<(Option<(ObjId, &'h Slot<T>)>, T), OutOfMemory>
     requires there { o.0 < length heap.now }
     requires belongs { HasHeap (L.made labels.old) heap.now }
-    ensures place { IfOk result (λ r. IsPlace L.made L.meaning labels.new heap.now o.0 key.now (option_map (λ f. (f.0, f.1.now)) r.0) r.1) }
+    ensures place { IfOk result (λ r. IsPlace L.made L.meaning labels.new heap.now o.0 name.now (option_map (λ f. (f.0, f.1.now)) r.0) r.1) }
     ensures kept { IsKept L.made L.meaning L.room L.firm labels.old labels.new }
     ensures firm { L.firm labels.old ≡ true → IsOk result }
 {
@@ -51,7 +67,7 @@ pub(crate) fn walk_to<'h, T: Copy, L: Labels<Label = T>>(
     let mut at = o;
     let mut walk = labels.bottom();
     'along: loop {
-        if let Some(slot) = heap.own(at, key) {
+        if let Some(slot) = heap.own_named(at, name) {
             let walk = join(labels, walk, slot.existence)?;
             return Ok((Some((at, slot)), walk));
         }

@@ -1,4 +1,6 @@
+ghost use Rattle.std.specs.Prelude.{◌≡◌};
 ghost use Rattle.js_values.specs.Readings.{HasValue};
+ghost use Rattle.step_values.specs.Converted.{is_keyed};
 ghost use Rattle.step_world.specs.Acts.{HasAnswer};
 
 use crate::told::holds;
@@ -240,6 +242,13 @@ fn operators_in_front(rt: HostRuntime) {
     }
 }
 
+// Whether it is `in`, which asks objects and is no operator on values alone.
+fn is_keyed(operator: BinaryOperator) -> bool
+    ensures { result ≡ is_keyed operator }
+{
+    matches!(operator, BinaryOperator::In)
+}
+
 // The left value depends on origin 0, and the right one on origin 1.
 fn is_middle(alloc: Global, row: &Middle) -> Result<bool, OutOfMemory> {
     let mut labels = Masks;
@@ -252,6 +261,9 @@ fn is_middle(alloc: Global, row: &Middle) -> Result<bool, OutOfMemory> {
         value: value_of(alloc, row.2)?,
         label: labels.single(1)?,
     };
+    if is_keyed(row.1) {
+        return Ok(false);
+    }
     let came = binary_values(alloc, &mut labels, &world, row.1, &left, &right);
     Ok(is_answer(alloc, &labels, came, [true, true], row.3))
 }

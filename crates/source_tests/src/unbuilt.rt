@@ -26,6 +26,23 @@ const BUILT: &[Row] = &[
     ),
 ];
 
+const BUILT_OBJECTS: &[Row] = &[
+    ("upgs(a, 'l'); b = upge(c, 'x', 'l')", None),
+    ("this; 1 + this; this.a = this['b']", None),
+    ("x = { }; y = { a: 1, 'b': c[0], 2: { if: this, }, }", None),
+    ("({ get: 1, set: this.set }).get", None),
+    ("a + b.c; a[0]; (a.b)[c.d].e", None),
+    ("a.b = 1; (a[b]) += c; a.b.c = d[e] = f", None),
+    ("1, a.b++; --(a)[0]; ++a.b", None),
+    ("delete a; delete (a).b; delete ((a[b])); delete 1", None),
+    ("!('a' in b); if (a in b in c) ;", None),
+    (
+        "for (a in b) ; for (var c in d) e; for (a.b in c) { } for ((a)[b] in c) for (d in e) ;",
+        None,
+    ),
+    ("a = b.print; a = { read: b.lbl }", None),
+];
+
 const NAMES_AND_CALLS: &[Row] = &[
     ("read", Some(0)),
     ("x + lbl", Some(4)),
@@ -33,31 +50,57 @@ const NAMES_AND_CALLS: &[Row] = &[
     ("(print)", Some(1)),
     ("print = 1", Some(0)),
     ("var read = 1", Some(4)),
-    ("var a, b = lbl, c = this", Some(11)),
+    ("var a, b = lbl, c = []", Some(11)),
     ("for (var i, upgs;;) ;", Some(12)),
     ("f(1)", Some(0)),
     ("(read)('h')", Some(0)),
-    ("upgs('a')", Some(0)),
+    ("(upgs)('a')", Some(0)),
+    ("upgs('a', upge)", Some(10)),
     ("lbl(1, 'a', [])", Some(12)),
+    ("var x = { a: upgs };", Some(13)),
+    ("a; lbl.a", Some(3)),
+    ("a[print]", Some(2)),
+    ("delete upge", Some(7)),
+    ("print in a", Some(0)),
+    ("var o = {};\no.f();", Some(12)),
+    ("a[0]()", Some(0)),
+    ("a.b.c(d)", Some(0)),
 ];
 
 const EXPRESSIONS: &[Row] = &[
-    ("1 + this", Some(4)),
+    ("1 + []", Some(4)),
     ("x = []", Some(4)),
-    ("x = { a: 1 }", Some(4)),
+    ("var o = {}, p = [1];", Some(16)),
     ("x = function () { }", Some(4)),
-    ("a + b.c", Some(4)),
-    ("a[0]", Some(0)),
+    ("a + b().c", Some(4)),
     ("new A", Some(0)),
     ("x = new A(1)", Some(4)),
-    ("delete (a)", Some(0)),
-    ("!(a in b)", Some(2)),
     ("a + (b instanceof c)", Some(5)),
-    ("a.b = this", Some(0)),
-    ("1, a.b++", Some(3)),
-    ("++a[0]", Some(0)),
-    ("a ? b : c.d", Some(8)),
-    ("a; /* b */ this", Some(11)),
+    ("var o = {}; if ((o instanceof o)) ;", Some(17)),
+    ("a ? b : []", Some(8)),
+    ("a; /* b */ []", Some(11)),
+    ("-f()", Some(1)),
+];
+
+const OBJECTS: &[Row] = &[
+    ("var o = { get x() { return 1; } };", Some(8)),
+    ("x = { a: [], b: c }", Some(9)),
+    ("x = { a: b, c: new D }", Some(15)),
+    ("x = { a: [], get b() { } }", Some(4)),
+    ("x = { set a(b) { }, c: [] }", Some(4)),
+    ("x = { a: 1, 'b': { set c(d) { } }, 2: [] }", Some(17)),
+    ("a; [].b", Some(3)),
+    ("[][a]", Some(0)),
+    ("a[[]]", Some(2)),
+    ("a.b[c()].d", Some(4)),
+    ("a[b[[]]][[]]", Some(4)),
+    ("a.b = []", Some(6)),
+    ("a[f()] = []", Some(2)),
+    ("a; delete f()", Some(10)),
+    ("delete a[[]]", Some(9)),
+    ("[] in a", Some(0)),
+    ("a in []", Some(5)),
+    ("++a[f()]", Some(4)),
 ];
 
 const STATEMENTS: &[Row] = &[
@@ -71,22 +114,29 @@ const STATEMENTS: &[Row] = &[
     ("a;\ntry { } catch (e) { }", Some(3)),
     ("try { } finally { }", Some(0)),
     ("try { } catch (e) { } finally { }", Some(0)),
-    ("for (a in b) ;", Some(0)),
-    ("for (var a in b) ;", Some(0)),
 ];
 
 const IN_STATEMENTS: &[Row] = &[
-    ("if (a.b) ;", Some(4)),
-    ("if (a) ; else this", Some(14)),
-    ("do a.b; while (c.d)", Some(3)),
-    ("do ; while (a.b)", Some(12)),
-    ("while (this) ;", Some(7)),
-    ("for (a.b; c.d;) ;", Some(5)),
-    ("for (; a.b; c.d) this", Some(7)),
-    ("for (;; a.b) this", Some(8)),
-    ("for (;;) this", Some(9)),
-    ("{ { this } }", Some(4)),
-    ("a; 'flow exc -'; this", Some(3)),
+    ("if ([]) ;", Some(4)),
+    ("if (a) ; else []", Some(14)),
+    ("do []; while (f())", Some(3)),
+    ("do ; while ([])", Some(12)),
+    ("while (new A) ;", Some(7)),
+    ("for (a(); b();) ;", Some(5)),
+    ("for (; a(); b()) []", Some(7)),
+    ("for (;; a()) []", Some(8)),
+    ("for (;;) []", Some(9)),
+    ("{ { [] } }", Some(4)),
+    ("a; 'flow exc -'; []", Some(3)),
+];
+
+const IN_ENUMERATIONS: &[Row] = &[
+    ("for (a[[]] in []) ;", Some(7)),
+    ("for (print in a) ;", Some(5)),
+    ("for (var read in a) ;", Some(9)),
+    ("for (a in []) break;", Some(10)),
+    ("for (var a in b) break;", Some(17)),
+    ("for (a.b in c) { d; [] }", Some(20)),
 ];
 
 fn is_unbuilt(alloc: Global, source: &str, at: Option<usize>) -> bool {
@@ -104,7 +154,9 @@ fn all_unbuilt(rt: &impl Abort, alloc: Global, rows: &[Row]) {
 
 #[test]
 fn sources_that_run(rt: HostRuntime) {
-    all_unbuilt(&rt, rt.alloc(), BUILT);
+    let alloc = rt.alloc();
+    all_unbuilt(&rt, alloc, BUILT);
+    all_unbuilt(&rt, alloc, BUILT_OBJECTS);
 }
 
 #[test]
@@ -112,6 +164,8 @@ fn unbuilt_nodes(rt: HostRuntime) {
     let alloc = rt.alloc();
     all_unbuilt(&rt, alloc, NAMES_AND_CALLS);
     all_unbuilt(&rt, alloc, EXPRESSIONS);
+    all_unbuilt(&rt, alloc, OBJECTS);
     all_unbuilt(&rt, alloc, STATEMENTS);
     all_unbuilt(&rt, alloc, IN_STATEMENTS);
+    all_unbuilt(&rt, alloc, IN_ENUMERATIONS);
 }

@@ -22,6 +22,7 @@ use Rattle.step_channels.specs.declared.printing.Printed.{Printed}
 use Rattle.step_channels.specs.Answers.{HasPrinted, line_of, lines_behind, read_printed}
 use Rattle.step_work.specs.declared.work.Direct.{Direct}
 use Rattle.step_work.specs.declared.work.Next.{Next}
+use Rattle.step_work.specs.declared.work.Next.TheVariants as moves
 use Rattle.step_work.specs.Kept.{Kept}
 use Rattle.step_work.specs.Pending.{behind, values_of}
 use Rattle.step_work.specs.Resuming.{coming}
@@ -53,6 +54,13 @@ module _ {T : Type 0} where
   abbrev pub SettlesPrinted : Kept T → Kept T → Result (Came (Printed T) T) (FlowFault T) → Result (Next × Option (Printed T)) (FlowFault T) → Type 0
   SettlesPrinted old new answer result = (tables : Tables) (inputs : Given) (reading : T → Label) (w : World T) (e : Env ℕ) (told : List LabelledLine) (turns : ℕ) (outcome : Outcome Halt Jump Val State) → Says (read_printed reading) reading outcome (state_of reading w (lines_behind tables reading told answer) turns) answer
       → Moves tables inputs reading new w e told turns (behind tables inputs reading old.tasks e (as_plan Value outcome)) result
+
+  -- what comes next by an act's answer
+  abbrev pub Hands : Result (Came (Labelled T) T) (FlowFault T) → Next → Type 0
+  Hands (Ok (came.Goes v)) next = next ≡ moves.Value
+  Hands (Ok (came.Throws v)) next = next ≡ moves.Throws
+  Hands (Ok (came.Leaves why)) next = next ≡ moves.Leave why
+  Hands (Err f) next = ⊥
 
   -- what a call leaves: the values that its next move has, with labels of a store, above the operands of the work that waits
   pub record Rests (made : T → Type 0) (old new : Kept T) (next : Next) : Type 0 where

@@ -1,14 +1,13 @@
 //! The answers of acts, handed on to the work that waits.
 
 ghost use Rattle.std.specs.Prelude.{◌≡◌, None, length, IfErr, IfOk};
-ghost use Rattle.std.specs.Result.{IsOk};
 ghost use Rattle.flow_frames.specs.Stops.{IfStop};
 ghost use Rattle.js_values.specs.Readings.{HasValue};
 ghost use Rattle.step_world.specs.Acts.{HasAnswer};
 ghost use Rattle.step_channels.specs.Answers.{HasPrinted};
 ghost use Rattle.step_work.specs.Loads.{Adds};
 ghost use Rattle.step_work.specs.Stops.{HasStop};
-ghost use Rattle.step_calls.specs.Calling.{Rests, Settles, SettlesPrinted, printed_by};
+ghost use Rattle.step_calls.specs.Calling.{Hands, Rests, Settles, SettlesPrinted, printed_by};
 
 use flow_frames::FlowFault;
 use js_number::Primitive;
@@ -30,7 +29,7 @@ pub(crate) fn settle<'p, L: Labels>(
     ensures rests { IfOk result (λ moved. Rests (L.made _labels.now) stack.old stack.new moved.0) }
     ensures adds { IfOk result (λ moved. Adds 1 stack.old stack.new moved.0) }
     ensures silent { IfOk result (λ moved. moved.1 ≡ None) }
-    ensures answered { IfOk result (λ _. IsOk answer) }
+    ensures hands { IfOk result (λ moved. Hands answer moved.0) }
     ensures stopped { IfErr result (IfStop (HasStop (L.made _labels.now))) }
 {
     let came = answer?;

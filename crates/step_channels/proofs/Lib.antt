@@ -5,3 +5,5 @@ pub mod FrameLaws
 pub mod ActLaws
 pub mod AnswerLaws
 pub mod WorldLaws
+pub mod RaisingLaws
+pub mod ObjectRaises

@@ -65,7 +65,7 @@ fn label_with<L: Labels>(
 }
 
 /// The origins that values name, if each names one.
-fn origins_named<L: Labels>(
+pub(crate) fn origins_named<L: Labels>(
     labels: &mut L,
     origins: &Origins,
     names: &[Labelled<L::Label>],

@@ -46,7 +46,7 @@ pub(crate) fn ask<L: Labels>(
 }
 
 /// The context and a label.
-fn need_of<L: Labels>(
+pub(crate) fn need_of<L: Labels>(
     labels: &mut L,
     frames: &Frames<L::Label>,
     label: L::Label,

@@ -1,5 +1,5 @@
 -- An expression that was evaluated at once.
-use Rattle.std.proofs.Common.{sym, ap, subst, ◌∙◌, ◌≡◌, ◌<◌, ◌+◌, ◌*◌, ℕ, List, [], ◌∷◌, ◌++◌, map, length, Bool, Result, IfOk, refl, arith}
+use Rattle.std.proofs.Common.{sym, ap, subst, ◌∙◌, ◌≡◌, ℕ, List, [], ◌∷◌, ◌++◌, map, length, Bool, Result, IfOk, refl, arith}
 use Rattle.std.proofs.lemmas.List.{nil_from_length}
 use Rattle.std.specs.Borrow.{Bor}
 use Rattle.origin_labels.specs.Label.{Label, IsLabel}
@@ -24,7 +24,7 @@ use Rattle.step_work.specs.declared.work.Next.{Next}
 use Rattle.step_work.specs.declared.work.Next.TheVariants as next
 use Rattle.step_work.specs.Kept.{Kept, operands_of, scopes_of}
 use Rattle.step_work.specs.Loads.{load}
-use Rattle.step_work.specs.Pending.{behind, env_above, first_or_undefined, values_of}
+use Rattle.step_work.specs.Pending.{behind, env_above, first_or_undefined}
 use Rattle.step_moves.proofs.Settled.{rests_laid, rests_same}
 use Rattle.step_numbers.specs.Assigned.{Finishes, Gives, Rebinds}
 use Rattle.step_numbers.specs.Evaluated.{Evaluates}
@@ -36,7 +36,8 @@ use Rattle.step_core.specs.Outlook.{ahead, here, outlook}
 use Rattle.step_core.specs.Standing.{Standing}
 use Rattle.step_core.specs.Stepping.{Stepped}
 use Rattle.step_core.proofs.Performed.{perform_behind}
-use Rattle.step_core.proofs.Stood.{later_values, standing_rests, standing_whole}
+use Rattle.step_core.proofs.Parts.{later_values}
+use Rattle.step_core.proofs.Stood.{standing_rests, standing_whole}
 use Rattle.step_core.proofs.Taking.{env_place}
 
 module _ {T : Type 0} (tables : Tables) (inputs : Given) (reading : T → Label) (told : List LabelledLine) (m : Machine T) (new : World T) (left : ℕ) where

@@ -1,5 +1,5 @@
 -- Calls that come to a machine's plan.
-use Rattle.std.proofs.Common.{sym, ap, subst, ◌∙◌, ◌≡◌, ◌≤◌, ◌<◌, ℕ, [], ◌∷◌, ◌++◌, length, take, drop, Some, Result, Ok, Err, IfOk, arith}
+use Rattle.std.proofs.Common.{sym, ap, subst, ◌∙◌, ◌≡◌, ◌≤◌, ◌<◌, ℕ, [], ◌∷◌, ◌++◌, length, map, take, drop, Some, Result, Ok, Err, IfOk, arith}
 use Rattle.std.proofs.lemmas.List.{nil_from_length, take-append-drop}
 use Rattle.origin_labels.specs.Label.{Label}
 use Rattle.flow_policy.specs.Policies.{Tables}
@@ -7,9 +7,10 @@ use Rattle.flow_policy.specs.Inputs.{Given}
 use Rattle.flow_frames.specs.Held as held
 use Rattle.flow_frames.specs.declared.faults.FlowFault.{FlowFault}
 use Rattle.js_values.specs.declared.value.Labelled.{Labelled}
+use Rattle.js_values.specs.Readings.{read_value}
 use Rattle.es_meaning.specs.Environments.{Env}
 use Rattle.flow_meaning.specs.Scopes.{State}
-use Rattle.flow_meaning.specs.Planned.{Part, Plan, jumped}
+use Rattle.flow_meaning.specs.Planned.{Part, Plan, jumped, plan}
 use Rattle.step_world.specs.declared.world.World.{World}
 use Rattle.step_world.specs.Acts.{thrown}
 use Rattle.step_world.specs.Worlds.{state_of}
@@ -19,20 +20,12 @@ use Rattle.step_work.specs.Kept.{Kept}
 use Rattle.step_work.specs.Loads.{Adds, lift}
 use Rattle.step_work.specs.Pending.{owns, env_above, after, behind}
 use Rattle.step_work.specs.Resuming.{Begins, BeginsIn, Passes, PassesIn}
-use Rattle.step_moves.specs.Moving.{BeginsAnywhere, BeginsAt, Moves}
-use Rattle.step_core.specs.Going.{ComesTo, Lowers, part_in}
+use Rattle.step_moves.specs.Moving.{BeginsAnywhere, Moves}
+use Rattle.step_core.specs.Going.{ComesTo, Enters, Lowers, part_in}
 use Rattle.step_core.specs.Going as going
 use Rattle.step_core.specs.Outlook.{here}
-use Rattle.step_core.proofs.Taking.{env_place}
 
 -- ---- moves
-
--- what is said of the part that a move enters
-pub entered_part : (P : Part → Type 0) (e : Env ℕ) (move : Next) (entered : Part) → part_in e move ≡ Some entered → P entered → (part : Part) → part_in e move ≡ Some part → P part
-entered_part P e move entered enters p part h =
-    let same : Some entered ≡ Some part = sym enters ∙ h in
-    let part_same : entered ≡ part = cc in
-    subst P part_same p
 
 module _ {T : Type 0} where
   -- a call that adds less than the move counted
@@ -48,37 +41,37 @@ module _ {T : Type 0} where
 
 module _ {S T : Type 0} (made : S → T → Type 0) (meaning : S → T → Label) (store : S) (tables : Tables) (inputs : Given) where
   -- by a clause without the run's state
-  pub comes_begun : (begins : Tables → Given → Env ℕ → State → Plan) (plan : (T → Label) → State → Plan) (old new : Kept T) (world : World T) (move : Next)
-      → ((reading : T → Label) (s : State) → begins tables inputs (env_above old.tasks here) s ≡ plan reading s)
+  pub comes_begun : (begins : Tables → Given → Env ℕ → State → Plan) (planned : (T → Label) → State → Plan) (old new : Kept T) (world : World T) (move : Next)
+      → ((reading : T → Label) (s : State) → begins tables inputs (env_above old.tasks here) s ≡ planned reading s)
       → length old.loose ≡ 0 → Begins begins old new move
-      → ComesTo made meaning store tables inputs (λ reading told turns. behind tables inputs reading old.tasks here (plan reading (state_of reading world told turns))) new world (Ok move)
-  comes_begun begins plan old new world move same none goes reading told turns read =
+      → ComesTo made meaning store tables inputs (λ reading told turns. behind tables inputs reading old.tasks here (planned reading (state_of reading world told turns))) new world (Ok move)
+  comes_begun begins planned old new world move same none goes reading told turns read =
       goes tables inputs reading here (state_of reading world told turns) (nil_from_length old.loose none) ∙ ap (behind tables inputs reading old.tasks here) (same reading (state_of reading world told turns))
 
-  pub comes_anywhere : (begins : Tables → Given → Env ℕ → State → Plan) (plan : (T → Label) → State → Plan) (old new : Kept T) (world : World T) (move : Next)
-      → ((reading : T → Label) (s : State) → begins tables inputs (env_above old.tasks here) s ≡ plan reading s)
+  pub comes_anywhere : (begins : Tables → Given → Env ℕ → State → Plan) (planned : (T → Label) → State → Plan) (old new : Kept T) (world : World T) (move : Next)
+      → ((reading : T → Label) (s : State) → begins tables inputs (env_above old.tasks here) s ≡ planned reading s)
       → BeginsAnywhere made meaning store begins old new move
-      → ComesTo made meaning store tables inputs (λ reading told turns. behind tables inputs reading old.tasks here (plan reading (state_of reading world told turns))) new world (Ok move)
-  comes_anywhere begins plan old new world move same goes reading told turns read =
+      → ComesTo made meaning store tables inputs (λ reading told turns. behind tables inputs reading old.tasks here (planned reading (state_of reading world told turns))) new world (Ok move)
+  comes_anywhere begins planned old new world move same goes reading told turns read =
       goes tables inputs reading here (state_of reading world told turns) read ∙ ap (behind tables inputs reading old.tasks here) (same reading (state_of reading world told turns))
 
   -- by one on the frames
-  pub comes_in : (begins : Tables → Given → Env ℕ → State → Plan) (plan : (T → Label) → State → Plan) (old new : Kept T) (world : World T) (frames : held.Kept T) (move : Next)
-      → ((reading : T → Label) (s : State) → begins tables inputs (env_above old.tasks here) s ≡ plan reading s)
+  pub comes_in : (begins : Tables → Given → Env ℕ → State → Plan) (planned : (T → Label) → State → Plan) (old new : Kept T) (world : World T) (frames : held.Kept T) (move : Next)
+      → ((reading : T → Label) (s : State) → begins tables inputs (env_above old.tasks here) s ≡ planned reading s)
       → length old.loose ≡ 0 → BeginsIn made meaning store begins old new world.frames.frames frames.frames move
-      → ComesTo made meaning store tables inputs (λ reading told turns. behind tables inputs reading old.tasks here (plan reading (state_of reading world told turns))) new (record world { frames = frames }) (Ok move)
-  comes_in begins plan old new world frames move same none goes reading told turns read =
+      → ComesTo made meaning store tables inputs (λ reading told turns. behind tables inputs reading old.tasks here (planned reading (state_of reading world told turns))) new (record world { frames = frames }) (Ok move)
+  comes_in begins planned old new world frames move same none goes reading told turns read =
       goes tables inputs reading here (state_of reading world told turns) read (nil_from_length old.loose none) ∙ ap (behind tables inputs reading old.tasks here) (same reading (state_of reading world told turns))
 
-  -- by one in the record of the outermost code
-  pub comes_at : (begins : Tables → Given → Env ℕ → State → Plan) (plan : (T → Label) → State → Plan) (old new : Kept T) (world_old world_new : World T) (result : Result Next (FlowFault T))
-      → ((reading : T → Label) (s : State) → begins tables inputs (env_above old.tasks here) s ≡ plan reading s)
-      → BeginsAt made meaning store 0 begins old new world_old world_new result
-      → ComesTo made meaning store tables inputs (λ reading told turns. behind tables inputs reading old.tasks here (plan reading (state_of reading world_old told turns))) new world_new result
-  comes_at begins plan old new world_old world_new result same goes reading told turns read =
-      subst (λ p. Moves tables inputs reading new here (state_of reading world_new told turns) p result)
-      (ap (behind tables inputs reading old.tasks here) (same reading (state_of reading world_old told turns)))
-      (goes tables inputs reading here told turns read (env_place old.tasks here))
+  -- a part was entered that a move enters
+  pub entered_by : (old new : Kept T) (world_old world_new : World T) (move : Next) (entered part : (T → Label) → Part) (result : Result Next (FlowFault T))
+      → ((reading : T → Label) → part_in (map (read_value reading) old.loose) (env_above old.tasks here) move ≡ Some (entered reading))
+      → ((reading : T → Label) → part_in (map (read_value reading) old.loose) (env_above old.tasks here) move ≡ Some (part reading))
+      → Enters made meaning store tables inputs old new world_old world_new entered result → Enters made meaning store tables inputs old new world_old world_new part result
+  entered_by old new world_old world_new move entered part result enters is comes reading told turns read =
+      let same : Some (entered reading) ≡ Some (part reading) = sym (enters reading) ∙ is reading in
+      let part_same : entered reading ≡ part reading = cc in
+      subst (λ p. Moves tables inputs reading new here (state_of reading world_new told turns) (behind tables inputs reading old.tasks here (plan tables inputs p (state_of reading world_old told turns))) result) part_same (comes reading told turns read)
 
   -- what is thrown passes work
   pub comes_passed : (w : Work) (value : Labelled T) (old new : Kept T) (world : World T) (move : Next) → Passes w old new move → drop (owns w) old.loose ≡ value ∷ []

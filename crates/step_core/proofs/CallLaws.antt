@@ -1,7 +1,7 @@
 -- Calls of the functions of the product, as steps.
-use Rattle.std.proofs.Common.{sym, ap, ap₂, subst, ◌∙◌, ◌≡◌, ◌<◌, ℕ, suc, Bool, List, [], ◌∷◌, ◌++◌, length, Some, None, Result, Ok, Err, IfOk, arith}
+use Rattle.std.proofs.Common.{sym, ap, ap₂, subst, ◌∙◌, ◌≡◌, ◌<◌, ℕ, suc, Bool, [], ◌∷◌, ◌++◌, length, Some, None, Result, Ok, Err, IfOk, arith}
 use Rattle.std.specs.List.{All}
-use Rattle.std.proofs.lemmas.List.Elements.{All-append, All-weaker}
+use Rattle.std.proofs.lemmas.List.Elements.{All-append}
 use Rattle.origin_labels.specs.Label.{Label}
 use Rattle.origin_labels.specs.Stores.{IsKept}
 use Rattle.flow_policy.specs.Policies.{Tables}
@@ -9,7 +9,6 @@ use Rattle.flow_policy.specs.Inputs.{Given}
 use Rattle.flow_text.specs.declared.memory.OutOfMemory.{OutOfMemory}
 use Rattle.flow_frames.specs.declared.faults.FlowStop.{FlowStop}
 use Rattle.flow_frames.specs.declared.faults.FlowFault.TheVariants as fault
-use Rattle.js_values.specs.declared.value.Labelled.{Labelled}
 use Rattle.js_values.specs.Readings.{HasValue}
 use Rattle.flow_meaning.specs.Laws.{performed_run}
 use Rattle.flow_meaning.specs.Planned.{perform, meaning}
@@ -24,6 +23,7 @@ use Rattle.step_work.specs.declared.work.Next.{Next}
 use Rattle.step_work.specs.declared.work.Next.TheVariants as next
 use Rattle.step_work.specs.Kept.{Kept, scopes_of, kept_operands}
 use Rattle.step_work.specs.Pending.{values_of}
+use Rattle.step_work.specs.Resuming.{StandsAt}
 use Rattle.step_core.specs.declared.machine.Machine.{Machine}
 use Rattle.step_core.specs.declared.steps.Step.{Step}
 use Rattle.step_core.specs.declared.steps.Step.TheVariants as step
@@ -31,8 +31,8 @@ use Rattle.step_core.specs.declared.steps.Ending.TheVariants as ending
 use Rattle.step_core.specs.Outlook.{ahead, here, outlook}
 use Rattle.step_core.specs.Standing.{Standing, depths, Framed}
 use Rattle.step_core.specs.Stepping.{Prints, Stepped}
-use Rattle.step_core.proofs.Depths.{framed}
-use Rattle.step_core.proofs.Parts.{front_all}
+use Rattle.step_core.proofs.Depths.{framed_at}
+use Rattle.step_core.proofs.Parts.{front_all, later_values}
 
 module _ {S T : Type 0} (made : S → T → Type 0) (meaning_of : S → T → Label) (store : S) (tables : Tables) (inputs : Given) (f : Direct) (count : ℕ) (old new : Machine T) (same : new.turns ≡ old.turns) where
   -- the value that a function gives, or what it throws, comes next
@@ -76,23 +76,19 @@ module _ {S T : Type 0} (made : S → T → Type 0) (meaning_of : S → T → La
   }
 
 module _ {S T : Type 0} (made : S → T → Type 0) (meaning_of : S → T → Label) (room : S → ℕ) (firm : S → Bool) (earlier later : S) (kept : IsKept made meaning_of room firm earlier later) where
-  -- values with labels of a store have those of a later one
-  pub values_later : (vs : List (Labelled T)) → All (HasValue (made earlier)) vs → All (HasValue (made later)) vs
-  values_later vs has = All-weaker (HasValue (made earlier)) (HasValue (made later)) (λ v m. (kept.labels v.label m).0) vs has
-
   -- a machine stands behind a call
   pub standing_called : (old new : Kept T) (world_old world_new : World T) (n : ℕ) (before move : Next) → Framed before (length world_old.frames.frames) (length (scopes_of old.tasks)) ≡ (length world_old.frames.frames ≡ suc (length (scopes_of old.tasks)))
-      → Standing made meaning_of earlier old world_old n (scopes_of old.tasks) before → Rests (made later) old new move → length world_new.frames.frames ≡ length world_old.frames.frames → Belongs made meaning_of later world_new → Grows world_old world_new
+      → Standing made meaning_of earlier old world_old n (scopes_of old.tasks) before → Rests (made later) old new move → StandsAt (length world_old.frames.frames) world_new.frames.frames move → Belongs made meaning_of later world_new → Grows world_old world_new
       → Standing made meaning_of later new world_new (values_of move) (scopes_of new.tasks) move
-  standing_called old new world_old world_new n before move exact stands rests frames belongs grows =
+  standing_called old new world_old world_new n before move exact stands rests whole belongs grows =
       let scopes = ap scopes_of (sym rests.tasks) in
       let count : length world_old.frames.frames ≡ suc (length (scopes_of old.tasks)) = subst (λ (X : Type 0). X) exact stands.frames in
       record {
         belongs = belongs;
         operands = All-append (HasValue (made later)) (kept_operands new.tasks) new.loose
-            (subst (λ ts. All (HasValue (made later)) (kept_operands ts)) (sym rests.tasks) (values_later (kept_operands old.tasks) (front_all (HasValue (made earlier)) (kept_operands old.tasks) old.loose stands.operands))) rests.labels;
+            (subst (λ ts. All (HasValue (made later)) (kept_operands ts)) (sym rests.tasks) (later_values made meaning_of room firm earlier later kept (kept_operands old.tasks) (front_all (HasValue (made earlier)) (kept_operands old.tasks) old.loose stands.operands))) rests.labels;
         values = rests.values;
         scopes = subst (λ ds. ds ≡ depths (length ds)) scopes stands.scopes;
-        frames = framed move (length world_new.frames.frames) (length (scopes_of new.tasks)) (frames ∙ count ∙ ap (λ ds. suc (length ds)) scopes);
+        frames = framed_at (length world_old.frames.frames) world_new.frames.frames move (length (scopes_of new.tasks)) (count ∙ ap (λ ds. suc (length ds)) scopes) whole;
         records = omega (arith, stands.records, grows.records);
       }

@@ -21,7 +21,7 @@ use Rattle.step_work.specs.declared.work.Work.TheVariants as work
 use Rattle.step_work.specs.declared.work.Next.{Next}
 use Rattle.step_work.specs.Kept.{Kept}
 use Rattle.step_work.specs.Pending.{owns, env_above, after, behind, first_or_undefined}
-use Rattle.step_work.specs.Resuming.{coming, with_frames, Resumes, ResumesDone, ResumesBehind, ResumesIn, ResumesDoneIn}
+use Rattle.step_work.specs.Resuming.{coming, with_frames, Resumes, ResumesDone, ResumesBehind, ResumesDoneBehind, ResumesIn, ResumesDoneIn}
 use Rattle.step_moves.specs.Moving as moving
 use Rattle.step_moves.specs.Moving.{Moves}
 use Rattle.step_moves.proofs.Settled.{moves_as}
@@ -36,11 +36,11 @@ one_value [] size = absurd (omega (arith, size))
 one_value (x ∷ []) size = (x, refl)
 one_value (x ∷ y ∷ xs) size = absurd (omega (arith, size))
 
-two_values : {X : Type 0} (xs : List X) → length xs ≡ 2 → (x : X) × (y : X) × (xs ≡ x ∷ (y ∷ []))
-two_values [] size = absurd (omega (arith, size))
-two_values (x ∷ []) size = absurd (omega (arith, size))
-two_values (x ∷ y ∷ []) size = (x, y, refl)
-two_values (x ∷ y ∷ z ∷ xs) size = absurd (omega (arith, size))
+-- of so many values and one more, those and the one
+one_above : {X : Type 0} (n : ℕ) (xs : List X) → length xs ≡ n + 1 → (x : X) × (length (take n xs) ≡ n) × (xs ≡ take n xs ++ x ∷ [])
+one_above n xs size =
+    let one = one_value (drop n xs) (omega (arith, size, length-drop n xs)) in
+    (one.0, length-take-le n xs (omega (arith, size)), sym (take-append-drop n xs) ∙ ap (λ ys. take n xs ++ ys) one.1)
 
 module _ {T : Type 0} (tables : Tables) (inputs : Given) (reading : T → Label) where
   -- what lies loose, in two parts
@@ -55,6 +55,7 @@ module _ {T : Type 0} (tables : Tables) (inputs : Given) (reading : T → Label)
   unseen (work.Statements ss) vs e v u s none = refl
   unseen (work.Declared r) vs e v u s none = refl
   unseen (work.Turned r) vs e v u s none = refl
+  unseen (work.Visited x count) vs e v u s none = refl
   unseen (work.EndBranch false depth) vs e v u s none = refl
   unseen (work.EndBranch true depth) vs e v u s none = absurd (omega (arith, none))
   unseen (work.EndRound turn depth) vs e v u s none = refl
@@ -95,18 +96,27 @@ module _ {T : Type 0} (w : Work) (old new : Kept T) (move : Next) where
   goes_behind : length old.loose ≡ owns w + 1 → ResumesBehind w old new move → GoesOn
   goes_behind size goes tables inputs reading e s =
       let below = take (owns w) old.loose in
-      let one = one_value (drop (owns w) old.loose) (omega (arith, size, length-drop (owns w) old.loose)) in
-      let is : old.loose ≡ below ++ one.0 ∷ [] = sym (take-append-drop (owns w) old.loose) ∙ ap (λ vs. below ++ vs) one.1 in
-      let many : length below ≡ owns w = length-take-le (owns w) old.loose (omega (arith, size)) in
-      goes tables inputs reading e s below one.0 is ∙ ap (λ p. behind tables inputs reading old.tasks e p) (sym (parted tables inputs reading w below (one.0 ∷ []) old.loose (env_above old.tasks e) s many is))
+      let split = one_above (owns w) old.loose size in
+      goes tables inputs reading e s below split.0 split.2 ∙ ap (λ p. behind tables inputs reading old.tasks e p) (sym (parted tables inputs reading w below (split.0 ∷ []) old.loose (env_above old.tasks e) s split.1 split.2))
+
+  goes_done_behind : length old.loose ≡ owns w → ResumesDoneBehind w old new move → GoesOn
+  goes_done_behind size goes tables inputs reading e s =
+      goes tables inputs reading e s ∙ ap (λ p. behind tables inputs reading old.tasks e p) (sym (parted tables inputs reading w old.loose [] old.loose (env_above old.tasks e) s size (sym (append-nil old.loose))))
 
 -- work that needs the stack alone
 pub goes_alone : {T : Type 0} → (w : Work) (old new : Kept T) (move : Next) → acts w ≡ false → scoped w ≡ false → length old.loose ≡ owns w + awaits w → GoesAlone w old new move → GoesOn w old new move
 goes_alone (work.BinaryDone o) old new move idle never size goes = absurd cc
+goes_alone (work.AssignTo n) old new move idle never size goes = absurd cc
 goes_alone (work.CompoundDone o n) old new move idle never size goes = absurd cc
+goes_alone (work.Variable n ds) old new move idle never size goes = absurd cc
+goes_alone (work.MemberBase how text) old new move idle never size goes = absurd cc
+goes_alone (work.IndexKey how) old new move idle never size goes = absurd cc
 goes_alone (work.EndBranch gives depth) old new move idle never size goes = absurd cc
 goes_alone (work.EndRound turn depth) old new move idle never size goes = absurd cc
 goes_alone (work.Argument f count rest) old new move idle never size goes = goes_behind (work.Argument f count rest) old new move size goes
+goes_alone (work.Property ps count) old new move idle never size goes = goes_behind (work.Property ps count) old new move size goes
+goes_alone (work.IndexBase how x) old new move idle never size goes = goes_behind (work.IndexBase how x) old new move size goes
+goes_alone (work.Visited x count) old new move idle never size goes = goes_done_behind (work.Visited x count) old new move (omega (arith, size)) goes
 goes_alone (work.Statements ss) old new move idle never size goes = goes_end (work.Statements ss) old new move refl size goes
 goes_alone (work.Declared r) old new move idle never size goes = goes_end (work.Declared r) old new move refl size goes
 goes_alone (work.Turned r) old new move idle never size goes = goes_end (work.Turned r) old new move refl size goes
@@ -137,6 +147,7 @@ module _ {S T : Type 0} (made : S → T → Type 0) (meaning : S → T → Label
   goes_in (work.ChooseStmt s) old new frames_old frames_new move yes_scoped size goes = goes_value_in (work.ChooseStmt s) old new frames_old frames_new move refl size goes
   goes_in (work.ChooseStmts s t) old new frames_old frames_new move yes_scoped size goes = goes_value_in (work.ChooseStmts s t) old new frames_old frames_new move refl size goes
   goes_in (work.Tested r) old new frames_old frames_new move yes_scoped size goes = goes_value_in (work.Tested r) old new frames_old frames_new move refl size goes
+  goes_in (work.Enumerated x) old new frames_old frames_new move yes_scoped size goes = goes_value_in (work.Enumerated x) old new frames_old frames_new move refl size goes
   goes_in (work.EndBranch true depth) old new frames_old frames_new move yes_scoped size goes = goes_value_in (work.EndBranch true depth) old new frames_old frames_new move refl size goes
   goes_in (work.EndBranch false depth) old new frames_old frames_new move yes_scoped size goes = goes_end_in (work.EndBranch false depth) old new frames_old frames_new move refl size goes
   goes_in (work.EndRound turn depth) old new frames_old frames_new move yes_scoped size goes = goes_end_in (work.EndRound turn depth) old new frames_old frames_new move refl size goes
@@ -159,28 +170,27 @@ module _ {S T : Type 0} (made : S → T → Type 0) (meaning : S → T → Label
         (ap (λ p. behind tables inputs reading old.tasks here p) (sym (parted tables inputs reading w below above old.loose f s size is)))
         moves
 
-    acts_value : owns w ≡ 0 → length old.loose ≡ 1 → moving.Resumes made meaning store w old new world_old world_new result → GoesOnActing
-    acts_value none size goes tables inputs reading told turns read =
-        let one = one_value old.loose size in
-        acts_as tables inputs reading told turns [] (one.0 ∷ []) (sym none) one.1 (goes tables inputs reading here told turns one.0 read one.1)
+    acts_behind : length old.loose ≡ owns w + 1 → moving.Resumes made meaning store w old new world_old world_new result → GoesOnActing
+    acts_behind size goes tables inputs reading told turns read =
+        let below = take (owns w) old.loose in
+        let split = one_above (owns w) old.loose size in
+        acts_as tables inputs reading told turns below (split.0 ∷ []) split.1 split.2 (goes tables inputs reading here told turns below split.0 read split.2)
 
-    acts_beside : owns w ≡ 1 → length old.loose ≡ 2 → moving.ResumesBeside made meaning store w old new world_old world_new result → GoesOnActing
-    acts_beside one size goes tables inputs reading told turns read =
-        let two = two_values old.loose size in
-        acts_as tables inputs reading told turns (two.0 ∷ []) (two.1 ∷ []) (sym one) two.2 (goes tables inputs reading here told turns two.0 two.1 read two.2)
-
-    acts_at : owns w ≡ 0 → length old.loose ≡ 1 → moving.ResumesAt made meaning store 0 w old new world_old world_new result → GoesOnActing
-    acts_at none size goes tables inputs reading told turns read =
-        let one = one_value old.loose size in
-        acts_as tables inputs reading told turns [] (one.0 ∷ []) (sym none) one.1 (goes tables inputs reading here told turns one.0 read (env_place old.tasks here) one.1)
+    acts_at : length old.loose ≡ owns w + 1 → moving.ResumesAt made meaning store 0 w old new world_old world_new result → GoesOnActing
+    acts_at size goes tables inputs reading told turns read =
+        let below = take (owns w) old.loose in
+        let split = one_above (owns w) old.loose size in
+        acts_as tables inputs reading told turns below (split.0 ∷ []) split.1 split.2 (goes tables inputs reading here told turns below split.0 read (env_place old.tasks here) split.2)
 
   pub goes_acting : (w : Work) (old new : Kept T) (world_old world_new : World T) (result : Result Next (FlowFault T)) → acts w ≡ true → length old.loose ≡ owns w + awaits w
       → GoesActing made meaning store 0 w old new world_old world_new result → GoesOnActing w old new world_old world_new result
-  goes_acting (work.Unary o) old new world_old world_new result acting size goes = acts_value (work.Unary o) old new world_old world_new result refl size goes
-  goes_acting (work.AssignTo n) old new world_old world_new result acting size goes = acts_value (work.AssignTo n) old new world_old world_new result refl size goes
-  goes_acting (work.BinaryDone o) old new world_old world_new result acting size goes = acts_beside (work.BinaryDone o) old new world_old world_new result refl size goes
-  goes_acting (work.CompoundDone o n) old new world_old world_new result acting size goes = acts_beside (work.CompoundDone o n) old new world_old world_new result refl size goes
-  goes_acting (work.Variable n ds) old new world_old world_new result acting size goes = acts_at (work.Variable n ds) old new world_old world_new result refl size goes
+  goes_acting (work.Unary o) old new world_old world_new result acting size goes = acts_behind (work.Unary o) old new world_old world_new result size goes
+  goes_acting (work.BinaryDone o) old new world_old world_new result acting size goes = acts_behind (work.BinaryDone o) old new world_old world_new result size goes
+  goes_acting (work.AssignTo n) old new world_old world_new result acting size goes = acts_behind (work.AssignTo n) old new world_old world_new result size goes
+  goes_acting (work.CompoundDone o n) old new world_old world_new result acting size goes = acts_behind (work.CompoundDone o n) old new world_old world_new result size goes
+  goes_acting (work.MemberBase how text) old new world_old world_new result acting size goes = acts_behind (work.MemberBase how text) old new world_old world_new result size goes
+  goes_acting (work.IndexKey how) old new world_old world_new result acting size goes = acts_behind (work.IndexKey how) old new world_old world_new result size goes
+  goes_acting (work.Variable n ds) old new world_old world_new result acting size goes = acts_at (work.Variable n ds) old new world_old world_new result size goes
   goes_acting _ old new world_old world_new result acting size goes = absurd cc
 
   -- behind a call that only changed what lies loose, and that in a way that the work doesn't see

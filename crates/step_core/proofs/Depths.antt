@@ -1,8 +1,10 @@
 -- The depths of the frames in which scopes are pending.
 use Rattle.std.proofs.Common.{sym, ap, ap₂, ◌∙◌, ◌≡◌, ◌<◌, ◌+◌, ℕ, suc, List, [], ◌∷◌, ◌++◌, length, arith}
 use Rattle.std.proofs.lemmas.List.{length-append, same_from_push}
+use Rattle.flow_frames.specs.Held.{Held}
 use Rattle.step_work.specs.declared.work.Next.{Next}
 use Rattle.step_work.specs.declared.work.Next.TheVariants as next
+use Rattle.step_work.specs.Resuming.{StandsAt}
 use Rattle.step_core.specs.Standing.{depths, Framed}
 
 one_more : (pending : List ℕ) (depth : ℕ) → length (pending ++ depth ∷ []) ≡ suc (length pending)
@@ -29,3 +31,8 @@ last_depth pending depth frames are size = let is = (last_depths pending depth a
 pub framed : (move : Next) (frames scopes : ℕ) → frames ≡ suc scopes → Framed move frames scopes
 framed next.Throws frames scopes size = omega (arith, size)
 framed _ frames scopes size = size
+
+-- as many frames stand as at a depth, or fewer, if a throw goes on
+pub framed_at : {T : Type 0} (depth : ℕ) (frames : List (Held T)) (move : Next) (scopes : ℕ) → depth ≡ suc scopes → StandsAt depth frames move → Framed move (length frames) scopes
+framed_at depth frames next.Throws scopes deep stands = omega (arith, deep, stands)
+framed_at depth frames _ scopes deep stands = stands ∙ deep

@@ -1,8 +1,7 @@
 -- What holds of a machine behind work that went on.
 use Rattle.std.proofs.Common.{refl, sym, ap, subst, ◌∙◌, ◌≡◌, ◌≤◌, ◌<◌, ◌+◌, ◌-◌, ℕ, suc, Bool, true, false, List, [], ◌∷◌, ◌++◌, take, length, append-nil, length-append, arith, Result, Ok, Err, IfOk}
 use Rattle.std.specs.List.{All}
-use Rattle.std.proofs.lemmas.List.{take_at, drop_at}
-use Rattle.std.proofs.lemmas.List.Elements.{All-append, All-nil, All-push, All-take, All-drop, All-weaker}
+use Rattle.std.proofs.lemmas.List.Elements.{All-append, All-nil, All-push, All-take}
 use Rattle.origin_labels.specs.Label.{Label}
 use Rattle.origin_labels.specs.Stores.{IsKept}
 use Rattle.flow_frames.specs.declared.faults.FlowFault.{FlowFault}
@@ -21,6 +20,8 @@ use Rattle.step_moves.specs.Moving.{Rests, Stands}
 use Rattle.step_core.specs.Standing.{Standing, depths, Framed}
 use Rattle.step_core.specs.Continuing.{acts, scoped, used_of, LeavesIn, StillIn, MadeIn}
 use Rattle.step_core.proofs.Depths.{depths_more, depths_outside, inner_depth, last_depth, framed}
+use Rattle.step_core.proofs.Parts.{behind_all, front_all, later_values}
+use Rattle.step_core.proofs.Stood.{framed_behind}
 
 unscoped : (w : Work) → scoped w ≡ false → scope_of w ≡ []
 unscoped (work.EndBranch gives depth) never = absurd cc
@@ -31,13 +32,6 @@ acting_unscoped : (w : Work) → acts w ≡ true → scope_of w ≡ []
 acting_unscoped (work.EndBranch gives depth) acting = absurd cc
 acting_unscoped (work.EndRound turn depth) acting = absurd cc
 acting_unscoped _ acting = refl
-
-module _ {X : Type 0} (P : X → Type 0) (front behind : List X) (all : All P (front ++ behind)) where
-  front_all : All P front
-  front_all = subst (All P) (take_at front behind (length front) refl) (All-take P (length front) (front ++ behind) all)
-
-  pub behind_all : All P behind
-  behind_all = subst (All P) (drop_at front behind (length front) refl) (All-drop P (length front) (front ++ behind) all)
 
 module _ {T : Type 0} (P : T → Type 0) (stack : Kept T) where
   -- with other values loose
@@ -58,6 +52,9 @@ module _ {T : Type 0} (P : T → Type 0) (stack : Kept T) where
   used_all : (w : Work) → All (HasValue P) (operands_of stack) → All (HasValue P) (operands_of (used_of w stack))
   used_all (work.BinaryRight o r) all = all
   used_all (work.Argument f count rest) all = all
+  used_all (work.Property ps count) all = all
+  used_all (work.IndexBase how x) all = all
+  used_all (work.Visited x count) all = all
   used_all (work.Statements ss) all = all
   used_all (work.Declared r) all = all
   used_all (work.Turned r) all = all
@@ -66,14 +63,13 @@ module _ {T : Type 0} (P : T → Type 0) (stack : Kept T) where
 used_tasks : {T : Type 0} → (w : Work) (stack : Kept T) → (used_of w stack).tasks ≡ stack.tasks
 used_tasks (work.BinaryRight o r) stack = refl
 used_tasks (work.Argument f count rest) stack = refl
+used_tasks (work.Property ps count) stack = refl
+used_tasks (work.IndexBase how x) stack = refl
+used_tasks (work.Visited x count) stack = refl
 used_tasks (work.Statements ss) stack = refl
 used_tasks (work.Declared r) stack = refl
 used_tasks (work.Turned r) stack = refl
 used_tasks _ stack = refl
-
-acted_frames : {T : Type 0} → (old new : World T) (move : Next) (scopes : ℕ) → length old.frames.frames ≡ suc scopes → Stands old new move → Framed move (length new.frames.frames) scopes
-acted_frames old new next.Throws scopes size stands = omega (arith, size, stands)
-acted_frames old new _ scopes size stands = stands ∙ size
 
 module _ {S T : Type 0} (made : S → T → Type 0) (meaning : S → T → Label) where
   -- ---- the frame of the scope that ends
@@ -91,9 +87,6 @@ module _ {S T : Type 0} (made : S → T → Type 0) (meaning : S → T → Label
   module _ (room : S → ℕ) (firm : S → Bool) (before store : S) (kept : IsKept made meaning room firm before store) where
     none_have : (xs : List (Labelled T)) → xs ≡ [] → All (HasValue (made store)) xs
     none_have xs none = subst (All (HasValue (made store))) (sym none) (All-nil (HasValue (made store)))
-
-    later_all : (xs : List (Labelled T)) → All (HasValue (made before)) xs → All (HasValue (made store)) xs
-    later_all xs all = All-weaker (HasValue (made before)) (HasValue (made store)) (λ v m. (kept.labels v.label m).0) xs all
 
     module _ (w : Work) (old new : Kept T) (world_old world_new : World T) (count : ℕ) (move : Next)
         (stands : Standing made meaning before old world_old count (scopes_of old.tasks ++ scope_of w) next.Value) (belongs : Belongs made meaning store world_new) (records : length world_old.records ≤ length world_new.records) where
@@ -123,7 +116,7 @@ module _ {S T : Type 0} (made : S → T → Type 0) (meaning : S → T → Label
         stands_still : length world_new.frames.frames ≡ length world_old.frames.frames → Keeps (used_of w old) new move → Standing made meaning store new world_new (values_of move) (scopes_of new.tasks) move
         stands_still still keeps =
             stands_keeping keeps.values (keeps.scopes ∙ ap scopes_of (used_tasks w old))
-            (subst (All (HasValue (made store))) (sym keeps.operands) (later_all (operands_of (used_of w old)) (used_all (made before) old w stands.operands)))
+            (subst (All (HasValue (made store))) (sym keeps.operands) (later_values made meaning room firm before store kept (operands_of (used_of w old)) (used_all (made before) old w stands.operands)))
             (framed move (length world_new.frames.frames) (length (scopes_of old.tasks)) (still ∙ same_frames))
 
         stands_opened : Opened old new world_old.frames.frames world_new.frames.frames move → Standing made meaning store new world_new (values_of move) (scopes_of new.tasks) move
@@ -132,7 +125,7 @@ module _ {S T : Type 0} (made : S → T → Type 0) (meaning : S → T → Label
             let deep : length world_new.frames.frames ≡ suc (length (scopes_of old.tasks ++ length world_old.frames.frames ∷ [])) = omega (arith, opened.deeper, same_frames, length-append (scopes_of old.tasks) (length world_old.frames.frames ∷ [])) in
             record {
               belongs = belongs;
-              operands = later_all (operands_of new) (subst (All (HasValue (made before))) (sym opened.operands) front);
+              operands = later_values made meaning room firm before store kept (operands_of new) (subst (All (HasValue (made before))) (sym opened.operands) front);
               values = opened.values;
               scopes = subst (λ ds. ds ≡ depths (length ds)) (sym opened.scopes) (depths_more (scopes_of old.tasks) (length world_old.frames.frames) same_scopes same_frames);
               frames = subst (λ ds. Framed move (length world_new.frames.frames) (length ds)) (sym opened.scopes) (framed move (length world_new.frames.frames) (length (scopes_of old.tasks ++ length world_old.frames.frames ∷ [])) deep);
@@ -142,8 +135,8 @@ module _ {S T : Type 0} (made : S → T → Type 0) (meaning : S → T → Label
         -- behind an act
         stands_acted : Rests (made store) old new move → Stands world_old world_new move → Standing made meaning store new world_new (values_of move) (scopes_of new.tasks) move
         stands_acted rests frames =
-            stands_keeping rests.values rests.scopes (rests.operands (later_all (kept_operands old.tasks) (front_all (HasValue (made before)) (kept_operands old.tasks) old.loose stands.operands)))
-            (acted_frames world_old world_new move (length (scopes_of old.tasks)) same_frames frames)
+            stands_keeping rests.values rests.scopes (rests.operands (later_values made meaning room firm before store kept (kept_operands old.tasks) (front_all (HasValue (made before)) (kept_operands old.tasks) old.loose stands.operands)))
+            (framed_behind world_old world_new move (length (scopes_of old.tasks)) same_frames frames)
 
       module _ (depth : ℕ) (is : scope_of w ≡ depth ∷ []) where
         stands_closed : All (HasValue (made store)) new.loose → Closed old new world_old.frames.frames world_new.frames.frames move → Standing made meaning store new world_new (values_of move) (scopes_of new.tasks) move
@@ -153,7 +146,7 @@ module _ {S T : Type 0} (made : S → T → Type 0) (meaning : S → T → Label
             let shallow : length world_new.frames.frames ≡ suc (length (scopes_of old.tasks)) = omega (arith, closed.shallower, size, length-append (scopes_of old.tasks) (depth ∷ [])) in
             record {
               belongs = belongs;
-              operands = operands_with (made store) old new closed.tasks loose (later_all (operands_of old) stands.operands);
+              operands = operands_with (made store) old new closed.tasks loose (later_values made meaning room firm before store kept (operands_of old) stands.operands);
               values = closed.values;
               scopes = subst (λ ts. scopes_of ts ≡ depths (length (scopes_of ts))) (sym closed.tasks) (depths_outside (scopes_of old.tasks) depth scopes);
               frames = subst (λ ts. Framed move (length world_new.frames.frames) (length (scopes_of ts))) (sym closed.tasks) (framed move (length world_new.frames.frames) (length (scopes_of old.tasks)) shallow);
@@ -181,6 +174,7 @@ module _ {S T : Type 0} (made : S → T → Type 0) (meaning : S → T → Label
     stands_in (work.Choose a b) old new world_old world_new count move in_frames stands belongs records leaves still labels = stands_opened (work.Choose a b) old new world_old world_new count move stands belongs records refl leaves
     stands_in (work.ChooseStmt s) old new world_old world_new count move in_frames stands belongs records leaves still labels = stands_opened (work.ChooseStmt s) old new world_old world_new count move stands belongs records refl leaves
     stands_in (work.ChooseStmts s t) old new world_old world_new count move in_frames stands belongs records leaves still labels = stands_opened (work.ChooseStmts s t) old new world_old world_new count move stands belongs records refl leaves
+    stands_in (work.Enumerated x) old new world_old world_new count move in_frames stands belongs records leaves still labels = stands_opened (work.Enumerated x) old new world_old world_new count move stands belongs records refl leaves
     stands_in (work.Tested r) old new world_old world_new count move in_frames stands belongs records leaves still labels = stands_still (work.Tested r) old new world_old world_new count move stands belongs records refl still leaves
     stands_in (work.EndBranch true depth) old new world_old world_new count move in_frames stands belongs records leaves still labels = stands_closed (work.EndBranch true depth) old new world_old world_new count move stands belongs records depth refl labels leaves
     stands_in (work.EndBranch false depth) old new world_old world_new count move in_frames stands belongs records leaves still labels = stands_closed (work.EndBranch false depth) old new world_old world_new count move stands belongs records depth refl (none_have new.loose labels) leaves

@@ -23,7 +23,7 @@ use Rattle.flow_meaning.specs.Tracked.{tracked_run, start}
 use Rattle.flow_meaning.proofs.Depth.{is_performed}
 use Rattle.js_ast.specs.Trees.{Statements}
 use Rattle.flow_meaning.specs.Laws.{performed_run}
-use Rattle.flow_meaning.specs.Planned.{Completion, Part, an_expr, a_use, a_stmt, a_turn, Plan, Give, Ask, gave, jumped, Ran, completed, perform, meaning, planned, asking, plan, program_meaning, program_plan}
+use Rattle.flow_meaning.specs.Planned.{Completion, Part, an_expr, a_use, a_stmt, a_turn, a_visit, Plan, Give, Ask, gave, jumped, Ran, completed, perform, meaning, planned, asking, plan, program_meaning, program_plan}
 use Rattle.step_world.specs.declared.came.Leaving.{Leaving}
 use Rattle.step_world.specs.Names.{leaving_name}
 use Rattle.step_world.specs.Acts.{thrown}
@@ -35,7 +35,7 @@ use Rattle.step_work.specs.declared.work.Next.{Next}
 use Rattle.step_work.specs.declared.work.Next.TheVariants as next
 use Rattle.step_work.specs.Kept.{Kept, Taken, scopes_of, scope_of, operands_of, kept_operands}
 use Rattle.step_work.specs.Loads.{load, lift, weight, Adds}
-use Rattle.step_work.specs.Pending.{owns, env_above, behind, first_or_undefined, next_plan, values_of}
+use Rattle.step_work.specs.Pending.{owns, env_above, behind, first_or_undefined, next_plan, values_of, visit_of}
 use Rattle.step_work.specs.Resuming.{coming}
 use Rattle.step_work.proofs.Keeping.{kept_more, scopes_more}
 use Rattle.step_work.proofs.Loads.{load_more}
@@ -109,33 +109,34 @@ module _ {S T : Type 0} (made : S → T → Type 0) (meaning_of : S → T → La
 -- ---- parts
 
 module _ (tables : Tables) (inputs : Given) where
-  -- what a move that enters a part asks for
+  -- what a move that enters a part asks for, by the values that no work keeps
   pub record AsksFor (move : Next) (e : Env ℕ) : Type 0 where
-    pub part : Part
-    pub is : part_in e move ≡ Some part
-    pub asks : (vs : List Val) (s : State) → next_plan tables inputs move vs e s ≡ Ask part s Give
+    pub part : List Val → Part
+    pub is : (vs : List Val) → part_in vs e move ≡ Some (part vs)
+    pub asks : (vs : List Val) (s : State) → next_plan tables inputs move vs e s ≡ Ask (part vs) s Give
 
   pub asks_for : (move : Next) (e : Env ℕ) → enters_part move ≡ true → AsksFor move e
-  asks_for (next.Expr x) e h = record { part = an_expr (view_expr x.now) e.place; is = refl; asks = λ vs s. refl }
-  asks_for (next.Use how x) e h = record { part = a_use (use_of how) (view_expr x.now) e.place; is = refl; asks = λ vs s. refl }
-  asks_for (next.Stmt x) e h = record { part = a_stmt (view_stmt x.now) e; is = refl; asks = λ vs s. refl }
-  asks_for (next.Turn r) e h = record { part = a_turn (round_of r) e; is = refl; asks = λ vs s. refl }
+  asks_for (next.Expr x) e h = record { part = λ vs. an_expr (view_expr x.now) e.place; is = λ vs. refl; asks = λ vs s. refl }
+  asks_for (next.Use how x) e h = record { part = λ vs. a_use (use_of how vs) (view_expr x.now) e.place; is = λ vs. refl; asks = λ vs s. refl }
+  asks_for (next.Stmt x) e h = record { part = λ vs. a_stmt (view_stmt x.now) e; is = λ vs. refl; asks = λ vs s. refl }
+  asks_for (next.Turn r) e h = record { part = λ vs. a_turn (round_of r) e; is = λ vs. refl; asks = λ vs s. refl }
+  asks_for (next.Visit x count) e h = record { part = λ vs. a_visit (visit_of x count vs) e; is = λ vs. refl; asks = λ vs s. refl }
   asks_for _ e h = absurd (cc h)
 
 module _ {T : Type 0} (tables : Tables) (inputs : Given) (reading : T → Label) (m : Machine T) (move : Next) (asks : AsksFor tables inputs move (env_above m.stack.tasks here)) (told : List LabelledLine) where
   -- for a turn the part is entered
-  pub entered_after : (turns : ℕ) → m.turns ≡ suc turns → perform (meaning tables inputs) (behind tables inputs reading m.stack.tasks here (plan tables inputs asks.part (state_of reading m.world told turns))) ≡ outlook tables inputs reading m move told
+  pub entered_after : (turns : ℕ) → m.turns ≡ suc turns → perform (meaning tables inputs) (behind tables inputs reading m.stack.tasks here (plan tables inputs (asks.part (map (read_value reading) m.stack.loose)) (state_of reading m.world told turns))) ≡ outlook tables inputs reading m move told
   entered_after turns is =
-      sym (entered tables inputs reading m.stack.tasks here asks.part (state_of reading m.world told turns) turns)
-      ∙ ap (λ n. perform (meaning tables inputs) (behind tables inputs reading m.stack.tasks here (Ask asks.part (state_of reading m.world told n) Give))) (sym is)
+      sym (entered tables inputs reading m.stack.tasks here (asks.part (map (read_value reading) m.stack.loose)) (state_of reading m.world told turns) turns)
+      ∙ ap (λ n. perform (meaning tables inputs) (behind tables inputs reading m.stack.tasks here (Ask (asks.part (map (read_value reading) m.stack.loose)) (state_of reading m.world told n) Give))) (sym is)
       ∙ ap (λ p. perform (meaning tables inputs) (behind tables inputs reading m.stack.tasks here p)) (sym (asks.asks (map (read_value reading) m.stack.loose) (state_of reading m.world told m.turns)))
 
   -- without one the run ends
   pub spent_alone : m.turns ≡ 0 → performed_run (outlook tables inputs reading m move told) ≡ record { lines = told; ending = halted (as_plain out_of_turns) }
   spent_alone none =
       ap (λ p. performed_run (perform (meaning tables inputs) (behind tables inputs reading m.stack.tasks here p))) (asks.asks (map (read_value reading) m.stack.loose) (state_of reading m.world told m.turns))
-      ∙ ap (λ n. performed_run (perform (meaning tables inputs) (behind tables inputs reading m.stack.tasks here (Ask asks.part (state_of reading m.world told n) Give)))) none
-      ∙ ap performed_run (spent tables inputs reading m.stack.tasks here asks.part (state_of reading m.world told 0))
+      ∙ ap (λ n. performed_run (perform (meaning tables inputs) (behind tables inputs reading m.stack.tasks here (Ask (asks.part (map (read_value reading) m.stack.loose)) (state_of reading m.world told n) Give)))) none
+      ∙ ap performed_run (spent tables inputs reading m.stack.tasks here (asks.part (map (read_value reading) m.stack.loose)) (state_of reading m.world told 0))
 
 -- ---- how much is left to do
 
@@ -145,16 +146,16 @@ one_less zero none = absurd (none refl)
 one_less (suc n) none = omega arith
 
 -- what adds at most so much leaves less than so much more
-pub lowers_by : {T F : Type 0} (old new : Kept T) (k turns : ℕ) (result : Result Next F) → IfOk result (Adds k old new) → IfOk result (λ n. 6 * turns + load new.tasks + lift n < 6 * turns + load old.tasks + 1 + k)
+pub lowers_by : {T F : Type 0} (old new : Kept T) (k turns : ℕ) (result : Result Next F) → IfOk result (Adds k old new) → IfOk result (λ n. 7 * turns + load new.tasks + lift n < 7 * turns + load old.tasks + 1 + k)
 lowers_by old new k turns (Ok n) adds = omega (arith, adds)
 lowers_by old new k turns (Err e) adds = tt
 
 -- for a part a turn was spent
-pub lowers_turn : {T F : Type 0} (old new : Kept T) (move : Next) (turns : ℕ) (result : Result Next F) → IfOk result (Adds 5 old new) → IfOk result (λ n. 6 * turns + load new.tasks + lift n < 6 * (suc turns) + load old.tasks + lift move)
+pub lowers_turn : {T F : Type 0} (old new : Kept T) (move : Next) (turns : ℕ) (result : Result Next F) → IfOk result (Adds 6 old new) → IfOk result (λ n. 7 * turns + load new.tasks + lift n < 7 * (suc turns) + load old.tasks + lift move)
 lowers_turn old new move turns (Ok n) adds = omega (arith, adds)
 lowers_turn old new move turns (Err e) adds = tt
 
-pub lowers_move : {T F : Type 0} (old new : Kept T) (move : Next) (turns : ℕ) (result : Result Next F) → IfOk result (Lowers old move new) → IfOk result (λ n. 6 * turns + load new.tasks + lift n < 6 * turns + load old.tasks + lift move)
+pub lowers_move : {T F : Type 0} (old new : Kept T) (move : Next) (turns : ℕ) (result : Result Next F) → IfOk result (Lowers old move new) → IfOk result (λ n. 7 * turns + load new.tasks + lift n < 7 * turns + load old.tasks + lift move)
 lowers_move old new move turns (Ok n) lowers = omega (arith, lowers)
 lowers_move old new move turns (Err e) lowers = tt
 
@@ -244,17 +245,12 @@ module _ {S T : Type 0} (made : S → T → Type 0) (meaning_of : S → T → La
   standing_handed stack world n pending false stands = record { belongs = stands.belongs; operands = stands.operands; values = stands.values; scopes = stands.scopes; frames = stands.frames; records = stands.records }
 
 -- how much is left to do is what there was without the work that was taken
-pub ahead_taken : {T : Type 0} (old taken : Kept T) (w : Work) (turns : ℕ) → Taken old taken w → 6 * turns + load taken.tasks + 1 + weight w ≡ 6 * turns + load old.tasks + 1
+pub ahead_taken : {T : Type 0} (old taken : Kept T) (w : Work) (turns : ℕ) → Taken old taken w → 7 * turns + load taken.tasks + 1 + weight w ≡ 7 * turns + load old.tasks + 1
 ahead_taken old taken w turns took = let more = ap load took.tasks ∙ load_more taken.tasks (w, take (owns w) taken.loose) in omega (arith, more)
 
-pub ahead_handed : {T : Type 0} (old taken : Kept T) (w : Work) (gave : Bool) (turns : ℕ) → Taken old taken w → 6 * turns + load taken.tasks + 1 + weight w ≡ 6 * turns + load old.tasks + lift (handed gave)
+pub ahead_handed : {T : Type 0} (old taken : Kept T) (w : Work) (gave : Bool) (turns : ℕ) → Taken old taken w → 7 * turns + load taken.tasks + 1 + weight w ≡ 7 * turns + load old.tasks + lift (handed gave)
 ahead_handed old taken w true turns took = ahead_taken old taken w turns took
 ahead_handed old taken w false turns took = ahead_taken old taken w turns took
-
--- one value that lies loose
-pub first_of : {X : Type 0} (xs : List X) → length xs ≡ 1 → (x : X) × (xs ≡ x ∷ [])
-first_of [] one = absurd (omega (arith, one))
-first_of (x ∷ xs) one = (x, ap (λ ys. x ∷ ys) (nil_from_length xs (omega (arith, one))))
 
 pub alone_by : {X : Type 0} (front xs : List X) (x : X) → xs ≡ front ++ x ∷ [] → length xs ≡ 1 → xs ≡ x ∷ []
 alone_by front xs x is one = let none : length front ≡ 0 = (let all = ap length is ∙ length-append front (x ∷ []) in omega (arith, all, one)) in is ∙ ap (λ ys. ys ++ x ∷ []) (nil_from_length front none)

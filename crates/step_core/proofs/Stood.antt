@@ -2,14 +2,13 @@
 use Rattle.std.proofs.Common.{refl, sym, ap, subst, ◌∙◌, ◌≡◌, ◌≤◌, ◌+◌, ◌-◌, ℕ, suc, Bool, List, [], ◌∷◌, ◌++◌, length, take, drop, append-nil, Result, Ok, Err, IfOk, arith}
 use Rattle.std.specs.List.{All}
 use Rattle.std.proofs.lemmas.List.{length_push}
-use Rattle.std.proofs.lemmas.List.Elements.{All-append, All-drop, All-take, All-weaker}
+use Rattle.std.proofs.lemmas.List.Elements.{All-append, All-drop, All-take}
 use Rattle.origin_labels.specs.Label.{Label}
 use Rattle.origin_labels.specs.Stores.{IsKept}
 use Rattle.origin_labels.proofs.StoreLaws.{IsKept-refl}
-use Rattle.flow_frames.specs.Held.{Held, Belong, CatchByTry}
+use Rattle.flow_frames.specs.Held.{Belong, CatchByTry}
 use Rattle.flow_frames.specs.Held as held
 use Rattle.flow_frames.specs.declared.faults.FlowFault.{FlowFault}
-use Rattle.js_values.specs.declared.value.Labelled.{Labelled}
 use Rattle.js_values.specs.Readings.{HasValue}
 use Rattle.js_values.proofs.ReadingLaws.{HasHeap-kept, HasRecords-kept}
 use Rattle.step_world.specs.declared.world.World.{World}
@@ -20,21 +19,17 @@ use Rattle.step_work.specs.declared.work.Next.{Next}
 use Rattle.step_work.specs.declared.work.Next.TheVariants as next
 use Rattle.step_work.specs.Kept.{Kept, scope_of, scopes_of, kept_operands, operands_of}
 use Rattle.step_work.specs.Pending.{owns, values_of}
-use Rattle.step_work.specs.Resuming.{Keeps, Opened, Passed, StandsAt, LeavesAt}
+use Rattle.step_work.specs.Resuming.{Keeps, Opened, Passed, LeavesAt}
 use Rattle.step_moves.specs.Moving.{Rests, Stands}
 use Rattle.step_core.specs.Standing.{Standing, Framed, depths}
-use Rattle.step_core.proofs.Depths.{depths_more, depths_outside, last_depth, framed}
-use Rattle.step_core.proofs.Parts.{front_all, behind_all}
+use Rattle.step_core.proofs.Depths.{depths_more, depths_outside, framed, framed_at, last_depth}
+use Rattle.step_core.proofs.Parts.{behind_all, front_all, later_values}
 
 -- ---- frames
 
-framed_behind : {T : Type 0} (old new : World T) (move : Next) (scopes : ℕ) → length old.frames.frames ≡ suc scopes → Stands old new move → Framed move (length new.frames.frames) scopes
+pub framed_behind : {T : Type 0} (old new : World T) (move : Next) (scopes : ℕ) → length old.frames.frames ≡ suc scopes → Stands old new move → Framed move (length new.frames.frames) scopes
 framed_behind old new next.Throws scopes all stands = omega (arith, all, stands)
 framed_behind old new _ scopes all stands = stands ∙ all
-
-framed_at : {T : Type 0} (depth : ℕ) (frames : List (Held T)) (move : Next) (scopes : ℕ) → depth ≡ suc scopes → StandsAt depth frames move → Framed move (length frames) scopes
-framed_at depth frames next.Throws scopes deep stands = omega (arith, deep, stands)
-framed_at depth frames _ scopes deep stands = stands ∙ deep
 
 stands_same : {T : Type 0} (w : World T) (move : Next) → Stands w w move
 stands_same w next.Throws = omega arith
@@ -42,7 +37,7 @@ stands_same w _ = refl
 
 module _ {S T : Type 0} (made : S → T → Type 0) (meaning : S → T → Label) where
   -- before any move that is no throw the same holds
-  pub standing_whole : (store : S) (stack : Kept T) (world : World T) (pending : List ℕ) (move : Next) → ((frames scopes : ℕ) → Framed move frames scopes → frames ≡ suc scopes) → Standing made meaning store stack world 0 pending move → Standing made meaning store stack world 0 pending next.Done
+  pub standing_whole : {count : ℕ} (store : S) (stack : Kept T) (world : World T) (pending : List ℕ) (move : Next) → ((frames scopes : ℕ) → Framed move frames scopes → frames ≡ suc scopes) → Standing made meaning store stack world count pending move → Standing made meaning store stack world count pending next.Done
   standing_whole store stack world pending move whole stands = record {
     belongs = stands.belongs;
     operands = stands.operands;
@@ -55,7 +50,7 @@ module _ {S T : Type 0} (made : S → T → Type 0) (meaning : S → T → Label
   -- ---- a part is entered, or a move begins what it says
 
   -- the same operands and values, and no frame
-  pub standing_keeps : (store : S) (old new : Kept T) (world : World T) (move : Next) → Standing made meaning store old world 0 (scopes_of old.tasks) next.Done → Keeps old new move
+  pub standing_keeps : {count : ℕ} (store : S) (old new : Kept T) (world : World T) (move : Next) → Standing made meaning store old world count (scopes_of old.tasks) next.Done → Keeps old new move
       → Standing made meaning store new world (values_of move) (scopes_of new.tasks) move
   standing_keeps store old new world move stands keeps = record {
     belongs = stands.belongs;
@@ -67,11 +62,8 @@ module _ {S T : Type 0} (made : S → T → Type 0) (meaning : S → T → Label
   }
 
   module _ (room : S → ℕ) (firm : S → Bool) (earlier later : S) (kept : IsKept made meaning room firm earlier later) where
-    pub later_values : (vs : List (Labelled T)) → All (HasValue (made earlier)) vs → All (HasValue (made later)) vs
-    later_values vs all = All-weaker (HasValue (made earlier)) (HasValue (made later)) (λ v m. (kept.labels v.label m).0) vs all
-
     -- one frame more, with its scope
-    pub standing_opened : (old new : Kept T) (world : World T) (frames : held.Kept T) (move : Next) → Standing made meaning earlier old world 0 (scopes_of old.tasks) next.Done → Opened old new world.frames.frames frames.frames move
+    pub standing_opened : {count : ℕ} (old new : Kept T) (world : World T) (frames : held.Kept T) (move : Next) → Standing made meaning earlier old world count (scopes_of old.tasks) next.Done → Opened old new world.frames.frames frames.frames move
         → Belong made meaning later frames.frames → CatchByTry frames.frames
         → Standing made meaning later new (record world { frames = frames }) (values_of move) (scopes_of new.tasks) move
     standing_opened old new world frames move stands opened belong catch =
@@ -84,7 +76,7 @@ module _ {S T : Type 0} (made : S → T → Type 0) (meaning : S → T → Label
             records = HasRecords-kept made meaning room firm earlier later kept world.records stands.belongs.records;
             started = stands.belongs.started;
           };
-          operands = subst (All (HasValue (made later))) (sym opened.operands) (later_values (take (length (operands_of new)) (operands_of old)) (All-take (HasValue (made earlier)) (length (operands_of new)) (operands_of old) stands.operands));
+          operands = subst (All (HasValue (made later))) (sym opened.operands) (later_values made meaning room firm earlier later kept (take (length (operands_of new)) (operands_of old)) (All-take (HasValue (made earlier)) (length (operands_of new)) (operands_of old) stands.operands));
           values = opened.values;
           scopes = subst (λ ds. ds ≡ depths (length ds)) (sym opened.scopes) (depths_more (scopes_of old.tasks) (length world.frames.frames) stands.scopes stands.frames);
           frames = framed move (length frames.frames) (length (scopes_of new.tasks)) (opened.deeper ∙ omega (arith, stands.frames, grown));
@@ -92,34 +84,35 @@ module _ {S T : Type 0} (made : S → T → Type 0) (meaning : S → T → Label
         }
 
     -- an act was done, and its answer handed on
-    pub standing_rests : (old new : Kept T) (world_old world_new : World T) (move : Next) → Standing made meaning earlier old world_old 0 (scopes_of old.tasks) next.Done → Rests (made later) old new move
+    pub standing_rests : {count : ℕ} (old new : Kept T) (world_old world_new : World T) (move : Next) → Standing made meaning earlier old world_old count (scopes_of old.tasks) next.Done → Rests (made later) old new move
         → Stands world_old world_new move → Belongs made meaning later world_new → Grows world_old world_new
         → Standing made meaning later new world_new (values_of move) (scopes_of new.tasks) move
     standing_rests old new world_old world_new move stands rests whole belongs grows = record {
       belongs = belongs;
-      operands = rests.operands (later_values (kept_operands old.tasks) (front_all (HasValue (made earlier)) (kept_operands old.tasks) old.loose stands.operands));
+      operands = rests.operands (later_values made meaning room firm earlier later kept (kept_operands old.tasks) (front_all (HasValue (made earlier)) (kept_operands old.tasks) old.loose stands.operands));
       values = rests.values;
       scopes = subst (λ ds. ds ≡ depths (length ds)) (sym rests.scopes) stands.scopes;
       frames = framed_behind world_old world_new move (length (scopes_of new.tasks)) (stands.frames ∙ ap (λ ds. suc (length ds)) (sym rests.scopes)) whole;
       records = let some = stands.records in let more = grows.records in omega (arith, some, more);
     }
 
-    pub standing_acts : (old new : Kept T) (world_old world_new : World T) (result : Result Next (FlowFault T)) → Standing made meaning earlier old world_old 0 (scopes_of old.tasks) next.Done → IfOk result (Rests (made later) old new)
+    pub standing_acts : {count : ℕ} (old new : Kept T) (world_old world_new : World T) (result : Result Next (FlowFault T)) → Standing made meaning earlier old world_old count (scopes_of old.tasks) next.Done → IfOk result (Rests (made later) old new)
         → IfOk result (Stands world_old world_new) → Belongs made meaning later world_new → Grows world_old world_new
         → IfOk result (λ move. Standing made meaning later new world_new (values_of move) (scopes_of new.tasks) move)
     standing_acts old new world_old world_new (Ok move) stands rests whole belongs grows = standing_rests old new world_old world_new move stands rests whole belongs grows
     standing_acts old new world_old world_new (Err f) stands rests whole belongs grows = tt
 
+    -- the same world
+    pub standing_alike : {count : ℕ} (old new : Kept T) (world : World T) (result : Result Next (FlowFault T)) → Standing made meaning earlier old world count (scopes_of old.tasks) next.Done → IfOk result (Rests (made later) old new)
+        → Belongs made meaning later world → IfOk result (λ move. Standing made meaning later new world (values_of move) (scopes_of new.tasks) move)
+    standing_alike old new world (Ok move) stands rests belongs = standing_rests old new world world move stands rests (stands_same world move) belongs (Grows-refl world)
+    standing_alike old new world (Err f) stands rests belongs = tt
+
   -- the same store and world
-  pub standing_stays : (room : S → ℕ) (firm : S → Bool) (store : S) (old new : Kept T) (world : World T) (move : Next) → Standing made meaning store old world 0 (scopes_of old.tasks) next.Done → Rests (made store) old new move
+  pub standing_stays : {count : ℕ} (room : S → ℕ) (firm : S → Bool) (store : S) (old new : Kept T) (world : World T) (move : Next) → Standing made meaning store old world count (scopes_of old.tasks) next.Done → Rests (made store) old new move
       → Standing made meaning store new world (values_of move) (scopes_of new.tasks) move
   standing_stays room firm store old new world move stands rests =
       standing_rests room firm store store (IsKept-refl made meaning room firm store) old new world world move stands rests (stands_same world move) stands.belongs (Grows-refl world)
-
-  pub standing_tells : (room : S → ℕ) (firm : S → Bool) (store : S) (old new : Kept T) (world : World T) (result : Result Next (FlowFault T)) → Standing made meaning store old world 0 (scopes_of old.tasks) next.Done
-      → IfOk result (Rests (made store) old new) → IfOk result (λ move. Standing made meaning store new world (values_of move) (scopes_of new.tasks) move)
-  standing_tells room firm store old new world (Ok move) stands rests = standing_stays room firm store old new world move stands rests
-  standing_tells room firm store old new world (Err f) stands rests = tt
 
   -- ---- what is thrown
 

@@ -17,7 +17,7 @@ use Rattle.step_work.specs.declared.work.Work.TheVariants as work
 use Rattle.step_work.specs.declared.work.Next.{Next}
 use Rattle.step_work.specs.Kept.{Kept, without_top}
 use Rattle.step_work.specs.Pending.{owns, after, first_or_undefined}
-use Rattle.step_work.specs.Resuming.{Resumes, ResumesDone, ResumesBehind, ResumesIn, ResumesDoneIn, Keeps, Opened, Closed}
+use Rattle.step_work.specs.Resuming.{Resumes, ResumesDone, ResumesBehind, ResumesDoneBehind, ResumesIn, ResumesDoneIn, Keeps, Opened, Closed}
 use Rattle.step_moves.specs.Moving as moving
 
 -- the work that acts on the run's state
@@ -27,6 +27,8 @@ acts (work.BinaryDone o) = true
 acts (work.AssignTo n) = true
 acts (work.CompoundDone o n) = true
 acts (work.Variable n ds) = true
+acts (work.MemberBase how text) = true
+acts (work.IndexKey how) = true
 acts _ = false
 
 -- the work that enters, raises or leaves a frame
@@ -37,6 +39,7 @@ scoped (work.Choose a b) = true
 scoped (work.ChooseStmt s) = true
 scoped (work.ChooseStmts s t) = true
 scoped (work.Tested r) = true
+scoped (work.Enumerated x) = true
 scoped (work.EndBranch gives depth) = true
 scoped (work.EndRound turn depth) = true
 scoped _ = false
@@ -50,6 +53,9 @@ module _ {T : Type 0} where
 
   abbrev pub GoesAlone : Work → Kept T → Kept T → Next → Type 0
   GoesAlone (work.Argument f count rest) = ResumesBehind (work.Argument f count rest)
+  GoesAlone (work.Property ps count) = ResumesBehind (work.Property ps count)
+  GoesAlone (work.IndexBase how x) = ResumesBehind (work.IndexBase how x)
+  GoesAlone (work.Visited x count) = ResumesDoneBehind (work.Visited x count)
   GoesAlone (work.Statements ss) = ResumesDone (work.Statements ss)
   GoesAlone (work.Declared r) = ResumesDone (work.Declared r)
   GoesAlone (work.Turned r) = ResumesDone (work.Turned r)
@@ -59,6 +65,9 @@ module _ {T : Type 0} where
   abbrev pub used_of : Work → Kept T → Kept T
   used_of (work.BinaryRight o r) stack = stack
   used_of (work.Argument f count rest) stack = stack
+  used_of (work.Property ps count) stack = stack
+  used_of (work.IndexBase how x) stack = stack
+  used_of (work.Visited x count) stack = stack
   used_of (work.Statements ss) stack = stack
   used_of (work.Declared r) stack = stack
   used_of (work.Turned r) stack = stack
@@ -92,7 +101,5 @@ module _ {T : Type 0} where
   -- ---- work that acts on the run's state, in this record
 
   abbrev pub GoesActing : {S : Type 0} → (S → T → Type 0) → (S → T → Label) → S → ℕ → Work → Kept T → Kept T → World T → World T → Result Next (FlowFault T) → Type 0
-  GoesActing made meaning store place (work.BinaryDone o) = moving.ResumesBeside made meaning store (work.BinaryDone o)
-  GoesActing made meaning store place (work.CompoundDone o n) = moving.ResumesBeside made meaning store (work.CompoundDone o n)
   GoesActing made meaning store place (work.Variable n ds) = moving.ResumesAt made meaning store place (work.Variable n ds)
   GoesActing made meaning store place w = moving.Resumes made meaning store w

@@ -8,8 +8,8 @@ use Rattle.js_ast.specs.Views.{view_expr, view_stmt}
 use Rattle.js_values.specs.declared.value.Labelled.{Labelled}
 use Rattle.js_values.specs.Readings.{IsReading, read_value}
 use Rattle.es_meaning.specs.Environments.{Env}
-use Rattle.flow_meaning.specs.Scopes.{LabelledLine}
-use Rattle.flow_meaning.specs.Planned.{Part, an_expr, a_use, a_stmt, a_turn, Plan, Completion, gave, jumped, plan}
+use Rattle.flow_meaning.specs.Scopes.{LabelledLine, Val}
+use Rattle.flow_meaning.specs.Planned.{Part, an_expr, a_use, a_stmt, a_turn, a_visit, Plan, Completion, gave, jumped, plan}
 use Rattle.step_world.specs.declared.world.World.{World}
 use Rattle.step_world.specs.Acts.{thrown}
 use Rattle.step_world.specs.Worlds.{state_of}
@@ -18,19 +18,20 @@ use Rattle.step_work.specs.declared.work.Next.{Next}
 use Rattle.step_work.specs.declared.work.Next.TheVariants as next
 use Rattle.step_work.specs.Kept.{Kept}
 use Rattle.step_work.specs.Loads.{load, lift}
-use Rattle.step_work.specs.Pending.{owns, env_above, after, behind, first_or_undefined}
+use Rattle.step_work.specs.Pending.{owns, env_above, after, behind, first_or_undefined, visit_of}
 use Rattle.step_work.specs.Resuming.{coming}
 use Rattle.step_work.specs.Shapes.{use_of, round_of}
 use Rattle.step_moves.specs.Moving.{Moves}
 use Rattle.step_core.specs.Outlook.{here}
 
--- the part that a next move enters, if it does: that costs a turn
-abbrev pub part_in : Env ℕ → Next → Option Part
-part_in e (next.Expr x) = Some (an_expr (view_expr x.now) e.place)
-part_in e (next.Use how x) = Some (a_use (use_of how) (view_expr x.now) e.place)
-part_in e (next.Stmt x) = Some (a_stmt (view_stmt x.now) e)
-part_in e (next.Turn r) = Some (a_turn (round_of r) e)
-part_in e _ = None
+-- the part that a next move enters, with the values that no work keeps, if it does: that costs a turn
+abbrev pub part_in : List Val → Env ℕ → Next → Option Part
+part_in vs e (next.Expr x) = Some (an_expr (view_expr x.now) e.place)
+part_in vs e (next.Use how x) = Some (a_use (use_of how vs) (view_expr x.now) e.place)
+part_in vs e (next.Stmt x) = Some (a_stmt (view_stmt x.now) e)
+part_in vs e (next.Turn r) = Some (a_turn (round_of r) e)
+part_in vs e (next.Visit x count) = Some (a_visit (visit_of x count vs) e)
+part_in vs e _ = None
 
 module _ {S T : Type 0} (made : S → T → Type 0) (meaning : S → T → Label) (store : S) (tables : Tables) (inputs : Given) where
   -- a call comes to a plan that is made of the state before it, in each reading that agrees with the store, whatever was printed and however many turns are left
@@ -42,9 +43,9 @@ module _ {S T : Type 0} (made : S → T → Type 0) (meaning : S → T → Label
   abbrev pub Begins : Kept T → Kept T → World T → World T → Next → Result Next (FlowFault T) → Type 0
   Begins old new world_old world_new move = ComesTo (λ reading told turns. coming tables inputs reading old move here (state_of reading world_old told turns)) new world_new
 
-  -- a part was entered: what waits comes behind its plan
-  abbrev pub Enters : Kept T → Kept T → World T → World T → Part → Result Next (FlowFault T) → Type 0
-  Enters old new world_old world_new part = ComesTo (λ reading told turns. behind tables inputs reading old.tasks here (plan tables inputs part (state_of reading world_old told turns))) new world_new
+  -- a part was entered, by a reading: what waits comes behind its plan
+  abbrev pub Enters : Kept T → Kept T → World T → World T → ((T → Label) → Part) → Result Next (FlowFault T) → Type 0
+  Enters old new world_old world_new part = ComesTo (λ reading told turns. behind tables inputs reading old.tasks here (plan tables inputs (part reading) (state_of reading world_old told turns))) new world_new
 
   -- what work does with a completion that was taken from the others, with the operands that lie undermost
   abbrev pub Continues : ((T → Label) → Completion) → Work → Kept T → Kept T → World T → World T → Result Next (FlowFault T) → Type 0

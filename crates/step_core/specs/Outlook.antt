@@ -30,9 +30,9 @@ use Rattle.step_core.specs.declared.steps.Ending.TheVariants as ending
 abbrev pub here : Env ℕ
 here = outermost_env 0
 
--- how much a machine does before its run ends: each part that it enters costs a turn, and the work of less than six steps
+-- how much a machine does before its run ends: each part that it enters costs a turn, and the work of less than seven steps
 abbrev pub ahead : {T : Type 0} → Machine T → Next → ℕ
-ahead m next = 6 * m.turns + load m.stack.tasks + lift next
+ahead m next = 7 * m.turns + load m.stack.tasks + lift next
 
 module _ {T : Type 0} (tables : Tables) (inputs : Given) (reading : T → Label) where
   -- the plan of what is done next and of the work that waits, where these lines were printed

@@ -65,4 +65,5 @@ enters_part (next.Expr x) = true
 enters_part (next.Use how x) = true
 enters_part (next.Stmt x) = true
 enters_part (next.Turn r) = true
+enters_part (next.Visit x count) = true
 enters_part _ = false

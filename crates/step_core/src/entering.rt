@@ -1,32 +1,37 @@
 //! Parts that a machine enters, and moves that enter none.
 
-ghost use Rattle.std.specs.Prelude.{◌≡◌, true, Some, IfErr, IfOk};
+ghost use Rattle.std.specs.Prelude.{◌≡◌, ◌+◌, true, map, Some, IfErr, IfOk};
+ghost use Rattle.origin_labels.specs.Label.{Label};
 ghost use Rattle.origin_labels.specs.Stores.{IsKept};
 ghost use Rattle.flow_frames.specs.Stops.{IfStop};
 ghost use Rattle.flow_policy.specs.Policies.{Tables};
 ghost use Rattle.flow_policy.specs.Inputs.{Given};
+ghost use Rattle.js_values.specs.Readings.{read_value};
 ghost use Rattle.flow_meaning.specs.Planned.{Part};
 ghost use Rattle.step_world.specs.Worlds.{Grows};
 ghost use Rattle.step_work.specs.Stops.{HasStop};
 ghost use Rattle.step_work.specs.declared.work.Next.TheVariants as next;
 ghost use Rattle.step_work.specs.Kept.{scopes_of};
 ghost use Rattle.step_work.specs.Loads.{Adds};
-ghost use Rattle.step_work.specs.Pending.{env_above, values_of};
+ghost use Rattle.step_work.specs.Pending.{env_above, owns_use, values_of};
 ghost use Rattle.step_core.specs.Going.{Begins, Enters, Lowers, part_in};
 ghost use Rattle.step_core.specs.Outlook.{here};
 ghost use Rattle.step_core.specs.Standing.{Standing, begins_work};
 
 use flow_frames::FlowFault;
 use flow_text::Text;
-use js_ast::{Declarations, Expr, Stmt};
+use js_ast::{Declarations, Expr, Ident, PropertyList, Stmt};
 use js_number::Int;
 use js_values::EnvId;
 use origin_labels::Labels;
 use std::alloc::Global;
-use step_moves::{begin_use, boolean, declare, null, number, read_name, text};
+use step_moves::{
+    begin_use, boolean, declare, give_variable, null, number, object, read_name, text, this,
+};
+use step_visits::{next_visit, take_keys};
 use step_work::{
-    Next, Round, Stack, Use, begin_do_loop, begin_expression, begin_loop, begin_statement,
-    begin_turn,
+    Enumeration, Next, Round, Stack, Use, begin_do_loop, begin_expression, begin_loop,
+    begin_statement, begin_turn, begin_visit,
 };
 use step_world::World;
 
@@ -42,9 +47,9 @@ pub(crate) fn enter<'p, L: Labels>(
     next: Next<'p>,
 ) -> Result<Next<'p>, FlowFault<L::Label>>
     requires standing { Standing L.made L.meaning labels.old stack.old world.old (values_of next) (scopes_of stack.old.tasks) next }
-    ensures enters { (tables : Tables) (inputs : Given) (part : Part) → part_in (env_above stack.old.tasks here) next.entry ≡ Some part → Enters L.made L.meaning labels.new tables inputs stack.old stack.new world.old world.new part result }
+    ensures enters { (tables : Tables) (inputs : Given) (part : (L.Label → Label) → Part) → ((reading : L.Label → Label) → part_in (map (read_value reading) stack.old.loose) (env_above stack.old.tasks here) next.entry ≡ Some (part reading)) → Enters L.made L.meaning labels.new tables inputs stack.old stack.new world.old world.new part result }
     ensures standing { IfOk result (λ n. Standing L.made L.meaning labels.new stack.new world.new (values_of n) (scopes_of stack.new.tasks) n) }
-    ensures adds { IfOk result (Adds 5 stack.old stack.new) }
+    ensures adds { IfOk result (Adds 6 stack.old stack.new) }
     ensures stopped { IfErr result (IfStop (HasStop (L.made labels.new))) }
     ensures grows { Grows world.old world.new }
     ensures kept { IsKept L.made L.meaning L.room L.firm labels.old labels.new }
@@ -54,6 +59,7 @@ pub(crate) fn enter<'p, L: Labels>(
         Next::Use(how, target) => enter_use(alloc, labels, world, stack, how, target),
         Next::Stmt(s) => enter_statement(labels, world, stack, s),
         Next::Turn(round) => enter_turn(labels, world, stack, round),
+        Next::Visit(enumeration, count) => enter_visit(labels, world, stack, enumeration, count),
         other => Ok(other),
     }
 }
@@ -66,9 +72,9 @@ fn enter_expression<'p, L: Labels>(
     e: &'p Expr,
 ) -> Result<Next<'p>, FlowFault<L::Label>>
     requires standing { Standing L.made L.meaning _labels.now stack.old _world.now 0 (scopes_of stack.old.tasks) (next.Expr e) }
-    ensures enters { (tables : Tables) (inputs : Given) (part : Part) → part_in (env_above stack.old.tasks here) (next.Expr e.entry) ≡ Some part → Enters L.made L.meaning _labels.now tables inputs stack.old stack.new _world.now _world.now part result }
+    ensures enters { (tables : Tables) (inputs : Given) (part : (L.Label → Label) → Part) → ((reading : L.Label → Label) → part_in (map (read_value reading) stack.old.loose) (env_above stack.old.tasks here) (next.Expr e.entry) ≡ Some (part reading)) → Enters L.made L.meaning _labels.now tables inputs stack.old stack.new _world.now _world.now part result }
     ensures standing { IfOk result (λ n. Standing L.made L.meaning _labels.now stack.new _world.now (values_of n) (scopes_of stack.new.tasks) n) }
-    ensures adds { IfOk result (Adds 5 stack.old stack.new) }
+    ensures adds { IfOk result (Adds 6 stack.old stack.new) }
     ensures stopped { IfErr result (IfStop (HasStop (L.made _labels.now))) }
 {
     let next = begin_expression(stack, e)?;
@@ -84,10 +90,10 @@ fn enter_use<'p, L: Labels>(
     how: Use<'p>,
     target: &'p Expr,
 ) -> Result<Next<'p>, FlowFault<L::Label>>
-    requires standing { Standing L.made L.meaning labels.old stack.old world.old 0 (scopes_of stack.old.tasks) (next.Use how target) }
-    ensures enters { (tables : Tables) (inputs : Given) (part : Part) → part_in (env_above stack.old.tasks here) (next.Use how.entry target.entry) ≡ Some part → Enters L.made L.meaning labels.new tables inputs stack.old stack.new world.old world.new part result }
+    requires standing { Standing L.made L.meaning labels.old stack.old world.old (owns_use how) (scopes_of stack.old.tasks) (next.Use how target) }
+    ensures enters { (tables : Tables) (inputs : Given) (part : (L.Label → Label) → Part) → ((reading : L.Label → Label) → part_in (map (read_value reading) stack.old.loose) (env_above stack.old.tasks here) (next.Use how.entry target.entry) ≡ Some (part reading)) → Enters L.made L.meaning labels.new tables inputs stack.old stack.new world.old world.new part result }
     ensures standing { IfOk result (λ n. Standing L.made L.meaning labels.new stack.new world.new (values_of n) (scopes_of stack.new.tasks) n) }
-    ensures adds { IfOk result (Adds 5 stack.old stack.new) }
+    ensures adds { IfOk result (Adds 6 stack.old stack.new) }
     ensures stopped { IfErr result (IfStop (HasStop (L.made labels.new))) }
     ensures grows { Grows world.old world.new }
     ensures kept { IsKept L.made L.meaning L.room L.firm labels.old labels.new }
@@ -103,9 +109,9 @@ fn enter_statement<'p, L: Labels>(
     s: &'p Stmt,
 ) -> Result<Next<'p>, FlowFault<L::Label>>
     requires standing { Standing L.made L.meaning _labels.now stack.old _world.now 0 (scopes_of stack.old.tasks) (next.Stmt s) }
-    ensures enters { (tables : Tables) (inputs : Given) (part : Part) → part_in (env_above stack.old.tasks here) (next.Stmt s.entry) ≡ Some part → Enters L.made L.meaning _labels.now tables inputs stack.old stack.new _world.now _world.now part result }
+    ensures enters { (tables : Tables) (inputs : Given) (part : (L.Label → Label) → Part) → ((reading : L.Label → Label) → part_in (map (read_value reading) stack.old.loose) (env_above stack.old.tasks here) (next.Stmt s.entry) ≡ Some (part reading)) → Enters L.made L.meaning _labels.now tables inputs stack.old stack.new _world.now _world.now part result }
     ensures standing { IfOk result (λ n. Standing L.made L.meaning _labels.now stack.new _world.now (values_of n) (scopes_of stack.new.tasks) n) }
-    ensures adds { IfOk result (Adds 5 stack.old stack.new) }
+    ensures adds { IfOk result (Adds 6 stack.old stack.new) }
     ensures stopped { IfErr result (IfStop (HasStop (L.made _labels.now))) }
 {
     let next = begin_statement(stack, s)?;
@@ -120,9 +126,9 @@ fn enter_turn<'p, L: Labels>(
     round: Round<'p>,
 ) -> Result<Next<'p>, FlowFault<L::Label>>
     requires standing { Standing L.made L.meaning labels.old stack.old world.old 0 (scopes_of stack.old.tasks) (next.Turn round) }
-    ensures enters { (tables : Tables) (inputs : Given) (part : Part) → part_in (env_above stack.old.tasks here) (next.Turn round.entry) ≡ Some part → Enters L.made L.meaning labels.new tables inputs stack.old stack.new world.old world.new part result }
+    ensures enters { (tables : Tables) (inputs : Given) (part : (L.Label → Label) → Part) → ((reading : L.Label → Label) → part_in (map (read_value reading) stack.old.loose) (env_above stack.old.tasks here) (next.Turn round.entry) ≡ Some (part reading)) → Enters L.made L.meaning labels.new tables inputs stack.old stack.new world.old world.new part result }
     ensures standing { IfOk result (λ n. Standing L.made L.meaning labels.new stack.new world.new (values_of n) (scopes_of stack.new.tasks) n) }
-    ensures adds { IfOk result (Adds 5 stack.old stack.new) }
+    ensures adds { IfOk result (Adds 6 stack.old stack.new) }
     ensures stopped { IfErr result (IfStop (HasStop (L.made labels.new))) }
     ensures grows { Grows world.old world.new }
     ensures kept { IsKept L.made L.meaning L.room L.firm labels.old labels.new }
@@ -132,7 +138,28 @@ fn enter_turn<'p, L: Labels>(
     Ok(next)
 }
 
-/// A value that stands in the script, a name, variables or a loop: what a machine does next without entering a part. Any other move stays as it is.
+/// A turn of a `for in` is entered.
+fn enter_visit<'p, L: Labels>(
+    labels: &mut L,
+    world: &mut World<L::Label>,
+    stack: &mut Stack<'p, L::Label>,
+    enumeration: Enumeration<'p>,
+    count: u32,
+) -> Result<Next<'p>, FlowFault<L::Label>>
+    requires standing { Standing L.made L.meaning labels.old stack.old world.old (count + 2) (scopes_of stack.old.tasks) (next.Visit enumeration count) }
+    ensures enters { (tables : Tables) (inputs : Given) (part : (L.Label → Label) → Part) → ((reading : L.Label → Label) → part_in (map (read_value reading) stack.old.loose) (env_above stack.old.tasks here) (next.Visit enumeration.entry count) ≡ Some (part reading)) → Enters L.made L.meaning labels.new tables inputs stack.old stack.new world.old world.new part result }
+    ensures standing { IfOk result (λ n. Standing L.made L.meaning labels.new stack.new world.new (values_of n) (scopes_of stack.new.tasks) n) }
+    ensures adds { IfOk result (Adds 6 stack.old stack.new) }
+    ensures stopped { IfErr result (IfStop (HasStop (L.made labels.new))) }
+    ensures grows { Grows world.old world.new }
+    ensures kept { IsKept L.made L.meaning L.room L.firm labels.old labels.new }
+{
+    let next = begin_visit(labels, &mut world.frames, stack, enumeration, count)?;
+    let _depth = world.frames.len();
+    Ok(next)
+}
+
+/// A value that stands in the script, a name, an object of a literal, variables, a loop or the keys of a `for in`: what a machine does next without entering a part. Any other move stays as it is.
 pub(crate) fn begin_move<'p, L: Labels>(
     alloc: Global,
     labels: &mut L,
@@ -154,6 +181,13 @@ pub(crate) fn begin_move<'p, L: Labels>(
         Next::Number(n) => begin_number(labels, world, stack, n),
         Next::Text(units) => begin_text(alloc, labels, world, stack, units),
         Next::Name(name) => begin_name(alloc, labels, world, stack, name),
+        Next::This => begin_this(alloc, labels, world, stack),
+        Next::Object(list, count) => begin_object(alloc, labels, world, stack, list, count),
+        Next::GiveVariable(variable) => begin_giving(alloc, labels, world, stack, variable),
+        Next::Keys(enumeration) => begin_keys(alloc, labels, world, stack, enumeration),
+        Next::Visits(enumeration, count) => {
+            begin_visits(alloc, labels, world, stack, enumeration, count)
+        }
         Next::Variables(list) => begin_variables(labels, world, stack, list),
         Next::Loop(round) => begin_loop_of(labels, world, stack, round),
         Next::DoLoop(round) => begin_do_loop_of(labels, world, stack, round),
@@ -248,18 +282,115 @@ fn begin_name<'p, L: Labels>(
     read_name(alloc, labels, world, stack, OUTERMOST, name)
 }
 
+/// The value of `this`.
+fn begin_this<'p, L: Labels>(
+    alloc: Global,
+    labels: &mut L,
+    world: &mut World<L::Label>,
+    stack: &mut Stack<'p, L::Label>,
+) -> Result<Next<'p>, FlowFault<L::Label>>
+    requires standing { Standing L.made L.meaning labels.old stack.old world.old 0 (scopes_of stack.old.tasks) next.This }
+    ensures begins { (tables : Tables) (inputs : Given) → Begins L.made L.meaning labels.new tables inputs stack.old stack.new world.old world.new next.This result }
+    ensures standing { IfOk result (λ n. Standing L.made L.meaning labels.new stack.new world.new (values_of n) (scopes_of stack.new.tasks) n) }
+    ensures lowers { IfOk result (Lowers stack.old next.This stack.new) }
+    ensures stopped { IfErr result (IfStop (HasStop (L.made labels.new))) }
+    ensures grows { Grows world.old world.new }
+    ensures kept { IsKept L.made L.meaning L.room L.firm labels.old labels.new }
+{
+    this(alloc, labels, world, stack, OUTERMOST)
+}
+
+/// An object of a literal.
+fn begin_object<'p, L: Labels>(
+    alloc: Global,
+    labels: &mut L,
+    world: &mut World<L::Label>,
+    stack: &mut Stack<'p, L::Label>,
+    list: &'p PropertyList,
+    count: u32,
+) -> Result<Next<'p>, FlowFault<L::Label>>
+    requires standing { Standing L.made L.meaning labels.old stack.old world.old count (scopes_of stack.old.tasks) (next.Object list count) }
+    ensures begins { (tables : Tables) (inputs : Given) → Begins L.made L.meaning labels.new tables inputs stack.old stack.new world.old world.new (next.Object list.entry count) result }
+    ensures standing { IfOk result (λ n. Standing L.made L.meaning labels.new stack.new world.new (values_of n) (scopes_of stack.new.tasks) n) }
+    ensures lowers { IfOk result (Lowers stack.old (next.Object list.entry count) stack.new) }
+    ensures stopped { IfErr result (IfStop (HasStop (L.made labels.new))) }
+    ensures grows { Grows world.old world.new }
+    ensures kept { IsKept L.made L.meaning L.room L.firm labels.old labels.new }
+{
+    object(alloc, labels, world, stack, list, count)
+}
+
+/// A variable is given a key.
+fn begin_giving<'p, L: Labels>(
+    alloc: Global,
+    labels: &mut L,
+    world: &mut World<L::Label>,
+    stack: &mut Stack<'p, L::Label>,
+    variable: &'p Ident,
+) -> Result<Next<'p>, FlowFault<L::Label>>
+    requires standing { Standing L.made L.meaning labels.old stack.old world.old 1 (scopes_of stack.old.tasks) (next.GiveVariable variable) }
+    ensures begins { (tables : Tables) (inputs : Given) → Begins L.made L.meaning labels.new tables inputs stack.old stack.new world.old world.new (next.GiveVariable variable.entry) result }
+    ensures standing { IfOk result (λ n. Standing L.made L.meaning labels.new stack.new world.new (values_of n) (scopes_of stack.new.tasks) n) }
+    ensures lowers { IfOk result (Lowers stack.old (next.GiveVariable variable.entry) stack.new) }
+    ensures stopped { IfErr result (IfStop (HasStop (L.made labels.new))) }
+    ensures grows { Grows world.old world.new }
+    ensures kept { IsKept L.made L.meaning L.room L.firm labels.old labels.new }
+{
+    give_variable(alloc, labels, world, stack, OUTERMOST, variable)
+}
+
+/// The keys of a value.
+fn begin_keys<'p, L: Labels>(
+    alloc: Global,
+    labels: &mut L,
+    world: &mut World<L::Label>,
+    stack: &mut Stack<'p, L::Label>,
+    enumeration: Enumeration<'p>,
+) -> Result<Next<'p>, FlowFault<L::Label>>
+    requires standing { Standing L.made L.meaning labels.old stack.old world.old 1 (scopes_of stack.old.tasks) (next.Keys enumeration) }
+    ensures begins { (tables : Tables) (inputs : Given) → Begins L.made L.meaning labels.new tables inputs stack.old stack.new world.old world.new (next.Keys enumeration.entry) result }
+    ensures standing { IfOk result (λ n. Standing L.made L.meaning labels.new stack.new world.new (values_of n) (scopes_of stack.new.tasks) n) }
+    ensures lowers { IfOk result (Lowers stack.old (next.Keys enumeration.entry) stack.new) }
+    ensures stopped { IfErr result (IfStop (HasStop (L.made labels.new))) }
+    ensures grows { Grows world.old world.new }
+    ensures kept { IsKept L.made L.meaning L.room L.firm labels.old labels.new }
+{
+    take_keys(alloc, labels, world, stack, enumeration)
+}
+
+/// The next key that is visited.
+fn begin_visits<'p, L: Labels>(
+    alloc: Global,
+    labels: &mut L,
+    world: &mut World<L::Label>,
+    stack: &mut Stack<'p, L::Label>,
+    enumeration: Enumeration<'p>,
+    count: u32,
+) -> Result<Next<'p>, FlowFault<L::Label>>
+    requires standing { Standing L.made L.meaning labels.old stack.old world.old (count + 1) (scopes_of stack.old.tasks) (next.Visits enumeration count) }
+    ensures begins { (tables : Tables) (inputs : Given) → Begins L.made L.meaning labels.new tables inputs stack.old stack.new world.old world.new (next.Visits enumeration.entry count) result }
+    ensures standing { IfOk result (λ n. Standing L.made L.meaning labels.new stack.new world.new (values_of n) (scopes_of stack.new.tasks) n) }
+    ensures lowers { IfOk result (Lowers stack.old (next.Visits enumeration.entry count) stack.new) }
+    ensures stopped { IfErr result (IfStop (HasStop (L.made labels.new))) }
+    ensures grows { Grows world.old world.new }
+    ensures kept { IsKept L.made L.meaning L.room L.firm labels.old labels.new }
+{
+    next_visit(alloc, labels, world, stack, enumeration, count)
+}
+
 /// Variables with their first values.
 fn begin_variables<'p, L: Labels>(
-    labels: &L,
+    labels: &mut L,
     world: &World<L::Label>,
     stack: &mut Stack<'p, L::Label>,
     list: &'p Declarations,
 ) -> Result<Next<'p>, FlowFault<L::Label>>
-    requires standing { Standing L.made L.meaning labels.now stack.old world.now 0 (scopes_of stack.old.tasks) (next.Variables list) }
-    ensures begins { (tables : Tables) (inputs : Given) → Begins L.made L.meaning labels.now tables inputs stack.old stack.new world.now world.now (next.Variables list.entry) result }
-    ensures standing { IfOk result (λ n. Standing L.made L.meaning labels.now stack.new world.now (values_of n) (scopes_of stack.new.tasks) n) }
+    requires standing { Standing L.made L.meaning labels.old stack.old world.now 0 (scopes_of stack.old.tasks) (next.Variables list) }
+    ensures begins { (tables : Tables) (inputs : Given) → Begins L.made L.meaning labels.new tables inputs stack.old stack.new world.now world.now (next.Variables list.entry) result }
+    ensures standing { IfOk result (λ n. Standing L.made L.meaning labels.new stack.new world.now (values_of n) (scopes_of stack.new.tasks) n) }
     ensures lowers { IfOk result (Lowers stack.old (next.Variables list.entry) stack.new) }
-    ensures stopped { IfErr result (IfStop (HasStop (L.made labels.now))) }
+    ensures stopped { IfErr result (IfStop (HasStop (L.made labels.new))) }
+    ensures kept { IsKept L.made L.meaning L.room L.firm labels.old labels.new }
 {
     declare(labels, world, stack, OUTERMOST, list)
 }

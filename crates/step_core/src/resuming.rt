@@ -30,11 +30,12 @@ use js_number::Primitive;
 use js_values::{Labelled, Value};
 use origin_labels::Labels;
 use std::alloc::Global;
-use step_moves::{assigned, binary_done, compound_done, more_variables, unary};
+use step_moves::{assigned, binary_done, compound_done, index_key, member, more_variables, unary};
 use step_work::{
-    Next, Stack, Work, and_right, binary_right, choose_expr, choose_stmt, choose_stmts,
-    comma_right, declared, discard, end_branch, end_branch_value, end_round, looped,
-    more_arguments, more_statements, or_right, tested, turned, updated,
+    Next, Stack, Work, and_right, begin_enumeration, binary_right, choose_expr, choose_stmt,
+    choose_stmts, comma_right, declared, discard, end_branch, end_branch_value, end_round,
+    index_base, looped, more_arguments, more_properties, more_statements, or_right, tested, turned,
+    updated, visit_body, visited,
 };
 use step_world::World;
 
@@ -94,7 +95,11 @@ fn waits_for_a_value(work: Work<'_>) -> bool
     ensures { given result ≡ awaits work.entry }
 {
     match work {
-        Work::Statements(_) | Work::Declared(_) | Work::Turned(_) | Work::EndRound(_, _) => false,
+        Work::Statements(_)
+        | Work::Declared(_)
+        | Work::Turned(_)
+        | Work::Visited(_, _)
+        | Work::EndRound(_, _) => false,
         Work::EndBranch(gives, _) => gives,
         _ => true,
     }
@@ -139,6 +144,8 @@ fn acts(work: Work<'_>) -> bool
             | Work::AssignTo(_)
             | Work::CompoundDone(_, _)
             | Work::Variable(_, _)
+            | Work::MemberBase(_, _)
+            | Work::IndexKey(_)
     )
 }
 
@@ -154,6 +161,7 @@ fn scoped(work: Work<'_>) -> bool
             | Work::ChooseStmt(_)
             | Work::ChooseStmts(_, _)
             | Work::Tested(_)
+            | Work::Enumerated(_)
             | Work::EndBranch(_, _)
             | Work::EndRound(_, _)
     )
@@ -175,6 +183,10 @@ fn go_on_alone<'p, T: Copy>(
         Work::BinaryRight(operator, right) => binary_right(stack, operator, right),
         Work::CommaRight(right) => Ok(comma_right(stack, right)),
         Work::Argument(function, count, rest) => more_arguments(stack, function, count, rest),
+        Work::Property(list, count) => more_properties(stack, list, count),
+        Work::IndexBase(how, index) => index_base(stack, how, index),
+        Work::VisitBody(body) => Ok(visit_body(stack, body)),
+        Work::Visited(enumeration, count) => Ok(visited(stack, enumeration, count)),
         Work::Discard => Ok(discard(stack)),
         Work::Statements(rest) => more_statements(stack, rest),
         Work::Looped(round) => Ok(looped(stack, round)),
@@ -213,6 +225,7 @@ fn go_on_in_frames<'p, L: Labels>(
         Work::ChooseStmt(then) => choose_stmt(labels, frames, stack, then),
         Work::ChooseStmts(then, other) => choose_stmts(labels, frames, stack, then, other),
         Work::Tested(round) => tested(labels, frames, stack, round),
+        Work::Enumerated(enumeration) => begin_enumeration(labels, frames, stack, enumeration),
         Work::EndBranch(true, depth) => end_branch_value(labels, frames, stack, depth),
         Work::EndBranch(false, depth) => Ok(end_branch(labels, frames, stack, depth)),
         Work::EndRound(turn, depth) => Ok(end_round(labels, frames, stack, turn, depth)),
@@ -245,13 +258,15 @@ fn act<'p, L: Labels>(
     match work {
         Work::Unary(operator) => unary(alloc, labels, world, stack, operator),
         Work::BinaryDone(operator) => binary_done(alloc, labels, world, stack, operator),
-        Work::AssignTo(reference) => assigned(alloc, labels, world, stack, reference),
-        Work::CompoundDone(operator, reference) => {
-            compound_done(alloc, labels, world, stack, operator, reference)
+        Work::AssignTo(target) => assigned(alloc, labels, world, stack, target),
+        Work::CompoundDone(operator, target) => {
+            compound_done(alloc, labels, world, stack, operator, target)
         }
-        Work::Variable(reference, rest) => {
-            more_variables(labels, world, stack, OUTERMOST, reference, rest)
+        Work::Variable(target, rest) => {
+            more_variables(alloc, labels, world, stack, OUTERMOST, target, rest)
         }
+        Work::MemberBase(how, name) => member(alloc, labels, world, stack, how, name),
+        Work::IndexKey(how) => index_key(alloc, labels, world, stack, how),
         _ => unreachable!(),
     }
 }

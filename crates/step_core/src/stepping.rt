@@ -87,12 +87,19 @@ fn stepped<'p, L: Labels>(
         }
         Next::Expr(e) => begin_expr(alloc, labels, machine, e),
         Next::Stmt(s) => begin_stmt(alloc, labels, machine, s),
-        Next::Use(_, _) | Next::Turn(_) => enter_part(alloc, labels, machine, next),
+        Next::Use(_, _) | Next::Turn(_) | Next::Visit(_, _) => {
+            enter_part(alloc, labels, machine, next)
+        }
         Next::Null
         | Next::Bool(_)
         | Next::Number(_)
         | Next::Text(_)
         | Next::Name(_)
+        | Next::This
+        | Next::Object(_, _)
+        | Next::GiveVariable(_)
+        | Next::Keys(_)
+        | Next::Visits(_, _)
         | Next::Variables(_)
         | Next::Loop(_)
         | Next::DoLoop(_) => begin_work(alloc, labels, machine, next),

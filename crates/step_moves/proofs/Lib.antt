@@ -1,6 +1,9 @@
 pub mod PlanLaws
+pub mod Loose
 pub mod Settled
+pub mod Parted
 pub mod Resumed
 pub mod Begun
+pub mod Kept
+pub mod Rows
 pub mod VariableLaws
-pub mod Standing

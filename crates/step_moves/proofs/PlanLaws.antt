@@ -1,18 +1,22 @@
 -- Acts of the planned meaning are those of the labelled one.
-use Rattle.std.proofs.Common.{refl, ap, ◌∙◌, ◌≡◌, ℕ, Bool, true, false, pos}
-use Rattle.js_number.specs.declared.primitive.Primitive.TheVariants.{Num}
+use Rattle.std.proofs.Common.{refl, sym, ap, ap₂, ◌∙◌, ◌≡◌, ℕ, Bool, true, false, List, [], ◌∷◌, pos}
+use Rattle.origin_labels.specs.Label.{Label, bottom}
+use Rattle.js_number.specs.declared.primitive.Primitive.TheVariants.{Num, Str}
+use Rattle.js_values.specs.declared.value.Value.TheVariants as value
 use Rattle.flow_policy.specs.Policies.{Tables}
 use Rattle.flow_policy.specs.Inputs.{Given}
 use Rattle.js_ast.specs.declared.operators.UnaryOperator.{UnaryOperator}
 use Rattle.js_ast.specs.declared.operators.UnaryOperator.TheVariants as unary_operator
 use Rattle.js_ast.specs.declared.operators.BinaryOperator.{BinaryOperator}
-use Rattle.es_meaning.specs.Outcomes.{Outcome, Goes, Jumps, Ends, and_then}
-use Rattle.es_meaning.specs.Plain.{Reference}
-use Rattle.es_meaning.specs.Operations.{One, Value, number_hint, Rec, prefixed, postfixed, asked}
-use Rattle.es_meaning.specs.Evaluation.{Conversion, unconverted, compared, primitives, numbers, takes_number, conversion_of, unary_by, unary_done, unary_value, binary_by, binary_done, binary_values, compared_left, primitive_left, number_left, give, assign_to, assign_giving, compound_done, prefix_by, prefix_number, prefix_value, postfix_by, postfix_number, postfix_value, enters, used}
+use Rattle.es_meaning.specs.Outcomes.{Outcome, Goes, Jumps, Ends, and_then, ret, ◌>>=◌}
+use Rattle.es_meaning.specs.Operations.{One, Value, base_needed, object_needed, number_hint, string_hint, Rec, Use, prefixed, postfixed, asked, valued, deleted, given_text}
+use Rattle.es_meaning.specs.Evaluation.{Conversion, unconverted, compared, primitives, numbers, keyed, has_left, has_right, index_key, member_base, with_base, with_key, read_value, takes_number, conversion_of, unary_by, unary_done, unary_value, binary_by, binary_done, binary_values, compared_left, primitive_left, number_left, give, assign_to, assign_giving, compound_done, prefix_by, prefix_number, prefix_value, postfix_by, postfix_number, postfix_value, enters, used}
+use Rattle.flow_meaning.specs.Erased.{unlabelled}
 use Rattle.flow_meaning.specs.Scopes.{Val, State, Halt, Jump, L}
-use Rattle.flow_meaning.specs.Tracked.{labelled, put_at}
-use Rattle.flow_meaning.specs.Planned.{Plan, End, and_plan, with_result, as_plan, planned, asking}
+use Rattle.flow_meaning.specs.Tracked.{labelled, act, put_value, Reference}
+use Rattle.step_updates.specs.References.{reached}
+use Rattle.step_moves.specs.Moving.{following}
+use Rattle.flow_meaning.specs.Planned.{Plan, and_plan, with_result, as_plan, planned, asking}
 
 -- one act, and then another
 then_plan : (o : Outcome Halt Jump Val State) (f : Val → State → Plan) (g : Val → L Val) → ((v : Val) (t : State) → f v t ≡ as_plan Value (g v t)) → and_plan (as_plan Value o) (with_result Value f) ≡ as_plan Value (and_then o g)
@@ -31,7 +35,7 @@ module _ (tables : Tables) (inputs : Given) where
   unary_as o v s = unary_plan (takes_number o) o v s
 
   binary_plan : (c : Conversion) (o : BinaryOperator) (v u : Val) (s : State) → binary_by (planned tables inputs) c o v u s ≡ as_plan Value (binary_by (labelled tables inputs) c o v u s)
-  unfolding binary_done compared_left primitive_left number_left
+  unfolding binary_done compared_left primitive_left number_left has_right has_left
   binary_plan unconverted o v u s = refl
   binary_plan compared o v u s = then_plan ((labelled tables inputs).comparable v u s) (compared_left (planned tables inputs) o u) (compared_left (labelled tables inputs) o u)
       (λ w t. then_plan ((labelled tables inputs).comparable u w t) (binary_done (planned tables inputs) o w) (binary_done (labelled tables inputs) o w) (λ x r. refl))
@@ -40,6 +44,8 @@ module _ (tables : Tables) (inputs : Given) where
   binary_plan numbers o v u s = then_plan ((labelled tables inputs).primitive number_hint v s) (number_left (planned tables inputs) o u) (number_left (labelled tables inputs) o u)
       (λ w t. then_plan ((labelled tables inputs).unary unary_operator.Plus w t) (primitive_left (planned tables inputs) number_hint o u) (primitive_left (labelled tables inputs) number_hint o u)
       (λ x r. then_plan ((labelled tables inputs).primitive number_hint u r) (binary_done (planned tables inputs) o x) (binary_done (labelled tables inputs) o x) (λ y q. refl)))
+  binary_plan keyed o v u s = then_plan ((labelled tables inputs).act object_needed (u ∷ []) s) (has_right (planned tables inputs) v) (has_right (labelled tables inputs) v)
+      (λ w t. then_plan ((labelled tables inputs).primitive string_hint v t) (has_left (planned tables inputs) w) (has_left (labelled tables inputs) w) (λ x r. refl))
 
   pub binary_as : (o : BinaryOperator) (v u : Val) (s : State) → binary_values (planned tables inputs) o v u s ≡ as_plan Value (binary_values (labelled tables inputs) o v u s)
   unfolding binary_values
@@ -54,11 +60,11 @@ module _ (tables : Tables) (inputs : Given) where
 
   pub assign_as : (n : Reference) (v : Val) (s : State) → assign_to (planned tables inputs) n v s ≡ as_plan Value (assign_to (labelled tables inputs) n v s)
   unfolding assign_to
-  assign_as n v s = put_plan (put_at n.place n.name v s) v
+  assign_as n v s = put_plan (put_value n v s) v
 
   giving_as : (n : Reference) (result v : Val) (s : State) → assign_giving (planned tables inputs) n result v s ≡ as_plan Value (assign_giving (labelled tables inputs) n result v s)
   unfolding assign_giving
-  giving_as n result v s = put_plan (put_at n.place n.name v s) result
+  giving_as n result v s = put_plan (put_value n v s) result
 
   pub compound_as : (R : Rec (planned tables inputs)) (Q : Rec (labelled tables inputs)) (o : BinaryOperator) (n : Reference) (v u : Val) (s : State) → compound_done (planned tables inputs) R o n v u s ≡ as_plan Value (compound_done (labelled tables inputs) Q o n v u s)
   unfolding compound_done
@@ -79,9 +85,9 @@ module _ (tables : Tables) (inputs : Given) where
   unfolding prefix_value
   prefix_named o n v s = then_plan ((labelled tables inputs).primitive number_hint v s) (prefix_number (planned tables inputs) o n) (prefix_number (labelled tables inputs) o n) (prefix_counted o n)
 
-  pub prefix_as : (o : BinaryOperator) (i : ℕ) (n : Reference) (s : State) → used (planned tables inputs) (asking tables inputs) (prefixed o) i n s ≡ as_plan Value (and_then ((labelled tables inputs).get_name n (enters (labelled tables inputs)) s) (prefix_value (labelled tables inputs) o n))
+  pub prefix_as : (o : BinaryOperator) (i : ℕ) (n : Reference) (s : State) → used (planned tables inputs) (asking tables inputs) (prefixed o) i n s ≡ as_plan Value (and_then ((labelled tables inputs).get_value n (enters (labelled tables inputs)) s) (prefix_value (labelled tables inputs) o n))
   unfolding used
-  prefix_as o i n s = then_plan ((labelled tables inputs).get_name n (enters (labelled tables inputs)) s) (prefix_value (planned tables inputs) o n) (prefix_value (labelled tables inputs) o n) (prefix_named o n)
+  prefix_as o i n s = then_plan ((labelled tables inputs).get_value n (enters (labelled tables inputs)) s) (prefix_value (planned tables inputs) o n) (prefix_value (labelled tables inputs) o n) (prefix_named o n)
 
   -- and behind it
   postfix_done : (o : BinaryOperator) (n : Reference) (v : Val) (s : State) → postfix_by (planned tables inputs) o n v s ≡ as_plan Value (postfix_by (labelled tables inputs) o n v s)
@@ -96,10 +102,54 @@ module _ (tables : Tables) (inputs : Given) where
   unfolding postfix_value
   postfix_named o n v s = then_plan ((labelled tables inputs).primitive number_hint v s) (postfix_number (planned tables inputs) o n) (postfix_number (labelled tables inputs) o n) (postfix_counted o n)
 
-  pub postfix_as : (o : BinaryOperator) (i : ℕ) (n : Reference) (s : State) → used (planned tables inputs) (asking tables inputs) (postfixed o) i n s ≡ as_plan Value (and_then ((labelled tables inputs).get_name n (enters (labelled tables inputs)) s) (postfix_value (labelled tables inputs) o n))
+  pub postfix_as : (o : BinaryOperator) (i : ℕ) (n : Reference) (s : State) → used (planned tables inputs) (asking tables inputs) (postfixed o) i n s ≡ as_plan Value (and_then ((labelled tables inputs).get_value n (enters (labelled tables inputs)) s) (postfix_value (labelled tables inputs) o n))
   unfolding used
-  postfix_as o i n s = then_plan ((labelled tables inputs).get_name n (enters (labelled tables inputs)) s) (postfix_value (planned tables inputs) o n) (postfix_value (labelled tables inputs) o n) (postfix_named o n)
+  postfix_as o i n s = then_plan ((labelled tables inputs).get_value n (enters (labelled tables inputs)) s) (postfix_value (planned tables inputs) o n) (postfix_value (labelled tables inputs) o n) (postfix_named o n)
 
-  pub typeof_as : (i : ℕ) (n : Reference) (s : State) → used (planned tables inputs) (asking tables inputs) asked i n s ≡ as_plan Value (and_then ((labelled tables inputs).typeof_name n (enters (labelled tables inputs)) s) (unary_done (labelled tables inputs) unary_operator.Typeof))
+  pub typeof_as : (i : ℕ) (n : Reference) (s : State) → used (planned tables inputs) (asking tables inputs) asked i n s ≡ as_plan Value (and_then ((labelled tables inputs).typeof_value n (enters (labelled tables inputs)) s) (unary_done (labelled tables inputs) unary_operator.Typeof))
   unfolding used unary_done
-  typeof_as i n s = then_plan ((labelled tables inputs).typeof_name n (enters (labelled tables inputs)) s) (unary_done (planned tables inputs) unary_operator.Typeof) (unary_done (labelled tables inputs) unary_operator.Typeof) (λ v t. refl)
+  typeof_as i n s = then_plan ((labelled tables inputs).typeof_value n (enters (labelled tables inputs)) s) (unary_done (planned tables inputs) unary_operator.Typeof) (unary_done (labelled tables inputs) unary_operator.Typeof) (λ v t. refl)
+
+  pub valued_as : (i : ℕ) (n : Reference) (s : State) → used (planned tables inputs) (asking tables inputs) valued i n s ≡ as_plan Value ((labelled tables inputs).get_value n (enters (labelled tables inputs)) s)
+  unfolding used read_value
+  valued_as i n s = refl
+
+  pub named_as : (n : Reference) (s : State) → read_value (planned tables inputs) (asking tables inputs) n s ≡ as_plan Value ((labelled tables inputs).get_value n (enters (labelled tables inputs)) s)
+  unfolding read_value
+  named_as n s = refl
+
+  pub deleted_as : (i : ℕ) (n : Reference) (s : State) → used (planned tables inputs) (asking tables inputs) deleted i n s ≡ as_plan Value ((labelled tables inputs).remove n s)
+  unfolding used
+  deleted_as i n s = refl
+
+  -- a property is reached, and then it is used
+  keyed_as : (how : Use) (i : ℕ) (b : Val) (o : Outcome Halt Jump Val State) → and_plan (as_plan Value o) (with_result Value (with_key (planned tables inputs) (asking tables inputs) how i b)) ≡ following (and_then o (λ k. ret ((labelled tables inputs).property b k))) (used (planned tables inputs) (asking tables inputs) how i)
+  unfolding with_key
+  keyed_as how i b (Goes k t) = refl
+  keyed_as how i b (Jumps j t) = refl
+  keyed_as how i b (Ends halt t) = refl
+
+  based_as : (how : Use) (i : ℕ) (k : Val) (o : Outcome Halt Jump Val State) → and_plan (as_plan Value o) (with_result Value (with_base (planned tables inputs) (asking tables inputs) how i k)) ≡ following (and_then o (λ b. (labelled tables inputs).primitive string_hint k >>= λ u. ret ((labelled tables inputs).property b u))) (used (planned tables inputs) (asking tables inputs) how i)
+  unfolding with_base
+  based_as how i k (Goes b t) = keyed_as how i b ((labelled tables inputs).primitive string_hint k t)
+  based_as how i k (Jumps j t) = refl
+  based_as how i k (Ends halt t) = refl
+
+  pub index_as : (how : Use) (i : ℕ) (b k : Val) (s : State) → index_key (planned tables inputs) (asking tables inputs) how i b k s ≡ following (reached tables inputs b k s) (used (planned tables inputs) (asking tables inputs) how i)
+  unfolding index_key reached
+  index_as how i b k s = based_as how i k (act base_needed (b ∷ []) s)
+
+  -- a name is a key without an origin
+  pub member_as : (how : Use) (name text : List ℕ) (i : ℕ) (b : Val) (l : Label) (s : State) → text ≡ name → l ≡ bottom → member_base (planned tables inputs) (asking tables inputs) how name i b s ≡ index_key (planned tables inputs) (asking tables inputs) how i b (record { value = value.Primitive (Str text); label = l }) s
+  unfolding member_base
+  member_as how name text i b l s is none = ap₂ (λ (u : List ℕ) (m : Label). index_key (planned tables inputs) (asking tables inputs) how i b (record { value = value.Primitive (Str u); label = m }) s) (sym is) (sym none)
+
+  -- a text that lies loose is given without an origin
+  pub given_as : (i : ℕ) (n : Reference) (text : List ℕ) (s : State) → used (planned tables inputs) (asking tables inputs) (given_text text) i n s ≡ as_plan Value (assign_to (labelled tables inputs) n (unlabelled (value.Primitive (Str text))) s)
+  unfolding used
+  given_as i n text s = assign_as n (unlabelled (value.Primitive (Str text))) s
+
+  -- what is given to a reference is given to one that takes values alike
+  pub assign_alike : (n m : Reference) → ((v : Val) (s : State) → put_value n v s ≡ put_value m v s) → (v : Val) (s : State) → assign_to (planned tables inputs) n v s ≡ assign_to (planned tables inputs) m v s
+  unfolding assign_to
+  assign_alike n m alike v s = ap (λ (o : Outcome Halt Jump (Unit {0}) State). and_plan (as_plan One o) (with_result One (give (planned tables inputs) v))) (alike v s)

@@ -1,28 +1,35 @@
 //! Names as values and as targets.
 
-ghost use Rattle.std.specs.Prelude.{◌≡◌, ◌<◌, length, IfErr, IfOk};
+ghost use Rattle.std.specs.Prelude.{◌≡◌, ◌<◌, ◌+◌, [], length, IfErr, IfOk};
 ghost use Rattle.std.specs.List.{All};
 ghost use Rattle.origin_labels.specs.Stores.{IsKept};
 ghost use Rattle.flow_frames.specs.Stops.{IfStop};
 ghost use Rattle.js_values.specs.Readings.{HasValue};
 ghost use Rattle.es_meaning.specs.Operations.{Value};
-ghost use Rattle.es_meaning.specs.Evaluation.{read_name};
+ghost use Rattle.es_meaning.specs.Evaluation.{read_value};
 ghost use Rattle.flow_meaning.specs.Planned.{planned, asking};
 ghost use Rattle.step_world.specs.Worlds.{Belongs, Grows};
+ghost use Rattle.step_work.specs.declared.work.Next.TheVariants as next;
 ghost use Rattle.step_work.specs.declared.work.Work.TheVariants as work;
 ghost use Rattle.step_work.specs.Loads.{Adds};
+ghost use Rattle.step_work.specs.Pending.{next_plan, owns_target};
 ghost use Rattle.step_work.specs.Stops.{HasStop};
 ghost use Rattle.step_moves.specs.Moving.{BeginsAt, Rests, Resumes, Stands};
 
+use crate::keeping::take_reference;
 use crate::settling::settle;
 use flow_frames::FlowFault;
 use flow_text::Text;
 use js_values::EnvId;
 use origin_labels::Labels;
 use std::alloc::Global;
-use step_names::{assign_to, get_name, resolve};
-use step_work::{Next, Stack};
-use step_world::{Reference, World};
+use step_names::{get_name, resolve};
+use step_updates::assign_to;
+use step_work::{Next, Stack, Target};
+use step_world::World;
+
+// `this`
+const THIS: [u16; 4] = [0x74, 0x68, 0x69, 0x73];
 
 /// The value of a name (ECMA-262 11.1.2), from the record on in which it stands.
 pub fn read_name<'p, L: Labels>(
@@ -31,12 +38,12 @@ pub fn read_name<'p, L: Labels>(
     world: &mut World<L::Label>,
     stack: &mut Stack<'p, L::Label>,
     at: EnvId,
-    name: &'p Text,
+    name: &Text,
 ) -> Result<Next<'p>, FlowFault<L::Label>>
     requires loose { length stack.old.loose ≡ 0 }
     requires at { at.0 < length world.old.records }
     requires belongs { Belongs L.made L.meaning labels.old world.old }
-    ensures goes_on { BeginsAt L.made L.meaning labels.new at.0 (λ tables inputs e. (planned tables inputs).resolve Value e.place name.entry.now (read_name (planned tables inputs) (asking tables inputs))) stack.old stack.new world.old world.new result }
+    ensures goes_on { BeginsAt L.made L.meaning labels.new at.0 (λ tables inputs reading e. (planned tables inputs).resolve Value e.place name.now (read_value (planned tables inputs) (asking tables inputs))) stack.old stack.new world.old world.new result }
     ensures rests { IfOk result (Rests (L.made labels.new) stack.old stack.new) }
     ensures adds { IfOk result (Adds 1 stack.old stack.new) }
     ensures stopped { IfErr result (IfStop (HasStop (L.made labels.new))) }
@@ -45,9 +52,34 @@ pub fn read_name<'p, L: Labels>(
     ensures grows { Grows world.old world.new }
     ensures kept { IsKept L.made L.meaning L.room L.firm labels.old labels.new }
 {
-    let reference = resolve(world, at, name);
-    let answer = get_name(alloc, labels, world, reference);
+    let named = resolve(labels, world, at, name)?;
+    let answer = get_name(alloc, labels, world, named);
     settle(labels, stack, answer)
+}
+
+/// The value of `this` (ECMA-262 11.1.1), which a record binds.
+pub fn this<'p, L: Labels>(
+    alloc: Global,
+    labels: &mut L,
+    world: &mut World<L::Label>,
+    stack: &mut Stack<'p, L::Label>,
+    at: EnvId,
+) -> Result<Next<'p>, FlowFault<L::Label>>
+    requires loose { length stack.old.loose ≡ 0 }
+    requires at { at.0 < length world.old.records }
+    requires belongs { Belongs L.made L.meaning labels.old world.old }
+    ensures goes_on { BeginsAt L.made L.meaning labels.new at.0 (λ tables inputs reading e. next_plan tables inputs next.This [] e) stack.old stack.new world.old world.new result }
+    ensures rests { IfOk result (Rests (L.made labels.new) stack.old stack.new) }
+    ensures adds { IfOk result (Adds 1 stack.old stack.new) }
+    ensures stopped { IfErr result (IfStop (HasStop (L.made labels.new))) }
+    ensures stands { IfOk result (Stands world.old world.new) }
+    ensures belongs { Belongs L.made L.meaning labels.new world.new }
+    ensures grows { Grows world.old world.new }
+    ensures kept { IsKept L.made L.meaning L.room L.firm labels.old labels.new }
+{
+    let mut name = Text::new(alloc);
+    name.push_units(&THIS)?;
+    read_name(alloc, labels, world, stack, at, &name)
 }
 
 /// The value is given to the reference (ECMA-262 11.13.1).
@@ -56,12 +88,12 @@ pub fn assigned<'p, L: Labels>(
     labels: &mut L,
     world: &mut World<L::Label>,
     stack: &mut Stack<'p, L::Label>,
-    reference: Reference<'p>,
+    target: Target<'p>,
 ) -> Result<Next<'p>, FlowFault<L::Label>>
-    requires loose { length stack.old.loose ≡ 1 }
+    requires loose { length stack.old.loose ≡ owns_target target + 1 }
     requires made { All (HasValue (L.made labels.old)) stack.old.loose }
     requires belongs { Belongs L.made L.meaning labels.old world.old }
-    ensures goes_on { Resumes L.made L.meaning labels.new (work.AssignTo reference.entry) stack.old stack.new world.old world.new result }
+    ensures goes_on { Resumes L.made L.meaning labels.new (work.AssignTo target.entry) stack.old stack.new world.old world.new result }
     ensures rests { IfOk result (Rests (L.made labels.new) stack.old stack.new) }
     ensures adds { IfOk result (Adds 1 stack.old stack.new) }
     ensures stopped { IfErr result (IfStop (HasStop (L.made labels.new))) }
@@ -71,6 +103,7 @@ pub fn assigned<'p, L: Labels>(
     ensures kept { IsKept L.made L.meaning L.room L.firm labels.old labels.new }
 {
     let value = stack.pop();
-    let answer = assign_to(alloc, labels, world, reference, value);
+    let reference = take_reference(labels, stack, target);
+    let answer = assign_to(alloc, labels, world, &reference, value);
     settle(labels, stack, answer)
 }

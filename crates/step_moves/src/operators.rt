@@ -1,6 +1,6 @@
 //! Operators behind their operands.
 
-ghost use Rattle.std.specs.Prelude.{◌≡◌, length, IfErr, IfOk};
+ghost use Rattle.std.specs.Prelude.{◌≡◌, ◌+◌, length, IfErr, IfOk};
 ghost use Rattle.std.specs.List.{All};
 ghost use Rattle.origin_labels.specs.Stores.{IsKept};
 ghost use Rattle.flow_frames.specs.Stops.{IfStop};
@@ -8,18 +8,20 @@ ghost use Rattle.js_values.specs.Readings.{HasValue};
 ghost use Rattle.step_world.specs.Worlds.{Belongs, Grows};
 ghost use Rattle.step_work.specs.declared.work.Work.TheVariants as work;
 ghost use Rattle.step_work.specs.Loads.{Adds};
+ghost use Rattle.step_work.specs.Pending.{owns_target};
 ghost use Rattle.step_work.specs.Stops.{HasStop};
-ghost use Rattle.step_moves.specs.Moving.{Rests, Resumes, ResumesBeside, Stands};
+ghost use Rattle.step_moves.specs.Moving.{Rests, Resumes, Stands};
 
+use crate::keeping::take_reference;
 use crate::settling::settle;
 use flow_frames::FlowFault;
 use js_ast::{BinaryOperator, UnaryOperator};
 use origin_labels::Labels;
 use std::alloc::Global;
-use step_updates::compound_value;
-use step_values::{binary_values, unary_value};
-use step_work::{Next, Stack};
-use step_world::{Reference, World};
+use step_updates::{compound_value, operated};
+use step_values::unary_value;
+use step_work::{Next, Stack, Target};
+use step_world::World;
 
 /// An operator in front of its operand's value.
 pub fn unary<'p, L: Labels>(
@@ -45,21 +47,25 @@ pub fn unary<'p, L: Labels>(
 pub fn binary_done<'p, L: Labels>(
     alloc: Global,
     labels: &mut L,
-    world: &World<L::Label>,
+    world: &mut World<L::Label>,
     stack: &mut Stack<'p, L::Label>,
     operator: BinaryOperator,
 ) -> Result<Next<'p>, FlowFault<L::Label>>
     requires loose { length stack.old.loose ≡ 2 }
     requires made { All (HasValue (L.made labels.old)) stack.old.loose }
-    ensures goes_on { ResumesBeside L.made L.meaning labels.new (work.BinaryDone operator) stack.old stack.new world.now world.now result }
+    requires belongs { Belongs L.made L.meaning labels.old world.old }
+    ensures goes_on { Resumes L.made L.meaning labels.new (work.BinaryDone operator) stack.old stack.new world.old world.new result }
     ensures rests { IfOk result (Rests (L.made labels.new) stack.old stack.new) }
     ensures adds { IfOk result (Adds 1 stack.old stack.new) }
     ensures stopped { IfErr result (IfStop (HasStop (L.made labels.new))) }
+    ensures stands { IfOk result (Stands world.old world.new) }
+    ensures belongs { Belongs L.made L.meaning labels.new world.new }
+    ensures grows { Grows world.old world.new }
     ensures kept { IsKept L.made L.meaning L.room L.firm labels.old labels.new }
 {
     let right = stack.pop();
     let left = stack.pop();
-    let answer = binary_values(alloc, labels, world, operator, &left, &right);
+    let answer = operated(alloc, labels, world, operator, &left, &right);
     settle(labels, stack, answer)
 }
 
@@ -70,12 +76,12 @@ pub fn compound_done<'p, L: Labels>(
     world: &mut World<L::Label>,
     stack: &mut Stack<'p, L::Label>,
     operator: BinaryOperator,
-    reference: Reference<'p>,
+    target: Target<'p>,
 ) -> Result<Next<'p>, FlowFault<L::Label>>
-    requires loose { length stack.old.loose ≡ 2 }
+    requires loose { length stack.old.loose ≡ owns_target target + 2 }
     requires made { All (HasValue (L.made labels.old)) stack.old.loose }
     requires belongs { Belongs L.made L.meaning labels.old world.old }
-    ensures goes_on { ResumesBeside L.made L.meaning labels.new (work.CompoundDone operator reference.entry) stack.old stack.new world.old world.new result }
+    ensures goes_on { Resumes L.made L.meaning labels.new (work.CompoundDone operator target.entry) stack.old stack.new world.old world.new result }
     ensures rests { IfOk result (Rests (L.made labels.new) stack.old stack.new) }
     ensures adds { IfOk result (Adds 1 stack.old stack.new) }
     ensures stopped { IfErr result (IfStop (HasStop (L.made labels.new))) }
@@ -86,6 +92,7 @@ pub fn compound_done<'p, L: Labels>(
 {
     let operand = stack.pop();
     let old = stack.pop();
-    let answer = compound_value(alloc, labels, world, operator, reference, &old, &operand);
+    let reference = take_reference(labels, stack, target);
+    let answer = compound_value(alloc, labels, world, operator, &reference, &old, &operand);
     settle(labels, stack, answer)
 }

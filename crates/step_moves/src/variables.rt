@@ -1,32 +1,39 @@
 //! Variables with their first values (ECMA-262 12.2).
 
-ghost use Rattle.std.specs.Prelude.{◌≡◌, ◌<◌, length, IfErr, IfOk, option_map};
+ghost use Rattle.std.specs.Prelude.{◌≡◌, ◌<◌, ◌+◌, length, map, IfErr, IfOk, option_map};
 ghost use Rattle.std.specs.List.{All};
 ghost use Rattle.origin_labels.specs.Stores.{IsKept};
 ghost use Rattle.flow_frames.specs.Stops.{IfStop};
 ghost use Rattle.js_ast.specs.Views.{view_declarations, view_expr, view_other_declarations};
-ghost use Rattle.js_values.specs.Readings.{HasValue};
+ghost use Rattle.js_values.specs.Readings.{HasValue, read_value};
 ghost use Rattle.es_meaning.specs.Evaluation.{declarations, variables};
 ghost use Rattle.flow_meaning.specs.Planned.{planned, asking};
 ghost use Rattle.step_world.specs.Worlds.{Belongs, Grows};
 ghost use Rattle.step_work.specs.declared.work.Work.TheVariants as work;
+ghost use Rattle.step_work.specs.declared.work.Next.TheVariants as next;
 ghost use Rattle.step_work.specs.Loads.{Adds};
+ghost use Rattle.step_work.specs.Pending.{next_plan, owns_target};
 ghost use Rattle.step_work.specs.Stops.{HasStop};
 ghost use Rattle.step_moves.specs.Variables.{first_given, initialised};
 ghost use Rattle.step_moves.specs.Moving.{BeginsAt, Rests, ResumesAt, Stands};
 
+use crate::keeping::{lay_reference, take_reference};
+use crate::settling::{Went, go_on};
+use crate::uses::give_text;
 use flow_frames::FlowFault;
 use flow_text::Text;
-use js_ast::{Declaration, Declarations, Expr};
+use js_ast::{Declaration, Declarations, Expr, Ident};
 use js_values::EnvId;
 use origin_labels::Labels;
-use step_names::{put_name, resolve};
-use step_work::{Next, Stack, Work};
-use step_world::{Came, Reference, World};
+use std::alloc::Global;
+use step_names::resolve;
+use step_updates::{Reference, put_value};
+use step_work::{Next, Stack, Target, Work};
+use step_world::World;
 
 /// Variables in their order: the first that has an initialiser is given its value first.
 pub fn declare<'p, L: Labels>(
-    _labels: &L,
+    labels: &mut L,
     world: &World<L::Label>,
     stack: &mut Stack<'p, L::Label>,
     at: EnvId,
@@ -34,23 +41,26 @@ pub fn declare<'p, L: Labels>(
 ) -> Result<Next<'p>, FlowFault<L::Label>>
     requires loose { length stack.old.loose ≡ 0 }
     requires at { at.0 < length world.now.records }
-    ensures goes_on { BeginsAt L.made L.meaning _labels.now at.0 (λ tables inputs e. declarations (planned tables inputs) (asking tables inputs) (view_declarations list.entry.now) e.place) stack.old stack.new world.now world.now result }
-    ensures rests { IfOk result (Rests (L.made _labels.now) stack.old stack.new) }
+    requires belongs { Belongs L.made L.meaning labels.old world.now }
+    ensures goes_on { BeginsAt L.made L.meaning labels.new at.0 (λ tables inputs reading e. declarations (planned tables inputs) (asking tables inputs) (view_declarations list.entry.now) e.place) stack.old stack.new world.now world.now result }
+    ensures rests { IfOk result (Rests (L.made labels.new) stack.old stack.new) }
     ensures adds { IfOk result (Adds 1 stack.old stack.new) }
-    ensures stopped { IfErr result (IfStop (HasStop (L.made _labels.now))) }
+    ensures stopped { IfErr result (IfStop (HasStop (L.made labels.new))) }
+    ensures belongs { Belongs L.made L.meaning labels.new world.now }
+    ensures kept { IsKept L.made L.meaning L.room L.firm labels.old labels.new }
 {
     match &list.first.value {
         Some(value) => {
             let name = &list.first.name.text;
-            initialise(_labels, world, stack, at, name, value, list.others.items())
+            initialise(labels, world, stack, at, name, value, list.others.items())
         }
-        None => declare_others(_labels, world, stack, at, list.others.items()),
+        None => declare_others(labels, world, stack, at, list.others.items()),
     }
 }
 
 /// Further variables.
 fn declare_others<'p, L: Labels>(
-    _labels: &L,
+    labels: &mut L,
     world: &World<L::Label>,
     stack: &mut Stack<'p, L::Label>,
     at: EnvId,
@@ -58,13 +68,16 @@ fn declare_others<'p, L: Labels>(
 ) -> Result<Next<'p>, FlowFault<L::Label>>
     requires loose { length stack.old.loose ≡ 0 }
     requires at { at.0 < length world.now.records }
-    ensures goes_on { BeginsAt L.made L.meaning _labels.now at.0 (λ tables inputs e. variables (planned tables inputs) (asking tables inputs) (view_other_declarations list.entry.now) e.place) stack.old stack.new world.now world.now result }
-    ensures rests { IfOk result (Rests (L.made _labels.now) stack.old stack.new) }
+    requires belongs { Belongs L.made L.meaning labels.old world.now }
+    ensures goes_on { BeginsAt L.made L.meaning labels.new at.0 (λ tables inputs reading e. variables (planned tables inputs) (asking tables inputs) (view_other_declarations list.entry.now) e.place) stack.old stack.new world.now world.now result }
+    ensures rests { IfOk result (Rests (L.made labels.new) stack.old stack.new) }
     ensures adds { IfOk result (Adds 1 stack.old stack.new) }
-    ensures stopped { IfErr result (IfStop (HasStop (L.made _labels.now))) }
+    ensures stopped { IfErr result (IfStop (HasStop (L.made labels.new))) }
+    ensures belongs { Belongs L.made L.meaning labels.new world.now }
+    ensures kept { IsKept L.made L.meaning L.room L.firm labels.old labels.new }
 {
     match first_given(list) {
-        Some((name, value, rest)) => initialise(_labels, world, stack, at, name, value, rest),
+        Some((name, value, rest)) => initialise(labels, world, stack, at, name, value, rest),
         None => Ok(Next::Done),
     }
 }
@@ -85,7 +98,7 @@ fn first_given<'p>(list: &'p [Declaration]) -> Option<(&'p Text, &'p Expr, &'p [
 
 /// A variable's initialiser is evaluated, and then the variable is given its value, and those behind it follow.
 fn initialise<'p, L: Labels>(
-    _labels: &L,
+    labels: &mut L,
     world: &World<L::Label>,
     stack: &mut Stack<'p, L::Label>,
     at: EnvId,
@@ -95,30 +108,35 @@ fn initialise<'p, L: Labels>(
 ) -> Result<Next<'p>, FlowFault<L::Label>>
     requires loose { length stack.old.loose ≡ 0 }
     requires at { at.0 < length world.now.records }
-    ensures goes_on { BeginsAt L.made L.meaning _labels.now at.0 (λ tables inputs e. initialised tables inputs (name.entry.now, view_expr value.entry.now, view_other_declarations rest.entry.now) e.place) stack.old stack.new world.now world.now result }
-    ensures rests { IfOk result (Rests (L.made _labels.now) stack.old stack.new) }
+    requires belongs { Belongs L.made L.meaning labels.old world.now }
+    ensures goes_on { BeginsAt L.made L.meaning labels.new at.0 (λ tables inputs reading e. initialised tables inputs (name.entry.now, view_expr value.entry.now, view_other_declarations rest.entry.now) e.place) stack.old stack.new world.now world.now result }
+    ensures rests { IfOk result (Rests (L.made labels.new) stack.old stack.new) }
     ensures adds { IfOk result (Adds 1 stack.old stack.new) }
-    ensures stopped { IfErr result (IfStop (HasStop (L.made _labels.now))) }
+    ensures stopped { IfErr result (IfStop (HasStop (L.made labels.new))) }
+    ensures belongs { Belongs L.made L.meaning labels.new world.now }
+    ensures kept { IsKept L.made L.meaning L.room L.firm labels.old labels.new }
 {
-    let reference = resolve(world, at, name);
-    stack.push(Work::Variable(reference, rest))?;
+    let named = resolve(labels, world, at, name)?;
+    let target = lay_reference(stack, Reference::Name(named))?;
+    stack.push(Work::Variable(target, rest))?;
     Ok(Next::Expr(value))
 }
 
 /// Behind an initialiser's value: the variable is given it, and those behind it follow.
 pub fn more_variables<'p, L: Labels>(
+    alloc: Global,
     labels: &mut L,
     world: &mut World<L::Label>,
     stack: &mut Stack<'p, L::Label>,
     at: EnvId,
-    reference: Reference<'p>,
+    target: Target<'p>,
     rest: &'p [Declaration],
 ) -> Result<Next<'p>, FlowFault<L::Label>>
-    requires loose { length stack.old.loose ≡ 1 }
+    requires loose { length stack.old.loose ≡ owns_target target + 1 }
     requires made { All (HasValue (L.made labels.old)) stack.old.loose }
     requires at { at.0 < length world.old.records }
     requires belongs { Belongs L.made L.meaning labels.old world.old }
-    ensures goes_on { ResumesAt L.made L.meaning labels.new at.0 (work.Variable reference.entry rest.entry) stack.old stack.new world.old world.new result }
+    ensures goes_on { ResumesAt L.made L.meaning labels.new at.0 (work.Variable target.entry rest.entry) stack.old stack.new world.old world.new result }
     ensures rests { IfOk result (Rests (L.made labels.new) stack.old stack.new) }
     ensures adds { IfOk result (Adds 1 stack.old stack.new) }
     ensures stopped { IfErr result (IfStop (HasStop (L.made labels.new))) }
@@ -128,13 +146,36 @@ pub fn more_variables<'p, L: Labels>(
     ensures kept { IsKept L.made L.meaning L.room L.firm labels.old labels.new }
 {
     let value = stack.pop();
-    let answer = put_name(labels, world, reference, value)?;
-    match answer {
-        Came::Goes(()) => declare_others(labels, world, stack, at, rest),
-        Came::Throws(error) => {
-            stack.lay(error)?;
-            Ok(Next::Throws)
-        }
-        Came::Leaves(why) => Ok(Next::Leave(why)),
+    let reference = take_reference(labels, stack, target);
+    let answer = put_value(alloc, labels, world, &reference, value);
+    let came = go_on(labels, stack, 0, answer)?;
+    match came {
+        Went::On(()) => declare_others(labels, world, stack, at, rest),
+        Went::Off(next) => Ok(next),
     }
+}
+
+/// A variable is given the text that lies loose, as each key that a `for in` visits.
+pub fn give_variable<'p, L: Labels>(
+    alloc: Global,
+    labels: &mut L,
+    world: &mut World<L::Label>,
+    stack: &mut Stack<'p, L::Label>,
+    at: EnvId,
+    variable: &'p Ident,
+) -> Result<Next<'p>, FlowFault<L::Label>>
+    requires loose { length stack.old.loose ≡ 1 }
+    requires at { at.0 < length world.old.records }
+    requires belongs { Belongs L.made L.meaning labels.old world.old }
+    ensures goes_on { BeginsAt L.made L.meaning labels.new at.0 (λ tables inputs reading e. next_plan tables inputs (next.GiveVariable variable.entry) (map (read_value reading) stack.old.loose) e) stack.old stack.new world.old world.new result }
+    ensures rests { IfOk result (Rests (L.made labels.new) stack.old stack.new) }
+    ensures adds { IfOk result (Adds 1 stack.old stack.new) }
+    ensures stopped { IfErr result (IfStop (HasStop (L.made labels.new))) }
+    ensures stands { IfOk result (Stands world.old world.new) }
+    ensures belongs { Belongs L.made L.meaning labels.new world.new }
+    ensures grows { Grows world.old world.new }
+    ensures kept { IsKept L.made L.meaning L.room L.firm labels.old labels.new }
+{
+    let named = resolve(labels, world, at, &variable.text)?;
+    give_text(alloc, labels, world, stack, Reference::Name(named))
 }

@@ -1,5 +1,9 @@
 pub mod Reading
 pub mod Reaching
 pub mod ThrowLaws
+pub mod MeansLaws
 pub mod NameLaws
 pub mod PutLaws
+pub mod PropertyLaws
+pub mod PlanLaws
+pub mod ObjectLaws

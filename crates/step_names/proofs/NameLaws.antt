@@ -1,46 +1,57 @@
 -- Names and their values, in a reading of the labels.
-use Rattle.std.proofs.Common.{arith, refl, sym, ap, subst, ◌∙◌, ◌≡◌, ◌<◌, ℕ, suc, Bool, List, [], ◌∷◌, if◌then◌else◌, length, Option, Some, None, is_some, IsSome, IfSome, true, false, Result, Ok}
+use Rattle.std.proofs.Common.{arith, refl, sym, ap, ap₂, subst, ◌∙◌, ◌≡◌, ◌≢◌, ℕ, suc, Bool, List, [], ◌∷◌, if◌then◌else◌, Option, Some, None, true, false, Result, Ok}
 use Rattle.std.specs.List.{All, slice_get}
 use Rattle.std.specs.Option.{option_map}
-use Rattle.std.proofs.lemmas.Bool.{false≢true, true≢false}
 use Rattle.std.proofs.lemmas.Option.{none-some, same_Some, slice_get_within, get_or_from_slice_get}
 use Rattle.origin_labels.specs.Label.{Label, bottom}
 use Rattle.origin_labels.specs.Names.{same_name}
 use Rattle.flow_frames.specs.declared.faults.FlowFault.{FlowFault}
 use Rattle.js_values.specs.declared.ids.EnvId.{EnvId}
+use Rattle.js_values.specs.declared.ids.ObjId.{ObjId}
+use Rattle.js_values.specs.declared.property.Slot.{Slot}
 use Rattle.js_values.specs.declared.value.Labelled.{Labelled}
-use Rattle.js_values.specs.Records.{Binding, Bindings, Record, found, bound_in}
-use Rattle.js_values.specs.Readings.{HasValue, HasRecord, HasRecords, read_value, read_binding}
+use Rattle.js_values.specs.Objects.{Object, number_of}
+use Rattle.js_values.specs.Records.{Binding, Bindings, Record, found, bound_in, lookup}
+use Rattle.js_values.specs.Readings.{IsReading, HasValue, HasRecord, HasRecords, read_value, read_binding, read_records, read_heap}
+use Rattle.prototype_walk.specs.declared.found.Found.{Found}
+use Rattle.prototype_walk.specs.Answers.{IsFound}
 use Rattle.es_meaning.specs.Outcomes.{Goes}
-use Rattle.es_meaning.specs.Plain.{undefined, binding_at}
-use Rattle.es_meaning.specs.Start.{reference_error}
-use Rattle.flow_meaning.specs.Erased.{unlabelled}
+use Rattle.es_meaning.specs.Plain as plain
+use Rattle.es_meaning.specs.Plain.{undefined, binding_at, in_record, place_from, place_beyond}
+use Rattle.es_meaning.specs.Start.{reference_error, global_object}
 use Rattle.flow_meaning.specs.Scopes.{Val, State}
-use Rattle.flow_meaning.specs.Tracked.{bound, bound_or_undefined, throw_error}
+use Rattle.flow_meaning.specs.Tracked.{Reference, of_name, resolved, global_walk, walk_from, bound, named, get_value, typeof_value, throw_error}
 use Rattle.step_world.specs.declared.came.Came.{Came}
 use Rattle.step_world.specs.declared.came.Came.TheVariants as came
+use Rattle.step_world.specs.declared.came.Place.{Place}
+use Rattle.step_world.specs.declared.came.Place.TheVariants as place
 use Rattle.step_world.specs.declared.world.World.{World}
 use Rattle.step_world.specs.Acts.{Acts}
+use Rattle.step_world.specs.Names.{place_of}
 use Rattle.step_world.specs.Worlds.{state_of}
 use Rattle.step_world.proofs.ActLaws.{Acts-as}
-use Rattle.step_names.proofs.Reading.{read_binding_at}
+use Rattle.step_names.proofs.Reading.{read_bound_in, read_lookup}
 
--- ---- the record that has a name
+-- ---- where a name stands
 
--- a name is bound in a record that there is
-pub bound_below : {V : Type 0} (name : List ℕ) (records : List (Record V)) (e : Option EnvId) → IfSome e (λ r. IsSome (bound_in name (slice_get records r.0))) → IfSome e (λ r. r.0 < length records)
-bound_below name records None bound = tt
-bound_below name records (Some e) bound = below (slice_get records e.0) refl bound
-  where
-    below : (o : Option (Record _)) → slice_get records e.0 ≡ o → IsSome (bound_in name o) → e.0 < length records
-    below None here some = absurd (false≢true some)
-    below (Some r) here some = slice_get_within records e.0 r here
+module _ {T : Type 0} (reading : T → Label) (records : List (Record (Labelled T))) (heap : List (Object T)) (i : ℕ) (name : List ℕ) where
+  -- it stands where the search in the records ends, and else where the walk along the global object does
+  from_lookup : (e : Option ℕ) → lookup name records i ≡ e → resolved (read_records reading records) (read_heap reading heap) i name ≡ of_name name (place_from e (global_walk (read_heap reading heap) name).at) (walk_from e (global_walk (read_heap reading heap) name).walk)
+  from_lookup e is =
+      let walk = global_walk (read_heap reading heap) name in
+      ap (λ o. of_name name (place_from o walk.at) (walk_from o walk.walk)) (read_lookup reading name records i ∙ is)
 
--- a name that isn't found isn't bound
-pub unbound_there : {A B V : Type 0} (f : A → B) (g : V → B) (a : Option A) (b : Option V) → option_map f a ≡ option_map g b → is_some a ≡ false → b ≡ None
-unbound_there f g (Some a) b same none = absurd (true≢false none)
-unbound_there f g None (Some b) same none = absurd (none-some (g b) same)
-unbound_there f g None None same none = refl
+  pub resolved_inside : (e : EnvId) (walk : T) → Some e.0 ≡ lookup name records i → reading walk ≡ bottom → of_name name (in_record e.0) (reading walk) ≡ resolved (read_records reading records) (read_heap reading heap) i name
+  resolved_inside e walk is empty = ap (of_name name (in_record e.0)) empty ∙ sym (from_lookup (Some e.0) (sym is))
+
+  pub resolved_beyond : (at : Option ObjId) (p : plain.Place) (walk : T) → None ≡ lookup name records i → p ≡ place_beyond (number_of at)
+      → number_of at ≡ option_map (λ f. f.0) (global_walk (read_heap reading heap) name).at → reading walk ≡ (global_walk (read_heap reading heap) name).walk → of_name name p (reading walk) ≡ resolved (read_records reading records) (read_heap reading heap) i name
+  resolved_beyond at p walk is beyond found depends =
+      ap₂ (of_name name) (beyond ∙ ap place_beyond found ∙ mapped (global_walk (read_heap reading heap) name).at) depends ∙ sym (from_lookup None (sym is))
+    where
+      mapped : (o : Option (ℕ × Slot Label)) → place_beyond (option_map (λ f. f.0) o) ≡ place_beyond o
+      mapped None = refl
+      mapped (Some f) = refl
 
 -- ---- the label of a value that a name has was made
 
@@ -60,11 +71,10 @@ module _ {T : Type 0} (made : T → Type 0) where
   bound_has name records i None v has here is = absurd (none-some v (sym is))
   bound_has name records i (Some r) v has here is = found_has name r.bindings v (All-at (HasRecord made) records i r here has) is
 
-  pub name_has : (records : List (Record (Labelled T))) (place : Option ℕ) (name : List ℕ) (v : Labelled T) → HasRecords made records → Some v ≡ option_map (λ b. b.value) (binding_at records place name) → made v.label
-  name_has records None name v has is = absurd (none-some v (sym is))
-  name_has records (Some i) name v has is = bound_has name records i (slice_get records i) v has refl is
+  pub name_has : (records : List (Record (Labelled T))) (i : ℕ) (name : List ℕ) (v : Labelled T) → HasRecords made records → Some v ≡ option_map (λ b. b.value) (binding_at records i name) → made v.label
+  name_has records i name v has is = bound_has name records i (slice_get records i) v has refl is
 
--- ---- what is done with a name
+-- ---- the value of a name in a record
 
 module _ {T : Type 0} (reading : T → Label) (s : State) where
   got_value : (o : Option (Binding (Labelled T))) (v : Labelled T) → Some v ≡ option_map (λ b. b.value) o → bound (option_map (read_binding reading) o) s ≡ Goes (read_value reading v) s
@@ -77,48 +87,57 @@ module _ {T : Type 0} (reading : T → Label) (s : State) where
   got_none None is = refl
   got_none (Some b) is = absurd (none-some b.value is)
 
-  asked_value : (o : Option (Binding (Labelled T))) (v : Labelled T) → Some v ≡ option_map (λ b. b.value) o → bound_or_undefined (option_map (read_binding reading) o) s ≡ Goes (read_value reading v) s
-  unfolding bound_or_undefined
-  asked_value None v is = absurd (none-some v (sym is))
-  asked_value (Some b) v is = ap (λ (x : Labelled T). Goes (read_value reading x) s) (sym (same_Some v b.value is))
-
-  asked_none : (o : Option (Binding (Labelled T))) → None ≡ option_map (λ b. b.value) o → bound_or_undefined (option_map (read_binding reading) o) s ≡ Goes (unlabelled undefined) s
-  unfolding bound_or_undefined
-  asked_none None is = refl
-  asked_none (Some b) is = absurd (none-some b.value is)
-
-module _ {S T : Type 0} (made : S → T → Type 0) (meaning : S → T → Label) (store : S) (w : World T) (place : Option ℕ) (name : List ℕ) where
-  pub name_read : (v : Labelled T) → Some v ≡ option_map (λ b. b.value) (binding_at w.records place name)
-      → Acts made meaning store (λ reading. read_value reading) (λ reading s. bound (binding_at s.records place name) s) w w (Ok (came.Goes v))
+module _ {S T : Type 0} (made : S → T → Type 0) (meaning : S → T → Label) (store : S) (w : World T) (i : ℕ) (name : List ℕ) where
+  pub name_read : (v : Labelled T) → Some v ≡ option_map (λ b. b.value) (binding_at w.records i name)
+      → Acts made meaning store (λ reading. read_value reading) (λ reading s. bound (binding_at s.records i name) s) w w (Ok (came.Goes v))
   name_read v is = record {
     says = λ reading read told turns.
         let s = state_of reading w told turns in
-        ap (λ b. bound b s) (read_binding_at reading w.records place name) ∙ got_value reading s (binding_at w.records place name) v is;
+        ap (λ b. bound b s) (read_bound_in reading name w.records i) ∙ got_value reading s (binding_at w.records i name) v is;
   }
 
-  pub name_unbound : {X : Type 0} (read : (T → Label) → X → Val) (after : World T) (result : Result (Came X T) (FlowFault T)) → None ≡ option_map (λ b. b.value) (binding_at w.records place name)
+  pub name_unbound : {X : Type 0} (read : (T → Label) → X → Val) (after : World T) (result : Result (Came X T) (FlowFault T)) → None ≡ option_map (λ b. b.value) (binding_at w.records i name)
       → Acts made meaning store read (λ reading. throw_error reference_error bottom) w after result
-      → Acts made meaning store read (λ reading s. bound (binding_at s.records place name) s) w after result
+      → Acts made meaning store read (λ reading s. bound (binding_at s.records i name) s) w after result
   name_unbound read after result is acts =
-      Acts-as made meaning store read (λ reading. throw_error reference_error bottom) (λ reading s. bound (binding_at s.records place name) s) w after result
+      Acts-as made meaning store read (λ reading. throw_error reference_error bottom) (λ reading s. bound (binding_at s.records i name) s) w after result
       (λ reading agrees told turns.
       let s = state_of reading w told turns in
-      ap (λ b. bound b s) (read_binding_at reading w.records place name) ∙ got_none reading s (binding_at w.records place name) is)
+      ap (λ b. bound b s) (read_bound_in reading name w.records i) ∙ got_none reading s (binding_at w.records i name) is)
       acts
 
-  pub name_asked : (v : Labelled T) → Some v ≡ option_map (λ b. b.value) (binding_at w.records place name)
-      → Acts made meaning store (λ reading. read_value reading) (λ reading s. bound_or_undefined (binding_at s.records place name) s) w w (Ok (came.Goes v))
-  name_asked v is = record {
-    says = λ reading read told turns.
-        let s = state_of reading w told turns in
-        ap (λ b. bound_or_undefined b s) (read_binding_at reading w.records place name) ∙ asked_value reading s (binding_at w.records place name) v is;
-  }
+-- ---- the value of a name, by where it stands
 
-  pub name_undefined : (none : T) → made store none → meaning store none ≡ bottom → None ≡ option_map (λ b. b.value) (binding_at w.records place name)
-      → Acts made meaning store (λ reading. read_value reading) (λ reading s. bound_or_undefined (binding_at s.records place name) s) w w (Ok (came.Goes (record { value = undefined; label = none })))
-  name_undefined none m empty is = record {
-    says = λ reading read told turns.
-        let s = state_of reading w told turns in
-        ap (λ b. bound_or_undefined b s) (read_binding_at reading w.records place name) ∙ asked_none reading s (binding_at w.records place name) is
-        ∙ ap (λ (l : Label). Goes (record { value = undefined; label = l }) s) (sym (read.agrees none m ∙ empty));
-  }
+module _ {S T X : Type 0} (made : S → T → Type 0) (meaning : S → T → Label) (store : S) (read : (T → Label) → X → Val) (w after : World T) (result : Result (Came X T) (FlowFault T)) (p : Place) (name : List ℕ) (walk : T) where
+  abbrev gets : Place → Type 0
+  gets q = Acts made meaning store read (λ reading. get_value (of_name name (place_of q) (reading walk))) w after result
+
+  pub got_inside : (e : EnvId) → p ≡ place.Record e → Acts made meaning store read (λ reading s. bound (binding_at s.records e.0 name) s) w after result → gets p
+  unfolding get_value named
+  got_inside e is acts = subst gets (sym is) (record { says = acts.says })
+
+  pub got_globally : p ≡ place.Global → Acts made meaning store read (λ reading. named plain.on_global (reading walk) name) w after result → gets p
+  unfolding get_value
+  got_globally is acts = subst gets (sym is) (record { says = acts.says })
+
+  pub got_nowhere : p ≡ place.Nowhere → Acts made meaning store read (λ reading. throw_error reference_error (reading walk)) w after result → gets p
+  unfolding get_value named
+  got_nowhere is acts = subst gets (sym is) (record { says = acts.says })
+
+-- ---- for `typeof`
+
+module _ {S T : Type 0} (made : S → T → Type 0) (meaning : S → T → Label) (store : S) (w : World T) (p : Place) (name : List ℕ) (walk : T) where
+  abbrev asks : (after : World T) → Result (Came (Labelled T) T) (FlowFault T) → Place → Type 0
+  asks after result q = Acts made meaning store (λ reading. read_value reading) (λ reading. typeof_value (of_name name (place_of q) (reading walk))) w after result
+
+  pub asked_nowhere : p ≡ place.Nowhere → asks w (Ok (came.Goes (record { value = undefined; label = walk }))) p
+  unfolding typeof_value
+  asked_nowhere is = subst (asks w (Ok (came.Goes (record { value = undefined; label = walk })))) (sym is) (record { says = λ reading read told turns. refl })
+
+  -- a name that stands somewhere is asked for its value
+  pub asked_there : (after : World T) (result : Result (Came (Labelled T) T) (FlowFault T)) (q : Place) → q ≢ place.Nowhere
+      → Acts made meaning store (λ reading. read_value reading) (λ reading. get_value (of_name name (place_of q) (reading walk))) w after result → asks after result q
+  unfolding typeof_value
+  asked_there after result (place.Record e) there acts = record { says = acts.says }
+  asked_there after result place.Global there acts = record { says = acts.says }
+  asked_there after result place.Nowhere there acts = absurd (there refl)

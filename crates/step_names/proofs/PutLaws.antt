@@ -1,9 +1,10 @@
 -- Names that are given values, in a reading of the labels.
-use Rattle.std.proofs.Common.{refl, sym, ap, subst, ◌∙◌, ◌≡◌, ℕ, Bool, true, false, List, Option, Some, None, IsSome, Result, Ok, Err, if◌then◌else◌}
+use Rattle.std.proofs.Common.{refl, sym, ap, subst, ◌∙◌, ◌≡◌, ℕ, Bool, true, false, List, Option, Some, None, is_some, IsSome, Result, Ok, Err, if◌then◌else◌}
 use Rattle.std.specs.List.{slice_get}
 use Rattle.std.specs.Option.{option_map}
 use Rattle.std.specs.Result.{IsErrAnd}
-use Rattle.std.proofs.lemmas.Bool.{false≢true}
+use Rattle.std.proofs.lemmas.Bool.{false≢true, true≢false}
+use Rattle.std.proofs.lemmas.Option.{none-some}
 use Rattle.origin_labels.specs.Label.{Label, IsLabel, bottom, within}
 use Rattle.origin_labels.specs.Stores.{IsKept}
 use Rattle.flow_frames.specs.declared.faults.FlowFault.{FlowFault}
@@ -14,7 +15,6 @@ use Rattle.flow_frames.specs.Frames.{context}
 use Rattle.flow_frames.specs.Held.{seen}
 use Rattle.flow_policy.specs.Policies.{Tables}
 use Rattle.flow_policy.specs.Inputs.{Given}
-use Rattle.js_values.specs.declared.ids.EnvId.{EnvId}
 use Rattle.js_values.specs.declared.value.Labelled.{Labelled}
 use Rattle.js_values.specs.Records.{Binding, Record, bound_in}
 use Rattle.js_values.specs.Readings.{IsReading, HasRecords, read_value, read_binding, read_records}
@@ -23,15 +23,19 @@ use Rattle.env_records.specs.Acts as variables
 use Rattle.env_records.specs.Acts.{Assigned, Variables, done, immutable, put, put_in_record, assign}
 use Rattle.env_records.specs.Answers.{Comes, read_stop}
 use Rattle.es_meaning.specs.Outcomes.{Outcome, Goes, Ends, and_then}
-use Rattle.es_meaning.specs.Plain.{Reference, with_value}
+use Rattle.es_meaning.specs.Plain.{in_record, on_global, nowhere, with_value}
 use Rattle.es_meaning.specs.Evaluation.{give, assign_to, assign_giving}
-use Rattle.es_meaning.specs.Start.{type_error, reference_error}
+use Rattle.es_meaning.specs.Start.{type_error, reference_error, global_object}
 use Rattle.flow_meaning.specs.Scopes.{Halt, stopped, Jump, Val, State, LabelledLine, guard, joined}
-use Rattle.flow_meaning.specs.Tracked.{labelled, assigned, assigned_to, put_at, rebinds, throw_error}
+use Rattle.flow_meaning.specs.Tracked.{Reference, of_name, labelled, assigned, assigned_to, put_named, put_value, rebinds, throw_error}
+use Rattle.flow_meaning.specs.Tracked as tracked
 use Rattle.step_world.specs.declared.came.Came.{Came}
 use Rattle.step_world.specs.declared.came.Came.TheVariants as came
+use Rattle.step_world.specs.declared.came.Place.{Place}
+use Rattle.step_world.specs.declared.came.Place.TheVariants as place
 use Rattle.step_world.specs.declared.world.World.{World}
 use Rattle.step_world.specs.Acts.{Acts}
+use Rattle.step_world.specs.Names.{place_of}
 use Rattle.step_world.specs.Worlds.{state_of, Belongs}
 use Rattle.step_world.specs.declared.came.Leaving.{Leaving}
 use Rattle.step_world.proofs.ActLaws.{Acts-as, Acts-throws, Acts-leaves, Acts-passes, Belongs-later}
@@ -59,35 +63,54 @@ module _ (i : ℕ) (name : List ℕ) (v : Val) (s : State) where
       ∙ ap (λ (records : Variables). Goes tt (record s { records = records })) (same_put name (joined (context s.frames) v) (slice_get s.records i) s.records i)
   put_when true have false is = ap (λ t. guard t W1 (context s.frames) have (rebinds name i (joined (context s.frames) v)) s) is
 
-  put_bound : (b : Binding Val) → bound_in name (slice_get s.records i) ≡ Some b → put_at (Some i) name v s ≡ from_assigned (assign i name (context s.frames) v s.records) s
-  unfolding put_at assigned_to
-  put_bound b here =
+  put_bound : (walk : Label) (b : Binding Val) → bound_in name (slice_get s.records i) ≡ Some b → put_named (in_record i) walk name v s ≡ from_assigned (assign i name (context s.frames) v s.records) s
+  unfolding put_named assigned_to
+  put_bound walk b here =
       ap (λ o. assigned_to o name i v s) here
       ∙ put_when b.mutable b.value.label (within (context s.frames) b.value.label) refl
       ∙ ap (λ o. from_assigned (variables.assigned o i name (context s.frames) v s.records) s) (sym here)
 
-  put_unbound : bound_in name (slice_get s.records i) ≡ None → put_at (Some i) name v s ≡ throw_error reference_error bottom s
-  unfolding put_at assigned_to
-  put_unbound here = ap (λ o. assigned_to o name i v s) here
+  put_unbound : (walk : Label) → bound_in name (slice_get s.records i) ≡ None → put_named (in_record i) walk name v s ≡ throw_error reference_error bottom s
+  unfolding put_named assigned_to
+  put_unbound walk here = ap (λ o. assigned_to o name i v s) here
 
--- ---- names that have no binding
+-- ---- names, by where they stand
 
-module _ {S T : Type 0} (made : S → T → Type 0) (meaning : S → T → Label) (store : S) (w after : World T) (r : Option EnvId) (name : List ℕ) (v : Labelled T) (result : Result (Came (Unit {0}) T) (FlowFault T)) where
-  -- what is done to a name with a record is done to its reference
-  pub put_there : (e : EnvId) → r ≡ Some e → Acts made meaning store (λ reading (x : Unit {0}). x) (λ reading. put_at (Some e.0) name (read_value reading v)) w after result → Acts made meaning store (λ reading (x : Unit {0}). x) (λ reading. put_at (option_map (λ x. x.0) r) name (read_value reading v)) w after result
-  put_there e is acts = subst (λ (o : Option EnvId). Acts made meaning store (λ reading (x : Unit {0}). x) (λ reading. put_at (option_map (λ x. x.0) o) name (read_value reading v)) w after result) (sym is) acts
+module _ {S T : Type 0} (made : S → T → Type 0) (meaning : S → T → Label) (store : S) (w after : World T) (p : Place) (name : List ℕ) (walk : T) (v : Labelled T) (result : Result (Came (Unit {0}) T) (FlowFault T)) where
+  abbrev puts_at : Place → Type 0
+  puts_at q = Acts made meaning store (λ reading (x : Unit {0}). x) (λ reading. put_value (of_name name (place_of q) (reading walk)) (read_value reading v)) w after result
 
-  module _ (acts : Acts made meaning store (λ reading (x : Unit {0}). x) (λ reading. throw_error {X = Unit {0}} reference_error bottom) w after result) where
-    pub put_nowhere : r ≡ None → Acts made meaning store (λ reading (x : Unit {0}). x) (λ reading. put_at (option_map (λ x. x.0) r) name (read_value reading v)) w after result
-    unfolding put_at
-    put_nowhere is = subst (λ (o : Option EnvId). Acts made meaning store (λ reading (x : Unit {0}). x) (λ reading. put_at (option_map (λ x. x.0) o) name (read_value reading v)) w after result) (sym is) (record { says = acts.says })
+  -- what is done to a name by where it stands is done to its reference
+  pub put_there : (q : Place) → p ≡ q → Acts made meaning store (λ reading (x : Unit {0}). x) (λ reading. put_named (place_of q) (reading walk) name (read_value reading v)) w after result → puts_at p
+  unfolding put_value
+  put_there q is acts = subst puts_at (sym is) (record { says = acts.says })
 
-    pub put_absent : (e : EnvId) → r ≡ Some e → bound_in name (slice_get w.records e.0) ≡ None → Acts made meaning store (λ reading (x : Unit {0}). x) (λ reading. put_at (option_map (λ x. x.0) r) name (read_value reading v)) w after result
-    put_absent e is none =
-        put_there e is
-        (Acts-as made meaning store (λ reading (x : Unit {0}). x) (λ reading. throw_error reference_error bottom) (λ reading. put_at (Some e.0) name (read_value reading v)) w after result
-        (λ reading agrees told turns. put_unbound e.0 name (read_value reading v) (state_of reading w told turns) (read_bound_in reading name w.records e.0 ∙ ap (option_map (read_binding reading)) none))
-        acts)
+  pub put_nowhere : p ≡ place.Nowhere → Acts made meaning store (λ reading (x : Unit {0}). x) (λ reading. throw_error {X = Unit {0}} reference_error (reading walk)) w after result → puts_at p
+  unfolding put_value put_named
+  put_nowhere is acts = subst puts_at (sym is) (record { says = acts.says })
+
+  -- a name of the global object
+  pub put_globally : (none : T) → ((reading : T → Label) → IsReading made meaning store reading → reading none ≡ bottom)
+      → Acts made meaning store (λ reading (x : Unit {0}). x) (λ reading. tracked.put W1 global_object.0 name (reading none) (read_value reading v)) w after result → Acts made meaning store (λ reading (x : Unit {0}). x) (λ reading. put_named on_global (reading walk) name (read_value reading v)) w after result
+  unfolding put_named
+  put_globally none empty acts =
+      Acts-as made meaning store (λ reading (x : Unit {0}). x) (λ reading. tracked.put W1 global_object.0 name (reading none) (read_value reading v)) (λ reading. put_named on_global (reading walk) name (read_value reading v)) w after result
+      (λ reading is told turns. ap (λ l. tracked.put W1 global_object.0 name l (read_value reading v) (state_of reading w told turns)) (sym (empty reading is)))
+      acts
+
+  -- a name without a binding in the record
+  pub put_absent : (i : ℕ) → bound_in name (slice_get w.records i) ≡ None → Acts made meaning store (λ reading (x : Unit {0}). x) (λ reading. throw_error {X = Unit {0}} reference_error bottom) w after result
+      → Acts made meaning store (λ reading (x : Unit {0}). x) (λ reading. put_named (in_record i) (reading walk) name (read_value reading v)) w after result
+  put_absent i none acts =
+      Acts-as made meaning store (λ reading (x : Unit {0}). x) (λ reading. throw_error reference_error bottom) (λ reading. put_named (in_record i) (reading walk) name (read_value reading v)) w after result
+      (λ reading agrees told turns. put_unbound i name (read_value reading v) (state_of reading w told turns) (reading walk) (read_bound_in reading name w.records i ∙ ap (option_map (read_binding reading)) none))
+      acts
+
+-- a name that isn't found isn't bound
+pub unbound_there : {A B V : Type 0} (f : A → B) (g : V → B) (a : Option A) (b : Option V) → option_map f a ≡ option_map g b → is_some a ≡ false → b ≡ None
+unbound_there f g (Some a) b same none = absurd (true≢false none)
+unbound_there f g None (Some b) same none = absurd (none-some (g b) same)
+unbound_there f g None None same none = refl
 
 -- ---- names that have one
 
@@ -102,19 +125,19 @@ module _ {S T : Type 0} (made : S → T → Type 0) (meaning : S → T → Label
       let later = Belongs-later made meaning room firm old new kept rising w belongs in
       record { frames = later.frames; catch = later.catch; heap = later.heap; records = has; started = later.started }
 
-  module _ (label : T) (m : made old label) (is : meaning old label ≡ context (seen meaning old w.frames.frames)) (i : ℕ) (name : List ℕ) (v : Labelled T) (bound : IsSome (bound_in name (slice_get w.records i))) where
-    put_from : (reading : T → Label) (s : State) (o : Option (Binding (Labelled T))) → bound_in name (slice_get w.records i) ≡ o → IsSome o → s.records ≡ read_records reading w.records → put_at (Some i) name (read_value reading v) s ≡ from_assigned (assign i name (context s.frames) (read_value reading v) s.records) s
+  module _ (label : T) (m : made old label) (is : meaning old label ≡ context (seen meaning old w.frames.frames)) (i : ℕ) (name : List ℕ) (walk : T) (v : Labelled T) (bound : IsSome (bound_in name (slice_get w.records i))) where
+    put_from : (reading : T → Label) (s : State) (o : Option (Binding (Labelled T))) → bound_in name (slice_get w.records i) ≡ o → IsSome o → s.records ≡ read_records reading w.records → put_named (in_record i) (reading walk) name (read_value reading v) s ≡ from_assigned (assign i name (context s.frames) (read_value reading v) s.records) s
     put_from reading s None here some same = absurd (false≢true some)
-    put_from reading s (Some b) here some same = put_bound i name (read_value reading v) s (read_binding reading b) (ap (λ rs. bound_in name (slice_get rs i)) same ∙ read_bound_in reading name w.records i ∙ ap (option_map (read_binding reading)) here)
+    put_from reading s (Some b) here some same = put_bound i name (read_value reading v) s (reading walk) (read_binding reading b) (ap (λ rs. bound_in name (slice_get rs i)) same ∙ read_bound_in reading name w.records i ∙ ap (option_map (read_binding reading)) here)
 
-    put_is : (reading : T → Label) → IsReading made meaning old reading → (told : List LabelledLine) (turns : ℕ) → put_at (Some i) name (read_value reading v) (state_of reading w told turns) ≡ from_assigned (assign i name (reading label) (read_value reading v) (read_records reading w.records)) (state_of reading w told turns)
+    put_is : (reading : T → Label) → IsReading made meaning old reading → (told : List LabelledLine) (turns : ℕ) → put_named (in_record i) (reading walk) name (read_value reading v) (state_of reading w told turns) ≡ from_assigned (assign i name (reading label) (read_value reading v) (read_records reading w.records)) (state_of reading w told turns)
     put_is reading read told turns =
         let s = state_of reading w told turns in
         put_from reading s (bound_in name (slice_get w.records i)) refl bound refl
         ∙ ap (λ l. from_assigned (assign i name l (read_value reading v) (read_records reading w.records)) s) (ap context (read_frames made meaning old reading w.frames.frames read belongs.frames) ∙ sym is ∙ sym (read.agrees label m))
 
     pub put_done : (records : List (Record (Labelled T))) → Comes made meaning new (λ reading. assign i name (reading label) (read_value reading v)) w.records (λ reading. done (read_records reading records))
-        → Acts made meaning new (λ reading x. x) (λ reading. put_at (Some i) name (read_value reading v)) w (with_records records w) (Ok (came.Goes tt))
+        → Acts made meaning new (λ reading x. x) (λ reading. put_named (in_record i) (reading walk) name (read_value reading v)) w (with_records records w) (Ok (came.Goes tt))
     put_done records comes = record {
       says = λ reading read told turns.
           put_is reading (IsReading-earlier made meaning room firm old new reading kept read) told turns
@@ -122,7 +145,7 @@ module _ {S T : Type 0} (made : S → T → Type 0) (meaning : S → T → Label
     }
 
     pub put_stopped : (stop : FlowStop T) (records : List (Record (Labelled T))) → records ≡ w.records → Comes made meaning new (λ reading. assign i name (reading label) (read_value reading v)) w.records (λ reading. variables.stopped (read_stop reading stop))
-        → Acts made meaning new (λ reading (x : Unit {0}). x) (λ reading. put_at (Some i) name (read_value reading v)) w (with_records records w) (Err (fault.Stop stop))
+        → Acts made meaning new (λ reading (x : Unit {0}). x) (λ reading. put_named (in_record i) (reading walk) name (read_value reading v)) w (with_records records w) (Err (fault.Stop stop))
     put_stopped stop records same comes = record {
       says = λ reading read told turns.
           put_is reading (IsReading-earlier made meaning room firm old new reading kept read) told turns
@@ -133,9 +156,9 @@ module _ {S T : Type 0} (made : S → T → Type 0) (meaning : S → T → Label
     -- a binding that can't be changed: the error is thrown in a later store
     pub put_immutable : (last : S) → IsKept made meaning room firm new last → (records : List (Record (Labelled T))) (after : World T) (result : Result (Came (Unit {0}) T) (FlowFault T)) → records ≡ w.records → Comes made meaning new (λ reading. assign i name (reading label) (read_value reading v)) w.records (λ reading. immutable)
         → Acts made meaning last (λ reading x. x) (λ reading. throw_error type_error bottom) (with_records records w) after result
-        → Acts made meaning last (λ reading x. x) (λ reading. put_at (Some i) name (read_value reading v)) w after result
+        → Acts made meaning last (λ reading x. x) (λ reading. put_named (in_record i) (reading walk) name (read_value reading v)) w after result
     put_immutable last later records after result same comes acts =
-        Acts-as made meaning last (λ reading x. x) (λ reading. throw_error type_error bottom) (λ reading. put_at (Some i) name (read_value reading v)) w after result
+        Acts-as made meaning last (λ reading x. x) (λ reading. throw_error type_error bottom) (λ reading. put_named (in_record i) (reading walk) name (read_value reading v)) w after result
         (λ reading read told turns.
         let middle = IsReading-earlier made meaning room firm new last reading later read in
         put_is reading (IsReading-earlier made meaning room firm old new reading kept middle) told turns
@@ -144,12 +167,12 @@ module _ {S T : Type 0} (made : S → T → Type 0) (meaning : S → T → Label
 
 -- ---- what an assignment gives
 
-module _ {S T : Type 0} (made : S → T → Type 0) (meaning : S → T → Label) (store : S) (tables : Tables) (inputs : Given) (r : Reference) (other v : Labelled T) (old new : World T) where
+module _ {S T : Type 0} (made : S → T → Type 0) (meaning : S → T → Label) (store : S) (tables : Tables) (inputs : Given) (r : (T → Label) → Reference) (other v : Labelled T) (old new : World T) where
   abbrev puts : Result (Came (Unit {0}) T) (FlowFault T) → Type 0
-  puts result = Acts made meaning store (λ reading (x : Unit {0}). x) (λ reading. put_at r.place r.name (read_value reading v)) old new result
+  puts result = Acts made meaning store (λ reading (x : Unit {0}). x) (λ reading. put_value (r reading) (read_value reading v)) old new result
 
   abbrev gives : Result (Came (Labelled T) T) (FlowFault T) → Type 0
-  gives result = Acts made meaning store (λ reading. read_value reading) (λ reading. assign_giving (labelled tables inputs) r (read_value reading other) (read_value reading v)) old new result
+  gives result = Acts made meaning store (λ reading. read_value reading) (λ reading. assign_giving (labelled tables inputs) (r reading) (read_value reading other) (read_value reading v)) old new result
 
   pub giving_goes : (u : Unit {0}) → puts (Ok (came.Goes u)) → gives (Ok (came.Goes other))
   unfolding assign_giving give
@@ -157,19 +180,19 @@ module _ {S T : Type 0} (made : S → T → Type 0) (meaning : S → T → Label
 
   pub giving_throws : (error : Labelled T) → puts (Ok (came.Throws error)) → gives (Ok (came.Throws error))
   unfolding assign_giving
-  giving_throws error acts = Acts-throws made meaning store (λ reading (x : Unit {0}). x) (λ reading. read_value reading) (λ reading. put_at r.place r.name (read_value reading v)) (λ reading. give (labelled tables inputs) (read_value reading other)) old new error acts
+  giving_throws error acts = Acts-throws made meaning store (λ reading (x : Unit {0}). x) (λ reading. read_value reading) (λ reading. put_value (r reading) (read_value reading v)) (λ reading. give (labelled tables inputs) (read_value reading other)) old new error acts
 
   pub giving_leaves : (why : Leaving) → puts (Ok (came.Leaves why)) → gives (Ok (came.Leaves why))
   unfolding assign_giving
-  giving_leaves why acts = Acts-leaves made meaning store (λ reading (x : Unit {0}). x) (λ reading. read_value reading) (λ reading. put_at r.place r.name (read_value reading v)) (λ reading. give (labelled tables inputs) (read_value reading other)) old new why acts
+  giving_leaves why acts = Acts-leaves made meaning store (λ reading (x : Unit {0}). x) (λ reading. read_value reading) (λ reading. put_value (r reading) (read_value reading v)) (λ reading. give (labelled tables inputs) (read_value reading other)) old new why acts
 
   pub giving_fails : (f : FlowFault T) (result : Result (Came (Labelled T) T) (FlowFault T)) → IsErrAnd result (λ e. e ≡ f) → puts (Err f) → gives result
   unfolding assign_giving
-  giving_fails f result is acts = Acts-passes made meaning store (λ reading (x : Unit {0}). x) (λ reading. read_value reading) (λ reading. put_at r.place r.name (read_value reading v)) (λ reading. give (labelled tables inputs) (read_value reading other)) old new f result is acts
+  giving_fails f result is acts = Acts-passes made meaning store (λ reading (x : Unit {0}). x) (λ reading. read_value reading) (λ reading. put_value (r reading) (read_value reading v)) (λ reading. give (labelled tables inputs) (read_value reading other)) old new f result is acts
 
   -- the value itself is given
-  pub giving_itself : (result : Result (Came (Labelled T) T) (FlowFault T)) → other ≡ v → gives result → Acts made meaning store (λ reading. read_value reading) (λ reading. assign_to (labelled tables inputs) r (read_value reading v)) old new result
+  pub giving_itself : (result : Result (Came (Labelled T) T) (FlowFault T)) → other ≡ v → gives result → Acts made meaning store (λ reading. read_value reading) (λ reading. assign_to (labelled tables inputs) (r reading) (read_value reading v)) old new result
   unfolding assign_giving assign_to
   giving_itself result same acts =
-      let given = subst (λ (x : Labelled T). Acts made meaning store (λ reading. read_value reading) (λ reading. assign_giving (labelled tables inputs) r (read_value reading x) (read_value reading v)) old new result) same acts in
+      let given = subst (λ (x : Labelled T). Acts made meaning store (λ reading. read_value reading) (λ reading. assign_giving (labelled tables inputs) (r reading) (read_value reading x) (read_value reading v)) old new result) same acts in
       record { says = given.says }

@@ -10,7 +10,6 @@ use Rattle.js_values.specs.declared.value.Labelled.{Labelled}
 use Rattle.js_values.specs.Chains.{beginning, onwards, chain_within}
 use Rattle.js_values.specs.Records.{Binding, Bindings, Record, found, bound_in, if_has, first_with, lookup}
 use Rattle.js_values.specs.Readings.{IsReading, read_binding, read_record, read_records}
-use Rattle.es_meaning.specs.Plain.{binding_at}
 
 -- ---- frames: each reading that agrees with the store sees them as the store does
 
@@ -43,10 +42,6 @@ module _ {T : Type 0} (reading : T → Label) where
 
   pub read_bound_in : (name : List ℕ) (records : List (Record (Labelled T))) (i : ℕ) → bound_in name (slice_get (read_records reading records) i) ≡ option_map (read_binding reading) (bound_in name (slice_get records i))
   read_bound_in name records i = ap (bound_in name) (slice_get-map (read_record reading) records i) ∙ read_bound_there name (slice_get records i)
-
-  pub read_binding_at : (records : List (Record (Labelled T))) (place : Option ℕ) (name : List ℕ) → binding_at (read_records reading records) place name ≡ option_map (read_binding reading) (binding_at records place name)
-  read_binding_at records None name = refl
-  read_binding_at records (Some i) name = read_bound_in name records i
 
   first_here : (i : ℕ) (b : Option (Binding (Labelled T))) (rest : Option ℕ) → if_has i (option_map (read_binding reading) b) rest ≡ if_has i b rest
   first_here i None rest = refl

@@ -6,44 +6,47 @@ ghost use Rattle.flow_policy.specs.Policies.{Tables};
 ghost use Rattle.flow_policy.specs.Inputs.{Given};
 ghost use Rattle.js_values.specs.Records.{bound_in};
 ghost use Rattle.js_values.specs.Readings.{HasValue, read_value};
+ghost use Rattle.es_meaning.specs.Plain.{in_record, on_global};
 ghost use Rattle.es_meaning.specs.Evaluation.{assign_to, assign_giving};
-ghost use Rattle.flow_meaning.specs.Tracked.{labelled, put_at};
+ghost use Rattle.flow_meaning.specs.Tracked.{labelled, put_value, put_named};
 ghost use Rattle.step_world.specs.Acts.{Acts, HasAnswer};
 ghost use Rattle.step_world.specs.Names.{reference_of};
 ghost use Rattle.step_world.specs.Worlds.{Belongs, Grows};
 
 use crate::naming::own;
-use crate::throwing::{ErrorKind, throw_without_cause};
+use crate::properties::GLOBAL;
+use crate::putting::put_on_object;
+use crate::throwing::{ErrorKind, throw_error, throw_without_cause};
 use env_records::AssignFault;
-use flow_frames::FlowFault;
+use flow_frames::{FlowFault, Rule};
 use flow_text::Text;
 use js_values::{EnvId, Labelled};
 use origin_labels::Labels;
 use std::alloc::Global;
-use step_world::{Came, Reference, World};
+use step_world::{Came, Named, Place, World};
 
-/// Gives a name a value (ECMA-262 8.7.2), by rule W1.
+/// Gives a name a value (ECMA-262 8.7.2), by rule W1. A name that stands nowhere throws.
 pub fn put_name<T: Copy, L: Labels<Label = T>>(
+    alloc: Global,
     labels: &mut L,
     world: &mut World<T>,
-    reference: Reference<'_>,
+    named: Named<'_, T>,
     value: Labelled<T>,
 ) -> Result<Came<(), T>, FlowFault<T>>
+    requires walk { L.made labels.old named.walk }
     requires value { L.made labels.old value.label }
     requires belongs { Belongs L.made L.meaning labels.old world.old }
-    ensures acts { let name = reference_of reference.entry in Acts L.made L.meaning labels.new (λ reading x. x) (λ reading. put_at name.place name.name (read_value reading value)) world.old world.new result }
+    ensures acts { Acts L.made L.meaning labels.new (λ reading x. x) (λ reading. put_value (reference_of reading named.entry) (read_value reading value)) world.old world.new result }
     ensures made { HasAnswer (λ x. Unit {0}) (L.made labels.new) result }
     ensures belongs { Belongs L.made L.meaning labels.new world.new }
     ensures grows { Grows world.old world.new }
     ensures kept { IsKept L.made L.meaning L.room L.firm labels.old labels.new }
 {
-    let Some(at) = reference.record else {
-        return throw_without_cause(labels, world, ErrorKind::ReferenceError);
-    };
-    if own(world, reference).is_none() {
-        return throw_without_cause(labels, world, ErrorKind::ReferenceError);
+    match named.place {
+        Place::Record(e) => put_bound(labels, world, e, named.name, value),
+        Place::Global => put_global(alloc, labels, world, named.name, value),
+        Place::Nowhere => throw_error(labels, world, ErrorKind::ReferenceError, named.walk),
     }
-    assign(labels, world, at, reference.name, value)
 }
 
 /// Gives a name a value, which is also what the assignment gives (ECMA-262 11.13).
@@ -51,64 +54,109 @@ pub fn assign_to<T: Copy, L: Labels<Label = T>>(
     alloc: Global,
     labels: &mut L,
     world: &mut World<T>,
-    reference: Reference<'_>,
+    named: Named<'_, T>,
     value: Labelled<T>,
 ) -> Result<Came<Labelled<T>, T>, FlowFault<T>>
+    requires walk { L.made labels.old named.walk }
     requires value { L.made labels.old value.label }
     requires belongs { Belongs L.made L.meaning labels.old world.old }
-    ensures acts { (tables : Tables) (inputs : Given) → Acts L.made L.meaning labels.new (λ reading. read_value reading) (λ reading. assign_to (labelled tables inputs) (reference_of reference.entry) (read_value reading value)) world.old world.new result }
+    ensures acts { (tables : Tables) (inputs : Given) → Acts L.made L.meaning labels.new (λ reading. read_value reading) (λ reading. assign_to (labelled tables inputs) (reference_of reading named.entry) (read_value reading value)) world.old world.new result }
     ensures made { HasAnswer (HasValue (L.made labels.new)) (L.made labels.new) result }
     ensures belongs { Belongs L.made L.meaning labels.new world.new }
     ensures grows { Grows world.old world.new }
     ensures kept { IsKept L.made L.meaning L.room L.firm labels.old labels.new }
 {
     let result = value.copy(alloc)?;
-    assign_giving(labels, world, reference, result, value)
+    assign_giving(alloc, labels, world, named, result, value)
 }
 
 /// Gives a name a value, where the assignment gives another one.
 pub fn assign_giving<T: Copy, L: Labels<Label = T>>(
+    alloc: Global,
     labels: &mut L,
     world: &mut World<T>,
-    reference: Reference<'_>,
+    named: Named<'_, T>,
     other: Labelled<T>,
     value: Labelled<T>,
 ) -> Result<Came<Labelled<T>, T>, FlowFault<T>>
+    requires walk { L.made labels.old named.walk }
     requires other { L.made labels.old other.label }
     requires value { L.made labels.old value.label }
     requires belongs { Belongs L.made L.meaning labels.old world.old }
-    ensures acts { (tables : Tables) (inputs : Given) → Acts L.made L.meaning labels.new (λ reading. read_value reading) (λ reading. assign_giving (labelled tables inputs) (reference_of reference.entry) (read_value reading other) (read_value reading value)) world.old world.new result }
+    ensures acts { (tables : Tables) (inputs : Given) → Acts L.made L.meaning labels.new (λ reading. read_value reading) (λ reading. assign_giving (labelled tables inputs) (reference_of reading named.entry) (read_value reading other) (read_value reading value)) world.old world.new result }
     ensures made { HasAnswer (HasValue (L.made labels.new)) (L.made labels.new) result }
     ensures belongs { Belongs L.made L.meaning labels.new world.new }
     ensures grows { Grows world.old world.new }
     ensures kept { IsKept L.made L.meaning L.room L.firm labels.old labels.new }
 {
-    match put_name(labels, world, reference, value)? {
+    match put_name(alloc, labels, world, named, value)? {
         Came::Goes(()) => Ok(Came::Goes(other)),
         Came::Throws(error) => Ok(Came::Throws(error)),
         Came::Leaves(why) => Ok(Came::Leaves(why)),
     }
 }
 
+/// Gives a name of the global object a value.
+fn put_global<T: Copy, L: Labels<Label = T>>(
+    alloc: Global,
+    labels: &mut L,
+    world: &mut World<T>,
+    name: &Text,
+    value: Labelled<T>,
+) -> Result<Came<(), T>, FlowFault<T>>
+    requires value { L.made labels.old value.label }
+    requires belongs { Belongs L.made L.meaning labels.old world.old }
+    ensures acts { (walk : T) → Acts L.made L.meaning labels.new (λ reading x. x) (λ reading. put_named on_global (reading walk) name.now (read_value reading value)) world.old world.new result }
+    ensures made { HasAnswer (λ x. Unit {0}) (L.made labels.new) result }
+    ensures belongs { Belongs L.made L.meaning labels.new world.new }
+    ensures grows { Grows world.old world.new }
+    ensures kept { IsKept L.made L.meaning L.room L.firm labels.old labels.new }
+{
+    let none = labels.bottom();
+    put_on_object(alloc, labels, world, Rule::W1, GLOBAL, name, none, value)
+}
+
+/// Gives a name in a record a value: a name without a binding throws.
+fn put_bound<T: Copy, L: Labels<Label = T>>(
+    labels: &mut L,
+    world: &mut World<T>,
+    e: EnvId,
+    name: &Text,
+    value: Labelled<T>,
+) -> Result<Came<(), T>, FlowFault<T>>
+    requires value { L.made labels.old value.label }
+    requires belongs { Belongs L.made L.meaning labels.old world.old }
+    ensures acts { (walk : T) → Acts L.made L.meaning labels.new (λ reading x. x) (λ reading. put_named (in_record e.0) (reading walk) name.now (read_value reading value)) world.old world.new result }
+    ensures made { HasAnswer (λ x. Unit {0}) (L.made labels.new) result }
+    ensures belongs { Belongs L.made L.meaning labels.new world.new }
+    ensures grows { Grows world.old world.new }
+    ensures kept { IsKept L.made L.meaning L.room L.firm labels.old labels.new }
+{
+    if own(world, e, name).is_none() {
+        return throw_without_cause(labels, world, ErrorKind::ReferenceError);
+    }
+    assign(labels, world, e, name, value)
+}
+
 /// Gives a name that is bound in the record a value.
 fn assign<T: Copy, L: Labels<Label = T>>(
     labels: &mut L,
     world: &mut World<T>,
-    at: EnvId,
+    e: EnvId,
     name: &Text,
     value: Labelled<T>,
 ) -> Result<Came<(), T>, FlowFault<T>>
-    requires bound { IsSome (bound_in name.now (slice_get world.old.records at.0)) }
+    requires bound { IsSome (bound_in name.now (slice_get world.old.records e.0)) }
     requires value { L.made labels.old value.label }
     requires belongs { Belongs L.made L.meaning labels.old world.old }
-    ensures acts { Acts L.made L.meaning labels.new (λ reading x. x) (λ reading. put_at (Some at.0) name.now (read_value reading value)) world.old world.new result }
+    ensures acts { (walk : T) → Acts L.made L.meaning labels.new (λ reading x. x) (λ reading. put_named (in_record e.0) (reading walk) name.now (read_value reading value)) world.old world.new result }
     ensures made { HasAnswer (λ x. Unit {0}) (L.made labels.new) result }
     ensures belongs { Belongs L.made L.meaning labels.new world.new }
     ensures grows { Grows world.old world.new }
     ensures kept { IsKept L.made L.meaning L.room L.firm labels.old labels.new }
 {
     let context = world.frames.context(labels);
-    match world.records.assign(labels, at, name, context, value) {
+    match world.records.assign(labels, e, name, context, value) {
         Ok(()) => Ok(Came::Goes(())),
         Err(AssignFault::Immutable) => throw_without_cause(labels, world, ErrorKind::TypeError),
         Err(AssignFault::Stop(stop)) => Err(FlowFault::Stop(stop)),

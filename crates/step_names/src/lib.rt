@@ -1,10 +1,16 @@
-//! Errors that the engine throws, and names with their values.
+//! Errors that the engine throws, names with their values, and properties of objects.
 #![tactic(auto)]
 
 mod assigning;
+mod members;
 mod naming;
+mod properties;
+mod putting;
 mod throwing;
 
 pub use assigning::{assign_giving, assign_to, put_name};
+pub use members::{get_property, put_property};
 pub use naming::{get_name, resolve, typeof_name};
+pub use properties::{find_property, get_global, get_of};
+pub use putting::put_on_object;
 pub use throwing::{ErrorKind, throw_error};

@@ -1,104 +1,157 @@
 //! Names and their values.
 
-ghost use Rattle.std.specs.Prelude.{◌≡◌, ◌<◌, length, IfOk, IfSome, slice_get};
+ghost use Rattle.std.specs.Prelude.{◌≡◌, ◌<◌, length, IfOk};
 ghost use Rattle.std.specs.Option.{option_map};
 ghost use Rattle.origin_labels.specs.Label.{Label};
 ghost use Rattle.origin_labels.specs.Stores.{IsKept};
 ghost use Rattle.flow_policy.specs.Policies.{Tables};
 ghost use Rattle.flow_policy.specs.Inputs.{Given};
-ghost use Rattle.js_values.specs.Readings.{HasValue, read_records, read_value};
-ghost use Rattle.es_meaning.specs.Plain.{resolved, binding_at};
+ghost use Rattle.js_values.specs.Objects.{number_of};
+ghost use Rattle.js_values.specs.Readings.{HasValue, IsReading, read_heap, read_records, read_value};
+ghost use Rattle.es_meaning.specs.Plain.{binding_at, place_beyond};
 ghost use Rattle.es_meaning.specs.Evaluation.{enters};
-ghost use Rattle.flow_meaning.specs.Tracked.{labelled};
+ghost use Rattle.flow_meaning.specs.Tracked.{labelled, resolved, bound};
 ghost use Rattle.step_world.specs.Acts.{Acts, HasAnswer};
-ghost use Rattle.step_world.specs.Names.{reference_of};
+ghost use Rattle.step_world.specs.Names.{reference_of, place_of};
 ghost use Rattle.step_world.specs.Worlds.{Belongs, Grows};
 
-use crate::throwing::{ErrorKind, throw_without_cause};
+use crate::properties::{GLOBAL, get_global};
+use crate::throwing::{ErrorKind, throw_error, throw_without_cause};
 use flow_frames::FlowFault;
 use flow_text::{OutOfMemory, Text};
 use js_number::Primitive;
-use js_values::{EnvId, Labelled, Value};
+use js_values::{EnvId, Labelled, ObjId, Value};
 use origin_labels::Labels;
+use prototype_walk::find_named;
 use std::alloc::Global;
-use step_world::{Came, Reference, World};
+use step_world::{Came, Named, Place, World};
 
-/// The reference that a name is, from a record on outwards (ECMA-262 10.3.1).
-pub fn resolve<'p, T: Copy>(world: &World<T>, at: EnvId, name: &'p Text) -> Reference<'p>
-    requires { at.0 < length world.now.records }
-    ensures resolved { (reading : T → Label) → resolved (read_records reading world.now.records) at.0 name.entry.now ≡ reference_of result }
-    ensures there { IfSome result.record (λ e. e.0 < length world.now.records) }
+/// What a name stands for, from a record on outwards and then along the global object (ECMA-262 10.3.1).
+pub fn resolve<'p, T: Copy, L: Labels<Label = T>>(
+    labels: &mut L,
+    world: &World<T>,
+    at: EnvId,
+    name: &'p Text,
+) -> Result<Named<'p, T>, OutOfMemory>
+    requires there { at.0 < length world.now.records }
+    requires belongs { Belongs L.made L.meaning labels.old world.now }
+    ensures resolved { IfOk result (λ named. (reading : T → Label) → IsReading L.made L.meaning labels.new reading → reference_of reading named ≡ resolved (read_records reading world.now.records) (read_heap reading world.now.heap) at.0 name.entry.now) }
+    ensures made { IfOk result (λ named. L.made labels.new named.walk) }
+    ensures kept { IsKept L.made L.meaning L.room L.firm labels.old labels.new }
 {
-    let record = world.records.lookup(at, name);
-    Reference { name, record }
+    if let Some(e) = world.records.lookup(at, name) {
+        let place = Place::Record(e);
+        let walk = labels.bottom();
+        return Ok(Named { name, place, walk });
+    }
+    let found = find_named(&world.heap, labels, GLOBAL, name)?;
+    let place = beyond(found.at);
+    let walk = found.walk;
+    Ok(Named { name, place, walk })
 }
 
-/// The value of a name (ECMA-262 8.7.1): a name without a binding throws.
+/// Where a name stands that no record has, by the object along the global object that has it.
+fn beyond(at: Option<ObjId>) -> Place
+    ensures { place_of result ≡ place_beyond (number_of at) }
+{
+    match at {
+        Some(_) => Place::Global,
+        None => Place::Nowhere,
+    }
+}
+
+/// The value of a name (ECMA-262 8.7.1): a name that stands nowhere throws.
 pub fn get_name<T: Copy, L: Labels<Label = T>>(
     alloc: Global,
     labels: &mut L,
     world: &mut World<T>,
-    reference: Reference<'_>,
+    named: Named<'_, T>,
 ) -> Result<Came<Labelled<T>, T>, FlowFault<T>>
+    requires walk { L.made labels.old named.walk }
     requires belongs { Belongs L.made L.meaning labels.old world.old }
-    ensures acts { (tables : Tables) (inputs : Given) → Acts L.made L.meaning labels.new (λ reading. read_value reading) (λ reading. (labelled tables inputs).get_name (reference_of reference.entry) (enters (labelled tables inputs))) world.old world.new result }
+    ensures acts { (tables : Tables) (inputs : Given) → Acts L.made L.meaning labels.new (λ reading. read_value reading) (λ reading. (labelled tables inputs).get_value (reference_of reading named.entry) (enters (labelled tables inputs))) world.old world.new result }
     ensures made { HasAnswer (HasValue (L.made labels.new)) (L.made labels.new) result }
     ensures belongs { Belongs L.made L.meaning labels.new world.new }
     ensures grows { Grows world.old world.new }
     ensures kept { IsKept L.made L.meaning L.room L.firm labels.old labels.new }
 {
-    match value_of(alloc, world, reference)? {
+    match named.place {
+        Place::Record(e) => get_bound(alloc, labels, world, e, named.name),
+        Place::Global => get_global(alloc, labels, world, named.name, named.walk),
+        Place::Nowhere => throw_error(labels, world, ErrorKind::ReferenceError, named.walk),
+    }
+}
+
+/// The value of a name for `typeof` (ECMA-262 11.4.3): that of a name that stands nowhere is undefined.
+pub fn typeof_name<T: Copy, L: Labels<Label = T>>(
+    alloc: Global,
+    labels: &mut L,
+    world: &mut World<T>,
+    named: Named<'_, T>,
+) -> Result<Came<Labelled<T>, T>, FlowFault<T>>
+    requires walk { L.made labels.old named.walk }
+    requires belongs { Belongs L.made L.meaning labels.old world.old }
+    ensures acts { (tables : Tables) (inputs : Given) → Acts L.made L.meaning labels.new (λ reading. read_value reading) (λ reading. (labelled tables inputs).typeof_value (reference_of reading named.entry) (enters (labelled tables inputs))) world.old world.new result }
+    ensures made { HasAnswer (HasValue (L.made labels.new)) (L.made labels.new) result }
+    ensures belongs { Belongs L.made L.meaning labels.new world.new }
+    ensures grows { Grows world.old world.new }
+    ensures kept { IsKept L.made L.meaning L.room L.firm labels.old labels.new }
+{
+    match named.place {
+        Place::Nowhere => Ok(Came::Goes(Labelled {
+            value: Value::Primitive(Primitive::Undefined),
+            label: named.walk,
+        })),
+        _ => get_name(alloc, labels, world, named),
+    }
+}
+
+/// The value of a name in a record: a name without a binding throws.
+fn get_bound<T: Copy, L: Labels<Label = T>>(
+    alloc: Global,
+    labels: &mut L,
+    world: &mut World<T>,
+    e: EnvId,
+    name: &Text,
+) -> Result<Came<Labelled<T>, T>, FlowFault<T>>
+    requires belongs { Belongs L.made L.meaning labels.old world.old }
+    ensures acts { Acts L.made L.meaning labels.new (λ reading. read_value reading) (λ reading s. bound (binding_at s.records e.0 name.now) s) world.old world.new result }
+    ensures made { HasAnswer (HasValue (L.made labels.new)) (L.made labels.new) result }
+    ensures belongs { Belongs L.made L.meaning labels.new world.new }
+    ensures grows { Grows world.old world.new }
+    ensures kept { IsKept L.made L.meaning L.room L.firm labels.old labels.new }
+{
+    match value_of(alloc, world, e, name)? {
         Some(value) => Ok(Came::Goes(value)),
         None => throw_without_cause(labels, world, ErrorKind::ReferenceError),
     }
 }
 
-/// The value of a name for `typeof` (ECMA-262 11.4.3): a name without a binding is undefined.
-pub fn typeof_name<T: Copy, L: Labels<Label = T>>(
-    alloc: Global,
-    labels: &L,
-    world: &World<T>,
-    reference: Reference<'_>,
-) -> Result<Came<Labelled<T>, T>, FlowFault<T>>
-    requires belongs { Belongs L.made L.meaning labels.now world.now }
-    ensures acts { (tables : Tables) (inputs : Given) → Acts L.made L.meaning labels.now (λ reading. read_value reading) (λ reading. (labelled tables inputs).typeof_name (reference_of reference.entry) (enters (labelled tables inputs))) world.now world.now result }
-    ensures made { HasAnswer (HasValue (L.made labels.now)) (L.made labels.now) result }
-{
-    match value_of(alloc, world, reference)? {
-        Some(value) => Ok(Came::Goes(value)),
-        None => Ok(Came::Goes(Labelled {
-            value: Value::Primitive(Primitive::Undefined),
-            label: labels.bottom(),
-        })),
-    }
-}
-
-/// The same value as that of a name, if it has a binding.
+/// The same value as that of a name in a record, if it has a binding.
 fn value_of<T: Copy>(
     alloc: Global,
     world: &World<T>,
-    reference: Reference<'_>,
+    e: EnvId,
+    name: &Text,
 ) -> Result<Option<Labelled<T>>, OutOfMemory>
-    ensures { let name = reference_of reference.entry in IfOk result (λ value. value ≡ option_map (λ b. b.value) (binding_at world.now.records name.place name.name)) }
+    ensures { IfOk result (λ value. value ≡ option_map (λ b. b.value) (binding_at world.now.records e.0 name.now)) }
 {
-    match own(world, reference) {
+    match own(world, e, name) {
         Some(value) => Ok(Some(value.copy(alloc)?)),
         None => Ok(None),
     }
 }
 
-/// The value of a name, if it has a binding: in a record that isn't there it has none.
+/// The value of a name in a record, if it has a binding: in a record that isn't there it has none.
 pub(crate) fn own<'w, T: Copy>(
     world: &'w World<T>,
-    reference: Reference<'_>,
+    e: EnvId,
+    name: &Text,
 ) -> Option<&'w Labelled<T>>
-    ensures { let name = reference_of reference.entry in option_map (λ v. v.now) result ≡ option_map (λ b. b.value) (binding_at world.now.records name.place name.name) }
+    ensures { option_map (λ v. v.now) result ≡ option_map (λ b. b.value) (binding_at world.now.records e.0 name.now) }
 {
-    let Some(at) = reference.record else {
-        return None;
-    };
-    if at.0 < world.records.len() {
-        world.records.own(at, reference.name)
+    if e.0 < world.records.len() {
+        world.records.own(e, name)
     } else {
         None
     }

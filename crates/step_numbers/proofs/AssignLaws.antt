@@ -1,8 +1,6 @@
 -- Names that were given numbers.
-use Rattle.std.proofs.Common.{refl, sym, ap, ap₂, subst, ◌∙◌, ◌≡◌, ◌≤◌, ◌<◌, ◌-◌, ℕ, suc, ℤ, pos, Bool, List, length, Option, Some, None, IsSome, OnOk, Ok, arith}
+use Rattle.std.proofs.Common.{refl, sym, ap, ap₂, subst, ◌∙◌, ◌≡◌, ◌≤◌, ◌-◌, ℕ, suc, ℤ, pos, Bool, List, length, Some, IsSome, Ok, arith}
 use Rattle.std.specs.List.{slice_get}
-use Rattle.std.specs.Option.{option_map}
-use Rattle.std.proofs.lemmas.Option.{none-some}
 use Rattle.origin_labels.specs.Label.{Label, IsLabel, bottom, union}
 use Rattle.origin_labels.proofs.LabelLaws.{union-bottom}
 use Rattle.origin_labels.specs.Stores.{IsKept}
@@ -22,36 +20,37 @@ use Rattle.js_number.specs.declared.primitive.Primitive.{Primitive}
 use Rattle.js_number.specs.declared.primitive.Primitive.TheVariants.{Num}
 use Rattle.js_values.specs.declared.value.Value.TheVariants as value
 use Rattle.js_values.specs.declared.value.Labelled.{Labelled}
-use Rattle.js_values.specs.Readings.{HasRecords, read_records, read_value}
-use Rattle.js_values.specs.Records.{Binding, Record, bound_in, lookup}
+use Rattle.js_values.specs.Readings.{HasHeap, HasRecords, read_heap, read_records, read_value}
+use Rattle.js_values.specs.Objects.{Object}
+use Rattle.js_values.specs.Records.{Record, bound_in}
 use Rattle.env_records.specs.Acts.{assign, done}
 use Rattle.env_records.specs.Answers.{Comes}
 use Rattle.es_meaning.specs.Environments.{Env}
-use Rattle.es_meaning.specs.Evaluation.{assign_giving, assign_to, assigned_by, compound_done, compound_right, discard, enters, expr_step, give, operator_of, postfix_by, postfix_number, postfix_value, stmt_step, use_step, used}
+use Rattle.es_meaning.specs.Evaluation.{assign_giving, assign_to, assigned_by, compound_done, compound_right, discard, expr_step, give, operator_of, postfix_by, postfix_number, postfix_value, stmt_step, use_step, used}
 use Rattle.es_meaning.specs.Operators.{a_primitive, binary_of, unary_of}
-use Rattle.es_meaning.specs.Plain.{Reference, undefined}
+use Rattle.es_meaning.specs.Plain.{in_record, undefined}
 use Rattle.es_meaning.specs.Operations.{Use, Value, assigned, postfixed, updated_by}
 use Rattle.es_meaning.specs.Outcomes.{Goes, and_then}
-use Rattle.flow_meaning.specs.Scopes.{LabelledLine, State, Val}
+use Rattle.flow_meaning.specs.Scopes.{State, Val}
 use Rattle.flow_meaning.specs.Erased.{unlabelled}
-use Rattle.flow_meaning.specs.Tracked.{given, labelled, put_at, seen, unless_object}
+use Rattle.flow_meaning.specs.Tracked.{Reference, get_value, given, labelled, put_named, put_value, resolved, seen, unless_object}
 use Rattle.flow_meaning.specs.Planned.{Ask, Give, a_stmt, a_use, an_expr, and_go, and_plan, as_plan, asking, completed, meaning, perform, plan, planned, with_result}
 use Rattle.flow_meaning.proofs.Depth.{is_performed}
 use Rattle.flow_meaning.proofs.Performing.{perform_asked}
 use Rattle.step_world.specs.declared.world.World.{World}
 use Rattle.step_world.specs.Worlds.{Belongs, state_of}
 use Rattle.step_world.proofs.ActLaws.{Belongs-later, Grows-refl}
-use Rattle.step_names.proofs.NameLaws.{name_has, name_read}
+use Rattle.step_names.proofs.ObjectLaws.{Belongs-heap, with_heap}
 use Rattle.step_names.proofs.PutLaws.{Belongs-records, put_done, with_records}
-use Rattle.step_names.proofs.Reading.{read_lookup}
 use Rattle.js_values.proofs.ReadingLaws.{IsReading-earlier}
 use Rattle.step_values.specs.Converted.{converted}
 use Rattle.step_values.proofs.ConvertedLaws as converted_laws
 use Rattle.step_work.specs.Shapes.{step_of}
 use Rattle.step_moves.proofs.PlanLaws as plan_laws
-use Rattle.step_numbers.specs.Assigned.{Finishes, Gives, Puts, Rebinds}
+use Rattle.step_numbers.specs.Assigned.{Finishes, Gives, Puts, PutsAt, Rebinds}
 use Rattle.step_numbers.specs.Evaluated.{Evaluates, labelled_number}
-use Rattle.step_numbers.proofs.EvaluationLaws.{asked_gave, binding_of, later, lookup_own, one_left}
+use Rattle.step_numbers.specs.Named.{IsNamed}
+use Rattle.step_numbers.proofs.EvaluationLaws.{asked_gave, later, one_left, unkeyed}
 
 -- ---- plans
 
@@ -62,23 +61,22 @@ module _ (tables : Tables) (inputs : inputs.Given) where
   asks_postfix place e postfix_operator.Increment at s = refl
   asks_postfix place e postfix_operator.Decrement at s = refl
 
-  asks_use : (how : Use) (there : ℕ) (text : List ℕ) (at : ℕ) (s : State) → plan tables inputs (a_use how (trees.name there text) at) s ≡ used (planned tables inputs) (asking tables inputs) how at (record { name = text; place = lookup text s.records at }) s
+  asks_use : (how : Use) (there : ℕ) (text : List ℕ) (at : ℕ) (s : State) → plan tables inputs (a_use how (trees.name there text) at) s ≡ used (planned tables inputs) (asking tables inputs) how at (resolved s.records s.heap at text) s
   unfolding plan use_step
   asks_use how there text at s = refl
 
   -- a name is given what an expression comes to
-  assign_plan : (place there at : ℕ) (text : List ℕ) (r : Expr) (s t u : State) (v : Val) (n : ℕ) → lookup text s.records at ≡ Some at
-      → meaning tables inputs (an_expr r at) (record s { turns = n }) ≡ Goes v t → put_at (Some at) text v t ≡ Goes tt u
+  assign_plan : (place there at : ℕ) (text : List ℕ) (r : Expr) (s t u : State) (v : Val) (n : ℕ) → meaning tables inputs (an_expr r at) (record s { turns = n }) ≡ Goes v t → put_value (resolved s.records s.heap at text) v t ≡ Goes tt u
       → meaning tables inputs (an_expr (trees.assign place (trees.name there text) assign_operator.Assign r) at) (record s { turns = suc (suc n) }) ≡ Goes v u
   unfolding plan expr_step use_step used assign_to give perform completed
-  assign_plan place there at text r s t u v n resolves comes puts =
+  assign_plan place there at text r s t u v n comes puts =
       let M = meaning tables inputs in
+      let name : Reference = resolved s.records s.heap at text in
       is_performed.some_left tables inputs (an_expr (trees.assign place (trees.name there text) assign_operator.Assign r) at) s (suc n)
       ∙ perform_asked M (a_use (assigned r) (trees.name there text) at) (record s { turns = suc n })
       ∙ is_performed.some_left tables inputs (a_use (assigned r) (trees.name there text) at) s n
-      ∙ ap (λ p. perform M (used (planned tables inputs) (asking tables inputs) (assigned r) at (record { name = text; place = p }) (record s { turns = n }))) resolves
-      ∙ asked_gave tables inputs (an_expr r at) (assign_to (planned tables inputs) (record { name = text; place = Some at })) (record s { turns = n }) t v comes
-      ∙ ap (perform M) (plan_laws.assign_as tables inputs (record { name = text; place = Some at }) v t)
+      ∙ asked_gave tables inputs (an_expr r at) (assign_to (planned tables inputs) name) (record s { turns = n }) t v comes
+      ∙ ap (perform M) (plan_laws.assign_as tables inputs name v t)
       ∙ ap (λ o. perform M (as_plan Value (and_then o (give (labelled tables inputs) v)))) puts
 
   -- what a compound assignment asks for
@@ -87,26 +85,25 @@ module _ (tables : Tables) (inputs : inputs.Given) where
   asks_compound place e r operator o at s is = ap (λ x. Ask (a_use (assigned_by x r) e at) s Give) is
 
   -- a name is given what an operator makes of its value and that of an expression
-  compound_plan : (place there at : ℕ) (text : List ℕ) (r : Expr) (operator : AssignOperator) (o : BinaryOperator) (s t u : State) (v w : Val) (p : Primitive) (n : ℕ) → operator_of operator ≡ Some o → lookup text s.records at ≡ Some at
-      → (labelled tables inputs).get_name (record { name = text; place = Some at }) (enters (labelled tables inputs)) (record s { turns = n }) ≡ Goes v (record s { turns = n })
-      → meaning tables inputs (an_expr r at) (record s { turns = n }) ≡ Goes w t → converted o v.value w.value ≡ Ok p → put_at (Some at) text (record { value = value.Primitive p; label = union v.label w.label }) t ≡ Goes tt u
+  compound_plan : (place there at : ℕ) (text : List ℕ) (r : Expr) (operator : AssignOperator) (o : BinaryOperator) (s t u : State) (v w : Val) (p : Primitive) (n : ℕ) → operator_of operator ≡ Some o
+      → get_value (resolved s.records s.heap at text) (record s { turns = n }) ≡ Goes v (record s { turns = n }) → meaning tables inputs (an_expr r at) (record s { turns = n }) ≡ Goes w t → converted o v.value w.value ≡ Ok p
+      → put_value (resolved s.records s.heap at text) (record { value = value.Primitive p; label = union v.label w.label }) t ≡ Goes tt u
       → meaning tables inputs (an_expr (trees.assign place (trees.name there text) operator r) at) (record s { turns = suc (suc n) }) ≡ Goes (record { value = value.Primitive p; label = union v.label w.label }) u
   unfolding used compound_right compound_done assign_to give given perform completed
-  compound_plan place there at text r operator o s t u v w p n is resolves gets comes gives puts =
+  compound_plan place there at text r operator o s t u v w p n is gets comes gives puts =
       let M = meaning tables inputs in
       let x : Val = record { value = value.Primitive p; label = union v.label w.label } in
-      let name : Reference = record { name = text; place = Some at } in
+      let name : Reference = resolved s.records s.heap at text in
       let now : State = record s { turns = n } in
       is_performed.some_left tables inputs (an_expr (trees.assign place (trees.name there text) operator r) at) s (suc n)
       ∙ ap (perform M) (asks_compound place (trees.name there text) r operator o at (record s { turns = suc n }) is)
       ∙ perform_asked M (a_use (updated_by o r) (trees.name there text) at) (record s { turns = suc n })
       ∙ is_performed.some_left tables inputs (a_use (updated_by o r) (trees.name there text) at) s n
       ∙ ap (perform M) (asks_use (updated_by o r) there text at now)
-      ∙ ap (λ q. perform M (used (planned tables inputs) (asking tables inputs) (updated_by o r) at (record { name = text; place = q }) now)) resolves
       ∙ ap (λ q. perform M (and_plan (as_plan Value q) (with_result Value (compound_right (planned tables inputs) (asking tables inputs) o r at name)))) gets
       ∙ asked_gave tables inputs (an_expr r at) (compound_done (planned tables inputs) (asking tables inputs) o name v) now t w comes
       ∙ ap (λ q. perform M (and_plan q (with_result Value (assign_to (planned tables inputs) name)))) (plan_laws.binary_as tables inputs o v w t)
-      ∙ ap (λ q. perform M (and_plan (as_plan Value q) (with_result Value (assign_to (planned tables inputs) name)))) (converted_laws.binary_as tables inputs o v w t)
+      ∙ ap (λ q. perform M (and_plan (as_plan Value q) (with_result Value (assign_to (planned tables inputs) name)))) (converted_laws.binary_as tables inputs o v w t (unkeyed o v.value w.value p gives))
       ∙ ap (λ q. perform M (and_plan (as_plan Value (given (union v.label w.label) q t)) (with_result Value (assign_to (planned tables inputs) name)))) gives
       ∙ ap (perform M) (plan_laws.assign_as tables inputs name x t)
       ∙ ap (λ q. perform M (as_plan Value (and_then q (give (labelled tables inputs) x)))) puts
@@ -120,28 +117,27 @@ module _ (tables : Tables) (inputs : inputs.Given) where
       ap (λ r. and_then (given l r s) (postfix_by (labelled tables inputs) o n)) plus
       ∙ ap (λ r. and_then (given (union l bottom) r s) (assign_giving (labelled tables inputs) n v)) counts
 
-  postfix_plan : (place there at : ℕ) (text : List ℕ) (operator : PostfixOperator) (s u : State) (a c : ℤ) (l : Label) (n : ℕ) → IsLabel l → lookup text s.records at ≡ Some at
+  postfix_plan : (place there at : ℕ) (text : List ℕ) (operator : PostfixOperator) (s u : State) (a c : ℤ) (l : Label) (n : ℕ) → IsLabel l
       → unary_of unary_operator.Plus (a_primitive (Num a)) ≡ Ok (Num a) → binary_of (step_of operator) (value.Primitive (Num a)) (value.Primitive (Num (pos 1))) ≡ Ok (Num c)
-      → (labelled tables inputs).get_name (record { name = text; place = Some at }) (enters (labelled tables inputs)) (record s { turns = n }) ≡ Goes (record { value = value.Primitive (Num a); label = l }) (record s { turns = n })
-      → put_at (Some at) text (record { value = value.Primitive (Num c); label = l }) (record s { turns = n }) ≡ Goes tt u
+      → get_value (resolved s.records s.heap at text) (record s { turns = n }) ≡ Goes (record { value = value.Primitive (Num a); label = l }) (record s { turns = n })
+      → put_value (resolved s.records s.heap at text) (record { value = value.Primitive (Num c); label = l }) (record s { turns = n }) ≡ Goes tt u
       → meaning tables inputs (an_expr (trees.postfix place (trees.name there text) operator) at) (record s { turns = suc (suc n) }) ≡ Goes (record { value = value.Primitive (Num a); label = l }) u
   unfolding use_step assign_giving give perform completed
-  postfix_plan place there at text operator s u a c l n is_label resolves plus counts gets puts =
+  postfix_plan place there at text operator s u a c l n is_label plus counts gets puts =
       let M = meaning tables inputs in
       let o = step_of operator in
       let v : Val = record { value = value.Primitive (Num a); label = l } in
-      let name : Reference = record { name = text; place = Some at } in
+      let name : Reference = resolved s.records s.heap at text in
       let now : State = record s { turns = n } in
       is_performed.some_left tables inputs (an_expr (trees.postfix place (trees.name there text) operator) at) s (suc n)
       ∙ ap (perform M) (asks_postfix place (trees.name there text) operator at (record s { turns = suc n }))
       ∙ perform_asked M (a_use (postfixed o) (trees.name there text) at) (record s { turns = suc n })
       ∙ is_performed.some_left tables inputs (a_use (postfixed o) (trees.name there text) at) s n
       ∙ ap (perform M) (asks_use (postfixed o) there text at now)
-      ∙ ap (λ p. perform M (used (planned tables inputs) (asking tables inputs) (postfixed o) at (record { name = text; place = p }) now)) resolves
       ∙ ap (perform M) (plan_laws.postfix_as tables inputs o at name now)
       ∙ ap (λ x. perform M (as_plan Value (and_then x (postfix_value (labelled tables inputs) o name)))) gets
       ∙ ap (λ x. perform M (as_plan Value x)) (postfix_counts o name a c l now plus counts)
-      ∙ ap (λ k. perform M (as_plan Value (and_then (put_at (Some at) text (record { value = value.Primitive (Num c); label = k }) now) (give (labelled tables inputs) v)))) (union-bottom l is_label)
+      ∙ ap (λ k. perform M (as_plan Value (and_then (put_value name (record { value = value.Primitive (Num c); label = k }) now) (give (labelled tables inputs) v)))) (union-bottom l is_label)
       ∙ ap (λ x. perform M (as_plan Value (and_then x (give (labelled tables inputs) v)))) puts
 
   -- an expression statement is its expression
@@ -154,11 +150,6 @@ module _ (tables : Tables) (inputs : inputs.Given) where
       ∙ ap (λ o. and_go o (λ c t. perform M (with_result Value (discard (planned tables inputs)) c t))) comes
 
 -- ---- names
-
--- a name that has a value is bound
-pub is_bound : {V : Type 0} (v : V) (o : Option (Binding V)) → Some v ≡ option_map (λ b. b.value) o → IsSome o
-is_bound v None is = absurd (none-some v (sym is))
-is_bound v (Some b) is = refl
 
 module _ {S T : Type 0} (made : S → T → Type 0) (meaning_of : S → T → Label) (room : S → ℕ) (firm : S → Bool) (earlier store : S) (kept : IsKept made meaning_of room firm earlier store) where
   -- nothing changed
@@ -174,19 +165,27 @@ module _ {S T : Type 0} (made : S → T → Type 0) (meaning_of : S → T → La
     grows = record { heap = omega arith; records = omega (arith, same); positions = refl };
   }
 
-  -- a name was given a value
+  -- another heap, of as many objects
+  pub rebinds_heap : ((store : S) (label : T) → made store label → IsLabel (meaning_of store label)) → (w : World T) → Belongs made meaning_of earlier w → (heap : List (Object T)) → HasHeap (made store) heap → length heap ≡ length w.heap → Rebinds made meaning_of store w (with_heap heap w)
+  rebinds_heap rising w belongs heap has same = record {
+    belongs = Belongs-heap made meaning_of room firm earlier store kept rising w belongs heap has same;
+    frames = refl;
+    grows = record { heap = omega (arith, same); records = omega arith; positions = refl };
+  }
+
+  -- a name of a record was given a value
   pub puts_there : (w : World T) → Belongs made meaning_of earlier w → (label : T) → made earlier label → meaning_of earlier label ≡ context (held.seen meaning_of earlier w.frames.frames) → (i : ℕ) (name : List ℕ) (v : Labelled T) → IsSome (bound_in name (slice_get w.records i))
       → (records : List (Record (Labelled T))) → Comes made meaning_of store (λ reading. assign i name (reading label) (read_value reading v)) w.records (λ reading. done (read_records reading records))
-      → Puts made meaning_of store i name v w (with_records records w)
+      → PutsAt made meaning_of store (in_record i) name v w (with_records records w)
+  unfolding put_named
   puts_there w belongs label has is i name v bound records comes = record {
-    goes = λ reading told turns read. (put_done made meaning_of room firm earlier store kept w belongs label has is i name v bound records comes).says reading read told turns;
+    goes = λ reading told turns walk read. (put_done made meaning_of room firm earlier store kept w belongs label has is i name label v bound records comes).says reading read told turns;
   }
 
   -- what was assigned is what the assignment gives
-  pub assigned_gives : (place there at : ℕ) (old new : World T) (turns : ℕ) (target r : Expr) (text : List ℕ) (was v : Labelled T) (left : ℕ) → target ≡ trees.name there text → 2 ≤ turns
-      → Some was ≡ option_map (λ b. b.value) (bound_in text (slice_get old.records at)) → Evaluates made meaning_of earlier r at old (turns - 2) v left → Puts made meaning_of store at text v old new
-      → Gives made meaning_of store (trees.assign place target assign_operator.Assign r) at old new turns v left
-  assigned_gives place there at old new turns target r text was v left is enough here evaluates puts =
+  pub assigned_gives : (place there at : ℕ) (old new : World T) (turns : ℕ) (target r : Expr) (text : List ℕ) (v : Labelled T) (left : ℕ) → target ≡ trees.name there text → 2 ≤ turns → Evaluates made meaning_of earlier r at old (turns - 2) v left
+      → Puts made meaning_of store at text v old new → Gives made meaning_of store (trees.assign place target assign_operator.Assign r) at old new turns v left
+  assigned_gives place there at old new turns target r text v left is enough evaluates puts =
       let evaluated = later made meaning_of room firm earlier store r at old (turns - 2) v left kept evaluates in
       let n = turns - 2 in
       let two : turns ≡ suc (suc n) = omega (arith, enough) in
@@ -194,32 +193,27 @@ module _ {S T : Type 0} (made : S → T → Type 0) (meaning_of : S → T → La
         comes = λ tables inputs reading told read.
             ap (λ x. meaning tables inputs (an_expr (trees.assign place x assign_operator.Assign r) at) (state_of reading old told turns)) is
             ∙ ap (λ m. meaning tables inputs (an_expr (trees.assign place (trees.name there text) assign_operator.Assign r) at) (state_of reading old told m)) two
-            ∙ assign_plan tables inputs place there at text r (state_of reading old told n) (state_of reading old told left) (state_of reading new told left) (read_value reading v) n
-            (read_lookup reading text old.records at ∙ binding_of was (bound_in text (slice_get old.records at)) here (lookup text old.records at ≡ Some at) (λ b bound. lookup_own text old.records at b bound))
-            (evaluated.comes tables inputs reading told read) (puts.goes reading told left read);
+            ∙ assign_plan tables inputs place there at text r (state_of reading old told n) (state_of reading old told left) (state_of reading new told left) (read_value reading v) n (evaluated.comes tables inputs reading told read) (puts.goes reading told left read);
         labelled = evaluated.labelled;
         fewer = let fewer = evaluated.fewer in omega (arith, fewer, enough);
       }
 
   -- a name's number that was changed by one is what the expression gives
-  pub counted_gives : (rising : (store : S) (label : T) → made store label → IsLabel (meaning_of store label)) (place there at : ℕ) (old new : World T) (turns left : ℕ) (target : Expr) (operator : PostfixOperator) (text : List ℕ) (a c : ℤ) (label : T) → HasRecords (made earlier) old.records → target ≡ trees.name there text → 2 ≤ turns
-      → (Some (labelled_number a label) ≡ option_map (λ b. b.value) (bound_in text (slice_get old.records at))) × (left ≡ turns - 2)
+  pub counted_gives : (rising : (store : S) (label : T) → made store label → IsLabel (meaning_of store label)) (place there at : ℕ) (old new : World T) (turns left : ℕ) (target : Expr) (operator : PostfixOperator) (text : List ℕ) (a c : ℤ) (label : T) → target ≡ trees.name there text → 2 ≤ turns
+      → IsNamed made meaning_of earlier at text old (labelled_number a label) → left ≡ turns - 2
       → unary_of unary_operator.Plus (a_primitive (Num a)) ≡ Ok (Num a) → binary_of (step_of operator) (value.Primitive (Num a)) (value.Primitive (Num (pos 1))) ≡ Ok (Num c)
       → Puts made meaning_of store at text (labelled_number c label) old new → Gives made meaning_of store (trees.postfix place target operator) at old new turns (labelled_number a label) left
-  counted_gives rising place there at old new turns left target operator text a c label has is enough here plus counts puts =
+  counted_gives rising place there at old new turns left target operator text a c label is enough named none plus counts puts =
       let n = turns - 2 in
       let two : turns ≡ suc (suc n) = omega (arith, enough) in
-      let held = name_has (made earlier) old.records (Some at) text (labelled_number a label) has here.0 in
-      let later_held = (kept.labels label held).0 in
-      let none = here.1 in
+      let later_held = (kept.labels label named.labelled).0 in
       record {
         comes = λ tables inputs reading told read.
             let is_label : IsLabel (reading label) = subst IsLabel (sym (read.agrees label later_held)) (rising store label later_held) in
             ap (λ x. meaning tables inputs (an_expr (trees.postfix place x operator) at) (state_of reading old told turns)) is
             ∙ ap (λ m. meaning tables inputs (an_expr (trees.postfix place (trees.name there text) operator) at) (state_of reading old told m)) two
-            ∙ postfix_plan tables inputs place there at text operator (state_of reading old told n) (state_of reading new told n) a c (reading label) n is_label
-            (read_lookup reading text old.records at ∙ binding_of (labelled_number a label) (bound_in text (slice_get old.records at)) here.0 (lookup text old.records at ≡ Some at) (λ b bound. lookup_own text old.records at b bound))
-            plus counts ((name_read made meaning_of store old (Some at) text (labelled_number a label) here.0).says reading read told n) (puts.goes reading told n read)
+            ∙ postfix_plan tables inputs place there at text operator (state_of reading old told n) (state_of reading new told n) a c (reading label) n is_label plus counts
+            (named.comes reading told n (IsReading-earlier made meaning_of room firm earlier store reading kept read)) (puts.goes reading told n read)
             ∙ ap (λ m. Goes (read_value reading (labelled_number a label)) (state_of reading new told m)) (sym none);
         labelled = later_held;
         fewer = omega (arith, none, enough);
@@ -227,29 +221,28 @@ module _ {S T : Type 0} (made : S → T → Type 0) (meaning_of : S → T → La
 
 module _ {S T : Type 0} (made : S → T → Type 0) (meaning_of : S → T → Label) (room : S → ℕ) (firm : S → Bool) (earlier middle joined store : S) (before : IsKept made meaning_of room firm earlier middle) (between : IsKept made meaning_of room firm middle joined) (behind : IsKept made meaning_of room firm joined store) where
   -- what a compound assignment assigned is what it gives
-  pub updated_gives : (place there at : ℕ) (old new : World T) (turns : ℕ) (target r : Expr) (operator : AssignOperator) (o : BinaryOperator) (text : List ℕ) (v w : Labelled T) (p : Primitive) (label : T) (first left given : ℕ) → HasRecords (made earlier) old.records → target ≡ trees.name there text → 2 ≤ turns → operator_of operator ≡ Some o
-      → (Some v ≡ option_map (λ b. b.value) (bound_in text (slice_get old.records at))) × (first ≡ turns - 2) → Evaluates made meaning_of middle r at old (turns - 2) w left → converted o v.value w.value ≡ Ok p → given ≡ left
+  pub updated_gives : (place there at : ℕ) (old new : World T) (turns : ℕ) (target r : Expr) (operator : AssignOperator) (o : BinaryOperator) (text : List ℕ) (v w : Labelled T) (p : Primitive) (label : T) (left given : ℕ) → target ≡ trees.name there text → 2 ≤ turns → operator_of operator ≡ Some o
+      → IsNamed made meaning_of earlier at text old v → Evaluates made meaning_of middle r at old (turns - 2) w left → converted o v.value w.value ≡ Ok p → given ≡ left
       → made joined label → meaning_of joined label ≡ union (meaning_of middle v.label) (meaning_of middle w.label) → Puts made meaning_of store at text (record { value = value.Primitive p; label = label }) old new
       → Gives made meaning_of store (trees.assign place target operator r) at old new turns (record { value = value.Primitive p; label = label }) given
-  updated_gives place there at old new turns target r operator o text v w p label first left given has is enough by here evaluates gives same made_label means puts =
+  updated_gives place there at old new turns target r operator o text v w p label left given is enough by named evaluates gives same made_label means puts =
       let n = turns - 2 in
       let two : turns ≡ suc (suc n) = omega (arith, enough) in
-      let held : made middle v.label = (before.labels v.label (name_has (made earlier) old.records (Some at) text v has here.0)).0 in
-      let last : made store label = (behind.labels label made_label).0 in
+      let held : made middle v.label = (before.labels v.label named.labelled).0 in
       record {
         comes = λ tables inputs reading told read.
             let read_joined = IsReading-earlier made meaning_of room firm joined store reading behind read in
             let read_middle = IsReading-earlier made meaning_of room firm middle joined reading between read_joined in
+            let read_earlier = IsReading-earlier made meaning_of room firm earlier middle reading before read_middle in
             let union_is : union (reading v.label) (reading w.label) ≡ reading label = ap₂ union (read_middle.agrees v.label held) (read_middle.agrees w.label evaluates.labelled) ∙ sym means ∙ sym (read_joined.agrees label made_label) in
             ap (λ x. meaning tables inputs (an_expr (trees.assign place x operator r) at) (state_of reading old told turns)) is
             ∙ ap (λ m. meaning tables inputs (an_expr (trees.assign place (trees.name there text) operator r) at) (state_of reading old told m)) two
             ∙ compound_plan tables inputs place there at text r operator o (state_of reading old told n) (state_of reading old told left) (state_of reading new told left) (read_value reading v) (read_value reading w) p n by
-            (read_lookup reading text old.records at ∙ binding_of v (bound_in text (slice_get old.records at)) here.0 (lookup text old.records at ≡ Some at) (λ b bound. lookup_own text old.records at b bound))
-            ((name_read made meaning_of store old (Some at) text v here.0).says reading read told n) (evaluates.comes tables inputs reading told read_middle) gives
-            (ap (λ k. put_at (Some at) text (record { value = value.Primitive p; label = k }) (state_of reading old told left)) union_is ∙ puts.goes reading told left read)
+            (named.comes reading told n read_earlier) (evaluates.comes tables inputs reading told read_middle) gives
+            (ap (λ k. put_value (resolved (read_records reading old.records) (read_heap reading old.heap) at text) (record { value = value.Primitive p; label = k }) (state_of reading old told left)) union_is ∙ puts.goes reading told left read)
             ∙ ap (λ k. Goes (record { value = value.Primitive p; label = k }) (state_of reading new told left)) union_is
             ∙ ap (λ m. Goes (record { value = value.Primitive p; label = reading label }) (state_of reading new told m)) (sym same);
-        labelled = last;
+        labelled = (behind.labels label made_label).0;
         fewer = let fewer = evaluates.fewer in omega (arith, fewer, enough, same);
       }
 

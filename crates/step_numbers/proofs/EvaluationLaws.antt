@@ -1,63 +1,56 @@
 -- What the parts of an expression come to is what the expression comes to.
-use Rattle.std.proofs.Common.{refl, sym, ap, ap₂, subst, IfSome, ◌∙◌, ◌≡◌, ◌<◌, ◌-◌, ℕ, zero, suc, ℤ, Bool, true, List, Option, Some, None, Ok, arith}
-use Rattle.std.specs.List.{slice_get}
-use Rattle.std.specs.Option.{option_map}
-use Rattle.std.proofs.lemmas.Option.{none-some}
+use Rattle.std.proofs.Common.{refl, sym, ap, ap₂, subst, IfSome, ◌∙◌, ◌≡◌, ◌<◌, ◌-◌, ℕ, zero, suc, ℤ, Bool, true, false, List, Option, Some, None, Ok, Err, arith}
 use Rattle.origin_labels.specs.Label.{Label, bottom, union}
 use Rattle.origin_labels.specs.Stores.{IsKept}
 use Rattle.flow_policy.specs.Policies.{Tables}
 use Rattle.flow_policy.specs.Inputs as inputs
 use Rattle.js_ast.specs.declared.operators.BinaryOperator.{BinaryOperator}
+use Rattle.js_ast.specs.declared.operators.BinaryOperator.TheVariants as binary_operator
 use Rattle.js_ast.specs.Trees as trees
 use Rattle.js_ast.specs.Trees.{Expr}
 use Rattle.js_number.specs.declared.primitive.Primitive.{Primitive}
 use Rattle.js_number.specs.declared.primitive.Primitive.TheVariants.{Num}
 use Rattle.js_values.specs.declared.value.Labelled.{Labelled}
+use Rattle.js_values.specs.declared.value.Value as values
 use Rattle.js_values.specs.declared.value.Value.TheVariants as value
-use Rattle.js_values.specs.Chains.{beginning}
-use Rattle.js_values.specs.Readings.{HasRecords, read_value}
-use Rattle.js_values.specs.Records.{Binding, Record, bound_in, first_with, found, if_has, lookup}
+use Rattle.js_values.specs.Readings as readings
 use Rattle.js_values.proofs.ReadingLaws.{IsReading-earlier}
-use Rattle.es_meaning.specs.Evaluation.{binary_right, binary_values, enters, expr_step, read_name}
+use Rattle.es_meaning.specs.Evaluation.{binary_right, binary_values, expr_step, read_value}
 use Rattle.es_meaning.specs.Operations.{Value}
+use Rattle.es_meaning.specs.Operators.{binary_of, binary_values_of, not_built}
 use Rattle.es_meaning.specs.Outcomes.{Goes}
 use Rattle.flow_meaning.specs.Scopes.{LabelledLine, State, Val}
-use Rattle.flow_meaning.specs.Tracked.{given, labelled}
+use Rattle.flow_meaning.specs.Tracked.{get_value, given, resolved}
 use Rattle.flow_meaning.specs.Planned.{Ask, Part, Plan, an_expr, and_go, as_plan, asking, completed, meaning, perform, plan, planned, with_result}
 use Rattle.flow_meaning.proofs.Depth.{is_performed}
 use Rattle.flow_meaning.proofs.Performing.{perform_asked}
 use Rattle.step_world.specs.declared.world.World.{World}
 use Rattle.step_world.specs.Worlds.{state_of}
-use Rattle.step_names.proofs.NameLaws.{name_has, name_read}
-use Rattle.step_names.proofs.Reading.{read_lookup}
-use Rattle.step_values.specs.Converted.{converted}
+use Rattle.step_values.specs.Converted.{converted, converted_by, is_keyed}
 use Rattle.step_values.proofs.ConvertedLaws as converted_laws
 use Rattle.step_work.specs.Shapes.{evaluates_both}
 use Rattle.step_work.proofs.Steps.{both_operands}
 use Rattle.step_moves.proofs.PlanLaws as plan_laws
 use Rattle.step_numbers.specs.declared.evaluating.Counted.{Counted}
 use Rattle.step_numbers.specs.Evaluated.{Evaluates, labelled_number}
-
--- ---- the record that has a name in it is the innermost one
-
-has_here : {V : Type 0} (i : ℕ) (b : Binding V) (o : Option (Binding V)) (rest : Option ℕ) → o ≡ Some b → if_has i o rest ≡ Some i
-has_here i b o rest is = ap (λ x. if_has i x rest) is
-
-found_first : {V : Type 0} (name : List ℕ) (i : ℕ) (b : Binding V) (o : Option (Record V)) (behind : Record V → List (ℕ × Record V)) → bound_in name o ≡ Some b → first_with name (beginning i o behind) ≡ Some i
-found_first name i b None behind is = absurd (none-some b is)
-found_first name i b (Some r) behind is = has_here i b (found name r.bindings) (first_with name (behind r)) is
-
-pub lookup_own : {V : Type 0} (name : List ℕ) (records : List (Record V)) (i : ℕ) (b : Binding V) → bound_in name (slice_get records i) ≡ Some b → lookup name records i ≡ Some i
-lookup_own name records i b is = found_first name i b (slice_get records i) _ is
-
-pub binding_of : {V : Type 0} (v : V) (o : Option (Binding V)) → Some v ≡ option_map (λ b. b.value) o → (P : Type 0) → ((b : Binding V) → o ≡ Some b → P) → P
-binding_of v None is P goes_on = absurd (none-some v (sym is))
-binding_of v (Some b) is P goes_on = goes_on b refl
+use Rattle.step_numbers.specs.Named.{IsNamed}
 
 -- a turn is left
 pub one_left : (turns : ℕ) → (turns ≡ 0 → ⊥) → turns - 1 < turns
 one_left zero some = absurd (some refl)
 one_left (suc n) some = omega arith
+
+-- `in` isn't decided by values alone, so an operator that gives one of them takes no key
+in_none : (v u : values.Value) → binary_values_of binary_operator.In v u ≡ Err not_built
+in_none (value.Primitive v) (value.Primitive u) = refl
+in_none (value.Object v) (value.Object u) = refl
+in_none (value.Primitive v) (value.Object u) = refl
+in_none (value.Object v) (value.Primitive u) = refl
+
+pub unkeyed : (o : BinaryOperator) (v u : values.Value) (p : Primitive) → converted o v u ≡ Ok p → is_keyed o ≡ false
+unfolding converted converted_by binary_of
+unkeyed binary_operator.In v u p is = cc (sym (in_none v u) ∙ is)
+unkeyed _ v u p is = refl
 
 -- ---- plans
 
@@ -84,12 +77,9 @@ module _ (tables : Tables) (inputs : inputs.Given) where
   unfolding plan expr_step
   paren_plan place at e s = perform_asked (meaning tables inputs) (an_expr e at) s
 
-  name_plan : (place at : ℕ) (text : List ℕ) (s : State) (v : Val) (t : State) → lookup text s.records at ≡ Some at → (labelled tables inputs).get_name (record { name = text; place = Some at }) (enters (labelled tables inputs)) s ≡ Goes v t
-      → perform (meaning tables inputs) (plan tables inputs (an_expr (trees.name place text) at) s) ≡ Goes v t
-  unfolding plan expr_step read_name perform completed
-  name_plan place at text s v t there reads =
-      ap (λ p. perform (meaning tables inputs) (read_name (planned tables inputs) (asking tables inputs) (record { name = text; place = p }) s)) there
-      ∙ ap (λ o. perform (meaning tables inputs) (as_plan Value o)) reads
+  name_plan : (place at : ℕ) (text : List ℕ) (s : State) (v : Val) (t : State) → get_value (resolved s.records s.heap at text) s ≡ Goes v t → perform (meaning tables inputs) (plan tables inputs (an_expr (trees.name place text) at) s) ≡ Goes v t
+  unfolding plan expr_step read_value perform completed
+  name_plan place at text s v t reads = ap (λ o. perform (meaning tables inputs) (as_plan Value o)) reads
 
   binary_plan : (place at : ℕ) (l r : Expr) (o : BinaryOperator) (s t u : State) (v w : Val) (p : Primitive) → evaluates_both o ≡ true
       → meaning tables inputs (an_expr l at) s ≡ Goes v t → meaning tables inputs (an_expr r at) t ≡ Goes w u → converted o v.value w.value ≡ Ok p
@@ -100,7 +90,7 @@ module _ (tables : Tables) (inputs : inputs.Given) where
       ∙ asked_gave (an_expr l at) (binary_right (planned tables inputs) (asking tables inputs) o r at) s t v left
       ∙ asked_gave (an_expr r at) (binary_values (planned tables inputs) o v) t u w right
       ∙ ap (perform (meaning tables inputs)) (plan_laws.binary_as tables inputs o v w u)
-      ∙ ap (λ x. perform (meaning tables inputs) (as_plan Value x)) (converted_laws.binary_as tables inputs o v w u ∙ ap (λ x. given (union v.label w.label) x u) is)
+      ∙ ap (λ x. perform (meaning tables inputs) (as_plan Value x)) (converted_laws.binary_as tables inputs o v w u (unkeyed o v.value w.value p is) ∙ ap (λ x. given (union v.label w.label) x u) is)
 
 -- ---- what an expression comes to
 
@@ -136,15 +126,12 @@ module _ {S T : Type 0} (made : S → T → Type 0) (meaning_of : S → T → La
     fewer = let fewer = inner.fewer in let below = one_left turns some in omega (arith, below, fewer);
   }
 
-  pub name_evaluated : (store : S) (place at : ℕ) (w : World T) (turns : ℕ) (text : List ℕ) (v : Labelled T) → (turns ≡ 0 → ⊥) → HasRecords (made store) w.records
-      → Some v ≡ option_map (λ b. b.value) (bound_in text (slice_get w.records at)) → Evaluates made meaning_of store (trees.name place text) at w turns v (turns - 1)
-  name_evaluated store place at w turns text v some has is = record {
+  pub name_evaluated : (store : S) (place at : ℕ) (w : World T) (turns : ℕ) (text : List ℕ) (v : Labelled T) → (turns ≡ 0 → ⊥) → IsNamed made meaning_of store at text w v → Evaluates made meaning_of store (trees.name place text) at w turns v (turns - 1)
+  name_evaluated store place at w turns text v some is = record {
     comes = λ tables inputs reading told read.
-        entered tables inputs reading w told (trees.name place text) at turns some
-        ∙ name_plan tables inputs place at text (state_of reading w told (turns - 1)) (read_value reading v) (state_of reading w told (turns - 1))
-        (read_lookup reading text w.records at ∙ binding_of v (bound_in text (slice_get w.records at)) is (lookup text w.records at ≡ Some at) (λ b bound. lookup_own text w.records at b bound))
-        ((name_read made meaning_of store w (Some at) text v is).says reading read told (turns - 1));
-    labelled = name_has (made store) w.records (Some at) text v has is;
+        let s = state_of reading w told (turns - 1) in
+        entered tables inputs reading w told (trees.name place text) at turns some ∙ name_plan tables inputs place at text s (readings.read_value reading v) s (is.comes reading told (turns - 1) read);
+    labelled = is.labelled;
     fewer = one_left turns some;
   }
 
@@ -156,7 +143,7 @@ module _ {S T : Type 0} (made : S → T → Type 0) (meaning_of : S → T → La
     comes = λ tables inputs reading told read.
         let joined : union (reading v.label) (reading u.label) ≡ reading label = ap₂ union (read.agrees v.label first.labelled) (read.agrees u.label second.labelled) ∙ sym means ∙ sym (read.agrees label has) in
         entered tables inputs reading w told (trees.binary place l o r) at turns some
-        ∙ binary_plan tables inputs place at l r o (state_of reading w told (turns - 1)) (state_of reading w told t) (state_of reading w told left) (read_value reading v) (read_value reading u) p both
+        ∙ binary_plan tables inputs place at l r o (state_of reading w told (turns - 1)) (state_of reading w told t) (state_of reading w told left) (readings.read_value reading v) (readings.read_value reading u) p both
         (first.comes tables inputs reading told read) (second.comes tables inputs reading told read) is
         ∙ ap (λ x. Goes (record { value = value.Primitive p; label = x }) (state_of reading w told left)) joined;
     labelled = has;
@@ -170,13 +157,12 @@ module _ {S T : Type 0} (made : S → T → Type 0) (meaning_of : S → T → La
   abbrev pub Counts : S → Expr → ℕ → World T → ℕ → Option (Counted T) → Type 0
   Counts store e at w turns result = IfSome result (λ c. Evaluates made meaning_of store e at w turns (labelled_number c.number c.label) c.turns)
 
-  pub name_counts : (store : S) (e : Expr) (place at : ℕ) (w : World T) (turns : ℕ) (text : List ℕ) (result : Option (Counted T)) → e ≡ trees.name place text → (turns ≡ 0 → ⊥) → HasRecords (made store) w.records
-      → IfSome result (λ c. (Some (labelled_number c.number c.label) ≡ option_map (λ b. b.value) (bound_in text (slice_get w.records at))) × (c.turns ≡ turns - 1)) → Counts store e at w turns result
-  name_counts store e place at w turns text None is some has found = tt
-  name_counts store e place at w turns text (Some c) is some has found =
+  pub name_counts : (store : S) (e : Expr) (place at : ℕ) (w : World T) (turns : ℕ) (text : List ℕ) (result : Option (Counted T)) → e ≡ trees.name place text → (turns ≡ 0 → ⊥)
+      → IfSome result (λ c. IsNamed made meaning_of store at text w (labelled_number c.number c.label)) → IfSome result (λ c. c.turns ≡ turns - 1) → Counts store e at w turns result
+  name_counts store e place at w turns text None is some named left = tt
+  name_counts store e place at w turns text (Some c) is some named left =
       subst (λ x. Evaluates made meaning_of store x at w turns (labelled_number c.number c.label) c.turns) (sym is)
-      (subst (λ n. Evaluates made meaning_of store (trees.name place text) at w turns (labelled_number c.number c.label) n) (sym found.1)
-      (name_evaluated made meaning_of store place at w turns text (labelled_number c.number c.label) some has found.0))
+      (subst (λ n. Evaluates made meaning_of store (trees.name place text) at w turns (labelled_number c.number c.label) n) (sym left) (name_evaluated made meaning_of store place at w turns text (labelled_number c.number c.label) some named))
 
   pub paren_counts : (store : S) (e inner : Expr) (place at : ℕ) (w : World T) (turns : ℕ) (result : Option (Counted T)) → e ≡ trees.paren place inner → (turns ≡ 0 → ⊥) → Counts store inner at w (turns - 1) result → Counts store e at w turns result
   paren_counts store e inner place at w turns None is some counts = tt

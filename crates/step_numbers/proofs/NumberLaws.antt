@@ -27,6 +27,7 @@ converted_numbers : (c : es.Conversion) (o : BinaryOperator) (a b : ℤ) → IsP
 unfolding converted_by binary_of
 converted_numbers es.unconverted o a b p = refl
 converted_numbers es.compared o a b p = refl
+converted_numbers es.keyed o a b p = refl
 converted_numbers (es.primitives hint) o a b p = refl
 converted_numbers es.numbers o a b p = ap (λ r. behind_number o r (value.Primitive (Num b))) (kept a p)
 

@@ -16,9 +16,15 @@ use Rattle.js_number.specs.Arithmetic.{remainder}
 use Rattle.js_values.specs.declared.value.Labelled.{Labelled}
 use Rattle.js_values.specs.declared.value.Value.{Value}
 use Rattle.js_values.specs.declared.value.Value.TheVariants as value
-use Rattle.js_values.specs.Records.{Record, bound_in}
+use Rattle.js_values.specs.Records.{Record, bound_in, lookup}
+use Rattle.js_values.specs.declared.property.Body.{Body}
+use Rattle.js_values.specs.declared.property.Body.TheVariants.{Data, Accessor}
+use Rattle.js_values.specs.declared.property.Slot.{Slot}
+use Rattle.js_values.specs.Objects.{Object}
+use Rattle.object_heap.specs.Formed.{own_in}
 use Rattle.js_values.specs.Readings.{HasValue, IsReading, read_value}
 use Rattle.es_meaning.specs.Outcomes.{Goes}
+use Rattle.es_meaning.specs.Start.{global_object}
 use Rattle.flow_meaning.specs.Scopes.{LabelledLine}
 use Rattle.flow_meaning.specs.Planned.{an_expr, meaning}
 use Rattle.step_world.specs.declared.world.World.{World}
@@ -94,18 +100,39 @@ abbrev pub number_in : Value → Option ℤ
 number_in (value.Primitive (Num n)) = Some n
 number_in _ = None
 
-abbrev pub named : {T : Type 0} → Option (Labelled T) → ℕ → Left ℤ
-named (Some v) turns = left_with (number_in v.value) turns
-named None turns = None
+-- what a value is, if it is there, and what a property of the global object holds
+abbrev pub number_of_value : {T : Type 0} → Option (Labelled T) → Option ℤ
+number_of_value (Some v) = number_in v.value
+number_of_value None = None
+
+abbrev pub number_of_body : Body → Option ℤ
+number_of_body (Data v) = number_in v
+number_of_body (Accessor get set) = None
+
+abbrev pub number_held : {T : Type 0} → Option (Slot T) → Option ℤ
+number_held (Some s) = number_of_body s.body
+number_held None = None
+
+-- the global object
+abbrev pub global_in : {T : Type 0} → List (Object T) → Option (Object T)
+global_in heap = slice_get heap global_object.0
+
+-- the number that a name has: in the record that binds it, or else as the global object's own property
+abbrev pub number_at_place : {T : Type 0} → Option ℕ → List (Record (Labelled T)) → List (Object T) → List ℕ → Option ℤ
+number_at_place (Some i) records heap text = number_of_value (option_map (λ b. b.value) (bound_in text (slice_get records i)))
+number_at_place None records heap text = number_held (own_in text (global_in heap))
+
+abbrev pub name_number : {T : Type 0} → List (Record (Labelled T)) → List (Object T) → ℕ → List ℕ → Option ℤ
+name_number records heap at text = number_at_place (lookup text records at) records heap text
 
 -- two numbers, and then what is made of them
 abbrev pub of_both : {X : Type 0} → (Expr → ℕ → Left ℤ) → Expr → Expr → (ℤ → ℤ → Option X) → ℕ → Left X
 of_both parts l r make turns = and_left (parts l turns) (λ m t. and_left (parts r t) (λ n u. left_with (make m n) u))
 
-module _ {T : Type 0} (records : List (Record (Labelled T))) (at : ℕ) where
-  -- a name of the record, a number, parentheses, or arithmetic; to enter it costs a turn
+module _ {T : Type 0} (records : List (Record (Labelled T))) (heap : List (Object T)) (at : ℕ) where
+  -- a name, a number, parentheses, or arithmetic; to enter it costs a turn
   abbrev pub number_step : (Expr → ℕ → Left ℤ) → Expr → ℕ → Left ℤ
-  number_step parts (name place text) turns = named (option_map (λ b. b.value) (bound_in text (slice_get records at))) turns
+  number_step parts (name place text) turns = left_with (name_number records heap at text) turns
   number_step parts (number_expr place n) turns = Some (n, turns)
   number_step parts (paren place e) turns = parts e turns
   number_step parts (binary place l o r) turns = if combines o then of_both parts l r (combined_of o) turns else None

@@ -9,23 +9,26 @@ ghost use Rattle.js_ast.specs.Views.{view_expr, view_stmt};
 ghost use Rattle.js_number.specs.declared.primitive.Primitive.TheVariants as prims;
 ghost use Rattle.js_values.specs.declared.value.Value.TheVariants as value;
 ghost use Rattle.js_values.specs.Records.{bound_in};
+ghost use Rattle.object_heap.specs.Formed.{own_in};
 ghost use Rattle.es_meaning.specs.Evaluation.{operator_of};
 ghost use Rattle.es_meaning.specs.Operators.{a_primitive, binary_of, unary_of};
 ghost use Rattle.step_world.specs.Worlds.{Belongs};
 ghost use Rattle.step_work.specs.Shapes.{step_of};
-ghost use Rattle.step_numbers.specs.Assigned.{Finishes, Gives, Puts, Rebinds};
-ghost use Rattle.step_numbers.specs.Evaluated.{labelled_number};
+ghost use Rattle.step_numbers.specs.Assigned.{Finishes, Gives, Puts, PutsAt, Rebinds, array_in, is_array, slot_written, written_in};
+ghost use Rattle.es_meaning.specs.Plain.{in_record, on_global};
+ghost use Rattle.step_numbers.specs.Evaluated.{global_in, labelled_number};
 
-use crate::evaluating::{Counted, DEPTH, Evaluated, as_value, joined, named, number};
+use crate::evaluating::{Counted, DEPTH, Evaluated, GLOBAL, as_value, joined, named, number};
 use crate::operators::combined;
+use flow_frames::Rule;
 use flow_text::Text;
 use js_ast::{AssignOperator, BinaryOperator, Expr, ExprKind, PostfixOperator, Stmt, StmtKind};
 use js_number::{Int, Primitive};
-use js_values::{EnvId, Labelled, Value};
+use js_values::{Body, Class, EnvId, Labelled, Slot, Value};
 use origin_labels::Labels;
 use step_world::World;
 
-/// Evaluates an expression in a record, where it gives a name of that record a number: what is assigned is made of names of that record, numbers, parentheses and arithmetic, it isn't deep, and there are turns for it. Where that would throw, stop the run or want memory, it isn't done, and nothing but the store of labels changes.
+/// Evaluates an expression in a record, where it gives a name a number that can be changed: what is assigned is made of names, numbers, parentheses and arithmetic, it isn't deep, and there are turns for it. Where that would throw, stop the run or want memory, it isn't done, and nothing but the store of labels changes.
 pub fn assign<L: Labels>(
     labels: &mut L,
     world: &mut World<L::Label>,
@@ -124,7 +127,7 @@ fn counted_behind<L: Labels>(
     ensures kept { IsKept L.made L.meaning L.room L.firm labels.old labels.new }
 {
     let name = name_of(target)?;
-    let old = named(world, at, turns - 2, name)?;
+    let old = named(labels, world, at, turns - 2, name)?;
     let more = one_more(step_of(operator), old.number)?;
     put(labels, world, at, name, more, old.label)?;
     Some(old)
@@ -174,7 +177,6 @@ fn assigned_value<L: Labels>(
     ensures kept { IsKept L.made L.meaning L.room L.firm labels.old labels.new }
 {
     let name = name_of(target)?;
-    world.records.own(at, name)?;
     let found = number(labels, world, at, turns - 2, DEPTH, value)?;
     put(labels, world, at, name, found.number, found.label)?;
     Some(found)
@@ -200,7 +202,7 @@ fn updated_value<L: Labels>(
 {
     let by = operator_of(operator)?;
     let name = name_of(target)?;
-    let old = named(world, at, turns - 2, name)?;
+    let old = named(labels, world, at, turns - 2, name)?;
     let operand = number(labels, world, at, turns - 2, DEPTH, value)?;
     let given = joined(labels, by, old, operand)?;
     put(labels, world, at, name, given.number, given.label)?;
@@ -231,7 +233,7 @@ fn name_of(e: &Expr) -> Option<&Text>
     }
 }
 
-/// Gives a name that is bound in the record a number, if that can be changed and its label includes the context (rule W1).
+/// Gives a name a number, if it is bound or the global object has a property of the name, that can be changed, and its label includes what rule W1 asks for.
 fn put<L: Labels>(
     labels: &mut L,
     world: &mut World<L::Label>,
@@ -240,7 +242,7 @@ fn put<L: Labels>(
     number: Int,
     label: L::Label,
 ) -> Option<()>
-    requires bound { IsSome (bound_in name.now (slice_get world.old.records at.0)) }
+    requires at { at.0 < length world.old.records }
     requires label { L.made labels.old label }
     requires belongs { Belongs L.made L.meaning labels.old world.old }
     ensures puts { IfSome result (λ _. Puts L.made L.meaning labels.new at.0 name.now (labelled_number number label) world.old world.new) }
@@ -248,13 +250,102 @@ fn put<L: Labels>(
     ensures rebinds { Rebinds L.made L.meaning labels.new world.old world.new }
     ensures kept { IsKept L.made L.meaning L.room L.firm labels.old labels.new }
 {
-    let context = world.frames.context(labels);
     let value = Labelled {
         value: Value::Primitive(Primitive::Num(number)),
         label,
     };
-    match world.records.assign(labels, at, name, context, value) {
+    match world.records.lookup(at, name) {
+        Some(e) => put_bound(labels, world, e, name, value),
+        None => put_global(labels, world, name, value),
+    }
+}
+
+/// Gives a name another value in the record that binds it.
+fn put_bound<L: Labels>(
+    labels: &mut L,
+    world: &mut World<L::Label>,
+    e: EnvId,
+    name: &Text,
+    value: Labelled<L::Label>,
+) -> Option<()>
+    requires bound { IsSome (bound_in name.now (slice_get world.old.records e.0)) }
+    requires label { L.made labels.old value.label }
+    requires belongs { Belongs L.made L.meaning labels.old world.old }
+    ensures puts { IfSome result (λ _. PutsAt L.made L.meaning labels.new (in_record e.0) name.now value world.old world.new) }
+    ensures unchanged { IfNone result (world.new ≡ world.old) }
+    ensures rebinds { Rebinds L.made L.meaning labels.new world.old world.new }
+    ensures kept { IsKept L.made L.meaning L.room L.firm labels.old labels.new }
+{
+    let context = world.frames.context(labels);
+    match world.records.assign(labels, e, name, context, value) {
         Ok(()) => Some(()),
         Err(_) => None,
+    }
+}
+
+/// Gives the global object's own property with a name another value.
+fn put_global<L: Labels>(
+    labels: &mut L,
+    world: &mut World<L::Label>,
+    name: &Text,
+    value: Labelled<L::Label>,
+) -> Option<()>
+    requires label { L.made labels.old value.label }
+    requires belongs { Belongs L.made L.meaning labels.old world.old }
+    ensures there { IfSome result (λ _. IsSome (own_in name.now (global_in world.old.heap))) }
+    ensures puts { IfSome result (λ _. PutsAt L.made L.meaning labels.new on_global name.now value world.old world.new) }
+    ensures unchanged { IfNone result (world.new ≡ world.old) }
+    ensures rebinds { Rebinds L.made L.meaning labels.new world.old world.new }
+    ensures kept { IsKept L.made L.meaning L.room L.firm labels.old labels.new }
+{
+    let walk = written(world, name)?;
+    let context = world.frames.context(labels);
+    let need = labels.join(context, walk).ok()?;
+    match world
+        .heap
+        .write_named(labels, Rule::W1, GLOBAL, name, need, value)
+    {
+        Ok(()) => Some(()),
+        Err(_) => None,
+    }
+}
+
+/// The label of the existence of the global object's own property with a name, if its value can be written over (ECMA-262 8.12.4).
+fn written<T: Copy>(world: &World<T>, name: &Text) -> Option<T>
+    requires { 9 ≤ length world.now.heap }
+    ensures { result ≡ written_in name.now (global_in world.now.heap) }
+{
+    if is_array(world) {
+        return None;
+    }
+    let slot = world.heap.own_named(GLOBAL, name)?;
+    slot_written(slot)
+}
+
+/// Whether the global object is an array.
+fn is_array<T: Copy>(world: &World<T>) -> bool
+    requires { 9 ≤ length world.now.heap }
+    ensures { result ≡ array_in (global_in world.now.heap) }
+{
+    is_array_class(world.heap.shape(GLOBAL).class)
+}
+
+/// Whether it is the class of arrays.
+fn is_array_class(class: Class) -> bool
+    ensures { result ≡ is_array class }
+{
+    matches!(class, Class::Array)
+}
+
+/// The label of the existence of a property whose value can be written over.
+fn slot_written<T: Copy>(slot: &Slot<T>) -> Option<T>
+    ensures { result ≡ slot_written slot.now }
+{
+    if !slot.marks.writable {
+        return None;
+    }
+    match &slot.body {
+        Body::Data(_) => Some(slot.existence),
+        Body::Accessor { .. } => None,
     }
 }

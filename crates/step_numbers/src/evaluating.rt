@@ -1,26 +1,32 @@
 //! Expressions of names and numbers.
 
-ghost use Rattle.std.specs.Prelude.{◌≡◌, ◌<◌, ◌-◌, ℕ, true, Ok, Some, IfSome, length, slice_get};
+ghost use Rattle.std.specs.Prelude.{◌≡◌, ◌<◌, ℕ, true, Ok, Some, IfSome, IsSome, length, slice_get};
 ghost use Rattle.std.specs.Option.{option_map};
 ghost use Rattle.origin_labels.specs.Stores.{IsKept};
 ghost use Rattle.js_ast.specs.Trees as trees;
 ghost use Rattle.js_ast.specs.Views.{view_expr};
-ghost use Rattle.js_values.specs.Readings.{HasRecords, HasValue};
+ghost use Rattle.js_values.specs.declared.property.Body.TheVariants.{Data};
+ghost use Rattle.step_world.specs.Worlds.{Belongs};
 ghost use Rattle.js_values.specs.Records.{bound_in};
 ghost use Rattle.js_number.specs.declared.primitive.Primitive.TheVariants as prims;
 ghost use Rattle.origin_labels.specs.Label.{union};
 ghost use Rattle.js_values.specs.declared.value.Value.TheVariants as value;
 ghost use Rattle.step_values.specs.Converted.{converted};
 ghost use Rattle.step_work.specs.Shapes.{evaluates_both};
-ghost use Rattle.step_numbers.specs.Evaluated.{Evaluates, as_value, combined_of, labelled_number, left_with, named, number_at, truth_at, value_at};
+ghost use Rattle.step_numbers.specs.Evaluated.{Evaluates, as_value, combined_of, global_in, labelled_number, left_with, name_number, number_at, number_held, number_of_body, number_of_value, truth_at, value_at};
+ghost use Rattle.object_heap.specs.Formed.{own_in};
+ghost use Rattle.step_numbers.specs.Named.{IsHeld, IsNamed};
 
 use crate::operators::{combined, combines, compared, compares};
 use flow_text::Text;
 use js_ast::{BinaryOperator, Expr, ExprKind};
 use js_number::{Int, Primitive};
-use js_values::{EnvId, Labelled, Value};
+use js_values::{Body, EnvId, Labelled, ObjId, Value};
 use origin_labels::Labels;
 use step_world::World;
+
+// The global object, with which a run starts.
+pub(crate) const GLOBAL: ObjId = ObjId(1);
 
 // A deeper expression is evaluated node by node, so that each node is tried at most so many times.
 pub(crate) const DEPTH: u32 = 8;
@@ -42,7 +48,7 @@ pub(crate) struct Counted<T> {
     pub(crate) turns: u64,
 }
 
-/// Evaluates an expression in a record, where it is made of names of that record, numbers, parentheses and operators between numbers, with one comparison outermost or none, it isn't deep, and there are turns for it. Nothing but the store of labels changes.
+/// Evaluates an expression in a record, where it is made of names, numbers, parentheses and operators between numbers, with one comparison outermost or none, it isn't deep, and there are turns for it. Nothing but the store of labels changes.
 pub fn evaluate<L: Labels>(
     labels: &mut L,
     world: &World<L::Label>,
@@ -50,9 +56,9 @@ pub fn evaluate<L: Labels>(
     turns: u64,
     e: &Expr,
 ) -> Option<Evaluated<L::Label>>
-    requires records { HasRecords (L.made labels.old) world.now.records }
+    requires belongs { Belongs L.made L.meaning labels.old world.now }
     requires at { at.0 < length world.now.records }
-    ensures exact { L.firm labels.old ≡ true → option_map (λ x. (x.value.value, x.turns)) result ≡ value_at world.now.records at.0 8 (view_expr e.now) turns }
+    ensures exact { L.firm labels.old ≡ true → option_map (λ x. (x.value.value, x.turns)) result ≡ value_at world.now.records world.now.heap at.0 8 (view_expr e.now) turns }
     ensures evaluates { IfSome result (λ x. Evaluates L.made L.meaning labels.new (view_expr e.now) at.0 world.now turns x.value x.turns) }
     ensures kept { IsKept L.made L.meaning L.room L.firm labels.old labels.new }
 {
@@ -95,9 +101,9 @@ fn comparison<L: Labels>(
     operator: BinaryOperator,
     right: &Expr,
 ) -> Option<Evaluated<L::Label>>
-    requires records { HasRecords (L.made labels.old) world.now.records }
+    requires belongs { Belongs L.made L.meaning labels.old world.now }
     requires at { at.0 < length world.now.records }
-    ensures exact { L.firm labels.old ≡ true → option_map (λ x. (x.value.value, x.turns)) result ≡ as_value world.now.records at.0 prims.Bool (truth_at world.now.records at.0 8 operator (view_expr left.now) (view_expr right.now) turns) }
+    ensures exact { L.firm labels.old ≡ true → option_map (λ x. (x.value.value, x.turns)) result ≡ as_value world.now.records world.now.heap at.0 prims.Bool (truth_at world.now.records world.now.heap at.0 8 operator (view_expr left.now) (view_expr right.now) turns) }
     ensures evaluates { (place : ℕ) → IfSome result (λ x. Evaluates L.made L.meaning labels.new (trees.binary place (view_expr left.now) operator (view_expr right.now)) at.0 world.now turns x.value x.turns) }
     ensures kept { IsKept L.made L.meaning L.room L.firm labels.old labels.new }
 {
@@ -129,10 +135,11 @@ pub(crate) fn number<L: Labels>(
     depth: u32,
     e: &Expr,
 ) -> Option<Counted<L::Label>>
-    requires records { HasRecords (L.made labels.old) world.now.records }
+    requires belongs { Belongs L.made L.meaning labels.old world.now }
     requires at { at.0 < length world.now.records }
-    ensures exact { L.firm labels.old ≡ true → option_map (λ c. (c.number, c.turns)) result ≡ number_at world.now.records at.0 depth (view_expr e.now) turns }
+    ensures exact { L.firm labels.old ≡ true → option_map (λ c. (c.number, c.turns)) result ≡ number_at world.now.records world.now.heap at.0 depth (view_expr e.now) turns }
     ensures evaluates { IfSome result (λ c. Evaluates L.made L.meaning labels.new (view_expr e.now) at.0 world.now turns (labelled_number c.number c.label) c.turns) }
+    ensures belongs { Belongs L.made L.meaning labels.new world.now }
     ensures kept { IsKept L.made L.meaning L.room L.firm labels.old labels.new }
 {
     if turns == 0 || depth == 0 {
@@ -140,7 +147,7 @@ pub(crate) fn number<L: Labels>(
     }
     let turns = turns - 1;
     match &*e.kind {
-        ExprKind::Name(name) => named(world, at, turns, name),
+        ExprKind::Name(name) => named(labels, world, at, turns, name),
         ExprKind::Number(n) => Some(Counted {
             number: *n,
             label: labels.bottom(),
@@ -178,24 +185,75 @@ pub(crate) fn number<L: Labels>(
     }
 }
 
-/// The number that a name has in the record.
-pub(crate) fn named<T: Copy>(
-    world: &World<T>,
+/// The number that a name has, which a record binds from this one on, or else the global object itself (ECMA-262 10.3.1, 10.2.1.2.4).
+pub(crate) fn named<L: Labels>(
+    labels: &mut L,
+    world: &World<L::Label>,
     at: EnvId,
     turns: u64,
     name: &Text,
-) -> Option<Counted<T>>
-    requires { at.0 < length world.now.records }
-    ensures exact { option_map (λ c. (c.number, c.turns)) result ≡ named (option_map (λ b. b.value) (bound_in name.now (slice_get world.now.records at.0))) turns }
-    ensures found { IfSome result (λ c. (Some (labelled_number c.number c.label) ≡ option_map (λ b. b.value) (bound_in name.now (slice_get world.now.records at.0))) × (c.turns ≡ turns)) }
+) -> Option<Counted<L::Label>>
+    requires at { at.0 < length world.now.records }
+    requires belongs { Belongs L.made L.meaning labels.old world.now }
+    ensures exact { L.firm labels.old ≡ true → option_map (λ c. (c.number, c.turns)) result ≡ left_with (name_number world.now.records world.now.heap at.0 name.now) turns }
+    ensures named { IfSome result (λ c. IsNamed L.made L.meaning labels.new at.0 name.now world.now (labelled_number c.number c.label)) }
+    ensures left { IfSome result (λ c. c.turns ≡ turns) }
+    ensures kept { IsKept L.made L.meaning L.room L.firm labels.old labels.new }
 {
-    let found = world.records.own(at, name)?;
+    match world.records.lookup(at, name) {
+        Some(e) => bound_number(world, e, turns, name),
+        None => global_number(labels, world, turns, name),
+    }
+}
+
+/// The number that a record binds a name to.
+fn bound_number<T: Copy>(world: &World<T>, e: EnvId, turns: u64, name: &Text) -> Option<Counted<T>>
+    requires { IsSome (bound_in name.now (slice_get world.now.records e.0)) }
+    ensures exact { option_map (λ c. (c.number, c.turns)) result ≡ left_with (number_of_value (option_map (λ b. b.value) (bound_in name.now (slice_get world.now.records e.0)))) turns }
+    ensures found { IfSome result (λ c. Some (labelled_number c.number c.label) ≡ option_map (λ b. b.value) (bound_in name.now (slice_get world.now.records e.0))) }
+    ensures left { IfSome result (λ c. c.turns ≡ turns) }
+{
+    let found = world.records.read(e, name);
     match &found.value {
         Value::Primitive(Primitive::Num(n)) => Some(Counted {
             number: *n,
             label: found.label,
             turns,
         }),
+        _ => None,
+    }
+}
+
+/// The number that the global object's own property with the name holds. That the property is there depends on the label of its existence, which its value has besides.
+fn global_number<L: Labels>(
+    labels: &mut L,
+    world: &World<L::Label>,
+    turns: u64,
+    name: &Text,
+) -> Option<Counted<L::Label>>
+    requires { Belongs L.made L.meaning labels.old world.now }
+    ensures exact { L.firm labels.old ≡ true → option_map (λ c. (c.number, c.turns)) result ≡ left_with (number_held (own_in name.now (global_in world.now.heap))) turns }
+    ensures held { IfSome result (λ c. IsHeld L.made L.meaning labels.new name.now world.now.heap (labelled_number c.number c.label)) }
+    ensures left { IfSome result (λ c. c.turns ≡ turns) }
+    ensures kept { IsKept L.made L.meaning L.room L.firm labels.old labels.new }
+{
+    let slot = world.heap.own_named(GLOBAL, name)?;
+    let number = held_number(&slot.body)?;
+    let label = labels.join(slot.existence, slot.label).ok()?;
+    Some(Counted {
+        number,
+        label,
+        turns,
+    })
+}
+
+/// The number that a property holds.
+fn held_number(body: &Body) -> Option<Int>
+    ensures exact { result ≡ number_of_body body.now }
+    ensures holds { IfSome result (λ n. body.now ≡ Data (value.Primitive (prims.Num n))) }
+{
+    match body {
+        Body::Data(Value::Primitive(Primitive::Num(n))) => Some(*n),
         _ => None,
     }
 }

@@ -1,28 +1,30 @@
 -- The first objects, one by one, in a reading of their labels.
-use Rattle.std.proofs.Common.{arith, refl, sym, ap, ap₂, ◌∙◌, ◌≡◌, ℕ, Bool, true, false, List, [], ◌∷◌, ◌++◌, append_assoc, length, set, subst, codes, Option, Some, None, Result, Ok, Err, if◌then◌else◌}
+use Rattle.std.proofs.Common.{arith, refl, sym, ap, ap₂, ◌∙◌, ◌≡◌, ℕ, Bool, List, [], ◌∷◌, ◌++◌, append_assoc, length, set, subst, codes, Option, Some, None, Ok}
 use Rattle.std.specs.List.{slice_get}
 use Rattle.std.specs.Option.{option_map}
 use Rattle.std.proofs.lemmas.List.{map-append, length-map}
 use Rattle.std.proofs.lemmas.List.Elements.{All-nil, All-push}
-use Rattle.std.proofs.lemmas.Option.{none-some, slice_get-map}
-use Rattle.origin_labels.specs.Label.{Label, bottom, union, within}
-use Rattle.origin_labels.specs.Names.{same_name}
+use Rattle.std.proofs.lemmas.Option.{none-some}
+use Rattle.origin_labels.specs.Label.{Label, bottom}
 use Rattle.origin_labels.specs.Stores.{IsKept}
-use Rattle.flow_frames.specs.declared.faults.FlowStop.{FlowStop}
 use Rattle.js_values.specs.declared.ids.ObjId.{ObjId}
 use Rattle.js_values.specs.declared.property.Body.{Body}
+use Rattle.js_values.specs.declared.property.Body.TheVariants.{Data}
 use Rattle.js_values.specs.declared.property.Slot.{Slot}
 use Rattle.js_values.specs.declared.inner.Class.{Class}
 use Rattle.js_values.specs.declared.inner.Class.TheVariants as class
 use Rattle.js_values.specs.declared.inner.Inner.TheVariants.{Plain}
-use Rattle.js_values.specs.Objects.{Rows, Object, PlainObject, own, fresh_object}
-use Rattle.js_values.specs.Readings.{IsReading, HasObject, HasHeap, read_slot, read_rows, read_object, read_heap}
+use Rattle.js_values.specs.Objects.{Rows, Property, Object, PlainObject, plain, own, fresh_plain, fresh_object}
+use Rattle.js_values.specs.Readings.{IsReading, HasObject, HasHeap, read_slot, read_object, read_heap}
 use Rattle.js_values.proofs.ReadingLaws.{IsReading-earlier}
-use Rattle.object_heap.specs.Acts.{put_back, on_object, add_absent, add, new_object}
+use Rattle.object_heap.specs.Acts.{new_object}
+use Rattle.object_heap.specs.Arrays.{element_of}
 use Rattle.object_heap.specs.Formed.{own_in}
-use Rattle.es_meaning.specs.Start.{text_property, object_prototype, start_heap}
+use Rattle.es_meaning.specs.Start.{id, text_property, fixed, object_prototype}
+use Rattle.es_meaning.specs.Plain.{undefined}
 use Rattle.flow_meaning.specs.Erased.{unlabelled_object, unlabelled_heap}
-use Rattle.step_start.specs.First.{named, kinds, Makes}
+use Rattle.step_start.specs.First.{first_two, named, Makes, Adds}
+use Rattle.step_start.proofs.AddingLaws.{slot_in, adding, added_there, done_to, read_own_in}
 
 -- ---- the last of several
 
@@ -36,57 +38,22 @@ set_last (z ∷ xs) x y = ap (λ more. z ∷ more) (set_last xs x y)
 
 -- ---- a property that is added to the last object
 
--- an object of errors with empty labels
-abbrev pub error_object : ObjId → Rows (Slot Label) → Object Label
-error_object proto rows = record (fresh_object class.Error Plain (Some proto) bottom bottom) { rows = rows }
+-- an object with empty labels
+abbrev pub with_properties : Class → Option ObjId → Rows (Slot Label) → Object Label
+with_properties c proto rows = record (fresh_object c Plain proto bottom bottom) { rows = rows }
 
-abbrev pub text_slot : List ℕ → Slot Label
-text_slot text = record { body = (text_property text).body; label = bottom; existence = bottom; marks = (text_property text).marks }
-
-abbrev adding : List ℕ → List ℕ → ℕ → List (Object Label) → Result (List (Object Label)) (FlowStop Label)
-adding key text o heap = add o key bottom (text_property text).body bottom (text_property text).marks heap
-
-added_absent : (heap : List (Object Label)) (o : ℕ) (proto : ObjId) (rows : Rows (Slot Label)) (key text : List ℕ) (s : Option (Slot Label)) → s ≡ None
-    → put_back heap o (add_absent s key bottom (text_property text).body bottom (text_property text).marks (error_object proto rows)) ≡ Ok (set heap o (error_object proto (rows ++ (key, text_slot text) ∷ [])))
-unfolding union within
-added_absent heap o proto rows key text s none = ap (λ (s : Option (Slot Label)). put_back heap o (add_absent s key bottom (text_property text).body bottom (text_property text).marks (error_object proto rows))) none
-
-added_last : (front : List (Object Label)) (o : ℕ) (proto : ObjId) (rows : Rows (Slot Label)) (key text : List ℕ) → o ≡ length front → own key rows ≡ None
-    → adding key text o (front ++ error_object proto rows ∷ []) ≡ Ok (front ++ error_object proto (rows ++ (key, text_slot text) ∷ []) ∷ [])
-added_last front o proto rows key text place absent =
-    let p = error_object proto rows in
-    let heap = front ++ p ∷ [] in
-    ap (λ n. adding key text n heap) place
-    ∙ ap (λ (x : Option (Object Label)). on_object x heap (length front) (λ q. add_absent (own key q.rows) key bottom (text_property text).body bottom (text_property text).marks q)) (at_last front p)
-    ∙ added_absent heap (length front) proto rows key text (own key rows) absent
-    ∙ ap (λ (h : List (Object Label)). Ok h) (set_last front p (error_object proto (rows ++ (key, text_slot text) ∷ [])))
-
--- what was done
-abbrev done_to : Result (List (Object Label)) (FlowStop Label) → List (Object Label)
-done_to (Ok heap) = heap
-done_to (Err stop) = []
+added_last : (front : List (Object Label)) (o : ℕ) (c : Class) (proto : Option ObjId) (rows : Rows (Slot Label)) (key : List ℕ) (p : Property) → o ≡ length front → element_of c key ≡ None → own key rows ≡ None
+    → adding key p o (front ++ with_properties c proto rows ∷ []) ≡ Ok (front ++ with_properties c proto (rows ++ (key, slot_in bottom p) ∷ []) ∷ [])
+added_last front o c proto rows key p place no_element absent =
+    let q = with_properties c proto rows in
+    let heap = front ++ q ∷ [] in
+    ap (λ n. adding key p n heap) place
+    ∙ added_there heap (length front) q key p (at_last front q) no_element absent
+    ∙ ap (λ (h : List (Object Label)). Ok h) (set_last front q (with_properties c proto (rows ++ (key, slot_in bottom p) ∷ [])))
 
 none_mapped : {A B : Type 0} (f : A → B) (x : Option A) → option_map f x ≡ None → x ≡ None
 none_mapped f None e = refl
 none_mapped f (Some a) e = absurd (none-some (f a) (sym e))
-
--- ---- what an object has, in a reading
-
-module _ {T : Type 0} (reading : T → Label) where
-  read_own_at : (r : List ℕ × Slot T) (rest : Option (Slot Label)) (more : Option (Slot T)) (test : Bool) → rest ≡ option_map (read_slot reading) more → (if test then Some (read_slot reading r.1) else rest) ≡ option_map (read_slot reading) (if test then Some r.1 else more)
-  read_own_at r rest more true same = refl
-  read_own_at r rest more false same = same
-
-  read_own : (key : List ℕ) (rows : Rows (Slot T)) → own key (read_rows reading rows) ≡ option_map (read_slot reading) (own key rows)
-  read_own key [] = refl
-  read_own key (r ∷ rows) = read_own_at r (own key (read_rows reading rows)) (own key rows) (same_name r.0 key) (read_own key rows)
-
-  own_there : (key : List ℕ) (p : Option (Object T)) → own_in key (option_map (read_object reading) p) ≡ option_map (read_slot reading) (own_in key p)
-  own_there key None = refl
-  own_there key (Some p) = read_own key p.rows
-
-  read_own_in : (key : List ℕ) (heap : List (Object T)) (o : ℕ) → own_in key (slice_get (read_heap reading heap) o) ≡ option_map (read_slot reading) (own_in key (slice_get heap o))
-  read_own_in key heap o = ap (own_in key) (slice_get-map (read_object reading) heap o) ∙ own_there key (slice_get heap o)
 
 -- ---- objects that are made
 
@@ -120,30 +87,39 @@ module _ {S T : Type 0} (made : S → T → Type 0) (meaning : S → T → Label
         ∙ ap (λ h. read_heap reading a ++ h) (sym (unlabelled_append xs ys));
   }
 
-  -- a text is added with the empty label
-  pub text_added : (s t : S) (kept : IsKept made meaning room firm s t) (none : T) (m : made s none) (empty : meaning s none ≡ bottom) (o : ℕ) (key text copied : List ℕ) (body : Body) (old new : List (Object T)) → copied ≡ key → body ≡ (text_property text).body
-      → ((reading : T → Label) → IsReading made meaning t reading → add o copied (reading none) body (reading none) (text_property text).marks (read_heap reading old) ≡ Ok (read_heap reading new))
-      → (reading : T → Label) → IsReading made meaning t reading → adding key text o (read_heap reading old) ≡ Ok (read_heap reading new)
-  text_added s t kept none m empty o key text copied body old new same_key same_body does reading is =
-      let here = (IsReading-earlier made meaning room firm s t reading kept is).agrees none m ∙ empty in
-      ap₂ (λ k (l : Label). add o k l (text_property text).body l (text_property text).marks (read_heap reading old)) (sym same_key) (sym here)
-      ∙ ap (λ (b : Body). add o copied (reading none) b (reading none) (text_property text).marks (read_heap reading old)) (sym same_body)
-      ∙ does reading is
+  -- the prototype of all objects, and the global object with `undefined`
+  pub global_made : (s t : S) (kept : IsKept made meaning room firm s t) (none : T) (m : made s none) (empty : meaning s none ≡ bottom) (proto o : ObjId) (key : List ℕ) (body : Body) (nothing one two three : List (Object T))
+      → nothing ≡ [] → proto.0 ≡ length nothing → one ≡ new_object class.Object None none none Plain nothing → o.0 ≡ length one → two ≡ new_object class.Object (Some proto) none none Plain one
+      → key ≡ codes "undefined" → body ≡ Data undefined → Adds made meaning t o.0 key body fixed two three → Makes made meaning t first_two [] three
+  global_made s t kept none m empty proto o key body nothing one two three is_none proto_is is_one place is_two key_is body_is adds = record {
+    says = λ reading is.
+        let here = (IsReading-earlier made meaning room firm s t reading kept is).agrees none m ∙ empty in
+        let front = unlabelled_object (fresh_plain class.Object plain None) ∷ [] in
+        let first = is_one ∙ ap (new_object class.Object None none none Plain) is_none in
+        let read_one : read_heap reading one ≡ front = ap (read_heap reading) first ∙ read_made reading class.Object None none [] here in
+        let read_two = ap (read_heap reading) is_two ∙ read_made reading class.Object (Some proto) none one here
+        ∙ ap₂ (λ (h : List (Object Label)) n. h ++ fresh_object class.Object Plain (Some (id n)) bottom bottom ∷ []) read_one (proto_is ∙ ap length is_none) in
+        ap done_to
+        (sym (adds.says reading is)
+        ∙ ap (λ (b : Body). adding key (record { body = b; marks = fixed }) o.0 (read_heap reading two)) body_is
+        ∙ ap₂ (λ k (h : List (Object Label)). adding k (record { body = Data undefined; marks = fixed }) o.0 h) key_is read_two
+        ∙ added_last front o.0 class.Object (Some object_prototype) [] (codes "undefined") (record { body = Data undefined; marks = fixed }) (place ∙ ap length first) refl refl);
+  }
 
   -- the prototype of errors of a name: it is made, and gets its name
   module _ (s t : S) (kept : IsKept made meaning room firm s t) (none : T) (m : made s none) (empty : meaning s none ≡ bottom) (name : List ℕ) (proto o : ObjId) (heap fresh after : List (Object T)) (number : o.0 ≡ length heap)
       (is_made : fresh ≡ new_object class.Error (Some proto) none none Plain heap)
-      (adds : (reading : T → Label) → IsReading made meaning t reading → adding (codes "name") name o.0 (read_heap reading fresh) ≡ Ok (read_heap reading after)) where
+      (adds : Adds made meaning t o.0 (codes "name") (text_property name).body (text_property name).marks fresh after) where
     place : (reading : T → Label) → o.0 ≡ length (read_heap reading heap)
     place reading = number ∙ sym (length-map heap (read_object reading))
 
     earlier : (reading : T → Label) → IsReading made meaning t reading → IsReading made meaning s reading
     earlier reading is = IsReading-earlier made meaning room firm s t reading kept is
 
-    has_name : (reading : T → Label) → IsReading made meaning t reading → read_heap reading after ≡ read_heap reading heap ++ error_object proto ((codes "name", text_slot name) ∷ []) ∷ []
+    has_name : (reading : T → Label) → IsReading made meaning t reading → read_heap reading after ≡ read_heap reading heap ++ with_properties class.Error (Some proto) ((codes "name", slot_in bottom (text_property name)) ∷ []) ∷ []
     has_name reading is =
         let here = ap (read_heap reading) is_made ∙ read_made reading class.Error (Some proto) none heap ((earlier reading is).agrees none m ∙ empty) in
-        ap done_to (sym (adds reading is) ∙ ap (adding (codes "name") name o.0) here ∙ added_last (read_heap reading heap) o.0 proto [] (codes "name") name (place reading) refl)
+        ap done_to (sym (adds.says reading is) ∙ ap (adding (codes "name") (text_property name) o.0) here ∙ added_last (read_heap reading heap) o.0 class.Error (Some proto) [] (codes "name") (text_property name) (place reading) refl refl)
 
     -- it has no message yet
     pub no_message : own_in (codes "message") (slice_get after o.0) ≡ None
@@ -152,30 +128,15 @@ module _ {S T : Type 0} (made : S → T → Type 0) (meaning : S → T → Label
         none_mapped (read_slot reading) (own_in (codes "message") (slice_get after o.0))
         (sym (read_own_in reading (codes "message") after o.0)
         ∙ ap₂ (λ (h : List (Object Label)) n. own_in (codes "message") (slice_get h n)) (has_name reading (record { agrees = λ l h. refl })) (place reading)
-        ∙ ap (own_in (codes "message")) (at_last (read_heap reading heap) (error_object proto ((codes "name", text_slot name) ∷ []))))
+        ∙ ap (own_in (codes "message")) (at_last (read_heap reading heap) (with_properties class.Error (Some proto) ((codes "name", slot_in bottom (text_property name)) ∷ []))))
 
     -- and its message
     pub prototype_made : (u : S) (last : List (Object T)) → IsKept made meaning room firm t u
-        → ((reading : T → Label) → IsReading made meaning u reading → adding (codes "message") [] o.0 (read_heap reading after) ≡ Ok (read_heap reading last)) → Makes made meaning u (named name proto ∷ []) heap last
+        → Adds made meaning u o.0 (codes "message") (text_property []).body (text_property []).marks after last → Makes made meaning u (named name proto ∷ []) heap last
     prototype_made u last later adds_message = record {
       says = λ reading is.
           ap done_to
-          (sym (adds_message reading is)
-          ∙ ap (adding (codes "message") [] o.0) (has_name reading (IsReading-earlier made meaning room firm t u reading later is))
-          ∙ added_last (read_heap reading heap) o.0 proto ((codes "name", text_slot name) ∷ []) (codes "message") [] (place reading) refl);
+          (sym (adds_message.says reading is)
+          ∙ ap (adding (codes "message") (text_property []) o.0) (has_name reading (IsReading-earlier made meaning room firm t u reading later is))
+          ∙ added_last (read_heap reading heap) o.0 class.Error (Some proto) ((codes "name", slot_in bottom (text_property name)) ∷ []) (codes "message") (text_property []) (place reading) refl refl);
     }
-
-  -- the first two objects, the prototype of all errors and those of the kinds of errors
-  pub started : (s t u : S) (none : T) (one two three four : List (Object T)) → IsKept made meaning room firm s t → IsKept made meaning room firm t u → made s none → meaning s none ≡ bottom
-      → one ≡ new_object class.Object None none none Plain [] → two ≡ new_object class.Object (Some object_prototype) none none Plain one
-      → Makes made meaning t (named (codes "Error") object_prototype ∷ []) two three → Makes made meaning u kinds three four → Makes made meaning u start_heap [] four
-  started s t u none one two three four kept later m empty is_one is_two error_made kinds_made = record {
-    says = λ reading is.
-        let earlier = IsReading-earlier made meaning room firm t u reading later is in
-        let here = (IsReading-earlier made meaning room firm s t reading kept earlier).agrees none m ∙ empty in
-        let first_two = ap (read_heap reading) (is_two ∙ ap (new_object class.Object (Some object_prototype) none none Plain) is_one)
-        ∙ ap (λ (l : Label). fresh_object class.Object Plain None l l ∷ fresh_object class.Object Plain (Some object_prototype) l l ∷ []) here in
-        kinds_made.says reading is
-        ∙ ap (λ h. h ++ unlabelled_heap kinds) (error_made.says reading earlier)
-        ∙ ap (λ h. (h ++ unlabelled_heap (named (codes "Error") object_prototype ∷ [])) ++ unlabelled_heap kinds) first_two;
-  }

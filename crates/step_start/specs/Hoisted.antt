@@ -1,23 +1,29 @@
--- Names that are bound in a record in turn, each unless the record has it.
-use Rattle.std.specs.Prelude.{ℕ, true, List, [], ◌∷◌, Option, Some, None, slice_get}
+-- The variables of the outermost code, as they are declared.
+use Rattle.std.specs.Prelude.{◌≡◌, ℕ, Bool, ◌||◌, List, ◌∷◌, Some, None, is_some, slice_get}
+use Rattle.origin_labels.specs.Label.{Label}
+use Rattle.js_values.specs.declared.value.Value.TheVariants as value
 use Rattle.js_values.specs.declared.value.Labelled.{Labelled}
-use Rattle.js_values.specs.Records.{Binding, Record, bound_in}
-use Rattle.env_records.specs.Acts.{bind}
-use Rattle.es_meaning.specs.Plain.{undefined}
+use Rattle.js_values.specs.declared.inner.Class.TheVariants as class
+use Rattle.js_values.specs.Objects.{PlainObject, Object}
+use Rattle.js_values.specs.Readings.{IsReading, read_heap}
+use Rattle.object_heap.specs.Formed.{own_in}
+use Rattle.es_meaning.specs.Start.{object_prototype, global_object}
+use Rattle.es_meaning.specs.Plain.{with_variables}
+use Rattle.flow_meaning.specs.Erased.{unlabelled_heap}
 
--- undefined, with a label
-abbrev pub undefined_with : {T : Type 0} → T → Labelled T
-undefined_with label = record { value = undefined; label = label }
+-- the global object has the key, itself or from its prototype
+abbrev pub is_there : {T : Type 0} → List ℕ → List (Object T) → Bool
+is_there key heap = is_some (own_in key (slice_get heap global_object.0)) || is_some (own_in key (slice_get heap object_prototype.0))
 
-abbrev pub bound_unless : {V : Type 0} → Option (Binding V) → V → ℕ → List (Record V) → List ℕ → List (Record V)
-bound_unless (Some b) v i records name = records
-bound_unless None v i records name = bind i (record { name = name; mutable = true; value = v }) records
+-- the first objects are one with no prototype, and the global object, whose prototype that is
+abbrev pub HasGlobal : List PlainObject → Type 0
+HasGlobal (root ∷ global ∷ others) = (root.proto ≡ None) × (global.class ≡ class.Object) × (global.proto ≡ Some object_prototype)
+HasGlobal _ = ⊥
 
--- the name, in the record with this number
-unfoldable pub with_bound : {V : Type 0} → V → ℕ → List (Record V) → List ℕ → List (Record V)
-with_bound v i records name = bound_unless (bound_in name (slice_get records i)) v i records name
+-- the names are declared in their order, with empty labels, on objects that have empty labels, in each reading that agrees with the store
+pub record Declares {S T : Type 0} (made : S → T → Type 0) (meaning : S → T → Label) (store : S) (names : List (List ℕ)) (old new : List (Object T)) : Type 0 where
+  pub says : (reading : T → Label) → IsReading made meaning store reading → (objects : List PlainObject) → HasGlobal objects → read_heap reading old ≡ unlabelled_heap objects → read_heap reading new ≡ unlabelled_heap (with_variables names objects)
 
--- the names in their order
-unfoldable pub hoisted : {V : Type 0} → V → ℕ → List (Record V) → List (List ℕ) → List (Record V)
-hoisted v i records [] = records
-hoisted v i records (name ∷ names) = hoisted v i (with_bound v i records name) names
+-- the global object, with a label
+abbrev pub global_with : {T : Type 0} → T → Labelled T
+global_with label = record { value = value.Object global_object; label = label }

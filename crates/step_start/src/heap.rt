@@ -1,20 +1,22 @@
 //! The objects that a run starts with (ECMA-262 15). All their labels are empty.
 
-ghost use Rattle.std.specs.Prelude.{◌≡◌, ◌<◌, ◌≤◌, ◌+◌, [], ◌∷◌, ◌++◌, Ok, None, OnOk, IfOk, length, slice_get};
-ghost use Rattle.origin_labels.specs.Label.{Label, bottom};
+ghost use Rattle.std.specs.Prelude.{◌≡◌, ◌<◌, ◌≤◌, ◌+◌, [], ◌∷◌, None, OnOk, IfOk, length, slice_get};
 ghost use Rattle.origin_labels.specs.Stores.{IsKept};
-ghost use Rattle.js_values.specs.Readings.{IsReading, HasHeap, read_heap};
-ghost use Rattle.object_heap.specs.Acts.{add};
+ghost use Rattle.js_values.specs.Readings.{HasHeap};
 ghost use Rattle.object_heap.specs.Formed.{own_in};
 ghost use Rattle.es_meaning.specs.Start.{start_heap, text_property, error_prototype, error};
-ghost use Rattle.step_start.specs.First.{named, kinds, Makes};
+ghost use Rattle.step_start.specs.First.{first_two, named, kinds, Makes, Adds};
 
-use flow_text::{OutOfMemory, Text};
+use crate::adding::{OBJECT_PROTOTYPE, add_property, text_of, undefined_body};
+use flow_text::OutOfMemory;
 use js_number::Primitive;
 use js_values::{Body, Class, Inner, Key, Marks, ObjId, Value};
 use object_heap::Heap;
 use origin_labels::Labels;
 use std::alloc::Global;
+
+/// `undefined`
+const UNDEFINED: [u16; 9] = [0x75, 0x6E, 0x64, 0x65, 0x66, 0x69, 0x6E, 0x65, 0x64];
 
 /// `name`
 const NAME: [u16; 4] = [0x6E, 0x61, 0x6D, 0x65];
@@ -50,20 +52,8 @@ const TYPE_ERROR: [u16; 9] = [0x54, 0x79, 0x70, 0x65, 0x45, 0x72, 0x72, 0x6F, 0x
 /// `URIError`
 const URI_ERROR: [u16; 8] = [0x55, 0x52, 0x49, 0x45, 0x72, 0x72, 0x6F, 0x72];
 
-/// The prototype of all objects.
-const OBJECT_PROTOTYPE: ObjId = ObjId(0);
-
 /// The prototype of errors, and of the prototypes of the other kinds of errors.
 const ERROR_PROTOTYPE: ObjId = ObjId(2);
-
-/// A text of these units.
-pub(crate) fn text_of(alloc: Global, units: &[u16]) -> Result<Text, OutOfMemory>
-    ensures { IfOk result (λ t. t ≡ units.now) }
-{
-    let mut text = Text::new(alloc);
-    text.push_units(units)?;
-    Ok(text)
-}
 
 // A property of a built-in object (ECMA-262 15), which is a text.
 fn text_body(alloc: Global, units: &[u16]) -> Result<Body, OutOfMemory>
@@ -85,23 +75,19 @@ fn add_text<T: Copy, L: Labels<Label = T>>(
     requires there { o.0 < length heap.old }
     requires absent { own_in key.now (slice_get heap.old o.0) ≡ None }
     requires belongs { HasHeap (L.made labels.old) heap.old }
-    ensures adds { OnOk result ((reading : T → Label) → IsReading L.made L.meaning labels.new reading → add o.0 key.now bottom (text_property units.now).body bottom (text_property units.now).marks (read_heap reading heap.old) ≡ Ok (read_heap reading heap.new)) }
+    ensures adds { OnOk result (Adds L.made L.meaning labels.new o.0 key.now (text_property units.now).body (text_property units.now).marks heap.old heap.new) }
     ensures length { length heap.new ≡ length heap.old }
     ensures belongs { HasHeap (L.made labels.new) heap.new }
     ensures kept { IsKept L.made L.meaning L.room L.firm labels.old labels.new }
 {
     let key = Key::new(text_of(alloc, key)?);
     let body = text_body(alloc, units)?;
-    let none = labels.bottom();
     let marks = Marks {
         writable: true,
         enumerable: false,
         configurable: true,
     };
-    match heap.add(labels, o, key, none, body, none, marks) {
-        Ok(()) => Ok(()),
-        Err(_) => Err(OutOfMemory),
-    }
+    add_property(labels, heap, o, key, body, marks)
 }
 
 // Makes the prototype of errors of this name (ECMA-262 15.11.4, 15.11.7).
@@ -165,6 +151,30 @@ fn make_kinds<T: Copy, L: Labels<Label = T>>(
     Ok(())
 }
 
+// Makes the prototype of all objects, and the global object with `undefined` (ECMA-262 15.1.1.3, 15.2.4).
+fn make_global<T: Copy, L: Labels<Label = T>>(
+    alloc: Global,
+    labels: &mut L,
+) -> Result<Heap<T>, OutOfMemory>
+    ensures makes { IfOk result (Makes L.made L.meaning labels.new first_two []) }
+    ensures length { IfOk result (λ heap. length heap ≡ 2) }
+    ensures belongs { IfOk result (HasHeap (L.made labels.new)) }
+    ensures kept { IsKept L.made L.meaning L.room L.firm labels.old labels.new }
+{
+    let mut heap = Heap::new(alloc);
+    let none = labels.bottom();
+    let proto = heap.new_object(Class::Object, None, none, none, Inner::Plain)?;
+    let global = heap.new_object(Class::Object, Some(proto), none, none, Inner::Plain)?;
+    let key = Key::new(text_of(alloc, &UNDEFINED)?);
+    let marks = Marks {
+        writable: false,
+        enumerable: false,
+        configurable: false,
+    };
+    add_property(labels, &mut heap, global, key, undefined_body(), marks)?;
+    Ok(heap)
+}
+
 /// The first objects.
 pub(crate) fn first_objects<T: Copy, L: Labels<Label = T>>(
     alloc: Global,
@@ -175,16 +185,7 @@ pub(crate) fn first_objects<T: Copy, L: Labels<Label = T>>(
     ensures belongs { IfOk result (HasHeap (L.made labels.new)) }
     ensures kept { IsKept L.made L.meaning L.room L.firm labels.old labels.new }
 {
-    let mut heap = Heap::new(alloc);
-    let none = labels.bottom();
-    heap.new_object(Class::Object, None, none, none, Inner::Plain)?;
-    heap.new_object(
-        Class::Object,
-        Some(OBJECT_PROTOTYPE),
-        none,
-        none,
-        Inner::Plain,
-    )?;
+    let mut heap = make_global(alloc, labels)?;
     make_prototype(alloc, labels, &mut heap, &ERROR, OBJECT_PROTOTYPE)?;
     make_kinds(alloc, labels, &mut heap)?;
     Ok(heap)

@@ -1,6 +1,7 @@
 //! What a run holds when it begins (ECMA-262 10.4.1, 10.5, 15).
 #![tactic(auto)]
 
+mod adding;
 mod heap;
 mod hoisting;
 mod starting;

@@ -4,6 +4,7 @@ ghost use Rattle.flow_policy.specs.Inputs.{IsGivenTo};
 ghost use Rattle.js_values.specs.Readings.{HasHeap, HasValue};
 ghost use Rattle.origin_labels.specs.Stores.{IsKept};
 ghost use Rattle.flow_frames.specs.Held.{Belong, CatchByTry};
+ghost use Rattle.step_world.specs.Acts.{HasAnswer};
 ghost use Rattle.step_world.specs.Worlds.{Belongs};
 
 use crate::told::holds;
@@ -326,5 +327,95 @@ fn is_labelled(alloc: Global, row: &Row) -> Result<bool, OutOfMemory> {
 fn origins_of_values(rt: HostRuntime) {
     for row in LABELS {
         assert!(rt; holds(is_labelled(rt.alloc(), row)));
+    }
+}
+
+// `upgs`, or `upge` of three arguments.
+fn raise<L: Labels>(
+    alloc: Global,
+    labels: &mut L,
+    world: &mut World<L::Label>,
+    policy: &Policy,
+    args: &[Labelled<L::Label>],
+) -> Result<Came<Labelled<L::Label>, L::Label>, FlowFault<L::Label>>
+    requires belongs { Belongs L.made L.meaning labels.old world.old }
+    requires args { All (HasValue (L.made labels.old)) args.now }
+    requires room { length policy.now.origins ≤ L.room labels.old }
+    ensures made { HasAnswer (HasValue (L.made labels.new)) (L.made labels.new) result }
+{
+    if args.len() == 3 {
+        return upge(alloc, labels, world, policy, args);
+    }
+    upgs(labels, world, policy, args)
+}
+
+// What `upgs` or `upge` answers.
+fn raises<L: Labels>(
+    alloc: Global,
+    labels: &mut L,
+    policy: &Policy,
+    context: L::Label,
+    words: &[&str],
+    want: &str,
+) -> Result<Answer, OutOfMemory>
+    requires context { L.made labels.old context }
+    requires room { length policy.now.origins ≤ L.room labels.old }
+{
+    let args = arguments(alloc, words, labels.bottom())?;
+    let mut world = world_in(alloc, labels, context, 0, 0)?;
+    match raise(alloc, labels, &mut world, policy, &args) {
+        Ok(Came::Goes(v)) => Ok(Answer::Goes(
+            has_text(alloc, &v.value, want)?,
+            labels.has(v.label, 0),
+            labels.has(v.label, 1),
+        )),
+        Ok(Came::Throws(_)) => Ok(Answer::Throws),
+        Ok(Came::Leaves(why)) => Ok(Answer::Leaves(why)),
+        Err(fault) => Ok(refused(fault)),
+    }
+}
+
+// Whether it is in a branch on origin A, the arguments, and what is answered. A property that isn't there asks no rule.
+const RAISED: &[Row] = &[
+    (
+        false,
+        &["{}", "A"],
+        "undefined",
+        Answer::Goes(true, false, false),
+    ),
+    (true, &["{}", "A"], "undefined", Answer::Stops(Rule::W7)),
+    (false, &["x", "A"], "", Answer::Throws),
+    (false, &["{}", "Z"], "", Answer::Leaves(Leaving::Origin)),
+    (
+        false,
+        &["{}", "p", "A"],
+        "undefined",
+        Answer::Goes(true, false, false),
+    ),
+    (false, &["x", "p", "A"], "", Answer::Throws),
+    (
+        false,
+        &["{}", "p", "Z"],
+        "",
+        Answer::Leaves(Leaving::Origin),
+    ),
+];
+
+fn is_raised(alloc: Global, row: &Row) -> Result<bool, OutOfMemory> {
+    let a = Masks.single(0)?;
+    let none = Masks.bottom();
+    let context = if row.0 { a } else { none };
+    let Ok(policy) = read_policy(alloc, POLICY) else {
+        return Err(OutOfMemory);
+    };
+    let _formed = policy.origins();
+    let told = raises(alloc, &mut Masks, &policy, context, row.1, row.2)?;
+    Ok(told == row.3)
+}
+
+#[test]
+fn origins_of_objects(rt: HostRuntime) {
+    for row in RAISED {
+        assert!(rt; holds(is_raised(rt.alloc(), row)));
     }
 }

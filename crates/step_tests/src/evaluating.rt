@@ -1,5 +1,5 @@
 ghost use Rattle.std.specs.Prelude.{◌<◌, length};
-ghost use Rattle.js_values.specs.Readings.{HasRecords};
+ghost use Rattle.step_world.specs.Worlds.{Belongs};
 
 use crate::names::make_world;
 use crate::told::holds;
@@ -46,7 +46,7 @@ fn value_of<L: Labels>(
     turns: u64,
     e: &Expr,
 ) -> Option<(i64, u64)>
-    requires records { HasRecords (L.made labels.old) world.now.records }
+    requires belongs { Belongs L.made L.meaning labels.old world.now }
     requires at { at.0 < length world.now.records }
 {
     let found = evaluate(labels, world, at, turns, e)?;
@@ -86,8 +86,15 @@ fn is_comparison(alloc: Global) -> Result<bool, OutOfMemory> {
     Ok(evaluates(alloc, &e, 9)? == Some((0, 4)))
 }
 
-fn stays_out(alloc: Global) -> Result<bool, OutOfMemory> {
+// A name of the record outside.
+fn is_name_outside(alloc: Global) -> Result<bool, OutOfMemory> {
     let e = name(alloc, "x")?;
+    Ok(evaluates(alloc, &e, 9)? == Some((0, 8)))
+}
+
+// A name that stands nowhere throws, which isn't done at once.
+fn stays_out(alloc: Global) -> Result<bool, OutOfMemory> {
+    let e = name(alloc, "y")?;
     Ok(evaluates(alloc, &e, 9)?.is_none())
 }
 
@@ -97,5 +104,6 @@ fn numbers_at_once(rt: HostRuntime) {
     let alloc = rt.alloc();
     assert!(rt; holds(is_difference(alloc)));
     assert!(rt; holds(is_comparison(alloc)));
+    assert!(rt; holds(is_name_outside(alloc)));
     assert!(rt; holds(stays_out(alloc)));
 }

@@ -10,6 +10,8 @@ mod evaluating;
 #[cfg(test)]
 mod names;
 #[cfg(test)]
+mod objects;
+#[cfg(test)]
 mod told;
 #[cfg(test)]
 mod works;

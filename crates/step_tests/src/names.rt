@@ -1,4 +1,4 @@
-ghost use Rattle.std.specs.Prelude.{◌≡◌, ◌<◌, ◌≤◌, IfOk, OnOk, length};
+ghost use Rattle.std.specs.Prelude.{◌≡◌, ◌<◌, ◌≤◌, IfOk, IfSome, OnOk, length};
 ghost use Rattle.origin_labels.specs.Stores.{IsKept};
 ghost use Rattle.js_values.specs.Readings.{HasHeap, HasRecords};
 ghost use Rattle.step_world.specs.Worlds.{Belongs, Grows};
@@ -14,7 +14,7 @@ use origin_labels::{Labels, Masks};
 use std::alloc::Global;
 use std::test::*;
 use step_names::*;
-use step_world::{Came, Reference, World};
+use step_world::{Came, Named, Place, World};
 
 // What an act comes to: a number, another value, an error with this prototype, or a stop.
 #[derive(Clone, Copy, PartialEq, Eq)]
@@ -25,14 +25,14 @@ enum Answer {
     Other,
 }
 
-fn number(n: i64) -> Value {
+pub(crate) fn number(n: i64) -> Value {
     match Int::new(n) {
         Some(n) => Value::Primitive(Primitive::Num(n)),
         None => Value::Primitive(Primitive::Null),
     }
 }
 
-fn unlabelled<L: Labels>(labels: &L, value: Value) -> Labelled<L::Label>
+pub(crate) fn unlabelled<L: Labels>(labels: &L, value: Value) -> Labelled<L::Label>
     ensures { L.made labels.now result.label }
 {
     let label = labels.bottom();
@@ -117,6 +117,24 @@ fn told<T: Copy>(
     }
 }
 
+// What a name stands for, with a label that the store has made.
+fn found<'p, L: Labels>(
+    labels: &mut L,
+    world: &World<L::Label>,
+    at: EnvId,
+    name: &'p Text,
+) -> Option<Named<'p, L::Label>>
+    requires there { at.0 < length world.now.records }
+    requires belongs { Belongs L.made L.meaning labels.old world.now }
+    ensures made { IfSome result (λ named. L.made labels.new named.walk) }
+    ensures belongs { Belongs L.made L.meaning labels.new world.now }
+{
+    let Ok(named) = resolve(labels, world, at, name) else {
+        return None;
+    };
+    Some(named)
+}
+
 fn got<L: Labels>(
     alloc: Global,
     labels: &mut L,
@@ -130,29 +148,36 @@ fn got<L: Labels>(
     ensures belongs { Belongs L.made L.meaning labels.new world.new }
     ensures grows { Grows world.old world.new }
 {
-    let reference = resolve(world, at, name);
-    let came = get_name(alloc, labels, world, reference);
+    let Some(named) = found(labels, world, at, name) else {
+        return Answer::Other;
+    };
+    let came = get_name(alloc, labels, world, named);
     told(world, came, wanted)
 }
 
 fn asked<L: Labels>(
     alloc: Global,
-    labels: &L,
-    world: &World<L::Label>,
+    labels: &mut L,
+    world: &mut World<L::Label>,
     at: EnvId,
     name: &Text,
     wanted: Value,
 ) -> Answer
-    requires there { at.0 < length world.now.records }
-    requires belongs { Belongs L.made L.meaning labels.now world.now }
+    requires there { at.0 < length world.old.records }
+    requires belongs { Belongs L.made L.meaning labels.old world.old }
+    ensures belongs { Belongs L.made L.meaning labels.new world.new }
+    ensures grows { Grows world.old world.new }
 {
-    let reference = resolve(world, at, name);
-    let came = typeof_name(alloc, labels, world, reference);
+    let Some(named) = found(labels, world, at, name) else {
+        return Answer::Other;
+    };
+    let came = typeof_name(alloc, labels, world, named);
     told(world, came, wanted)
 }
 
 // A name is given a number, and a second one is what the assignment gives.
 fn given<L: Labels>(
+    alloc: Global,
     labels: &mut L,
     world: &mut World<L::Label>,
     at: EnvId,
@@ -165,10 +190,12 @@ fn given<L: Labels>(
     ensures belongs { Belongs L.made L.meaning labels.new world.new }
     ensures grows { Grows world.old world.new }
 {
-    let reference = resolve(world, at, name);
+    let Some(named) = found(labels, world, at, name) else {
+        return Answer::Other;
+    };
     let other = unlabelled(labels, number(wanted));
     let value = unlabelled(labels, number(n));
-    let came = assign_giving(labels, world, reference, other, value);
+    let came = assign_giving(alloc, labels, world, named, other, value);
     told(world, came, number(wanted))
 }
 
@@ -185,13 +212,16 @@ fn assigned<L: Labels>(
     ensures belongs { Belongs L.made L.meaning labels.new world.new }
     ensures grows { Grows world.old world.new }
 {
-    let reference = resolve(world, at, name);
+    let Some(named) = found(labels, world, at, name) else {
+        return Answer::Other;
+    };
     let value = unlabelled(labels, number(n));
-    let came = assign_to(alloc, labels, world, reference, value);
+    let came = assign_to(alloc, labels, world, named, value);
     told(world, came, number(n))
 }
 
 fn put<L: Labels>(
+    alloc: Global,
     labels: &mut L,
     world: &mut World<L::Label>,
     at: EnvId,
@@ -203,9 +233,11 @@ fn put<L: Labels>(
     ensures belongs { Belongs L.made L.meaning labels.new world.new }
     ensures grows { Grows world.old world.new }
 {
-    let reference = resolve(world, at, name);
+    let Some(named) = found(labels, world, at, name) else {
+        return false;
+    };
     let value = unlabelled(labels, number(n));
-    let came = put_name(labels, world, reference, value);
+    let came = put_name(alloc, labels, world, named, value);
     matches!(came, Ok(Came::Goes(())))
 }
 
@@ -262,7 +294,8 @@ fn thrown_inside<L: Labels>(
 fn names_have_values(alloc: Global) -> Result<bool, OutOfMemory> {
     let x = Text::spelled(alloc, "x")?;
     let (mut world, inner) = make_world(alloc, &Masks)?;
-    let here = resolve(&world, inner, &x).record == Some(EnvId(0));
+    let stands = found(&mut Masks, &world, inner, &x);
+    let here = matches!(stands, Some(named) if named.place == Place::Record(EnvId(0)));
     let value = got(alloc, &mut Masks, &mut world, inner, &x, number(0));
     Ok(here && value == Answer::Gives(true))
 }
@@ -272,7 +305,7 @@ fn names_are_unknown(alloc: Global) -> Result<bool, OutOfMemory> {
     let y = Text::spelled(alloc, "y")?;
     let (mut world, inner) = make_world(alloc, &Masks)?;
     let undefined = Value::Primitive(Primitive::Undefined);
-    let unknown = asked(alloc, &Masks, &world, inner, &y, undefined);
+    let unknown = asked(alloc, &mut Masks, &mut world, inner, &y, undefined);
     let error = got(alloc, &mut Masks, &mut world, inner, &y, number(0));
     Ok(unknown == Answer::Gives(true) && error == Answer::Throws(Some(ObjId(5))))
 }
@@ -282,7 +315,7 @@ fn names_are_assigned(alloc: Global) -> Result<bool, OutOfMemory> {
     let (mut world, inner) = make_world(alloc, &Masks)?;
     let one = assigned(alloc, &mut Masks, &mut world, inner, &x, 1) == Answer::Gives(true);
     let first = got(alloc, &mut Masks, &mut world, inner, &x, number(1)) == Answer::Gives(true);
-    let other = given(&mut Masks, &mut world, inner, &x, 2, 1) == Answer::Gives(true);
+    let other = given(alloc, &mut Masks, &mut world, inner, &x, 2, 1) == Answer::Gives(true);
     let second = got(alloc, &mut Masks, &mut world, inner, &x, number(2)) == Answer::Gives(true);
     Ok(one && first && other && second)
 }
@@ -291,7 +324,7 @@ fn names_are_put(alloc: Global) -> Result<bool, OutOfMemory> {
     let x = Text::spelled(alloc, "x")?;
     let this = Text::spelled(alloc, "this")?;
     let (mut world, inner) = make_world(alloc, &Masks)?;
-    let three = put(&mut Masks, &mut world, inner, &x, 3);
+    let three = put(alloc, &mut Masks, &mut world, inner, &x, 3);
     let value = got(alloc, &mut Masks, &mut world, inner, &x, number(3)) == Answer::Gives(true);
     let error = assigned(alloc, &mut Masks, &mut world, inner, &this, 1);
     Ok(three && value && error == Answer::Throws(Some(ObjId(7))))

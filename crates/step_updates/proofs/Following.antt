@@ -1,5 +1,5 @@
 -- An act that is made of one act and of another behind it.
-use Rattle.std.proofs.Common.{◌≡◌, refl, sym, subst, ℕ, pos, Bool, Result, Ok, Err}
+use Rattle.std.proofs.Common.{◌≡◌, refl, sym, subst, ℕ, pos, Bool, true, [], ◌∷◌, Result, Ok, Err}
 use Rattle.std.specs.Result.{IsErrAnd}
 use Rattle.origin_labels.specs.Label.{Label}
 use Rattle.origin_labels.specs.Stores.{IsKept}
@@ -7,16 +7,17 @@ use Rattle.flow_frames.specs.declared.faults.FlowFault.{FlowFault}
 use Rattle.flow_policy.specs.Policies.{Tables}
 use Rattle.flow_policy.specs.Inputs.{Given}
 use Rattle.js_ast.specs.declared.operators.BinaryOperator.{BinaryOperator}
+use Rattle.js_ast.specs.declared.operators.BinaryOperator.TheVariants as binary_operator
 use Rattle.js_ast.specs.declared.operators.UnaryOperator.TheVariants as unary_operator
 use Rattle.js_number.specs.declared.primitive.Primitive.TheVariants.{Num}
 use Rattle.js_values.specs.declared.value.Labelled.{Labelled}
 use Rattle.js_values.specs.Readings.{read_value}
 use Rattle.es_meaning.specs.Outcomes.{Outcome, Goes, Jumps, Ends, and_then}
-use Rattle.es_meaning.specs.Operations.{number_hint, Rec}
-use Rattle.es_meaning.specs.Plain.{Reference}
-use Rattle.es_meaning.specs.Evaluation.{enters, unary_done, unary_value, binary_values, assign_to, assign_giving, prefix_by, prefix_number, prefix_value, postfix_by, postfix_number, postfix_value, compound_done}
+use Rattle.es_meaning.specs.Operations.{object_needed, number_hint, Rec}
+use Rattle.es_meaning.specs.Evaluation.{enters, has_right, unary_done, unary_value, binary_values, assign_to, assign_giving, prefix_by, prefix_number, prefix_value, postfix_by, postfix_number, postfix_value, compound_done}
 use Rattle.flow_meaning.specs.Scopes.{Halt, State, Jump, Val, L}
-use Rattle.flow_meaning.specs.Tracked.{labelled}
+use Rattle.flow_meaning.specs.Tracked.{labelled, act, Reference}
+use Rattle.step_values.specs.Converted.{is_keyed}
 use Rattle.step_world.specs.declared.came.Came.{Came}
 use Rattle.step_world.specs.declared.came.Came.TheVariants as came
 use Rattle.step_world.specs.declared.came.Leaving.{Leaving}
@@ -78,6 +79,11 @@ module _ {S T : Type 0} (made : S → T → Type 0) (meaning : S → T → Label
 
 -- ---- what the acts of the labelled meaning are made of
 
+-- one operator takes a key
+pub keyed_is_in : (o : BinaryOperator) → is_keyed o ≡ true → o ≡ binary_operator.In
+keyed_is_in binary_operator.In e = refl
+keyed_is_in _ e = absurd cc e
+
 module _ (tables : Tables) (inputs : Given) where
   abbrev number : Val → L Val
   number v = unary_value (labelled tables inputs) unary_operator.Plus v
@@ -95,38 +101,46 @@ module _ (tables : Tables) (inputs : Given) where
   unfolding unary_done unary_value
   asks v s = refl
 
-  -- the value of a name, and its value for `typeof`
-  abbrev pub named : Reference → L Val
-  named n = (labelled tables inputs).get_name n (enters (labelled tables inputs))
+  -- the value of a reference, and its value for `typeof`
+  abbrev pub valued : Reference → L Val
+  valued n = (labelled tables inputs).get_value n (enters (labelled tables inputs))
 
   abbrev pub asked : Reference → L Val
-  asked n = (labelled tables inputs).typeof_name n (enters (labelled tables inputs))
+  asked n = (labelled tables inputs).typeof_value n (enters (labelled tables inputs))
+
+  -- `in` asks for an object, and then for the key
+  pub contains : (v u : Val) (s : State) → binary_values (labelled tables inputs) binary_operator.In v u s ≡ and_then (act object_needed (u ∷ []) s) (has_right (labelled tables inputs) v)
+  unfolding binary_values
+  contains v u s = refl
 
   module _ {T : Type 0} where
-    pub compound_parts : (R : Rec (labelled tables inputs)) (o : BinaryOperator) (n : Reference) (old v : Labelled T) → MadeOf (λ (reading : T → Label). binary_values (labelled tables inputs) o (read_value reading old) (read_value reading v)) (λ reading. assign_to (labelled tables inputs) n) (λ reading. compound_done (labelled tables inputs) R o n (read_value reading old) (read_value reading v))
+    pub contained_parts : (v u : Labelled T) → MadeOf (λ (reading : T → Label). act object_needed (read_value reading u ∷ [])) (λ reading. has_right (labelled tables inputs) (read_value reading v)) (λ reading. binary_values (labelled tables inputs) binary_operator.In (read_value reading v) (read_value reading u))
+    contained_parts v u = record { same = λ reading s. contains (read_value reading v) (read_value reading u) s }
+
+    pub compound_parts : (R : Rec (labelled tables inputs)) (o : BinaryOperator) (n : (T → Label) → Reference) (old v : Labelled T) → MadeOf (λ (reading : T → Label). binary_values (labelled tables inputs) o (read_value reading old) (read_value reading v)) (λ reading. assign_to (labelled tables inputs) (n reading)) (λ reading. compound_done (labelled tables inputs) R o (n reading) (read_value reading old) (read_value reading v))
     unfolding compound_done
     compound_parts R o n old v = record { same = λ reading s. refl }
 
     -- a number with one more or less, and what is done with it
-    pub prefix_parts : (o : BinaryOperator) (n : Reference) (v : Labelled T) → MadeOf (λ (reading : T → Label). (labelled tables inputs).binary o (read_value reading v) ((labelled tables inputs).literal (Num (pos 1)))) (λ reading. assign_to (labelled tables inputs) n) (λ reading. prefix_by (labelled tables inputs) o n (read_value reading v))
+    pub prefix_parts : (o : BinaryOperator) (n : (T → Label) → Reference) (v : Labelled T) → MadeOf (λ (reading : T → Label). (labelled tables inputs).binary o (read_value reading v) ((labelled tables inputs).literal (Num (pos 1)))) (λ reading. assign_to (labelled tables inputs) (n reading)) (λ reading. prefix_by (labelled tables inputs) o (n reading) (read_value reading v))
     unfolding prefix_by
     prefix_parts o n v = record { same = λ reading s. refl }
 
-    pub postfix_parts : (o : BinaryOperator) (n : Reference) (v : Labelled T) → MadeOf (λ (reading : T → Label). (labelled tables inputs).binary o (read_value reading v) ((labelled tables inputs).literal (Num (pos 1)))) (λ reading. assign_giving (labelled tables inputs) n (read_value reading v)) (λ reading. postfix_by (labelled tables inputs) o n (read_value reading v))
+    pub postfix_parts : (o : BinaryOperator) (n : (T → Label) → Reference) (v : Labelled T) → MadeOf (λ (reading : T → Label). (labelled tables inputs).binary o (read_value reading v) ((labelled tables inputs).literal (Num (pos 1)))) (λ reading. assign_giving (labelled tables inputs) (n reading) (read_value reading v)) (λ reading. postfix_by (labelled tables inputs) o (n reading) (read_value reading v))
     unfolding postfix_by
     postfix_parts o n v = record { same = λ reading s. refl }
 
-    -- a name's value as a number
-    pub number_parts : (n : Reference) → MadeOf (λ (reading : T → Label). named n) (λ reading. number) (λ reading s. and_then (named n s) number)
+    -- a reference's value as a number
+    pub number_parts : (n : (T → Label) → Reference) → MadeOf (λ (reading : T → Label). valued (n reading)) (λ reading. number) (λ reading s. and_then (valued (n reading) s) number)
     number_parts n = record { same = λ reading s. refl }
 
     -- that number, and what is done with it
-    pub prefixed_parts : (o : BinaryOperator) (n : Reference) → MadeOf (λ (reading : T → Label) s. and_then (named n s) number) (λ reading. prefix_by (labelled tables inputs) o n) (λ reading s. and_then (named n s) (prefix_value (labelled tables inputs) o n))
-    prefixed_parts o n = record { same = λ reading s. through (named n s) number (prefix_by (labelled tables inputs) o n) (prefix_value (labelled tables inputs) o n) (prefixes o n) }
+    pub prefixed_parts : (o : BinaryOperator) (n : (T → Label) → Reference) → MadeOf (λ (reading : T → Label) s. and_then (valued (n reading) s) number) (λ reading. prefix_by (labelled tables inputs) o (n reading)) (λ reading s. and_then (valued (n reading) s) (prefix_value (labelled tables inputs) o (n reading)))
+    prefixed_parts o n = record { same = λ reading s. through (valued (n reading) s) number (prefix_by (labelled tables inputs) o (n reading)) (prefix_value (labelled tables inputs) o (n reading)) (prefixes o (n reading)) }
 
-    pub postfixed_parts : (o : BinaryOperator) (n : Reference) → MadeOf (λ (reading : T → Label) s. and_then (named n s) number) (λ reading. postfix_by (labelled tables inputs) o n) (λ reading s. and_then (named n s) (postfix_value (labelled tables inputs) o n))
-    postfixed_parts o n = record { same = λ reading s. through (named n s) number (postfix_by (labelled tables inputs) o n) (postfix_value (labelled tables inputs) o n) (postfixes o n) }
+    pub postfixed_parts : (o : BinaryOperator) (n : (T → Label) → Reference) → MadeOf (λ (reading : T → Label) s. and_then (valued (n reading) s) number) (λ reading. postfix_by (labelled tables inputs) o (n reading)) (λ reading s. and_then (valued (n reading) s) (postfix_value (labelled tables inputs) o (n reading)))
+    postfixed_parts o n = record { same = λ reading s. through (valued (n reading) s) number (postfix_by (labelled tables inputs) o (n reading)) (postfix_value (labelled tables inputs) o (n reading)) (postfixes o (n reading)) }
 
-    -- the type of a name's value
-    pub type_parts : (n : Reference) → MadeOf (λ (reading : T → Label). asked n) (λ reading. unary_value (labelled tables inputs) unary_operator.Typeof) (λ reading s. and_then (asked n s) (unary_done (labelled tables inputs) unary_operator.Typeof))
-    type_parts n = record { same = λ reading s. alike (asked n s) (unary_done (labelled tables inputs) unary_operator.Typeof) (unary_value (labelled tables inputs) unary_operator.Typeof) asks }
+    -- the type of a reference's value
+    pub type_parts : (n : (T → Label) → Reference) → MadeOf (λ (reading : T → Label). asked (n reading)) (λ reading. unary_value (labelled tables inputs) unary_operator.Typeof) (λ reading s. and_then (asked (n reading) s) (unary_done (labelled tables inputs) unary_operator.Typeof))
+    type_parts n = record { same = λ reading s. alike (asked (n reading) s) (unary_done (labelled tables inputs) unary_operator.Typeof) (unary_value (labelled tables inputs) unary_operator.Typeof) asks }

@@ -1,9 +1,9 @@
 -- Acts leave the frames as they are unless they throw, and a throw never adds frames.
-use Rattle.std.proofs.Common.{arith, ◌≡◌, refl, sym, ap, subst, ◌∙◌, ◌≤◌, ℕ, suc, pos, Bool, true, false, List, [], map, take, length, Option, Some, None, Result, Ok, Err}
+use Rattle.std.proofs.Common.{arith, ◌≡◌, refl, sym, ap, subst, ◌∙◌, ◌≤◌, ℕ, suc, pos, Bool, true, false, List, [], ◌∷◌, map, take, length, slice_get, Option, Some, None, Result, Ok, Err}
 use Rattle.std.proofs.lemmas.List.{length-map, length-take}
 use Rattle.origin_labels.specs.Label.{Label, bottom, union, within}
 use Rattle.flow_frames.specs.declared.faults.Rule.{Rule}
-use Rattle.flow_frames.specs.declared.faults.Rule.TheVariants.{W1, W9, W11, W12}
+use Rattle.flow_frames.specs.declared.faults.Rule.TheVariants.{W1, W2, W9}
 use Rattle.flow_frames.specs.Frames.{context}
 use Rattle.flow_frames.specs.Held.{seen_frame, meant_at}
 use Rattle.flow_frames.specs.Rules.{jump_need}
@@ -19,31 +19,46 @@ use Rattle.js_values.specs.declared.value.Value.{Value}
 use Rattle.js_values.specs.declared.value.Value.TheVariants as value
 use Rattle.js_values.specs.Records.{Binding}
 use Rattle.js_values.specs.Readings.{IsReading}
-use Rattle.es_meaning.specs.Outcomes.{Outcome, Goes, Jumps, Ends, and_then}
-use Rattle.es_meaning.specs.Operations.{Direct, read, print, lbl, Hint, number_hint, Rec}
+use Rattle.es_meaning.specs.Outcomes.{Outcome, Goes, Jumps, Ends, and_then, ret, ◌>>=◌}
+use Rattle.es_meaning.specs.Operations.{Act, object_of, base_needed, object_needed, has_key, Hint, number_hint, string_hint, Rec}
 use Rattle.es_meaning.specs.Operators.{is_object, converts_beside, unary_of, binary_of}
-use Rattle.es_meaning.specs.Plain.{Reference, binding_at, others, channel_of, origins_of}
-use Rattle.es_meaning.specs.Start.{ErrorKind, reference_error, type_error}
-use Rattle.es_meaning.specs.Evaluation.{Conversion, unconverted, compared, numbers, primitives, conversion_of, takes_number, enters, give, unary_done, unary_value, unary_by, binary_done, binary_by, binary_values, compared_left, primitive_left, number_left, assign_to, assign_giving, prefix_by, prefix_number, prefix_value, postfix_by, postfix_number, postfix_value, compound_done}
+use Rattle.es_meaning.specs.Plain.{binding_at, is_coercible, key_text, Place, in_record, on_global, nowhere}
+use Rattle.es_meaning.specs.Start.{ErrorKind, reference_error, type_error, global_object}
+use Rattle.es_meaning.specs.Evaluation.{Conversion, unconverted, compared, numbers, primitives, keyed, conversion_of, has_left, has_right, takes_number, enters, give, unary_done, unary_value, unary_by, binary_done, binary_by, binary_values, compared_left, primitive_left, number_left, assign_to, assign_giving, prefix_by, prefix_number, prefix_value, postfix_by, postfix_number, postfix_value, compound_done}
 use Rattle.flow_meaning.specs.Scopes.{Halt, State, Jump, Val, L, guard, joined, reached, jump, jump_to, cut_to}
-use Rattle.flow_meaning.specs.Tracked.{labelled, throw_error, with_error, error_jump, given, unless_object, seen, bound, bound_or_undefined, rebinds, assigned, assigned_to, put_at, channel_label, argument, labels_of, reads, prints, read_channel, print_value, print_channel, label_by, direct}
+use Rattle.flow_meaning.specs.Tracked.{labelled, make_object, throw_error, with_error, error_jump, given, unless_object, seen, bound, rebinds, assigned, assigned_to, Reference, of_name, of_property, global_walk, held, found_globally, found, property_of, named, get_value, typeof_value, acted, put_by, put_on, is_element_of, put, put_property, put_named, put_value, truth_of, removed_if, removed_own, removed_in, remove_property, remove, needed, has, argument, act}
 use Rattle.step_world.specs.declared.came.Came.TheVariants as came
 use Rattle.step_world.specs.declared.world.World.{World}
 use Rattle.step_world.specs.Acts.{Acts}
 use Rattle.step_world.specs.Worlds.{state_of}
-use Rattle.step_updates.specs.Standing.{FramesStand}
+use Rattle.step_world.specs.declared.came.Came.{Came}
+use Rattle.step_world.specs.declared.came.Leaving.{Leaving}
+use Rattle.flow_frames.specs.declared.faults.FlowFault.{FlowFault}
+use Rattle.js_values.specs.declared.property.Body.{Body}
+use Rattle.js_values.specs.declared.property.Body.TheVariants.{Data, Accessor}
+use Rattle.js_values.specs.declared.property.Slot.{Slot}
+use Rattle.js_values.specs.Objects.{Object, own}
+use Rattle.js_values.specs.Walks.{find, object_chain}
+use Rattle.object_heap.specs.Acts as heap_acts
+use Rattle.object_heap.specs.Acts.{Acted}
+use Rattle.prototype_walk.specs.declared.plan.PutPlan.{PutPlan}
+use Rattle.prototype_walk.specs.declared.plan.PutPlan.TheVariants.{Write, Add, Setter, Refused}
+use Rattle.prototype_walk.specs.Plans.{can_put}
+use Rattle.es_meaning.specs.Objects.{made_by_script}
+use Rattle.step_updates.specs.Standing.{FramesStand, StandsBy}
+use Rattle.step_updates.specs.References.{reached as property_reached}
 
 -- ---- one act, and then another
 
 along : {X : Type 0} (o : Outcome Halt Jump X State) (s t : State) → t.frames ≡ s.frames → FramesStand o t → FramesStand o s
 along (Goes x u) s t same stand = stand ∙ same
 along (Jumps j u) s t same stand = subst (λ fs. length u.frames ≤ length fs) same stand
-along (Ends halt u) s t same stand = tt
+along (Ends halt u) s t same stand = stand ∙ same
 
 pub then_stands : {X Y : Type 0} (o : Outcome Halt Jump X State) (next : X → L Y) (s : State) → FramesStand o s → ((x : X) (t : State) → FramesStand (next x t) t) → FramesStand (and_then o next) s
 then_stands (Goes x t) next s stand rest = along (next x t) s t stand (rest x t)
 then_stands (Jumps j t) next s stand rest = stand
-then_stands (Ends halt t) next s stand rest = tt
+then_stands (Ends halt t) next s stand rest = stand
 
 -- ---- throws
 
@@ -53,7 +68,7 @@ no_more n xs = let is = length-take n xs in omega (arith, is)
 guard_jumps : (X : Type 0) (b : Bool) (rule : Rule) (need have : Label) (j : Jump) (depth : ℕ) (s : State) → FramesStand (guard {X = X} b rule need have (λ t. Jumps j (cut_to depth t)) s) s
 unfolding guard
 guard_jumps X true rule need have j depth s = no_more depth s.frames
-guard_jumps X false rule need have j depth s = tt
+guard_jumps X false rule need have j depth s = refl
 
 jump_stands : (X : Type 0) (cause : Label) (j : Jump) (s : State) → FramesStand (jump {X = X} cause j s) s
 unfolding jump jump_to
@@ -70,29 +85,64 @@ error_stands X kind cause s = along (throw_error {X = X} kind cause s) s (with_e
 given_stands : (label : Label) (gives : Result Primitive (List ℕ)) (s : State) → FramesStand (given label gives s) s
 unfolding given
 given_stands label (Ok v) s = refl
-given_stands label (Err name) s = tt
+given_stands label (Err name) s = refl
 
 unless_stands : (b : Bool) (v : Val) (s : State) → FramesStand (unless_object b v s) s
 unfolding unless_object
-unless_stands true v s = tt
+unless_stands true v s = refl
 unless_stands false v s = refl
 
--- ---- names
+-- ---- names and properties
 
 bound_stands : (b : Option (Binding Val)) (s : State) → FramesStand (bound b s) s
 unfolding bound
 bound_stands (Some b) s = refl
 bound_stands None s = error_stands Val reference_error bottom s
 
-asked_stands : (b : Option (Binding Val)) (s : State) → FramesStand (bound_or_undefined b s) s
-unfolding bound_or_undefined
-asked_stands (Some b) s = refl
-asked_stands None s = refl
+held_stands : (label : Label) (body : Body) (s : State) → FramesStand (held label body s) s
+unfolding held
+held_stands label (Data v) s = refl
+held_stands label (Accessor get set) s = refl
+
+globally_stands : (walk : Label) (at : Option (ℕ × Slot Label)) (s : State) → FramesStand (found_globally walk at s) s
+unfolding found_globally
+globally_stands walk (Some f) s = held_stands (union walk f.1.label) f.1.body s
+globally_stands walk None s = error_stands Val reference_error walk s
+
+found_stands : (place : Label) (at : Option (ℕ × Slot Label)) (s : State) → FramesStand (found place at s) s
+unfolding found
+found_stands place (Some f) s = held_stands (union place f.1.label) f.1.body s
+found_stands place None s = refl
+
+property_stands : (label : Label) (v : Value) (key : List ℕ) (s : State) → FramesStand (property_of label v key s) s
+unfolding property_of
+property_stands label (value.Primitive p) key s = refl
+property_stands label (value.Object o) key s = let walk = find key (object_chain s.heap o.0) in found_stands (union label walk.walk) walk.at s
+
+named_stands : (place : Place) (walk : Label) (name : List ℕ) (s : State) → FramesStand (named place walk name s) s
+unfolding named
+named_stands (in_record i) walk name s = bound_stands (binding_at s.records i name) s
+named_stands on_global walk name s = let here = global_walk s.heap name in globally_stands (union walk here.walk) here.at s
+named_stands nowhere walk name s = error_stands Val reference_error walk s
+
+got_stands : (n : Reference) (s : State) → FramesStand (get_value n s) s
+unfolding get_value
+got_stands (of_name name place walk) s = named_stands place walk name s
+got_stands (of_property v key label) s = property_stands (union v.label label) v.value key s
+
+asked_stands : (n : Reference) (s : State) → FramesStand (typeof_value n s) s
+unfolding typeof_value
+asked_stands (of_name name (in_record i) walk) s = got_stands (of_name name (in_record i) walk) s
+asked_stands (of_name name on_global walk) s = got_stands (of_name name on_global walk) s
+asked_stands (of_name name nowhere walk) s = refl
+asked_stands (of_property v key label) s = got_stands (of_property v key label) s
+
+-- ---- they are given values
 
 guard_stands : {X : Type 0} (b : Bool) (rule : Rule) (need have : Label) (m : L X) (s : State) → FramesStand (m s) s → FramesStand (guard b rule need have m s) s
 unfolding guard
 guard_stands true rule need have m s stand = stand
-guard_stands false rule need have m s stand = tt
+guard_stands false rule need have m s stand = refl
 
 assigned_stands : (mutable : Bool) (have : Label) (name : List ℕ) (i : ℕ) (v : Val) (s : State) → FramesStand (assigned mutable have name i v s) s
 unfolding assigned
@@ -104,40 +154,90 @@ unfolding assigned_to
 assigned_to_stands (Some b) name i v s = assigned_stands b.mutable b.value.label name i v s
 assigned_to_stands None name i v s = error_stands (Unit {0}) reference_error bottom s
 
-pub put_stands : (place : Option ℕ) (name : List ℕ) (v : Val) (s : State) → FramesStand (put_at place name v s) s
-unfolding put_at
-put_stands None name v s = error_stands (Unit {0}) reference_error bottom s
-put_stands (Some i) name v s = assigned_to_stands (binding_at s.records (Some i) name) name i v s
+acted_stands : {X : Type 0} (x : X) (did : Acted (List (Object Label))) (s : State) → FramesStand (acted x did s) s
+unfolding acted
+acted_stands x (Ok heap) s = refl
+acted_stands x (Err stop) s = refl
 
--- ---- channels and origins
+put_by_stands : (plan : PutPlan Label) (rule : Rule) (o : ℕ) (key : List ℕ) (label : Label) (v : Val) (s : State) → FramesStand (put_by plan rule o key label v s) s
+unfolding put_by
+put_by_stands (Write walk) rule o key label v s = acted_stands tt (heap_acts.write rule o key (union (context s.frames) (union label walk)) v s.heap) s
+put_by_stands (Add walk) rule o key label v s = acted_stands tt (heap_acts.add o key (union (context s.frames) (union label walk)) (Data v.value) v.label made_by_script s.heap) s
+put_by_stands (Refused walk) rule o key label v s = error_stands (Unit {0}) type_error (union label walk) s
+put_by_stands (Setter at walk) rule o key label v s = refl
+
+put_on_stands : (b : Bool) (rule : Rule) (o : ℕ) (key : List ℕ) (label : Label) (v : Val) (s : State) → FramesStand (put_on b rule o key label v s) s
+unfolding put_on
+put_on_stands true rule o key label v s = refl
+put_on_stands false rule o key label v s = put_by_stands (can_put key (object_chain s.heap o)) rule o key label v s
+
+object_stands : (rule : Rule) (o : ℕ) (key : List ℕ) (label : Label) (v : Val) (s : State) → FramesStand (put rule o key label v s) s
+unfolding put
+object_stands rule o key label v s = put_on_stands (is_element_of (slice_get s.heap o) key) rule o key label v s
+
+member_stands : (label : Label) (base : Value) (key : List ℕ) (v : Val) (s : State) → FramesStand (put_property label base key v s) s
+unfolding put_property
+member_stands label (value.Primitive p) key v s = refl
+member_stands label (value.Object o) key v s = object_stands W2 o.0 key label v s
+
+name_stands : (place : Place) (walk : Label) (name : List ℕ) (v : Val) (s : State) → FramesStand (put_named place walk name v s) s
+unfolding put_named
+name_stands (in_record i) walk name v s = assigned_to_stands (binding_at s.records i name) name i v s
+name_stands on_global walk name v s = object_stands W1 global_object.0 name bottom v s
+name_stands nowhere walk name v s = error_stands (Unit {0}) reference_error walk s
+
+pub put_stands : (n : Reference) (v : Val) (s : State) → FramesStand (put_value n v s) s
+unfolding put_value
+put_stands (of_name name place walk) v s = name_stands place walk name v s
+put_stands (of_property base key label) v s = member_stands (union base.label label) base.value key v s
+
+-- ---- they are deleted
+
+removed_if_stands : (b : Bool) (place : Label) (o : ℕ) (key : List ℕ) (s : State) → FramesStand (removed_if b place o key s) s
+unfolding removed_if
+removed_if_stands true place o key s = acted_stands (truth_of true place) (heap_acts.remove o key (union (context s.frames) place) s.heap) s
+removed_if_stands false place o key s = error_stands Val type_error place s
+
+removed_own_stands : (p : Option (Slot Label)) (label structure : Label) (o : ℕ) (key : List ℕ) (s : State) → FramesStand (removed_own p label structure o key s) s
+unfolding removed_own
+removed_own_stands None label structure o key s = refl
+removed_own_stands (Some p) label structure o key s = removed_if_stands p.marks.configurable (union label p.existence) o key s
+
+removed_in_stands : (p : Option (Object Label)) (label : Label) (o : ℕ) (key : List ℕ) (s : State) → FramesStand (removed_in p label o key s) s
+unfolding removed_in
+removed_in_stands None label o key s = refl
+removed_in_stands (Some p) label o key s = removed_own_stands (own key p.rows) label p.structure o key s
+
+removed_stands : (label : Label) (base : Value) (key : List ℕ) (s : State) → FramesStand (remove_property label base key s) s
+unfolding remove_property
+removed_stands label (value.Primitive p) key s = refl
+removed_stands label (value.Object o) key s = removed_in_stands (slice_get s.heap o.0) label o.0 key s
+
+pub remove_stands : (n : Reference) (s : State) → FramesStand (remove n s) s
+unfolding remove
+remove_stands (of_name name place walk) s = refl
+remove_stands (of_property base key label) s = removed_stands (union base.label label) base.value key s
+
+-- ---- values that are needed, and keys
+
+needed_stands : (b : Bool) (v : Val) (s : State) → FramesStand (needed b v s) s
+unfolding needed
+needed_stands true v s = refl
+needed_stands false v s = error_stands Val type_error v.label s
+
+has_stands : (label : Label) (key : List ℕ) (v : Value) (s : State) → FramesStand (has label key v s) s
+unfolding has
+has_stands label key (value.Primitive p) s = refl
+has_stands label key (value.Object o) s = refl
+
+pub act_stands : (a : Act) (vs : List Val) (s : State) → FramesStand (act a vs s) s
+unfolding act make_object
+act_stands (object_of keys) vs s = refl
+act_stands base_needed vs s = needed_stands (is_coercible (argument 0 vs).value) (argument 0 vs) s
+act_stands object_needed vs s = needed_stands (is_object (argument 0 vs).value) (argument 0 vs) s
+act_stands has_key vs s = has_stands (union (argument 0 vs).label (argument 1 vs).label) (key_text (argument 0 vs).value) (argument 1 vs).value s
 
 module _ (tables : Tables) (inputs : Given) where
-  read_stands : (i : Option ℕ) (name : Label) (s : State) → FramesStand (read_channel tables inputs i name s) s
-  unfolding read_channel
-  read_stands None name s = tt
-  read_stands (Some i) name s = guard_stands (within (union (context s.frames) name) (channel_label tables.inputs i)) W11 (union (context s.frames) name) (channel_label tables.inputs i) (reads tables inputs i (channel_label tables.inputs i)) s refl
-
-  value_stands : (i : ℕ) (label : Label) (v : Value) (s : State) → FramesStand (print_value tables inputs i label v s) s
-  unfolding print_value
-  value_stands i label (value.Object o) s = tt
-  value_stands i label (value.Primitive v) s = guard_stands (within (union (context s.frames) label) (channel_label tables.outputs i)) W12 (union (context s.frames) label) (channel_label tables.outputs i) (prints tables inputs i (union (context s.frames) label) label v) s refl
-
-  print_stands : (i : Option ℕ) (name : Label) (v : Val) (s : State) → FramesStand (print_channel tables inputs i name v s) s
-  unfolding print_channel
-  print_stands None name v s = tt
-  print_stands (Some i) name v s = value_stands i (union name v.label) v.value s
-
-  label_stands : (origins : Option (List ℕ)) (names : Label) (v : Val) (s : State) → FramesStand (label_by tables inputs origins names v s) s
-  unfolding label_by
-  label_stands None names v s = tt
-  label_stands (Some origins) names v s = refl
-
-  pub direct_stands : (f : Direct) (vs : List Val) (s : State) → FramesStand (direct tables inputs f vs s) s
-  unfolding direct
-  direct_stands read vs s = read_stands (channel_of tables.inputs (argument 0 vs).value) (argument 0 vs).label s
-  direct_stands print vs s = print_stands (channel_of tables.outputs (argument 0 vs).value) (argument 0 vs).label (argument 1 vs) s
-  direct_stands lbl vs s = label_stands (origins_of tables.origins (map (λ v. v.value) (others vs))) (labels_of (others vs)) (argument 0 vs) s
-
   -- ---- operators
 
   pub front_stands : (o : UnaryOperator) (v : Val) (s : State) → FramesStand ((labelled tables inputs).unary o v s) s
@@ -174,11 +274,20 @@ module _ (tables : Tables) (inputs : Given) where
   unfolding number_left
   number_stands o u v s = then_stands ((labelled tables inputs).unary unary_operator.Plus v s) (primitive_left (labelled tables inputs) number_hint o u) s (front_stands unary_operator.Plus v s) (primitive_stands number_hint o u)
 
+  has_left_stands : (u v : Val) (s : State) → FramesStand (has_left (labelled tables inputs) u v s) s
+  unfolding has_left
+  has_left_stands u v s = act_stands has_key (v ∷ u ∷ []) s
+
+  has_right_stands : (v u : Val) (s : State) → FramesStand (has_right (labelled tables inputs) v u s) s
+  unfolding has_right
+  has_right_stands v u s = then_stands (unless_object (is_object v.value) v s) (has_left (labelled tables inputs) u) s (unless_stands (is_object v.value) v s) (has_left_stands u)
+
   binary_by_stands : (c : Conversion) (o : BinaryOperator) (v u : Val) (s : State) → FramesStand (binary_by (labelled tables inputs) c o v u s) s
   binary_by_stands unconverted o v u s = between_stands o v u s
   binary_by_stands compared o v u s = then_stands (unless_object (converts_beside v.value u.value) v s) (compared_left (labelled tables inputs) o u) s (unless_stands (converts_beside v.value u.value) v s) (compared_stands o u)
   binary_by_stands (primitives hint) o v u s = then_stands (unless_object (is_object v.value) v s) (primitive_left (labelled tables inputs) hint o u) s (unless_stands (is_object v.value) v s) (primitive_stands hint o u)
   binary_by_stands numbers o v u s = then_stands (unless_object (is_object v.value) v s) (number_left (labelled tables inputs) o u) s (unless_stands (is_object v.value) v s) (number_stands o u)
+  binary_by_stands keyed o v u s = then_stands (act object_needed (u ∷ []) s) (has_right (labelled tables inputs) v) s (act_stands object_needed (u ∷ []) s) (has_right_stands v)
 
   pub binary_stands : (o : BinaryOperator) (v u : Val) (s : State) → FramesStand (binary_values (labelled tables inputs) o v u s) s
   unfolding binary_values
@@ -186,11 +295,11 @@ module _ (tables : Tables) (inputs : Given) where
 
   -- ---- references
 
-  pub get_stands : (n : Reference) (s : State) → FramesStand ((labelled tables inputs).get_name n (enters (labelled tables inputs)) s) s
-  get_stands n s = bound_stands (binding_at s.records n.place n.name) s
+  pub get_stands : (n : Reference) (s : State) → FramesStand ((labelled tables inputs).get_value n (enters (labelled tables inputs)) s) s
+  get_stands n s = got_stands n s
 
-  pub typeof_stands : (n : Reference) (s : State) → FramesStand ((labelled tables inputs).typeof_name n (enters (labelled tables inputs)) s) s
-  typeof_stands n s = asked_stands (binding_at s.records n.place n.name) s
+  pub typeof_stands : (n : Reference) (s : State) → FramesStand ((labelled tables inputs).typeof_value n (enters (labelled tables inputs)) s) s
+  typeof_stands n s = asked_stands n s
 
   give_stands : (v : Val) (x : Unit {0}) (s : State) → FramesStand (give (labelled tables inputs) v x s) s
   unfolding give
@@ -198,11 +307,18 @@ module _ (tables : Tables) (inputs : Given) where
 
   pub assign_stands : (n : Reference) (v : Val) (s : State) → FramesStand (assign_to (labelled tables inputs) n v s) s
   unfolding assign_to
-  assign_stands n v s = then_stands (put_at n.place n.name v s) (give (labelled tables inputs) v) s (put_stands n.place n.name v s) (give_stands v)
+  assign_stands n v s = then_stands (put_value n v s) (give (labelled tables inputs) v) s (put_stands n v s) (give_stands v)
 
   pub giving_stands : (n : Reference) (other v : Val) (s : State) → FramesStand (assign_giving (labelled tables inputs) n other v s) s
   unfolding assign_giving
-  giving_stands n other v s = then_stands (put_at n.place n.name v s) (give (labelled tables inputs) other) s (put_stands n.place n.name v s) (give_stands other)
+  giving_stands n other v s = then_stands (put_value n v s) (give (labelled tables inputs) other) s (put_stands n v s) (give_stands other)
+
+  key_stands : (b k : Val) (s : State) → FramesStand (((labelled tables inputs).primitive string_hint k >>= λ u. ret ((labelled tables inputs).property b u)) s) s
+  key_stands b k s = then_stands (unless_object (is_object k.value) k s) (λ u. ret ((labelled tables inputs).property b u)) s (unless_stands (is_object k.value) k s) (λ u t. refl)
+
+  pub reached_stands : (base key : Val) (s : State) → FramesStand (property_reached tables inputs base key s) s
+  unfolding property_reached
+  reached_stands base key s = then_stands (act base_needed (base ∷ []) s) (λ b. (labelled tables inputs).primitive string_hint key >>= λ k. ret ((labelled tables inputs).property b k)) s (act_stands base_needed (base ∷ []) s) (λ b. key_stands b key)
 
   pub compound_stands : (R : Rec (labelled tables inputs)) (o : BinaryOperator) (n : Reference) (old v : Val) (s : State) → FramesStand (compound_done (labelled tables inputs) R o n old v s) s
   unfolding compound_done
@@ -242,17 +358,31 @@ module _ {S T X Y : Type 0} (made : S → T → Type 0) (meaning : S → T → L
   seen_length w = length-map w.frames.frames (seen_frame (meaning store))
 
   -- where the call goes on there are as many frames as before
-  pub goes_level : (x : X) → Acts made meaning store read_result act old new (Ok (came.Goes x)) → length new.frames.frames ≡ length old.frames.frames
+  goes_level : (x : X) → Acts made meaning store read_result act old new (Ok (came.Goes x)) → length new.frames.frames ≡ length old.frames.frames
   goes_level x acts =
       let before = state_of (meaning store) old [] 0 in
       let same = subst (λ (o : Outcome Halt Jump Y State). FramesStand o before) (acts.says (meaning store) itself [] 0) (stands before) in
       sym (seen_length new) ∙ ap length same ∙ seen_length old
 
   -- where it throws there are no more
-  pub throws_lower : (v : Labelled T) → Acts made meaning store read_result act old new (Ok (came.Throws v)) → length new.frames.frames ≤ length old.frames.frames
+  throws_lower : (v : Labelled T) → Acts made meaning store read_result act old new (Ok (came.Throws v)) → length new.frames.frames ≤ length old.frames.frames
   throws_lower v acts =
       let before = state_of (meaning store) old [] 0 in
       let fewer = subst (λ (o : Outcome Halt Jump Y State). FramesStand o before) (acts.says (meaning store) itself [] 0) (stands before) in
       let this = seen_length new in
       let that = seen_length old in
       omega (arith, this, that, fewer)
+
+  -- where it leaves as many
+  leaves_level : (why : Leaving) → Acts made meaning store read_result act old new (Ok (came.Leaves why)) → length new.frames.frames ≡ length old.frames.frames
+  leaves_level why acts =
+      let before = state_of (meaning store) old [] 0 in
+      let same = subst (λ (o : Outcome Halt Jump Y State). FramesStand o before) (acts.says (meaning store) itself [] 0) (stands before) in
+      sym (seen_length new) ∙ ap length same ∙ seen_length old
+
+  -- whatever the call answered
+  pub stands_by : (result : Result (Came X T) (FlowFault T)) → Acts made meaning store read_result act old new result → StandsBy old new result
+  stands_by (Ok (came.Goes x)) acts = goes_level x acts
+  stands_by (Ok (came.Throws v)) acts = throws_lower v acts
+  stands_by (Ok (came.Leaves why)) acts = leaves_level why acts
+  stands_by (Err f) acts = tt

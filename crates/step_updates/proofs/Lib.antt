@@ -1,3 +1,4 @@
 pub mod Following
 pub mod Ones
+pub mod Reached
 pub mod Frames

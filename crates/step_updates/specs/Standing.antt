@@ -1,10 +1,21 @@
 -- What an act does with the frames.
-use Rattle.std.specs.Prelude.{◌≡◌, ◌≤◌, length}
+use Rattle.std.specs.Prelude.{◌≡◌, ◌≤◌, length, Result, Ok, Err}
+use Rattle.flow_frames.specs.declared.faults.FlowFault.{FlowFault}
 use Rattle.es_meaning.specs.Outcomes.{Outcome, Goes, Jumps, Ends}
 use Rattle.flow_meaning.specs.Scopes.{Halt, State, Jump}
+use Rattle.step_world.specs.declared.came.Came.{Came}
+use Rattle.step_world.specs.declared.came.Came.TheVariants as came
+use Rattle.step_world.specs.declared.world.World.{World}
 
--- an outcome from a state: where it goes on the frames are those that were, and where it jumps there are no more
+-- an outcome from a state: the frames are those that were, but where it jumps there may be fewer
 abbrev pub FramesStand : {X : Type 0} → Outcome Halt Jump X State → State → Type 0
 FramesStand (Goes x t) s = t.frames ≡ s.frames
 FramesStand (Jumps j t) s = length t.frames ≤ length s.frames
-FramesStand (Ends halt t) s = Unit {0}
+FramesStand (Ends halt t) s = t.frames ≡ s.frames
+
+-- and of a call that does it: as many frames, or fewer where it threw
+abbrev pub StandsBy : {X T : Type 0} → World T → World T → Result (Came X T) (FlowFault T) → Type 0
+StandsBy old new (Ok (came.Goes x)) = length new.frames.frames ≡ length old.frames.frames
+StandsBy old new (Ok (came.Throws v)) = length new.frames.frames ≤ length old.frames.frames
+StandsBy old new (Ok (came.Leaves why)) = length new.frames.frames ≡ length old.frames.frames
+StandsBy old new (Err f) = Unit {0}

@@ -9,17 +9,17 @@ ghost use Rattle.es_meaning.specs.Operations.{Rec};
 ghost use Rattle.es_meaning.specs.Evaluation.{compound_done};
 ghost use Rattle.flow_meaning.specs.Tracked.{labelled};
 ghost use Rattle.step_world.specs.Acts.{Acts, HasAnswer};
-ghost use Rattle.step_world.specs.Names.{reference_of};
 ghost use Rattle.step_world.specs.Worlds.{Belongs, Grows};
+ghost use Rattle.step_updates.specs.References.{refers, HasReference};
 
+use crate::operators::operated;
+use crate::references::{Reference, assign_to};
 use flow_frames::FlowFault;
 use js_ast::BinaryOperator;
 use js_values::Labelled;
 use origin_labels::Labels;
 use std::alloc::Global;
-use step_names::assign_to;
-use step_values::binary_values;
-use step_world::{Came, Reference, World};
+use step_world::{Came, World};
 
 /// What a compound assignment gives (ECMA-262 11.13.2): the reference has what the operator makes of its old value and the operand.
 pub fn compound_value<L: Labels>(
@@ -27,20 +27,21 @@ pub fn compound_value<L: Labels>(
     labels: &mut L,
     world: &mut World<L::Label>,
     operator: BinaryOperator,
-    reference: Reference<'_>,
+    reference: &Reference<'_, L::Label>,
     old: &Labelled<L::Label>,
     operand: &Labelled<L::Label>,
 ) -> Result<Came<Labelled<L::Label>, L::Label>, FlowFault<L::Label>>
+    requires reference { HasReference (L.made labels.old) reference.now }
     requires old { L.made labels.old old.now.label }
     requires operand { L.made labels.old operand.now.label }
     requires belongs { Belongs L.made L.meaning labels.old world.old }
-    ensures acts { (tables : Tables) (inputs : Given) (R : Rec (labelled tables inputs)) → Acts L.made L.meaning labels.new (λ reading. read_value reading) (λ reading. compound_done (labelled tables inputs) R operator (reference_of reference.entry) (read_value reading old.now) (read_value reading operand.now)) world.old world.new result }
+    ensures acts { (tables : Tables) (inputs : Given) (R : Rec (labelled tables inputs)) → Acts L.made L.meaning labels.new (λ reading. read_value reading) (λ reading. compound_done (labelled tables inputs) R operator (refers reading reference.now) (read_value reading old.now) (read_value reading operand.now)) world.old world.new result }
     ensures made { HasAnswer (HasValue (L.made labels.new)) (L.made labels.new) result }
     ensures belongs { Belongs L.made L.meaning labels.new world.new }
     ensures grows { Grows world.old world.new }
     ensures kept { IsKept L.made L.meaning L.room L.firm labels.old labels.new }
 {
-    match binary_values(alloc, labels, world, operator, old, operand)? {
+    match operated(alloc, labels, world, operator, old, operand)? {
         Came::Goes(value) => assign_to(alloc, labels, world, reference, value),
         Came::Throws(error) => Ok(Came::Throws(error)),
         Came::Leaves(why) => Ok(Came::Leaves(why)),

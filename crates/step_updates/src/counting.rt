@@ -11,34 +11,35 @@ ghost use Rattle.es_meaning.specs.Outcomes.{and_then};
 ghost use Rattle.es_meaning.specs.Evaluation.{enters, unary_value, prefix_by, postfix_by, prefix_value, postfix_value};
 ghost use Rattle.flow_meaning.specs.Tracked.{labelled};
 ghost use Rattle.step_world.specs.Acts.{Acts, HasAnswer};
-ghost use Rattle.step_world.specs.Names.{reference_of};
 ghost use Rattle.step_world.specs.Worlds.{Belongs, Grows};
+ghost use Rattle.step_updates.specs.References.{refers, HasReference};
 
+use crate::references::{Reference, assign_giving, assign_to, get_value};
 use flow_frames::FlowFault;
 use js_ast::{BinaryOperator, UnaryOperator};
 use js_number::{Int, Primitive};
 use js_values::{Labelled, Value};
 use origin_labels::Labels;
 use std::alloc::Global;
-use step_names::{assign_giving, assign_to, get_name};
 use step_values::{binary, unary_value};
-use step_world::{Came, Reference, World};
+use step_world::{Came, World};
 
 /// The value of a name as a number.
 fn named_number<L: Labels>(
     alloc: Global,
     labels: &mut L,
     world: &mut World<L::Label>,
-    reference: Reference<'_>,
+    reference: &Reference<'_, L::Label>,
 ) -> Result<Came<Labelled<L::Label>, L::Label>, FlowFault<L::Label>>
+    requires reference { HasReference (L.made labels.old) reference.now }
     requires belongs { Belongs L.made L.meaning labels.old world.old }
-    ensures acts { (tables : Tables) (inputs : Given) → Acts L.made L.meaning labels.new (λ reading. read_value reading) (λ reading s. and_then ((labelled tables inputs).get_name (reference_of reference.entry) (enters (labelled tables inputs)) s) (unary_value (labelled tables inputs) unary_operator.Plus)) world.old world.new result }
+    ensures acts { (tables : Tables) (inputs : Given) → Acts L.made L.meaning labels.new (λ reading. read_value reading) (λ reading s. and_then ((labelled tables inputs).get_value (refers reading reference.now) (enters (labelled tables inputs)) s) (unary_value (labelled tables inputs) unary_operator.Plus)) world.old world.new result }
     ensures made { HasAnswer (HasValue (L.made labels.new)) (L.made labels.new) result }
     ensures belongs { Belongs L.made L.meaning labels.new world.new }
     ensures grows { Grows world.old world.new }
     ensures kept { IsKept L.made L.meaning L.room L.firm labels.old labels.new }
 {
-    match get_name(alloc, labels, world, reference)? {
+    match get_value(alloc, labels, world, reference)? {
         Came::Goes(value) => unary_value(alloc, world, UnaryOperator::Plus, &value),
         Came::Throws(error) => Ok(Came::Throws(error)),
         Came::Leaves(why) => Ok(Came::Leaves(why)),
@@ -77,12 +78,13 @@ fn counted<L: Labels>(
     labels: &mut L,
     world: &mut World<L::Label>,
     operator: BinaryOperator,
-    reference: Reference<'_>,
+    reference: &Reference<'_, L::Label>,
     number: &Labelled<L::Label>,
 ) -> Result<Came<Labelled<L::Label>, L::Label>, FlowFault<L::Label>>
+    requires reference { HasReference (L.made labels.old) reference.now }
     requires number { L.made labels.old number.now.label }
     requires belongs { Belongs L.made L.meaning labels.old world.old }
-    ensures acts { (tables : Tables) (inputs : Given) → Acts L.made L.meaning labels.new (λ reading. read_value reading) (λ reading. prefix_by (labelled tables inputs) operator (reference_of reference.entry) (read_value reading number.now)) world.old world.new result }
+    ensures acts { (tables : Tables) (inputs : Given) → Acts L.made L.meaning labels.new (λ reading. read_value reading) (λ reading. prefix_by (labelled tables inputs) operator (refers reading reference.now) (read_value reading number.now)) world.old world.new result }
     ensures made { HasAnswer (HasValue (L.made labels.new)) (L.made labels.new) result }
     ensures belongs { Belongs L.made L.meaning labels.new world.new }
     ensures grows { Grows world.old world.new }
@@ -101,19 +103,20 @@ fn counted_behind<L: Labels>(
     labels: &mut L,
     world: &mut World<L::Label>,
     operator: BinaryOperator,
-    reference: Reference<'_>,
+    reference: &Reference<'_, L::Label>,
     number: Labelled<L::Label>,
 ) -> Result<Came<Labelled<L::Label>, L::Label>, FlowFault<L::Label>>
+    requires reference { HasReference (L.made labels.old) reference.now }
     requires number { L.made labels.old number.label }
     requires belongs { Belongs L.made L.meaning labels.old world.old }
-    ensures acts { (tables : Tables) (inputs : Given) → Acts L.made L.meaning labels.new (λ reading. read_value reading) (λ reading. postfix_by (labelled tables inputs) operator (reference_of reference.entry) (read_value reading number)) world.old world.new result }
+    ensures acts { (tables : Tables) (inputs : Given) → Acts L.made L.meaning labels.new (λ reading. read_value reading) (λ reading. postfix_by (labelled tables inputs) operator (refers reading reference.now) (read_value reading number)) world.old world.new result }
     ensures made { HasAnswer (HasValue (L.made labels.new)) (L.made labels.new) result }
     ensures belongs { Belongs L.made L.meaning labels.new world.new }
     ensures grows { Grows world.old world.new }
     ensures kept { IsKept L.made L.meaning L.room L.firm labels.old labels.new }
 {
     match one_more(alloc, labels, operator, &number)? {
-        Came::Goes(value) => assign_giving(labels, world, reference, number, value),
+        Came::Goes(value) => assign_giving(alloc, labels, world, reference, number, value),
         Came::Throws(error) => Ok(Came::Throws(error)),
         Came::Leaves(why) => Ok(Came::Leaves(why)),
     }
@@ -125,10 +128,11 @@ pub fn prefixed<L: Labels>(
     labels: &mut L,
     world: &mut World<L::Label>,
     operator: BinaryOperator,
-    reference: Reference<'_>,
+    reference: &Reference<'_, L::Label>,
 ) -> Result<Came<Labelled<L::Label>, L::Label>, FlowFault<L::Label>>
+    requires reference { HasReference (L.made labels.old) reference.now }
     requires belongs { Belongs L.made L.meaning labels.old world.old }
-    ensures acts { (tables : Tables) (inputs : Given) → Acts L.made L.meaning labels.new (λ reading. read_value reading) (λ reading s. and_then ((labelled tables inputs).get_name (reference_of reference.entry) (enters (labelled tables inputs)) s) (prefix_value (labelled tables inputs) operator (reference_of reference.entry))) world.old world.new result }
+    ensures acts { (tables : Tables) (inputs : Given) → Acts L.made L.meaning labels.new (λ reading. read_value reading) (λ reading s. and_then ((labelled tables inputs).get_value (refers reading reference.now) (enters (labelled tables inputs)) s) (prefix_value (labelled tables inputs) operator (refers reading reference.now))) world.old world.new result }
     ensures made { HasAnswer (HasValue (L.made labels.new)) (L.made labels.new) result }
     ensures belongs { Belongs L.made L.meaning labels.new world.new }
     ensures grows { Grows world.old world.new }
@@ -147,10 +151,11 @@ pub fn postfixed<L: Labels>(
     labels: &mut L,
     world: &mut World<L::Label>,
     operator: BinaryOperator,
-    reference: Reference<'_>,
+    reference: &Reference<'_, L::Label>,
 ) -> Result<Came<Labelled<L::Label>, L::Label>, FlowFault<L::Label>>
+    requires reference { HasReference (L.made labels.old) reference.now }
     requires belongs { Belongs L.made L.meaning labels.old world.old }
-    ensures acts { (tables : Tables) (inputs : Given) → Acts L.made L.meaning labels.new (λ reading. read_value reading) (λ reading s. and_then ((labelled tables inputs).get_name (reference_of reference.entry) (enters (labelled tables inputs)) s) (postfix_value (labelled tables inputs) operator (reference_of reference.entry))) world.old world.new result }
+    ensures acts { (tables : Tables) (inputs : Given) → Acts L.made L.meaning labels.new (λ reading. read_value reading) (λ reading s. and_then ((labelled tables inputs).get_value (refers reading reference.now) (enters (labelled tables inputs)) s) (postfix_value (labelled tables inputs) operator (refers reading reference.now))) world.old world.new result }
     ensures made { HasAnswer (HasValue (L.made labels.new)) (L.made labels.new) result }
     ensures belongs { Belongs L.made L.meaning labels.new world.new }
     ensures grows { Grows world.old world.new }

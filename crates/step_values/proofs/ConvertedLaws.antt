@@ -24,7 +24,7 @@ use Rattle.es_meaning.specs.Evaluation.{binary_by, binary_done, binary_values, c
 use Rattle.es_meaning.specs.Plain.{seen_of}
 use Rattle.flow_meaning.specs.Scopes.{State, Val, L}
 use Rattle.flow_meaning.specs.Tracked.{given, labelled, seen, unless_object}
-use Rattle.step_values.specs.Converted.{as_numbers, behind_number, converted, converted_by, in_front, kind_of, object_seen, of_object, unless}
+use Rattle.step_values.specs.Converted.{as_numbers, behind_number, converted, converted_by, in_front, is_keyed, kind_of, object_seen, of_object, takes_key, unless}
 
 -- an object's class doesn't depend on the reading of labels
 class_read : {T : Type 0} (reading : T → Label) (p : Option (Object T)) → seen_of (λ q. an_object q.class) (option_map (read_object reading) p) ≡ object_seen p
@@ -77,18 +77,19 @@ module _ (tables : Tables) (inputs : inputs.Given) where
   numbers_as o (value.Object i) label u s = refl
   numbers_as o (value.Primitive v) label u s = behind_as o (to_number v) label u s
 
-  binary_by_as : (k : es.Conversion) (o : BinaryOperator) (v u : Val) (s : State)
+  binary_by_as : (k : es.Conversion) (o : BinaryOperator) (v u : Val) (s : State) → takes_key k ≡ false
       → binary_by (labelled tables inputs) k o v u s ≡ given (union v.label u.label) (converted_by (kind_of k) o v.value u.value) s
   unfolding converted_by compared_left primitive_left binary_done
-  binary_by_as es.unconverted o v u s = refl
-  binary_by_as es.compared o v u s =
+  binary_by_as es.unconverted o v u s k = refl
+  binary_by_as es.compared o v u s k =
       then_gives (converts_beside v.value u.value) v (union v.label u.label) (unless (converts_beside u.value v.value) (binary_of o v.value u.value)) (compared_left (labelled tables inputs) o u) s
       (then_gives (converts_beside u.value v.value) u (union v.label u.label) (binary_of o v.value u.value) (binary_done (labelled tables inputs) o v) s refl)
-  binary_by_as (es.primitives hint) o v u s =
+  binary_by_as (es.primitives hint) o v u s k =
       then_gives (is_object v.value) v (union v.label u.label) (unless (is_object u.value) (binary_of o v.value u.value)) (primitive_left (labelled tables inputs) hint o u) s
       (then_gives (is_object u.value) u (union v.label u.label) (binary_of o v.value u.value) (binary_done (labelled tables inputs) o v) s refl)
-  binary_by_as es.numbers o v u s = numbers_as o v.value v.label u s
+  binary_by_as es.numbers o v u s k = numbers_as o v.value v.label u s
+  binary_by_as es.keyed o v u s k = cc k
 
-  pub binary_as : (o : BinaryOperator) (v u : Val) (s : State) → binary_values (labelled tables inputs) o v u s ≡ given (union v.label u.label) (converted o v.value u.value) s
+  pub binary_as : (o : BinaryOperator) (v u : Val) (s : State) → is_keyed o ≡ false → binary_values (labelled tables inputs) o v u s ≡ given (union v.label u.label) (converted o v.value u.value) s
   unfolding binary_values converted
-  binary_as o v u s = binary_by_as (conversion_of o) o v u s
+  binary_as o v u s k = binary_by_as (conversion_of o) o v u s k

@@ -58,6 +58,15 @@ kind_of es.unconverted = conversion.Unconverted
 kind_of es.compared = conversion.Compared
 kind_of (es.primitives hint) = conversion.Primitives
 kind_of es.numbers = conversion.Numbers
+kind_of es.keyed = conversion.Unconverted
+
+-- whether it asks for a key of an object, which is no matter of two values alone
+abbrev pub takes_key : es.Conversion → Bool
+takes_key es.keyed = true
+takes_key _ = false
+
+abbrev pub is_keyed : BinaryOperator → Bool
+is_keyed o = takes_key (es.conversion_of o)
 
 unfoldable pub converted_by : Conversion → BinaryOperator → Value → Value → Given
 converted_by conversion.Unconverted o v u = binary_of o v u

@@ -54,7 +54,8 @@ fn of_primitive(alloc: Global, operator: UnaryOperator, v: &Primitive) -> Result
         UnaryOperator::Minus => minus(v),
         UnaryOperator::BitNot => flipped(v),
         UnaryOperator::Not => Ok(Primitive::Bool(!to_boolean(v))),
-        UnaryOperator::Delete | UnaryOperator::Increment | UnaryOperator::Decrement => {
+        UnaryOperator::Delete => Ok(Primitive::Bool(true)),
+        UnaryOperator::Increment | UnaryOperator::Decrement => {
             Err(Refusal::Leaves(Leaving::Unbuilt))
         }
     }
@@ -120,6 +121,7 @@ fn of_class(alloc: Global, operator: UnaryOperator, class: Class) -> Result<Prim
         UnaryOperator::Void => Ok(Primitive::Undefined),
         UnaryOperator::Typeof => Ok(Primitive::Str(class_name(alloc, class)?)),
         UnaryOperator::Not => Ok(Primitive::Bool(false)),
+        UnaryOperator::Delete => Ok(Primitive::Bool(true)),
         _ => Err(Refusal::Leaves(Leaving::Unbuilt)),
     }
 }

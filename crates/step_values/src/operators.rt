@@ -1,6 +1,6 @@
 //! Operators on values with labels.
 
-ghost use Rattle.std.specs.Prelude.{◌≡◌};
+ghost use Rattle.std.specs.Prelude.{◌≡◌, false};
 ghost use Rattle.origin_labels.specs.Label.{union};
 ghost use Rattle.origin_labels.specs.Stores.{IsKept};
 ghost use Rattle.flow_policy.specs.Policies.{Tables};
@@ -10,6 +10,7 @@ ghost use Rattle.es_meaning.specs.Evaluation.{binary_values, unary_value};
 ghost use Rattle.flow_meaning.specs.Tracked.{labelled};
 ghost use Rattle.step_world.specs.Acts.{Acts, Computes, HasAnswer};
 ghost use Rattle.step_values.specs.Answers.{came_of};
+ghost use Rattle.step_values.specs.Converted.{is_keyed};
 
 use crate::between::between;
 use crate::conversions::converted;
@@ -57,7 +58,7 @@ pub fn binary<L: Labels>(
     came(label, between(alloc, operator, &left.value, &right.value))
 }
 
-/// An operator between two values, which are converted first.
+/// An operator between two values, which are converted first. `in` isn't its case: that is a matter of the heap.
 pub fn binary_values<L: Labels>(
     alloc: Global,
     labels: &mut L,
@@ -66,6 +67,7 @@ pub fn binary_values<L: Labels>(
     left: &Labelled<L::Label>,
     right: &Labelled<L::Label>,
 ) -> Result<Came<Labelled<L::Label>, L::Label>, FlowFault<L::Label>>
+    requires values { is_keyed operator ≡ false }
     requires left { L.made labels.old left.now.label }
     requires right { L.made labels.old right.now.label }
     ensures acts { (tables : Tables) (inputs : Given) → Acts L.made L.meaning labels.new (λ reading. read_value reading) (λ reading. binary_values (labelled tables inputs) operator (read_value reading left.now) (read_value reading right.now)) world.now world.now result }

@@ -1,15 +1,16 @@
 -- Plans behind pending work.
-use Rattle.std.proofs.Common.{refl, ap, ◌∙◌, ◌≡◌, ℕ, List, [], ◌∷◌, ◌++◌, Result, Ok, Err, IfOk}
+use Rattle.std.proofs.Common.{refl, ap, ◌∙◌, ◌≡◌, ℕ, List, [], ◌∷◌, ◌++◌, map, Result, Ok, Err, IfOk}
+use Rattle.js_values.specs.Readings.{read_value}
 use Rattle.origin_labels.specs.Label.{Label}
 use Rattle.flow_policy.specs.Policies.{Tables}
 use Rattle.flow_policy.specs.Inputs.{Given}
 use Rattle.es_meaning.specs.Environments.{Env}
 use Rattle.flow_text.specs.declared.memory.OutOfMemory.{OutOfMemory}
-use Rattle.flow_meaning.specs.Scopes.{State}
+use Rattle.flow_meaning.specs.Scopes.{Val, State}
 use Rattle.flow_meaning.specs.Planned.{Plan, and_plan}
 use Rattle.step_work.specs.declared.work.Next.{Next}
 use Rattle.step_work.specs.Kept.{Kept}
-use Rattle.step_work.specs.Resuming.{Begins}
+use Rattle.step_work.specs.Resuming.{Begins, BeginsBehind}
 use Rattle.step_work.specs.Pending.{Task, inside, env_above, after_task, behind}
 
 pub env_more : {T : Type 0} → (tasks : List (Task T)) (w : Task T) (e : Env ℕ) → env_above (tasks ++ w ∷ []) e ≡ inside w.0 (env_above tasks e)
@@ -28,3 +29,9 @@ pub begins_as : {T : Type 0} → (plan same : Tables → Given → Env ℕ → S
     → IfOk result (Begins plan old new) → IfOk result (Begins same old new)
 begins_as plan same old new (Ok next) equal begins = λ tables inputs reading e s loose. begins tables inputs reading e s loose ∙ ap (behind tables inputs reading old.tasks e) (equal tables inputs (env_above old.tasks e) s)
 begins_as plan same old new (Err fault) equal begins = tt
+
+-- a call that begins a plan of the values that lie loose begins it of none where none lie so
+pub begins_alone : {T : Type 0} → (plan : Tables → Given → List Val → Env ℕ → State → Plan) (old new : Kept T) (result : Result Next OutOfMemory)
+    → IfOk result (BeginsBehind plan old new) → IfOk result (Begins (λ tables inputs e s. plan tables inputs [] e s) old new)
+begins_alone plan old new (Ok next) begins = λ tables inputs reading e s loose. begins tables inputs reading e s ∙ ap (λ vs. behind tables inputs reading old.tasks e (plan tables inputs (map (read_value reading) vs) (env_above old.tasks e) s)) loose
+begins_alone plan old new (Err fault) begins = tt

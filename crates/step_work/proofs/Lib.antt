@@ -5,7 +5,10 @@ pub mod EndLaws
 pub mod Handed
 pub mod Keeping
 pub mod KeptLaws
+pub mod ObjectLaws
 pub mod PassLaws
 pub mod Reading
 pub mod ScopeLaws
 pub mod Steps
+pub mod Uses
+pub mod VisitLaws

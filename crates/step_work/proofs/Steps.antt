@@ -36,7 +36,6 @@ pub both_operands : (tables : Tables) (inputs : Given) (o : BinaryOperator) (l r
 unfolding binary_step
 both_operands tables inputs binary_operator.And l r i s e = cc e
 both_operands tables inputs binary_operator.Or l r i s e = cc e
-both_operands tables inputs binary_operator.In l r i s e = cc e
 both_operands tables inputs binary_operator.Instanceof l r i s e = cc e
 both_operands tables inputs o l r i s e = refl
 

@@ -15,7 +15,13 @@ weight (work.Choose a b) = 2
 weight (work.ChooseStmt s) = 2
 weight (work.ChooseStmts s t) = 2
 weight (work.Argument f count rest) = 2
+weight (work.Property ps count) = 2
+weight (work.MemberBase how text) = 2
+weight (work.IndexBase how x) = 2
+weight (work.IndexKey how) = 2
 weight (work.Looped r) = 3
+weight (work.Visited x count) = 2
+weight (work.Enumerated x) = 4
 weight (work.Declared r) = 3
 weight _ = 1
 
@@ -29,12 +35,14 @@ lift (next.Expr x) = 0
 lift (next.Use how x) = 0
 lift (next.Stmt x) = 0
 lift (next.Turn r) = 0
+lift (next.Visit x count) = 0
 lift (next.Leave why) = 0
 lift next.Value = 1
 lift next.Throws = 1
 lift next.Done = 1
 lift (next.Loop r) = 3
 lift (next.DoLoop r) = 3
+lift (next.Keys x) = 3
 lift _ = 2
 
 -- a call adds at most so much

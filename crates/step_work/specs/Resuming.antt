@@ -55,6 +55,11 @@ module _ {T : Type 0} where
   ResumesBehind w old new next = (tables : Tables) (inputs : Given) (reading : T → Label) (e : Env ℕ) (s : State) (kept : List (Labelled T)) (value : Labelled T) → old.loose ≡ kept ++ value ∷ []
       → coming tables inputs reading new next e s ≡ behind tables inputs reading old.tasks e (after tables inputs w (map (read_value reading) kept) (env_above old.tasks e) (gave (read_value reading value)) s)
 
+  -- what work says that keeps operands and waited for the end of a part
+  abbrev pub ResumesDoneBehind : Work → Kept T → Kept T → Next → Type 0
+  ResumesDoneBehind w old new next = (tables : Tables) (inputs : Given) (reading : T → Label) (e : Env ℕ) (s : State)
+      → coming tables inputs reading new next e s ≡ behind tables inputs reading old.tasks e (after tables inputs w (map (read_value reading) old.loose) (env_above old.tasks e) (gave (unlabelled undefined)) s)
+
   -- what a call leaves: the values that its next move has, the scopes that were pending, and the same operands and values
   pub record Keeps (old new : Kept T) (next : Next) : Type 0 where
     pub values : length new.loose ≡ values_of next
@@ -69,6 +74,11 @@ module _ {T : Type 0} where
   abbrev pub BeginsIn : {S : Type 0} → (S → T → Type 0) → (S → T → Label) → S → (Tables → Given → Env ℕ → State → Plan) → Kept T → Kept T → List (Held T) → List (Held T) → Next → Type 0
   BeginsIn made meaning store plan old new frames_old frames_new next = (tables : Tables) (inputs : Given) (reading : T → Label) (e : Env ℕ) (s : State) → IsReading made meaning store reading → old.loose ≡ []
       → coming tables inputs reading new next e (with_frames reading frames_new s) ≡ behind tables inputs reading old.tasks e (plan tables inputs (env_above old.tasks e) (with_frames reading frames_old s))
+
+  -- and to what a plan says of the values that lie loose
+  abbrev pub BeginsBeside : {S : Type 0} → (S → T → Type 0) → (S → T → Label) → S → (Tables → Given → List Val → Env ℕ → State → Plan) → Kept T → Kept T → List (Held T) → List (Held T) → Next → Type 0
+  BeginsBeside made meaning store plan old new frames_old frames_new next = (tables : Tables) (inputs : Given) (reading : T → Label) (e : Env ℕ) (s : State) → IsReading made meaning store reading
+      → coming tables inputs reading new next e (with_frames reading frames_new s) ≡ behind tables inputs reading old.tasks e (plan tables inputs (map (read_value reading) old.loose) (env_above old.tasks e) (with_frames reading frames_old s))
 
   -- a call that changes frames comes to what work says that keeps no operand of the value that it waited for
   abbrev pub ResumesIn : {S : Type 0} → (S → T → Type 0) → (S → T → Label) → S → Work → Kept T → Kept T → List (Held T) → List (Held T) → Next → Type 0

@@ -1,5 +1,5 @@
 -- The machine's words for parts of a script, as the meaning has them.
-use Rattle.std.specs.Prelude.{Option, Some, None, Bool, true, false}
+use Rattle.std.specs.Prelude.{ℕ, List, [], ◌∷◌, Option, Some, None, Bool, true, false}
 use Rattle.std.specs.Borrow.{Bor}
 use Rattle.js_ast.specs.declared.trees.Expr as code
 use Rattle.js_ast.specs.declared.operators.BinaryOperator.{BinaryOperator}
@@ -9,20 +9,48 @@ use Rattle.js_ast.specs.declared.operators.PostfixOperator.TheVariants as postfi
 use Rattle.js_ast.specs.Trees.{MaybeExpr, absent, present, Statement, do_while, while, for}
 use Rattle.js_ast.specs.Views.{view_expr, view_stmt}
 use Rattle.es_meaning.specs.Operations as meaning
-use Rattle.es_meaning.specs.Operations.{assigned, updated_by, prefixed, postfixed, asked}
+use Rattle.es_meaning.specs.Operations.{assigned, updated_by, prefixed, postfixed, asked, valued, deleted, given_text}
 use Rattle.es_meaning.specs.Evaluation as evaluation
 use Rattle.step_work.specs.declared.work.Use.{Use}
-use Rattle.step_work.specs.declared.work.Use.TheVariants.{Assigned, Updated, Prefixed, Postfixed, Asked}
+use Rattle.step_work.specs.declared.work.Use.TheVariants.{Assigned, Updated, Prefixed, Postfixed, Asked, Valued, Deleted, GivenText}
+use Rattle.step_work.specs.declared.work.Target.{Target}
+use Rattle.step_work.specs.declared.work.Target.TheVariants.{Name, Property}
+use Rattle.js_values.specs.declared.value.Labelled.{Labelled}
+use Rattle.origin_labels.specs.Label.{Label, bottom}
+use Rattle.es_meaning.specs.Plain.{argument_or, key_text, undefined}
+use Rattle.flow_meaning.specs.Erased.{unlabelled}
+use Rattle.flow_meaning.specs.Scopes.{Val}
+use Rattle.flow_meaning.specs.Tracked.{Reference, of_name}
+use Rattle.step_world.specs.declared.came.Place.{Place}
+use Rattle.step_world.specs.declared.came.Place.TheVariants as place
+use Rattle.step_world.specs.Names.{place_of, property_of}
 use Rattle.step_work.specs.declared.work.Round.{Round}
 use Rattle.step_work.specs.declared.work.Direct.{Direct}
-use Rattle.step_work.specs.declared.work.Direct.TheVariants.{Read, Print, Lbl}
+use Rattle.step_work.specs.declared.work.Direct.TheVariants.{Read, Print, Lbl, Upgs, Upge}
 
-abbrev pub use_of : Use → meaning.Use
-use_of (Assigned e) = assigned (view_expr e.now)
-use_of (Updated o e) = updated_by o (view_expr e.now)
-use_of (Prefixed o) = prefixed o
-use_of (Postfixed o) = postfixed o
-use_of Asked = asked
+-- one of several values
+abbrev pub nth : ℕ → List Val → Val
+nth n vs = argument_or (unlabelled undefined) n vs
+
+-- what is done with a reference, with the operand that the use has
+abbrev pub use_of : Use → List Val → meaning.Use
+use_of (Assigned e) vs = assigned (view_expr e.now)
+use_of (Updated o e) vs = updated_by o (view_expr e.now)
+use_of (Prefixed o) vs = prefixed o
+use_of (Postfixed o) vs = postfixed o
+use_of Asked vs = asked
+use_of Valued vs = valued
+use_of Deleted vs = deleted
+use_of GivenText vs = given_text (key_text (nth 0 vs).value)
+
+-- a reference, with the operands that it keeps: the walk to a name that stands is of no more use
+abbrev pub walk_to : Place → List Val → Label
+walk_to place.Nowhere vs = (nth 0 vs).label
+walk_to _ vs = bottom
+
+abbrev pub target_of : Target → List Val → Reference
+target_of (Name x p) vs = of_name x.now (place_of p) (walk_to p vs)
+target_of Property vs = property_of (nth 0 vs) (nth 1 vs)
 
 abbrev pub maybe_of : Option (Bor code.Expr) → MaybeExpr
 maybe_of None = absent
@@ -56,12 +84,13 @@ abbrev pub direct_of : Direct → meaning.Direct
 direct_of Read = meaning.read
 direct_of Print = meaning.print
 direct_of Lbl = meaning.lbl
+direct_of Upgs = meaning.upgs
+direct_of Upge = meaning.upge
 
 -- the operators that evaluate both operands
 abbrev pub evaluates_both : BinaryOperator → Bool
 evaluates_both binary_operator.And = false
 evaluates_both binary_operator.Or = false
-evaluates_both binary_operator.In = false
 evaluates_both binary_operator.Instanceof = false
 evaluates_both _ = true
 

@@ -1,29 +1,36 @@
 //! The first step of each part of a script.
 
-ghost use Rattle.std.specs.Prelude.{◌≡◌, length, IfOk, option_map};
-ghost use Rattle.js_ast.specs.Views.{view_expr, view_exprs, view_stmt, view_first};
+ghost use Rattle.std.specs.Prelude.{◌≡◌, List, length, IfOk, option_map};
+ghost use Rattle.js_ast.specs.Views.{view_expr, view_exprs, view_stmt, view_first, view_target};
 ghost use Rattle.es_meaning.specs.Operations.{One, Value, postfixed};
-ghost use Rattle.es_meaning.specs.Evaluation.{expr_step, call_step, direct_of, choose_expr, comma_right, stmt_step, first_step, discard, choose_stmt, choose_stmts};
+ghost use Rattle.es_meaning.specs.Evaluation.{expr_step, call_step, direct_of, choose_expr, comma_right, stmt_step, first_step, discard, choose_stmt, choose_stmts, enumerated};
 ghost use Rattle.flow_meaning.specs.Planned.{planned, asking};
+ghost use Rattle.flow_meaning.specs.Scopes.{Val};
 ghost use Rattle.step_work.specs.Loads.{Adds};
+ghost use Rattle.step_work.specs.Pending.{owns_use};
 ghost use Rattle.step_work.specs.Resuming.{Begins, Keeps};
 ghost use Rattle.step_work.specs.Shapes.{direct_of as meant, round_of, step_of, use_of};
 
 use crate::arguments::begin_arguments;
+use crate::objects::{begin_index, begin_member, begin_properties};
 use crate::operators::{assigned_by, begin_binary, begin_unary};
 use crate::stack::Stack;
 use crate::statements::begin_statements;
-use crate::work::{Direct, Next, Round, Use, Work};
+use crate::work::{Direct, Enumeration, Next, Round, Use, Work};
 use flow_text::{OutOfMemory, Text};
 use js_ast::{BinaryOperator, Expr, ExprKind, ForFirst, PostfixOperator, Stmt, StmtKind};
 use step_world::Leaving;
 
-// `read`, `print` and `lbl`
+// `read`, `print`, `lbl`, `upgs` and `upge`
 const READ: [u16; 4] = [0x72, 0x65, 0x61, 0x64];
 
 const PRINT: [u16; 5] = [0x70, 0x72, 0x69, 0x6E, 0x74];
 
 const LBL: [u16; 3] = [0x6C, 0x62, 0x6C];
+
+const UPGS: [u16; 4] = [0x75, 0x70, 0x67, 0x73];
+
+const UPGE: [u16; 4] = [0x75, 0x70, 0x67, 0x65];
 
 /// The function of the product that a name calls.
 #[tactic(auto, unfolding(es_meaning::specs::Evaluation::direct_of))]
@@ -37,6 +44,10 @@ fn direct_of(name: &Text) -> Option<Direct>
         Some(Direct::Print)
     } else if name == LBL.as_slice() {
         Some(Direct::Lbl)
+    } else if name == UPGS.as_slice() {
+        Some(Direct::Upgs)
+    } else if name == UPGE.as_slice() {
+        Some(Direct::Upge)
     } else {
         None
     }
@@ -61,7 +72,8 @@ fn begin_call<'p, T: Copy>(
 
 /// What is done with the operand of `++` or `--` behind it.
 fn postfix_use<'p>(operator: PostfixOperator) -> Use<'p>
-    ensures { use_of result ≡ postfixed (step_of operator) }
+    ensures means { (vs : List Val) → use_of result vs ≡ postfixed (step_of operator) }
+    ensures alone { owns_use result ≡ 0 }
 {
     match operator {
         PostfixOperator::Increment => Use::Postfixed(BinaryOperator::Add),
@@ -138,13 +150,13 @@ pub fn begin_expression<'p, T: Copy>(
             value,
         } => Ok(Next::Use(assigned_by(*operator, value), target)),
         ExprKind::Comma { left, right } => begin_comma(stack, left, right),
-        ExprKind::This
-        | ExprKind::Array { .. }
-        | ExprKind::Object { .. }
-        | ExprKind::Function(_)
-        | ExprKind::Member { .. }
-        | ExprKind::Index { .. }
-        | ExprKind::New { .. } => Ok(Next::Leave(Leaving::Unbuilt)),
+        ExprKind::This => Ok(Next::This),
+        ExprKind::Object { properties, .. } => begin_properties(stack, properties, 0),
+        ExprKind::Member { base, name } => begin_member(stack, Use::Valued, base, name),
+        ExprKind::Index { base, index } => begin_index(stack, Use::Valued, base, index),
+        ExprKind::Array { .. } | ExprKind::Function(_) | ExprKind::New { .. } => {
+            Ok(Next::Leave(Leaving::Unbuilt))
+        }
     }
 }
 
@@ -221,6 +233,22 @@ fn begin_if_else<'p, T: Copy>(
     Ok(Next::Expr(test))
 }
 
+/// What `for in` takes the keys of is evaluated first.
+#[tactic(auto, using(crate::proofs::Behind::behind_more, crate::proofs::Behind::env_more))]
+fn begin_for_in<'p, T: Copy>(
+    stack: &mut Stack<'p, T>,
+    enumeration: Enumeration<'p>,
+    object: &'p Expr,
+) -> Result<Next<'p>, OutOfMemory>
+    requires { length stack.old.loose ≡ 0 }
+    ensures goes_on { IfOk result (Begins (λ tables inputs env. (planned tables inputs).bind Value One ((asking tables inputs).expr (view_expr object.entry.now) env.place) (enumerated (planned tables inputs) (asking tables inputs) (view_target enumeration.entry.target.now) (view_stmt enumeration.entry.body.now) env)) stack.old stack.new) }
+    ensures keeps { IfOk result (Keeps stack.old stack.new) }
+    ensures adds { IfOk result (Adds 4 stack.old stack.new) }
+{
+    stack.push(Work::Enumerated(enumeration))?;
+    Ok(Next::Expr(object))
+}
+
 /// A statement.
 #[tactic(auto, using(js_ast::proofs::ViewLaws::held_stmts, js_ast::specs::declared::trees::ExprKind::TheViews::the_lemmas), unfolding(es_meaning::specs::Evaluation::stmt_step))]
 pub fn begin_statement<'p, T: Copy>(
@@ -244,8 +272,12 @@ pub fn begin_statement<'p, T: Copy>(
         StmtKind::DoWhile { .. } => Ok(Next::DoLoop(Round { of: s })),
         StmtKind::While { .. } => Ok(Next::Loop(Round { of: s })),
         StmtKind::For { first, .. } => begin_for(stack, first, Round { of: s }),
-        StmtKind::ForIn { .. }
-        | StmtKind::Continue { .. }
+        StmtKind::ForIn {
+            target,
+            object,
+            body,
+        } => begin_for_in(stack, Enumeration { target, body }, object),
+        StmtKind::Continue { .. }
         | StmtKind::Break { .. }
         | StmtKind::Return { .. }
         | StmtKind::Throw { .. }

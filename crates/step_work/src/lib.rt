@@ -6,17 +6,20 @@ mod arguments;
 mod branches;
 mod ends;
 mod enter;
+mod objects;
 mod operators;
 mod passing;
 mod scopes;
 mod stack;
 mod statements;
+mod visits;
 mod work;
 
 pub use arguments::{begin_arguments, more_arguments};
 pub use branches::{and_right, choose_expr, choose_stmt, choose_stmts, or_right};
 pub use ends::{end_branch, end_branch_value, end_round, tested};
 pub use enter::{begin_expression, begin_statement};
+pub use objects::{begin_index, begin_member, begin_properties, index_base, more_properties};
 pub use operators::{binary_right, comma_right};
 pub use passing::{pass, pass_branch, pass_round};
 pub use scopes::{begin_do_loop, begin_loop, begin_turn};
@@ -24,4 +27,5 @@ pub use stack::Stack;
 pub use statements::{
     begin_statements, begin_test, declared, discard, looped, more_statements, turned, updated,
 };
-pub use work::{Direct, Next, Round, Use, Work};
+pub use visits::{begin_enumeration, begin_visit, visit_body, visited};
+pub use work::{Direct, Enumeration, Next, Round, Target, Use, Work};

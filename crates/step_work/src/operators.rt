@@ -1,13 +1,15 @@
 //! Operators: what is evaluated first, and what is done with the values of operands (ECMA-262 11.3 to 11.14).
 
-ghost use Rattle.std.specs.Prelude.{◌≡◌, true, false, length, IfOk};
+ghost use Rattle.std.specs.Prelude.{◌≡◌, true, false, List, length, IfOk};
 ghost use Rattle.js_ast.specs.Views.{view_expr};
 ghost use Rattle.es_meaning.specs.Operations.{Value};
-ghost use Rattle.es_meaning.specs.Evaluation.{unary_value, binary_step, unary_step, typeof_step, is_name, operator_of, assigned_by};
+ghost use Rattle.es_meaning.specs.Evaluation.{unary_value, binary_step, unary_step, delete_step, typeof_step, is_name, is_reference, operator_of, assigned_by};
 ghost use Rattle.flow_meaning.specs.Planned.{planned, asking};
+ghost use Rattle.flow_meaning.specs.Scopes.{Val};
 ghost use Rattle.step_work.specs.declared.work.Work.TheVariants as work;
 ghost use Rattle.step_work.specs.Kept.{without_top};
 ghost use Rattle.step_work.specs.Loads.{Adds};
+ghost use Rattle.step_work.specs.Pending.{owns_use};
 ghost use Rattle.step_work.specs.Resuming.{Begins, Keeps, Resumes};
 ghost use Rattle.step_work.specs.Shapes.{use_of, evaluates_both};
 
@@ -42,7 +44,7 @@ fn evaluates_both(operator: BinaryOperator) -> bool
 {
     !matches!(
         operator,
-        BinaryOperator::And | BinaryOperator::Or | BinaryOperator::In | BinaryOperator::Instanceof
+        BinaryOperator::And | BinaryOperator::Or | BinaryOperator::Instanceof
     )
 }
 
@@ -104,7 +106,7 @@ pub(crate) fn begin_unary<'p, T: Copy>(
     ensures adds { IfOk result (Adds 2 stack.old stack.new) }
 {
     match operator {
-        UnaryOperator::Delete => Ok(Next::Leave(Leaving::Unbuilt)),
+        UnaryOperator::Delete => begin_delete(stack, operand),
         UnaryOperator::Increment => Ok(Next::Use(Use::Prefixed(BinaryOperator::Add), operand)),
         UnaryOperator::Decrement => {
             Ok(Next::Use(Use::Prefixed(BinaryOperator::Subtract), operand))
@@ -153,6 +155,37 @@ fn begin_typeof<'p, T: Copy>(
     }
 }
 
+/// A reference is deleted, and of what is none only the value is taken (ECMA-262 11.4.1).
+#[tactic(auto, using(crate::proofs::Behind::behind_more, crate::proofs::Behind::env_more))]
+fn begin_delete<'p, T: Copy>(
+    stack: &mut Stack<'p, T>,
+    operand: &'p Expr,
+) -> Result<Next<'p>, OutOfMemory>
+    requires { length stack.old.loose ≡ 0 }
+    ensures goes_on { IfOk result (Begins (λ tables inputs e. delete_step (planned tables inputs) (asking tables inputs) (is_reference (view_expr operand.entry.now)) (view_expr operand.entry.now) e.place) stack.old stack.new) }
+    ensures keeps { IfOk result (Keeps stack.old stack.new) }
+    ensures adds { IfOk result (Adds 2 stack.old stack.new) }
+{
+    if is_reference(operand) {
+        Ok(Next::Use(Use::Deleted, operand))
+    } else {
+        stack.push(Work::Unary(UnaryOperator::Delete))?;
+        Ok(Next::Expr(operand))
+    }
+}
+
+/// Whether it is a name or a property, also in parentheses.
+#[tactic(auto, unfolding(es_meaning::specs::Evaluation::is_reference))]
+fn is_reference(e: &Expr) -> bool
+    ensures { result ≡ is_reference (view_expr e.now) }
+{
+    match &*e.kind {
+        ExprKind::Name(_) | ExprKind::Member { .. } | ExprKind::Index { .. } => true,
+        ExprKind::Paren(inner) => is_reference(inner),
+        _ => false,
+    }
+}
+
 /// Whether it is a name, also in parentheses.
 #[tactic(auto, unfolding(es_meaning::specs::Evaluation::is_name))]
 fn is_name(e: &Expr) -> bool
@@ -167,7 +200,8 @@ fn is_name(e: &Expr) -> bool
 
 /// What an assignment does with its target.
 pub(crate) fn assigned_by<'p>(operator: AssignOperator, value: &'p Expr) -> Use<'p>
-    ensures { use_of result ≡ assigned_by (operator_of operator) (view_expr value.entry.now) }
+    ensures means { (vs : List Val) → use_of result vs ≡ assigned_by (operator_of operator) (view_expr value.entry.now) }
+    ensures alone { owns_use result ≡ 0 }
 {
     match operator {
         AssignOperator::Assign => Use::Assigned(value),

@@ -2,13 +2,16 @@
 
 ghost use Rattle.std.specs.Prelude.{◌≡◌};
 ghost use Rattle.js_ast.specs.Views.{view_stmt};
-ghost use Rattle.step_work.specs.Pending.{owns};
+ghost use Rattle.step_work.specs.Pending.{owns, owns_use, owns_target};
 ghost use Rattle.step_work.specs.Shapes.{maybe_of, round_of};
 
 use flow_text::Text;
-use js_ast::{BinaryOperator, Declaration, Declarations, Expr, Stmt, StmtKind, UnaryOperator};
+use js_ast::{
+    BinaryOperator, Declaration, Declarations, Expr, ForTarget, Ident, PropertyList, Stmt,
+    StmtKind, UnaryOperator,
+};
 use js_number::Int;
-use step_world::{Leaving, Reference};
+use step_world::{Leaving, Place};
 
 /// What is done with a reference.
 #[derive(Clone, Copy)]
@@ -23,6 +26,27 @@ pub enum Use<'p> {
     Postfixed(BinaryOperator),
     /// It is asked for its type.
     Asked,
+    /// It is asked for its value.
+    Valued,
+    /// It is deleted.
+    Deleted,
+    /// It is given a text, which is an operand.
+    GivenText,
+}
+
+/// A reference with which work waits. A name that stands nowhere keeps the label of the walk to it, as that of an operand, and a property its
+/// base and its key.
+#[derive(Clone, Copy)]
+pub enum Target<'p> {
+    Name(&'p Text, Place),
+    Property,
+}
+
+/// A `for in`: what is given each key, and what is done then.
+#[derive(Clone, Copy)]
+pub struct Enumeration<'p> {
+    pub target: &'p ForTarget,
+    pub body: &'p Stmt,
 }
 
 /// A loop of which a turn is evaluated, as one reference, since it is moved with each `Next` and `Work`. A statement
@@ -76,6 +100,10 @@ pub enum Direct {
     Print,
     /// Joins origins to a value's label.
     Lbl,
+    /// Joins origins to the structure label of an object.
+    Upgs,
+    /// Joins origins to the existence label of a property of an object.
+    Upge,
 }
 
 /// What waits for the completion of a part. Some of it keeps values beside it, its operands: `owns` tells how many.
@@ -93,11 +121,19 @@ pub enum Work<'p> {
     Choose(&'p Expr, &'p Expr),
     CommaRight(&'p Expr),
     /// The value is given to the reference.
-    AssignTo(Reference<'p>),
-    /// The value is the operand of a compound assignment. It keeps the old value of the reference.
-    CompoundDone(BinaryOperator, Reference<'p>),
+    AssignTo(Target<'p>),
+    /// The value is the operand of a compound assignment. It keeps the old value behind what the reference keeps.
+    CompoundDone(BinaryOperator, Target<'p>),
     /// The value is an argument. It keeps those before it, and others stand behind.
     Argument(Direct, u32, &'p [Expr]),
+    /// The value is the base of the property with this name.
+    MemberBase(Use<'p>, &'p Text),
+    /// The value is the base of a property, and its key is evaluated next.
+    IndexBase(Use<'p>, &'p Expr),
+    /// The value is the key of a property. It keeps the base, behind the operand of the use.
+    IndexKey(Use<'p>),
+    /// The value is that of a property of an object. It keeps those before it.
+    Property(&'p PropertyList, u32),
     /// The value is of no use.
     Discard,
     /// The value chooses the statement or nothing.
@@ -107,7 +143,7 @@ pub enum Work<'p> {
     /// Statements stand behind.
     Statements(&'p [Stmt]),
     /// The value is that of a variable, and others stand behind.
-    Variable(Reference<'p>, &'p [Declaration]),
+    Variable(Target<'p>, &'p [Declaration]),
     /// The loop's first part was evaluated.
     Looped(Round<'p>),
     /// The loop's variables were declared.
@@ -118,10 +154,41 @@ pub enum Work<'p> {
     Updated(Round<'p>),
     /// A turn is over.
     Turned(Round<'p>),
+    /// The value is what a `for in` takes the keys of.
+    Enumerated(Enumeration<'p>),
+    /// A key was given to the target of a `for in`, and its body is done next.
+    VisitBody(&'p Stmt),
+    /// A turn of a `for in` is over. It keeps the object, and the keys that are left, of which the last is next.
+    Visited(Enumeration<'p>, u32),
     /// The branch that stands in the frame at this depth is over. It has a value, or none.
     EndBranch(bool, usize),
     /// The loop or the turn that stands in the frame at this depth is over.
     EndRound(bool, usize),
+}
+
+impl Use<'_> {
+    /// How many operands it has.
+    pub fn owns(self) -> usize
+        ensures { result ≡ owns_use self.entry }
+    {
+        match self {
+            Use::GivenText => 1,
+            _ => 0,
+        }
+    }
+}
+
+impl Target<'_> {
+    /// How many operands it keeps.
+    pub(crate) fn owns(self) -> usize
+        ensures { result ≡ owns_target self.entry }
+    {
+        match self {
+            Target::Name(_, Place::Nowhere) => 1,
+            Target::Name(_, _) => 0,
+            Target::Property => 2,
+        }
+    }
 }
 
 impl<'p> Work<'p> {
@@ -130,8 +197,13 @@ impl<'p> Work<'p> {
         ensures { result ≡ owns self.entry }
     {
         match self {
-            Work::BinaryDone(_) | Work::CompoundDone(_, _) => 1,
-            Work::Argument(_, count, _) => count as usize,
+            Work::BinaryDone(_) => 1,
+            Work::AssignTo(target) | Work::Variable(target, _) => target.owns(),
+            Work::CompoundDone(_, target) => target.owns() + 1,
+            Work::Argument(_, count, _) | Work::Property(_, count) => count as usize,
+            Work::MemberBase(how, _) | Work::IndexBase(how, _) => how.owns(),
+            Work::IndexKey(how) => how.owns() + 1,
+            Work::Visited(_, count) => count as usize + 1,
             _ => 0,
         }
     }
@@ -153,6 +225,17 @@ pub enum Next<'p> {
     Text(&'p Text),
     /// The part comes to the value of a name.
     Name(&'p Text),
+    /// The part comes to the value of `this`.
+    This,
+    /// The part comes to an object with these properties, of the values that no work keeps, if that is all of them. Another kind of property isn't
+    /// built yet.
+    Object(&'p PropertyList, u32),
+    /// The value that no work keeps, a text, is given to a variable.
+    GiveVariable(&'p Ident),
+    /// The keys of the value that no work keeps are visited.
+    Keys(Enumeration<'p>),
+    /// So many keys are left to be visited: they and the object lie loose.
+    Visits(Enumeration<'p>, u32),
     /// The part comes to what a function of the product makes of the values that no work keeps.
     Direct(Direct, u32),
     /// An expression is evaluated.
@@ -165,6 +248,8 @@ pub enum Next<'p> {
     Variables(&'p Declarations),
     /// A turn of a loop, and those behind it.
     Turn(Round<'p>),
+    /// A turn of a `for in`, and those behind it. The object, the keys behind and the turn's key are the values that no work keeps.
+    Visit(Enumeration<'p>, u32),
     /// A loop, which begins with its condition.
     Loop(Round<'p>),
     /// A loop, which begins with a turn.

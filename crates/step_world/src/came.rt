@@ -25,13 +25,24 @@ pub enum Leaving {
     Channel,
     /// An origin that the policy doesn't have.
     Origin,
+    /// A primitive value that would be wrapped in an object.
+    Wrapper,
     /// A part of the language that isn't built yet.
     Unbuilt,
 }
 
-/// A name, and the record that has it, if one has (ECMA-262 8.7).
+/// Where a name stands (ECMA-262 10.2.2.1): in a record, on the global object or a prototype of it, or nowhere.
+#[derive(Clone, Copy, Debug, PartialEq, Eq)]
+pub enum Place {
+    Record(EnvId),
+    Global,
+    Nowhere,
+}
+
+/// A name that is resolved (ECMA-262 8.7), with the label of the walk along the global object, on which its place depends.
 #[derive(Clone, Copy)]
-pub struct Reference<'p> {
+pub struct Named<'p, T> {
     pub name: &'p Text,
-    pub record: Option<EnvId>,
+    pub place: Place,
+    pub walk: T,
 }

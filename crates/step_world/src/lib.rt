@@ -4,5 +4,5 @@
 mod came;
 mod world;
 
-pub use came::{Came, Leaving, Reference};
+pub use came::{Came, Leaving, Named, Place};
 pub use world::World;

@@ -1,4 +1,3 @@
-use Rattle.std.proofs.Common.{◌≡◌}
 use Rattle.js_shell.proofs.Asked.{program_accepted}
 use Rattle.js_shell.proofs.accepting.accept_program.Goals as goal
 

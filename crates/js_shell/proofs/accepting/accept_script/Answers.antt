@@ -1,4 +1,3 @@
-use Rattle.std.proofs.Common.{◌≡◌}
 use Rattle.js_shell.proofs.Asked.{script_accepted}
 use Rattle.js_shell.proofs.accepting.accept_script.Goals as goal
 

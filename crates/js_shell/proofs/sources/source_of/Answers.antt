@@ -1,4 +1,4 @@
-use Rattle.std.proofs.Common.{◌≡◌, [], length, refl}
+use Rattle.std.proofs.Common.{[], length, refl}
 use Rattle.std.proofs.lemmas.Result.{err_from_is_err_and}
 use Rattle.js_ast.specs.Views.{view_program}
 use Rattle.js_scan.specs.Tokens.{IsTokens}

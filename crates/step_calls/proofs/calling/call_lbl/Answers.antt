@@ -1,6 +1,7 @@
 use Rattle.step_world.proofs.ActLaws.{Belongs-later}
 use Rattle.step_work.specs.declared.work.Direct.TheVariants as direct
 use Rattle.step_calls.proofs.Called.{called}
+use Rattle.step_calls.proofs.FrameLaws.{stands_still}
 use Rattle.step_calls.proofs.Settled.{rests_below}
 use Rattle.step_calls.proofs.calling.call_lbl.Goals as goal
 
@@ -15,3 +16,6 @@ returns-clause-rests g c = rests_below (g.L.Labels.made c.lbl-answer.new.labels)
 pub returns-clause-belongs : goal.returns-clause-belongs
 returns-clause-belongs g c =
     Belongs-later g.L.Labels.made g.L.Labels.meaning g.L.Labels.room g.L.Labels.firm c.args.labels.now c.lbl-answer.new.labels c.lbl-answer.ensures.kept g.met.L.Labels.rising c.args.world.now c.requires.belongs
+
+pub returns-clause-stands : goal.returns-clause-stands
+returns-clause-stands g c = stands_still c.args.world.now.frames.frames c.settle.result

@@ -2,6 +2,7 @@ use Rattle.std.proofs.Common.{length}
 use Rattle.step_world.proofs.ActLaws.{Belongs-later}
 use Rattle.step_work.specs.declared.work.Direct.TheVariants as direct
 use Rattle.step_calls.proofs.Called.{called_printed}
+use Rattle.step_calls.proofs.FrameLaws.{stands_still}
 use Rattle.step_calls.proofs.Settled.{line_has, rests_below}
 use Rattle.step_calls.proofs.calling.call_print.Goals as goal
 
@@ -19,3 +20,6 @@ returns-clause-printed g c = line_has (g.L.Labels.made c.print-answer.new.labels
 pub returns-clause-belongs : goal.returns-clause-belongs
 returns-clause-belongs g c =
     Belongs-later g.L.Labels.made g.L.Labels.meaning g.L.Labels.room g.L.Labels.firm c.args.labels.now c.print-answer.new.labels c.print-answer.ensures.kept g.met.L.Labels.rising c.args.world.now c.requires.belongs
+
+pub returns-clause-stands : goal.returns-clause-stands
+returns-clause-stands g c = stands_still c.args.world.now.frames.frames c.settle_printed.result

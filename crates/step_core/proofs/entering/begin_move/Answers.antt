@@ -22,9 +22,29 @@ pub returns-in-Name-clause-begins : goal.returns-in-Name-clause-begins
 returns-in-Name-clause-begins g c tables inputs =
     subst (λ m. Begins g.L.Labels.made g.L.Labels.meaning c.begin_name.new.labels tables inputs c.args.stack.now c.begin_name.new.stack c.args.world.now c.begin_name.new.world m c.begin_name.result) (sym c.in-Name.is) (c.begin_name.ensures.begins tables inputs)
 
+pub returns-in-This-clause-begins : goal.returns-in-This-clause-begins
+returns-in-This-clause-begins g c tables inputs =
+    subst (λ m. Begins g.L.Labels.made g.L.Labels.meaning c.begin_this.new.labels tables inputs c.args.stack.now c.begin_this.new.stack c.args.world.now c.begin_this.new.world m c.begin_this.result) (sym c.in-This.is) (c.begin_this.ensures.begins tables inputs)
+
+pub returns-in-Object-clause-begins : goal.returns-in-Object-clause-begins
+returns-in-Object-clause-begins g c tables inputs =
+    subst (λ m. Begins g.L.Labels.made g.L.Labels.meaning c.begin_object.new.labels tables inputs c.args.stack.now c.begin_object.new.stack c.args.world.now c.begin_object.new.world m c.begin_object.result) (sym c.in-Object.is) (c.begin_object.ensures.begins tables inputs)
+
+pub returns-in-GiveVariable-clause-begins : goal.returns-in-GiveVariable-clause-begins
+returns-in-GiveVariable-clause-begins g c tables inputs =
+    subst (λ m. Begins g.L.Labels.made g.L.Labels.meaning c.begin_giving.new.labels tables inputs c.args.stack.now c.begin_giving.new.stack c.args.world.now c.begin_giving.new.world m c.begin_giving.result) (sym c.in-GiveVariable.is) (c.begin_giving.ensures.begins tables inputs)
+
+pub returns-in-Keys-clause-begins : goal.returns-in-Keys-clause-begins
+returns-in-Keys-clause-begins g c tables inputs =
+    subst (λ m. Begins g.L.Labels.made g.L.Labels.meaning c.begin_keys.new.labels tables inputs c.args.stack.now c.begin_keys.new.stack c.args.world.now c.begin_keys.new.world m c.begin_keys.result) (sym c.in-Keys.is) (c.begin_keys.ensures.begins tables inputs)
+
+pub returns-in-Visits-clause-begins : goal.returns-in-Visits-clause-begins
+returns-in-Visits-clause-begins g c tables inputs =
+    subst (λ m. Begins g.L.Labels.made g.L.Labels.meaning c.begin_visits.new.labels tables inputs c.args.stack.now c.begin_visits.new.stack c.args.world.now c.begin_visits.new.world m c.begin_visits.result) (sym c.in-Visits.is) (c.begin_visits.ensures.begins tables inputs)
+
 pub returns-in-Variables-clause-begins : goal.returns-in-Variables-clause-begins
 returns-in-Variables-clause-begins g c tables inputs =
-    subst (λ m. Begins g.L.Labels.made g.L.Labels.meaning c.args.labels.now tables inputs c.args.stack.now c.begin_variables.new.stack c.args.world.now c.args.world.now m c.begin_variables.result) (sym c.in-Variables.is) (c.begin_variables.ensures.begins tables inputs)
+    subst (λ m. Begins g.L.Labels.made g.L.Labels.meaning c.begin_variables.new.labels tables inputs c.args.stack.now c.begin_variables.new.stack c.args.world.now c.args.world.now m c.begin_variables.result) (sym c.in-Variables.is) (c.begin_variables.ensures.begins tables inputs)
 
 pub returns-in-Loop-clause-begins : goal.returns-in-Loop-clause-begins
 returns-in-Loop-clause-begins g c tables inputs =

@@ -6,15 +6,14 @@ use Rattle.step_work.specs.declared.work.Next.TheVariants as next
 use Rattle.step_work.specs.Kept.{scopes_of}
 use Rattle.step_work.specs.Pending.{env_above}
 use Rattle.step_core.specs.Outlook.{here}
-use Rattle.step_core.specs.Going.{Enters}
-use Rattle.step_core.proofs.Begun.{comes_begun, entered_part}
+use Rattle.step_core.proofs.Begun.{comes_begun, entered_by}
 use Rattle.step_core.proofs.Stood.{standing_keeps, standing_whole}
 use Rattle.step_core.proofs.entering.enter_expression.Goals as goal
 
 pub returns-clause-enters : goal.returns-clause-enters
 unfolding plan
-returns-clause-enters g c tables inputs =
-    entered_part (λ part. Enters g.L.Labels.made g.L.Labels.meaning c.args._labels.now tables inputs c.args.stack.now c.begin_expression.new.stack c.args._world.now c.args._world.now part (Ok c.in_ok-next.next)) (env_above c.args.stack.now.tasks here) (next.Expr c.args.e) (an_expr (view_expr c.args.e.now) (env_above c.args.stack.now.tasks here).place) refl
+returns-clause-enters g c tables inputs part is =
+    entered_by g.L.Labels.made g.L.Labels.meaning c.args._labels.now tables inputs c.args.stack.now c.begin_expression.new.stack c.args._world.now c.args._world.now (next.Expr c.args.e) (λ reading. an_expr (view_expr c.args.e.now) (env_above c.args.stack.now.tasks here).place) part (Ok c.in_ok-next.next) (λ reading. refl) is
     (comes_begun g.L.Labels.made g.L.Labels.meaning c.args._labels.now tables inputs (λ tables inputs e. expr_step (planned tables inputs) (asking tables inputs) (view_expr c.args.e.now) e.place)
     (λ reading s. plan tables inputs (an_expr (view_expr c.args.e.now) (env_above c.args.stack.now.tasks here).place) s) c.args.stack.now c.begin_expression.new.stack c.args._world.now c.in_ok-next.next (λ reading s. refl) c.requires.standing.values c.in_ok-next.ensures.goes_on)
 

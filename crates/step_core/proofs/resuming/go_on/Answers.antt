@@ -8,7 +8,8 @@ use Rattle.step_work.specs.Pending.{owns}
 use Rattle.step_core.specs.Outlook.{here}
 use Rattle.step_core.specs.Standing.{awaits}
 use Rattle.step_core.proofs.Continued.{goes_acting, goes_alone, goes_in}
-use Rattle.step_core.proofs.Resumed.{at_depth, behind_all, stands_acting, stands_alone, stands_in}
+use Rattle.step_core.proofs.Parts.{behind_all}
+use Rattle.step_core.proofs.Resumed.{at_depth, stands_acting, stands_alone, stands_in}
 use Rattle.step_core.proofs.resuming.go_on.Goals as goal
 
 pub act-requires-clause-made : goal.act-requires-clause-made

@@ -1,4 +1,5 @@
-use Rattle.std.proofs.Common.{sym, ap, ◌≡◌, ◌+◌, ◌-◌, ◌*◌, suc}
+use Rattle.std.proofs.Common.{sym, ap, map, ◌≡◌, ◌+◌, ◌-◌, ◌*◌, suc}
+use Rattle.js_values.specs.Readings.{read_value}
 use Rattle.flow_meaning.specs.Planned.{perform, meaning, plan}
 use Rattle.step_world.specs.Worlds.{state_of}
 use Rattle.step_work.specs.Loads.{load, lift}
@@ -23,8 +24,8 @@ returns-clause-stepped g c tables inputs =
     let some : old.turns ≡ suc turns = one_less old.turns c.if-machine-eq0.false in
     let asks = asks_for tables inputs c.args.next (env_above old.stack.tasks here) c.requires.enters in
     let new : Machine g.row.L-Label.Denot = record { world = c.enter-moved.new.world; stack = c.enter-moved.new.stack; turns = turns } in
-    stepped_as g.L.Labels.made g.L.Labels.meaning c.enter-moved.new.labels tables inputs (λ reading told. perform (meaning tables inputs) (behind tables inputs reading old.stack.tasks here (plan tables inputs asks.part (state_of reading old.world told turns)))) (λ reading told. outlook tables inputs reading old c.args.next told)
-    (6 * (suc turns) + load old.stack.tasks + lift c.args.next) (ahead old c.args.next) new c.step_of.result
-    (λ reading told read. entered_after tables inputs reading old c.args.next asks told turns some) (ap (λ n. 6 * n + load old.stack.tasks + lift c.args.next) (sym some))
-    (moved_steps g.L.Labels.made g.L.Labels.meaning c.enter-moved.new.labels tables inputs (λ reading told n. behind tables inputs reading old.stack.tasks here (plan tables inputs asks.part (state_of reading old.world told n))) new (6 * (suc turns) + load old.stack.tasks + lift c.args.next) c.enter-moved.result c.step_of.result c.step_of.ensures
-    (c.enter-moved.ensures.enters tables inputs asks.part asks.is) c.enter-moved.ensures.standing (lowers_turn old.stack c.enter-moved.new.stack c.args.next turns c.enter-moved.result c.enter-moved.ensures.adds) c.enter-moved.ensures.stopped)
+    stepped_as g.L.Labels.made g.L.Labels.meaning c.enter-moved.new.labels tables inputs (λ reading told. perform (meaning tables inputs) (behind tables inputs reading old.stack.tasks here (plan tables inputs (asks.part (map (read_value reading) old.stack.loose)) (state_of reading old.world told turns)))) (λ reading told. outlook tables inputs reading old c.args.next told)
+    (7 * (suc turns) + load old.stack.tasks + lift c.args.next) (ahead old c.args.next) new c.step_of.result
+    (λ reading told read. entered_after tables inputs reading old c.args.next asks told turns some) (ap (λ n. 7 * n + load old.stack.tasks + lift c.args.next) (sym some))
+    (moved_steps g.L.Labels.made g.L.Labels.meaning c.enter-moved.new.labels tables inputs (λ reading told n. behind tables inputs reading old.stack.tasks here (plan tables inputs (asks.part (map (read_value reading) old.stack.loose)) (state_of reading old.world told n))) new (7 * (suc turns) + load old.stack.tasks + lift c.args.next) c.enter-moved.result c.step_of.result c.step_of.ensures
+    (c.enter-moved.ensures.enters tables inputs (λ reading. asks.part (map (read_value reading) old.stack.loose)) (λ reading. asks.is (map (read_value reading) old.stack.loose))) c.enter-moved.ensures.standing (lowers_turn old.stack c.enter-moved.new.stack c.args.next turns c.enter-moved.result c.enter-moved.ensures.adds) c.enter-moved.ensures.stopped)

@@ -6,7 +6,8 @@ use Rattle.step_work.specs.Loads.{weight}
 use Rattle.step_core.specs.declared.steps.Ending.TheVariants as ending
 use Rattle.step_core.specs.Outlook.{ahead, outlook}
 use Rattle.step_core.specs.Stepping.{outlook_after}
-use Rattle.step_core.proofs.StepLaws.{stepped_as, ends_steps, threw_alone, passed_after, standing_taken, ahead_taken, alone_by, first_of}
+use Rattle.step_core.proofs.Continued.{one_value}
+use Rattle.step_core.proofs.StepLaws.{stepped_as, ends_steps, threw_alone, passed_after, standing_taken, ahead_taken, alone_by}
 use Rattle.step_core.proofs.stepping.throw_on.Goals as goal
 
 pub pop-requires : goal.pop-requires
@@ -28,7 +29,7 @@ returns-in-Some-clause-stepped g c tables inputs =
     let old = c.args.machine.now in
     let taken = record old { stack = c.next_work.new.self } in
     let w = c.in-Some.work in
-    let thrown_one = first_of old.stack.loose c.requires.standing.values in
+    let thrown_one = one_value old.stack.loose c.requires.standing.values in
     stepped_as g.L.Labels.made g.L.Labels.meaning c.passed.new.labels tables inputs (λ reading told. outlook_after tables inputs reading taken w (jumped (thrown reading thrown_one.0)) told) (λ reading told. outlook tables inputs reading old next.Throws told)
     (ahead taken next.Throws + weight w) (ahead old next.Throws) c.passed.new.machine c.passed.result
     (λ reading told read. passed_after tables inputs reading old c.next_work.new.self w thrown_one.0 told thrown_one.1 c.in-Some.ensures.taken) (ahead_taken old.stack c.next_work.new.self w old.turns c.in-Some.ensures.taken)

@@ -5,7 +5,7 @@ use Rattle.step_values.proofs.CameLaws.{label_belongs}
 use Rattle.step_work.specs.declared.work.Work.TheVariants as work
 use Rattle.step_world.proofs.ActLaws.{Acts-computes}
 use Rattle.step_moves.proofs.PlanLaws.{unary_as}
-use Rattle.step_moves.proofs.Resumed.{resumed}
+use Rattle.step_moves.proofs.Begun.{resumed_act}
 use Rattle.step_work.proofs.EndLaws.{last_has}
 use Rattle.step_moves.proofs.Settled.{rests_popped}
 use Rattle.step_moves.proofs.operators.unary.Goals as goal
@@ -15,9 +15,9 @@ settle-requires-clause-made g c = label_belongs (g.L.Labels.made c.args.labels.n
 
 pub returns-clause-goes_on : goal.returns-clause-goes_on
 returns-clause-goes_on g c =
-    resumed g.L.Labels.made g.L.Labels.meaning c.args.labels.now (work.Unary c.args.operator) (λ tables inputs v. unary_value (labelled tables inputs) c.args.operator v)
-    c.args.stack.now c.pop-value.new.self c.settle.new.stack c.pop-value.result c.args.world.now c.args.world.now c.unary_value-answer.result c.settle.result
-    (λ tables inputs v f s. unary_as tables inputs c.args.operator v s) c.pop-value.ensures.top c.pop-value.ensures.tasks
+    resumed_act g.L.Labels.made g.L.Labels.meaning c.args.labels.now (work.Unary c.args.operator) (λ tables inputs reading. unary_value (labelled tables inputs) c.args.operator (read_value reading c.pop-value.result))
+    c.args.stack.now c.pop-value.new.self c.settle.new.stack c.pop-value.result c.pop-value.new.self.loose c.args.world.now c.args.world.now c.unary_value-answer.result c.settle.result c.pop-value.ensures.top c.pop-value.ensures.tasks
+    (λ tables inputs reading f s read. unary_as tables inputs c.args.operator (read_value reading c.pop-value.result) s)
     (λ tables inputs. Acts-computes g.L.Labels.made g.L.Labels.meaning c.args.labels.now (λ reading. read_value reading) (λ reading. unary_value (labelled tables inputs) c.args.operator (read_value reading c.pop-value.result)) c.args.world.now c.unary_value-answer.result (c.unary_value-answer.ensures.computes tables inputs))
     c.settle.ensures.settles
 

@@ -14,8 +14,8 @@ returns-in-Some-clause-goes_on g c =
     let ds = view_other_declarations c.args.list.now in
     let v : Variable = (c.in-Some.name.now, view_expr c.in-Some.value.now, view_other_declarations c.in-Some.rest.now) in
     let is : first_given ds ≡ Some v = sym (rw c.in-Some.is at c.first_given.ensures) in
-    begins_same g.L.Labels.made g.L.Labels.meaning c.args._labels.now c.args.at.0 (λ tables inputs e. initialised tables inputs v e.place) (λ tables inputs e. variables (planned tables inputs) (asking tables inputs) ds e.place)
-    c.args.stack.now c.initialise.new.stack c.args.world.now c.args.world.now c.initialise.result (λ tables inputs f s. sym (variables_given tables inputs f.place s ds v is)) c.initialise.ensures.goes_on
+    begins_same g.L.Labels.made g.L.Labels.meaning c.initialise.new.labels c.args.at.0 (λ tables inputs reading e. initialised tables inputs v e.place) (λ tables inputs reading e. variables (planned tables inputs) (asking tables inputs) ds e.place)
+    c.args.stack.now c.initialise.new.stack c.args.world.now c.args.world.now c.initialise.result (λ tables inputs reading f s. sym (variables_given tables inputs f.place s ds v is)) c.initialise.ensures.goes_on
 
 pub returns-in-None-clause-goes_on : goal.returns-in-None-clause-goes_on
 returns-in-None-clause-goes_on g c tables inputs reading e told turns read at =

@@ -15,18 +15,16 @@ pub returns-in-Err-OutOfMemory-clause-belongs : goal.returns-in-Err-OutOfMemory-
 returns-in-Err-OutOfMemory-clause-belongs g c = Belongs-records g.L.Labels.made g.L.Labels.meaning g.L.Labels.room g.L.Labels.firm c.args.labels.now c.assign.new.labels c.assign.ensures.kept c.args.world.now c.requires.belongs g.met.L.Labels.rising c.assign.new.self c.assign.ensures.belongs
 
 pub returns-in-Ok-clause-acts : goal.returns-in-Ok-clause-acts
-returns-in-Ok-clause-acts g c =
-    put_done g.L.Labels.made g.L.Labels.meaning g.L.Labels.room g.L.Labels.firm c.args.labels.now c.assign.new.labels c.assign.ensures.kept c.args.world.now c.requires.belongs c.context-context.result c.context-context.ensures.made c.context-context.ensures.meaning c.args.at.0 c.args.name.now c.args.value c.requires.bound
-    c.assign.new.self c.in-Ok.ensures.assigns.does
+returns-in-Ok-clause-acts g c = λ walk. put_done g.L.Labels.made g.L.Labels.meaning g.L.Labels.room g.L.Labels.firm c.args.labels.now c.assign.new.labels c.assign.ensures.kept c.args.world.now c.requires.belongs c.context-context.result c.context-context.ensures.made c.context-context.ensures.meaning c.args.e.0 c.args.name.now walk c.args.value c.requires.bound c.assign.new.self c.in-Ok.ensures.assigns.does
 
 pub returns-in-Err-Stop-clause-acts : goal.returns-in-Err-Stop-clause-acts
 returns-in-Err-Stop-clause-acts g c =
+    λ walk.
     let refused = rw c.in-Err-Stop.field-0-is at c.in-Err-Stop.ensures.assigns.refused in
-    put_stopped g.L.Labels.made g.L.Labels.meaning g.L.Labels.room g.L.Labels.firm c.args.labels.now c.assign.new.labels c.assign.ensures.kept c.args.world.now c.requires.belongs c.context-context.result c.context-context.ensures.made c.context-context.ensures.meaning c.args.at.0 c.args.name.now c.args.value c.requires.bound
-    c.in-Err-Stop.stop c.assign.new.self c.in-Err-Stop.ensures.assigns.unchanged refused.2
+    put_stopped g.L.Labels.made g.L.Labels.meaning g.L.Labels.room g.L.Labels.firm c.args.labels.now c.assign.new.labels c.assign.ensures.kept c.args.world.now c.requires.belongs c.context-context.result c.context-context.ensures.made c.context-context.ensures.meaning c.args.e.0 c.args.name.now walk c.args.value c.requires.bound c.in-Err-Stop.stop c.assign.new.self c.in-Err-Stop.ensures.assigns.unchanged refused.2
 
 pub returns-in-Err-Immutable-clause-acts : goal.returns-in-Err-Immutable-clause-acts
 returns-in-Err-Immutable-clause-acts g c =
+    λ walk.
     let refused = rw c.in-Err-Immutable.field-0-is at c.in-Err-Immutable.ensures.assigns.refused in
-    put_immutable g.L.Labels.made g.L.Labels.meaning g.L.Labels.room g.L.Labels.firm c.args.labels.now c.assign.new.labels c.assign.ensures.kept c.args.world.now c.requires.belongs c.context-context.result c.context-context.ensures.made c.context-context.ensures.meaning c.args.at.0 c.args.name.now c.args.value c.requires.bound
-    c.throw_without_cause.new.labels c.throw_without_cause.ensures.kept c.assign.new.self c.throw_without_cause.new.world c.throw_without_cause.result c.in-Err-Immutable.ensures.assigns.unchanged refused (c.throw_without_cause.ensures.acts One (λ reading x. x))
+    put_immutable g.L.Labels.made g.L.Labels.meaning g.L.Labels.room g.L.Labels.firm c.args.labels.now c.assign.new.labels c.assign.ensures.kept c.args.world.now c.requires.belongs c.context-context.result c.context-context.ensures.made c.context-context.ensures.meaning c.args.e.0 c.args.name.now walk c.args.value c.requires.bound c.throw_without_cause.new.labels c.throw_without_cause.ensures.kept c.assign.new.self c.throw_without_cause.new.world c.throw_without_cause.result c.in-Err-Immutable.ensures.assigns.unchanged refused (c.throw_without_cause.ensures.acts One (λ reading x. x))

@@ -1,20 +1,13 @@
 use Rattle.es_meaning.specs.Operations.{Value}
 use Rattle.js_values.specs.Readings.{read_value}
-use Rattle.step_world.specs.Names.{reference_of}
-use Rattle.step_names.proofs.NameLaws.{name_has, name_read, name_unbound}
+use Rattle.step_names.proofs.NameLaws.{got_inside, got_globally, got_nowhere}
 use Rattle.step_names.proofs.naming.get_name.Goals as goal
 
-pub returns-in-Some-clause-acts : goal.returns-in-Some-clause-acts
-returns-in-Some-clause-acts g c = λ tables inputs.
-    let name = reference_of c.args.reference in
-    name_read g.L.Labels.made g.L.Labels.meaning c.args.labels.now c.args.world.now name.place name.name c.in-Some.value (rw c.in-Some.is at c.in_ok-value.ensures)
+pub returns-in-Record-clause-acts : goal.returns-in-Record-clause-acts
+returns-in-Record-clause-acts g c = λ tables inputs. got_inside g.L.Labels.made g.L.Labels.meaning c.get_bound.new.labels (λ reading. read_value reading) c.args.world.now c.get_bound.new.world c.get_bound.result c.args.named.place c.args.named.name.now c.args.named.walk c.in-Record.e c.in-Record.is c.get_bound.ensures.acts
 
-pub returns-in-Some-clause-made : goal.returns-in-Some-clause-made
-returns-in-Some-clause-made g c =
-    let name = reference_of c.args.reference in
-    name_has (g.L.Labels.made c.args.labels.now) c.args.world.now.records name.place name.name c.in-Some.value c.requires.belongs.records (rw c.in-Some.is at c.in_ok-value.ensures)
+pub returns-in-Global-clause-acts : goal.returns-in-Global-clause-acts
+returns-in-Global-clause-acts g c = λ tables inputs. got_globally g.L.Labels.made g.L.Labels.meaning c.get_global.new.labels (λ reading. read_value reading) c.args.world.now c.get_global.new.world c.get_global.result c.args.named.place c.args.named.name.now c.args.named.walk c.in-Global.is c.get_global.ensures.acts
 
-pub returns-in-None-clause-acts : goal.returns-in-None-clause-acts
-returns-in-None-clause-acts g c = λ tables inputs.
-    let name = reference_of c.args.reference in
-    name_unbound g.L.Labels.made g.L.Labels.meaning c.throw_without_cause.new.labels c.args.world.now name.place name.name (λ reading. read_value reading) c.throw_without_cause.new.world c.throw_without_cause.result (rw c.in-None.is at c.in_ok-value.ensures) (c.throw_without_cause.ensures.acts Value (λ reading. read_value reading))
+pub returns-in-Nowhere-clause-acts : goal.returns-in-Nowhere-clause-acts
+returns-in-Nowhere-clause-acts g c = λ tables inputs. got_nowhere g.L.Labels.made g.L.Labels.meaning c.throw_error.new.labels (λ reading. read_value reading) c.args.world.now c.throw_error.new.world c.throw_error.result c.args.named.place c.args.named.name.now c.args.named.walk c.in-Nowhere.is (c.throw_error.ensures.acts Value (λ reading. read_value reading))

@@ -1,11 +1,10 @@
-use Rattle.std.proofs.Common.{ap, sym, ◌∙◌, Option, ℕ}
-use Rattle.step_names.proofs.Reading.{read_lookup}
-use Rattle.step_names.proofs.NameLaws.{bound_below}
+use Rattle.std.proofs.Common.{◌∙◌}
+use Rattle.step_world.specs.Names.{place_of}
+use Rattle.step_names.proofs.NameLaws.{resolved_inside, resolved_beyond}
 use Rattle.step_names.proofs.naming.resolve.Goals as goal
 
-pub returns-clause-resolved : goal.returns-clause-resolved
-returns-clause-resolved g c = λ reading.
-    ap (λ (place : Option ℕ). record { name = c.args.name.now; place = place }) (read_lookup reading c.args.name.now c.args.world.now.records c.args.at.0 ∙ sym c.lookup-record.ensures.innermost)
+pub returns-in-Some-clause-resolved : goal.returns-in-Some-clause-resolved
+returns-in-Some-clause-resolved g c = λ reading read. resolved_inside reading c.args.world.now.records c.args.world.now.heap c.args.at.0 c.args.name.now c.in-Some.e c.bottom-walk.result c.in-Some.ensures.innermost (read.agrees c.bottom-walk.result c.bottom-walk.ensures.made ∙ c.bottom-walk.ensures.meaning)
 
-pub returns-clause-there : goal.returns-clause-there
-returns-clause-there g c = bound_below c.args.name.now c.args.world.now.records c.lookup-record.result c.lookup-record.ensures.bound
+pub returns-clause-resolved : goal.returns-clause-resolved
+returns-clause-resolved g c = λ reading read. resolved_beyond reading c.args.world.now.records c.args.world.now.heap c.args.at.0 c.args.name.now c.in_ok-found.found.at (place_of c.beyond-place.result) c.in_ok-found.found.walk c.in_default.ensures.innermost c.beyond-place.ensures (c.in_ok-found.ensures.found.at reading read) (c.in_ok-found.ensures.found.walk reading read)

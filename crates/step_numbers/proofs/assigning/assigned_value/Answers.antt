@@ -13,4 +13,4 @@ put-requires-clause-belongs g c = Belongs-later g.L.Labels.made g.L.Labels.meani
 pub returns-clause-gives : goal.returns-clause-gives
 returns-clause-gives g c place =
     assigned_gives g.L.Labels.made g.L.Labels.meaning g.L.Labels.room g.L.Labels.firm c.number.new.labels c.put.new.labels c.put.ensures.kept place c.args.target.now.at c.args.at.0 c.args.world.now c.put.new.world c.args.turns (view_expr c.args.target.now) (view_expr c.args.value.now) c.in_ok-name.name.now
-    c.in_ok-own.field-0.now (labelled_number c.in_ok-found.found.number c.in_ok-found.found.label) c.in_ok-found.found.turns c.in_ok-name.ensures c.requires.turns c.in_ok-own.ensures c.in_ok-found.ensures.evaluates c.in_ok-put.ensures.puts
+    (labelled_number c.in_ok-found.found.number c.in_ok-found.found.label) c.in_ok-found.found.turns c.in_ok-name.ensures c.requires.turns c.in_ok-found.ensures.evaluates c.in_ok-put.ensures.puts

@@ -1,16 +1,11 @@
 use Rattle.step_numbers.specs.Evaluated.{labelled_number}
-use Rattle.step_numbers.proofs.AssignLaws.{puts_there, rebinds_records}
+use Rattle.step_numbers.proofs.GlobalLaws.{puts_beyond, puts_inside}
 use Rattle.step_numbers.proofs.assigning.put.Goals as goal
 
-pub returns-in-Ok-clause-puts : goal.returns-in-Ok-clause-puts
-returns-in-Ok-clause-puts g c =
-    puts_there g.L.Labels.made g.L.Labels.meaning g.L.Labels.room g.L.Labels.firm c.args.labels.now c.assign.new.labels c.assign.ensures.kept c.args.world.now c.requires.belongs c.context-context.result c.context-context.ensures.made c.context-context.ensures.meaning
-    c.args.at.0 c.args.name.now (labelled_number c.args.number c.args.label) c.requires.bound c.assign.new.self c.in-Ok.ensures.assigns.does
+pub returns-in-Some-clause-puts : goal.returns-in-Some-clause-puts
+returns-in-Some-clause-puts g c =
+    puts_inside g.L.Labels.made g.L.Labels.meaning c.put_bound.new.labels c.args.at.0 c.args.name.now (labelled_number c.args.number c.args.label) c.args.world.now c.put_bound.new.world c.in-Some.e.0 c.put_bound.result c.in-Some.ensures.innermost c.put_bound.ensures.puts
 
-pub returns-in-Ok-clause-rebinds : goal.returns-in-Ok-clause-rebinds
-returns-in-Ok-clause-rebinds g c =
-    rebinds_records g.L.Labels.made g.L.Labels.meaning g.L.Labels.room g.L.Labels.firm c.args.labels.now c.assign.new.labels c.assign.ensures.kept g.met.L.Labels.rising c.args.world.now c.requires.belongs c.assign.new.self c.assign.ensures.belongs c.assign.ensures.length
-
-pub returns-in-Err-clause-rebinds : goal.returns-in-Err-clause-rebinds
-returns-in-Err-clause-rebinds g c =
-    rebinds_records g.L.Labels.made g.L.Labels.meaning g.L.Labels.room g.L.Labels.firm c.args.labels.now c.assign.new.labels c.assign.ensures.kept g.met.L.Labels.rising c.args.world.now c.requires.belongs c.assign.new.self c.assign.ensures.belongs c.assign.ensures.length
+pub returns-in-None-clause-puts : goal.returns-in-None-clause-puts
+returns-in-None-clause-puts g c =
+    puts_beyond g.L.Labels.made g.L.Labels.meaning c.put_global.new.labels c.args.at.0 c.args.name.now (labelled_number c.args.number c.args.label) c.args.world.now c.put_global.new.world c.put_global.result c.in-None.ensures.innermost c.put_global.ensures.there c.put_global.ensures.puts

@@ -3,6 +3,7 @@ use Rattle.std.specs.Option.{option_map}
 use Rattle.js_ast.specs.declared.trees.ExprKind.TheViews.{the_lemmas}
 use Rattle.js_ast.specs.Trees as trees
 use Rattle.js_ast.specs.Views.{view_expr}
+use Rattle.step_world.proofs.ActLaws.{Belongs-later}
 use Rattle.step_numbers.specs.Evaluated.{Evaluates, labelled_number}
 use Rattle.step_numbers.proofs.EvaluationLaws.{binary_counts, name_counts, number_evaluated, paren_counts}
 use Rattle.step_numbers.specs.Evaluated.{combined_of, combines, number_at}
@@ -13,7 +14,7 @@ use Rattle.step_numbers.proofs.evaluating.+number.Goals.{then-turns-eq0-via-then
 pub returns-in-Name-clause-evaluates : goal.returns-in-Name-clause-evaluates
 returns-in-Name-clause-evaluates g t c =
     let is : view_expr c.args.e.now ≡ trees.name c.args.e.now.at c.in-Name.name = search (rules, the_lemmas, c.in-Name.is) in
-    name_counts g.L.Labels.made g.L.Labels.meaning c.args.labels.now (view_expr c.args.e.now) c.args.e.now.at c.args.at.0 c.args.world.now c.args.turns c.in-Name.name c.named.result is c.if-turns-eq0.false c.requires.records c.named.ensures.found
+    name_counts g.L.Labels.made g.L.Labels.meaning c.named.new.labels (view_expr c.args.e.now) c.args.e.now.at c.args.at.0 c.args.world.now c.args.turns c.in-Name.name c.named.result is c.if-turns-eq0.false c.named.ensures.named c.named.ensures.left
 
 pub returns-in-Number-clause-evaluates : goal.returns-in-Number-clause-evaluates
 returns-in-Number-clause-evaluates g t c =
@@ -36,57 +37,66 @@ returns-in_ok-second-in-Binary-clause-evaluates g t c =
 pub returns-then-turns-eq0-clause-exact : goal.returns-then-turns-eq0-clause-exact
 returns-then-turns-eq0-clause-exact g t c firm =
     let records = c.args.world.now.records in
+    let heap = c.args.world.now.heap in
     elim c.then-turns-eq0.branch [
-      | then-turns-eq0-via-then-turns-eq0 w ↦ sym (ap (λ n. number_at records c.args.at.0 c.args.depth (view_expr c.args.e.now) n) w.if-turns-eq0.true ∙ no_turns records c.args.at.0 c.args.depth (view_expr c.args.e.now))
-      | then-turns-eq0-via-else-turns-eq0+then-depth-eq0 w ↦ sym (ap (λ d. number_at records c.args.at.0 d (view_expr c.args.e.now) c.args.turns) w.if-depth-eq0.true ∙ no_levels records c.args.at.0 (view_expr c.args.e.now) c.args.turns)
+      | then-turns-eq0-via-then-turns-eq0 w ↦ sym (ap (λ n. number_at records heap c.args.at.0 c.args.depth (view_expr c.args.e.now) n) w.if-turns-eq0.true ∙ no_turns records heap c.args.at.0 c.args.depth (view_expr c.args.e.now))
+      | then-turns-eq0-via-else-turns-eq0+then-depth-eq0 w ↦ sym (ap (λ d. number_at records heap c.args.at.0 d (view_expr c.args.e.now) c.args.turns) w.if-depth-eq0.true ∙ no_levels records heap c.args.at.0 (view_expr c.args.e.now) c.args.turns)
     ]
 
 pub returns-in-Name-clause-exact : goal.returns-in-Name-clause-exact
 returns-in-Name-clause-exact g t c firm =
     let is : view_expr c.args.e.now ≡ trees.name c.args.e.now.at c.in-Name.name = search (rules, the_lemmas, c.in-Name.is) in
-    c.named.ensures.exact ∙ sym (entered_as c.args.world.now.records c.args.at.0 c.args.depth (view_expr c.args.e.now) (trees.name c.args.e.now.at c.in-Name.name) c.args.turns is c.if-depth-eq0.false c.if-turns-eq0.false)
+    c.named.ensures.exact firm ∙ sym (entered_as c.args.world.now.records c.args.world.now.heap c.args.at.0 c.args.depth (view_expr c.args.e.now) (trees.name c.args.e.now.at c.in-Name.name) c.args.turns is c.if-depth-eq0.false c.if-turns-eq0.false)
 
 pub returns-in-Number-clause-exact : goal.returns-in-Number-clause-exact
 returns-in-Number-clause-exact g t c firm =
     let is : view_expr c.args.e.now ≡ trees.number c.args.e.now.at c.in-Number.n = search (rules, the_lemmas, c.in-Number.is) in
-    sym (entered_as c.args.world.now.records c.args.at.0 c.args.depth (view_expr c.args.e.now) (trees.number c.args.e.now.at c.in-Number.n) c.args.turns is c.if-depth-eq0.false c.if-turns-eq0.false)
+    sym (entered_as c.args.world.now.records c.args.world.now.heap c.args.at.0 c.args.depth (view_expr c.args.e.now) (trees.number c.args.e.now.at c.in-Number.n) c.args.turns is c.if-depth-eq0.false c.if-turns-eq0.false)
 
 pub returns-in-Paren-clause-exact : goal.returns-in-Paren-clause-exact
 returns-in-Paren-clause-exact g t c firm =
     let is : view_expr c.args.e.now ≡ trees.paren c.args.e.now.at (view_expr c.in-Paren.inner) = search (rules, the_lemmas, c.in-Paren.is) in
-    c.number.ensures.exact firm ∙ sym (entered_as c.args.world.now.records c.args.at.0 c.args.depth (view_expr c.args.e.now) (trees.paren c.args.e.now.at (view_expr c.in-Paren.inner)) c.args.turns is c.if-depth-eq0.false c.if-turns-eq0.false)
+    c.number.ensures.exact firm ∙ sym (entered_as c.args.world.now.records c.args.world.now.heap c.args.at.0 c.args.depth (view_expr c.args.e.now) (trees.paren c.args.e.now.at (view_expr c.in-Paren.inner)) c.args.turns is c.if-depth-eq0.false c.if-turns-eq0.false)
 
 pub returns-then-not-combines-clause-exact : goal.returns-then-not-combines-clause-exact
 returns-then-not-combines-clause-exact g t c firm =
     let is : view_expr c.args.e.now ≡ trees.binary c.args.e.now.at (view_expr c.in-Binary.left) c.in-Binary.operator (view_expr c.in-Binary.right) = search (rules, the_lemmas, c.in-Binary.is) in
     let no : combines c.in-Binary.operator ≡ false = cc (c.combines.ensures, c.if-not-combines.true) in
-    sym (not_arithmetic c.args.world.now.records c.args.at.0 c.args.depth (view_expr c.args.e.now) (view_expr c.in-Binary.left) (view_expr c.in-Binary.right) c.args.e.now.at c.args.turns c.in-Binary.operator is no c.if-depth-eq0.false c.if-turns-eq0.false)
+    sym (not_arithmetic c.args.world.now.records c.args.world.now.heap c.args.at.0 c.args.depth (view_expr c.args.e.now) (view_expr c.in-Binary.left) (view_expr c.in-Binary.right) c.args.e.now.at c.args.turns c.in-Binary.operator is no c.if-depth-eq0.false c.if-turns-eq0.false)
 
 pub returns-in_err-first-in-Binary-clause-exact : goal.returns-in_err-first-in-Binary-clause-exact
 returns-in_err-first-in-Binary-clause-exact g t c firm =
     let is : view_expr c.args.e.now ≡ trees.binary c.args.e.now.at (view_expr c.in-Binary.left) c.in-Binary.operator (view_expr c.in-Binary.right) = search (rules, the_lemmas, c.in-Binary.is) in
     let yes : combines c.in-Binary.operator ≡ true = cc (c.combines.ensures, c.if-not-combines.false) in
-    let parts = number_at c.args.world.now.records c.args.at.0 (c.args.depth - 1) in
+    let parts = number_at c.args.world.now.records c.args.world.now.heap c.args.at.0 (c.args.depth - 1) in
     ap (option_map (λ x. (x.number, x.turns))) c.from_residual.ensures
-    ∙ sym (arithmetic c.args.world.now.records c.args.at.0 c.args.depth (view_expr c.args.e.now) (view_expr c.in-Binary.left) (view_expr c.in-Binary.right) c.args.e.now.at c.args.turns c.in-Binary.operator is yes c.if-depth-eq0.false c.if-turns-eq0.false
+    ∙ sym (arithmetic c.args.world.now.records c.args.world.now.heap c.args.at.0 c.args.depth (view_expr c.args.e.now) (view_expr c.in-Binary.left) (view_expr c.in-Binary.right) c.args.e.now.at c.args.turns c.in-Binary.operator is yes c.if-depth-eq0.false c.if-turns-eq0.false
     ∙ no_left parts (view_expr c.in-Binary.left) (view_expr c.in-Binary.right) (combined_of c.in-Binary.operator) (c.args.turns - 1) (c.in_err-first-in-Binary.ensures.exact firm))
 
 pub returns-in_err-second-in-Binary-clause-exact : goal.returns-in_err-second-in-Binary-clause-exact
 returns-in_err-second-in-Binary-clause-exact g t c firm =
     let is : view_expr c.args.e.now ≡ trees.binary c.args.e.now.at (view_expr c.in-Binary.left) c.in-Binary.operator (view_expr c.in-Binary.right) = search (rules, the_lemmas, c.in-Binary.is) in
     let yes : combines c.in-Binary.operator ≡ true = cc (c.combines.ensures, c.if-not-combines.false) in
-    let parts = number_at c.args.world.now.records c.args.at.0 (c.args.depth - 1) in
+    let parts = number_at c.args.world.now.records c.args.world.now.heap c.args.at.0 (c.args.depth - 1) in
     ap (option_map (λ x. (x.number, x.turns))) c.from_residual-in_err-second-in-Binary.ensures
-    ∙ sym (arithmetic c.args.world.now.records c.args.at.0 c.args.depth (view_expr c.args.e.now) (view_expr c.in-Binary.left) (view_expr c.in-Binary.right) c.args.e.now.at c.args.turns c.in-Binary.operator is yes c.if-depth-eq0.false c.if-turns-eq0.false
+    ∙ sym (arithmetic c.args.world.now.records c.args.world.now.heap c.args.at.0 c.args.depth (view_expr c.args.e.now) (view_expr c.in-Binary.left) (view_expr c.in-Binary.right) c.args.e.now.at c.args.turns c.in-Binary.operator is yes c.if-depth-eq0.false c.if-turns-eq0.false
     ∙ no_right parts (view_expr c.in-Binary.left) (view_expr c.in-Binary.right) (combined_of c.in-Binary.operator) (c.args.turns - 1) c.in_ok-first-in-Binary.first.number c.in_ok-first-in-Binary.first.turns (c.in_ok-first-in-Binary.ensures.exact firm) (c.in_err-second-in-Binary.ensures.exact (c.number-in-Binary.ensures.kept.same_firm ∙ firm)))
 
 pub returns-in_ok-second-in-Binary-clause-exact : goal.returns-in_ok-second-in-Binary-clause-exact
 returns-in_ok-second-in-Binary-clause-exact g t c firm =
     let is : view_expr c.args.e.now ≡ trees.binary c.args.e.now.at (view_expr c.in-Binary.left) c.in-Binary.operator (view_expr c.in-Binary.right) = search (rules, the_lemmas, c.in-Binary.is) in
     let yes : combines c.in-Binary.operator ≡ true = cc (c.combines.ensures, c.if-not-combines.false) in
-    let parts = number_at c.args.world.now.records c.args.at.0 (c.args.depth - 1) in
+    let parts = number_at c.args.world.now.records c.args.world.now.heap c.args.at.0 (c.args.depth - 1) in
     let middle = c.number-in-Binary.ensures.kept.same_firm ∙ firm in
     c.joined.ensures.exact (c.number-in-Binary-2.ensures.kept.same_firm ∙ middle)
-    ∙ sym (arithmetic c.args.world.now.records c.args.at.0 c.args.depth (view_expr c.args.e.now) (view_expr c.in-Binary.left) (view_expr c.in-Binary.right) c.args.e.now.at c.args.turns c.in-Binary.operator is yes c.if-depth-eq0.false c.if-turns-eq0.false
+    ∙ sym (arithmetic c.args.world.now.records c.args.world.now.heap c.args.at.0 c.args.depth (view_expr c.args.e.now) (view_expr c.in-Binary.left) (view_expr c.in-Binary.right) c.args.e.now.at c.args.turns c.in-Binary.operator is yes c.if-depth-eq0.false c.if-turns-eq0.false
     ∙ both_there parts (view_expr c.in-Binary.left) (view_expr c.in-Binary.right) (combined_of c.in-Binary.operator) (c.args.turns - 1) c.in_ok-first-in-Binary.first.number c.in_ok-second-in-Binary.second.number c.in_ok-first-in-Binary.first.turns c.in_ok-second-in-Binary.second.turns
     (c.in_ok-first-in-Binary.ensures.exact firm) (c.in_ok-second-in-Binary.ensures.exact middle))
+
+pub returns-in-Name-clause-belongs : goal.returns-in-Name-clause-belongs
+returns-in-Name-clause-belongs g t c =
+    Belongs-later g.L.Labels.made g.L.Labels.meaning g.L.Labels.room g.L.Labels.firm c.args.labels.now c.named.new.labels c.named.ensures.kept g.met.L.Labels.rising c.args.world.now c.requires.belongs
+
+pub returns-in_ok-second-in-Binary-clause-belongs : goal.returns-in_ok-second-in-Binary-clause-belongs
+returns-in_ok-second-in-Binary-clause-belongs g t c =
+    Belongs-later g.L.Labels.made g.L.Labels.meaning g.L.Labels.room g.L.Labels.firm c.number-in-Binary-2.new.labels c.joined.new.labels c.joined.ensures.kept g.met.L.Labels.rising c.args.world.now c.number-in-Binary-2.ensures.belongs

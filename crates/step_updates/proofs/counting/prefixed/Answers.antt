@@ -1,19 +1,19 @@
-use Rattle.step_world.specs.Names.{reference_of}
+use Rattle.step_updates.specs.References.{refers}
 use Rattle.step_updates.proofs.Following.{goes_on, throws_on, leaves_on, fails_on, prefixed_parts}
 use Rattle.step_updates.proofs.counting.prefixed.Goals as goal
 
 pub returns-in_err-number-clause-acts : goal.returns-in_err-number-clause-acts
 returns-in_err-number-clause-acts g c = λ tables inputs.
-    fails_on g.L.Labels.made g.L.Labels.meaning (prefixed_parts tables inputs c.args.operator (reference_of c.args.reference)) c.named_number.new.labels c.args.world.now c.named_number.new.world c.in_err-number.field-0.0 c.from_residual.result c.from_residual.ensures.1 (c.in_err-number.ensures.acts tables inputs)
+    fails_on g.L.Labels.made g.L.Labels.meaning (prefixed_parts tables inputs c.args.operator (λ reading. refers reading c.args.reference.now)) c.named_number.new.labels c.args.world.now c.named_number.new.world c.in_err-number.field-0.0 c.from_residual.result c.from_residual.ensures.1 (c.in_err-number.ensures.acts tables inputs)
 
 pub returns-in-Goes-clause-acts : goal.returns-in-Goes-clause-acts
 returns-in-Goes-clause-acts g c = λ tables inputs.
-    goes_on g.L.Labels.made g.L.Labels.meaning (prefixed_parts tables inputs c.args.operator (reference_of c.args.reference)) g.L.Labels.room g.L.Labels.firm c.named_number.new.labels c.counted.new.labels c.counted.ensures.kept c.args.world.now c.named_number.new.world c.counted.new.world c.in-Goes.number c.counted.result (rw c.in-Goes.is at (c.in_ok-number.ensures.acts tables inputs)) (c.counted.ensures.acts tables inputs)
+    goes_on g.L.Labels.made g.L.Labels.meaning (prefixed_parts tables inputs c.args.operator (λ reading. refers reading c.args.reference.now)) g.L.Labels.room g.L.Labels.firm c.named_number.new.labels c.counted.new.labels c.counted.ensures.kept c.args.world.now c.named_number.new.world c.counted.new.world c.in-Goes.number c.counted.result (rw c.in-Goes.is at (c.in_ok-number.ensures.acts tables inputs)) (c.counted.ensures.acts tables inputs)
 
 pub returns-in-Throws-clause-acts : goal.returns-in-Throws-clause-acts
 returns-in-Throws-clause-acts g c = λ tables inputs.
-    throws_on g.L.Labels.made g.L.Labels.meaning (prefixed_parts tables inputs c.args.operator (reference_of c.args.reference)) c.named_number.new.labels c.args.world.now c.named_number.new.world c.in-Throws.error (rw c.in-Throws.is at (c.in_ok-number.ensures.acts tables inputs))
+    throws_on g.L.Labels.made g.L.Labels.meaning (prefixed_parts tables inputs c.args.operator (λ reading. refers reading c.args.reference.now)) c.named_number.new.labels c.args.world.now c.named_number.new.world c.in-Throws.error (rw c.in-Throws.is at (c.in_ok-number.ensures.acts tables inputs))
 
 pub returns-in-Leaves-clause-acts : goal.returns-in-Leaves-clause-acts
 returns-in-Leaves-clause-acts g c = λ tables inputs.
-    leaves_on g.L.Labels.made g.L.Labels.meaning (prefixed_parts tables inputs c.args.operator (reference_of c.args.reference)) c.named_number.new.labels c.args.world.now c.named_number.new.world c.in-Leaves.why (rw c.in-Leaves.is at (c.in_ok-number.ensures.acts tables inputs))
+    leaves_on g.L.Labels.made g.L.Labels.meaning (prefixed_parts tables inputs c.args.operator (λ reading. refers reading c.args.reference.now)) c.named_number.new.labels c.args.world.now c.named_number.new.world c.in-Leaves.why (rw c.in-Leaves.is at (c.in_ok-number.ensures.acts tables inputs))

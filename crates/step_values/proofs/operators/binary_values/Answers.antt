@@ -13,4 +13,4 @@ returns-clause-acts g c = λ tables inputs.
     came_acts g.L.Labels.made g.L.Labels.meaning g.L.Labels.room g.L.Labels.firm c.args.labels.now c.join.new.self
     (λ reading. binary_values (labelled tables inputs) c.args.operator (read_value reading v) (read_value reading u))
     c.args.world.now v.label u.label c.in_ok-label.label c.converted.result (converted c.args.operator v.value u.value) c.came.result
-    (λ reading s. binary_as tables inputs c.args.operator (read_value reading v) (read_value reading u) s) c.in_ok-label.ensures.kept c.requires.left c.requires.right c.in_ok-label.ensures.made c.in_ok-label.ensures.meaning c.converted.ensures c.came.ensures
+    (λ reading s. binary_as tables inputs c.args.operator (read_value reading v) (read_value reading u) s c.requires.values) c.in_ok-label.ensures.kept c.requires.left c.requires.right c.in_ok-label.ensures.made c.in_ok-label.ensures.meaning c.converted.ensures c.came.ensures

@@ -1,7 +1,7 @@
 use Rattle.std.proofs.Common.{rules, sym, ap, ◌∙◌, ◌≡◌}
 use Rattle.js_ast.specs.Nodes.{nodes_of}
-use Rattle.js_ast.specs.Trees.{block, block_of, expression, if_then, if_else}
-use Rattle.js_ast.specs.Views.{view_expr, view_semi, view_stmt, view_stmts}
+use Rattle.js_ast.specs.Trees.{block, block_of, expression, if_then, if_else, for_in}
+use Rattle.js_ast.specs.Views.{view_expr, view_semi, view_stmt, view_stmts, view_target}
 use Rattle.js_ast.proofs.ViewLaws.{held_stmts}
 use Rattle.js_ast.specs.declared.trees.ExprKind.TheViews.{the_lemmas}
 use Rattle.es_meaning.specs.Evaluation.{stmt_step, statements}
@@ -33,3 +33,9 @@ unfolding stmt_step
 returns-in-Expr-clause-goes_on g c =
     let is : view_stmt c.args.s.now ≡ expression c.args.s.now.at (view_expr c.in-Expr.expr) (view_semi c.in-Expr.semi) = search (rules, the_lemmas, c.in-Expr.is) in
     begins_as _ _ _ _ _ (λ tables inputs e s. sym (ap (λ x. stmt_step (planned tables inputs) (asking tables inputs) x e s) is)) c.begin_discard.ensures.goes_on
+
+pub returns-in-ForIn-clause-goes_on : goal.returns-in-ForIn-clause-goes_on
+unfolding stmt_step
+returns-in-ForIn-clause-goes_on g c =
+    let is : view_stmt c.args.s.now ≡ for_in c.args.s.now.at (view_target c.in-ForIn.target) (view_expr c.in-ForIn.object) (view_stmt c.in-ForIn.body) = search (rules, the_lemmas, c.in-ForIn.is) in
+    begins_as _ _ _ _ _ (λ tables inputs e s. sym (ap (λ x. stmt_step (planned tables inputs) (asking tables inputs) x e s) is)) c.begin_for_in.ensures.goes_on

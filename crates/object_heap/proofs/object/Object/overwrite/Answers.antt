@@ -11,31 +11,31 @@ use Rattle.object_heap.proofs.object.Object.overwrite.Goals as goal
 
 pub returns-in_err-check-clause-acts : goal.returns-in_err-check-clause-acts
 returns-in_err-check-clause-acts g c =
-    let r = placed c.args.self.now c.args.key.now c.present-place.result c.present-place.ensures in
+    let r = placed c.args.self.now c.args.name.now c.present_named-place.result c.present_named-place.ensures in
     let s = r.0.1 in
-    let made = HasObject-at (g.L.Labels.made c.args.labels.now) c.args.self.now c.args.key.now s r.2 c.requires.belongs in
+    let made = HasObject-at (g.L.Labels.made c.args.labels.now) c.args.self.now c.args.name.now s r.2 c.requires.belongs in
     let need = c.in_ok-have.ensures.kept.labels c.args.need c.requires.need in
-    acts_stopped g.L.Labels.made g.L.Labels.meaning c.value_label.new.labels read_object (λ reading. overwrite_own c.args.rule c.args.key.now (reading c.args.need) c.args.body (reading c.args.label)) c.args.self.now c.args.rule c.args.need c.in_ok-have.have c.in_err-check.field-0.0 c.from_residual-in_err-check.result c.in_err-check.ensures.stops.0 need.0 c.in_ok-have.ensures.made
-    (λ reading read. change_stops reading c.args.self.now c.args.key.now s r.2 c.args.rule value_have (with_body (reading c.args.need) c.args.body (reading c.args.label)) (reading c.args.need) (reading c.in_ok-have.have)
-    (joined_is g.L.Labels.made g.L.Labels.meaning c.value_label.new.labels reading read g.L.Labels.room g.L.Labels.firm c.args.labels.now s.label s.existence c.in_ok-have.have c.in_ok-have.ensures.kept made.0 made.1 c.in_ok-have.ensures.made (value_is (g.L.Labels.meaning c.args.labels.now) c.args.self.now.rows c.present-place.result r.0 r.1 _ c.in_ok-have.ensures.meaning))
+    acts_stopped g.L.Labels.made g.L.Labels.meaning c.value_label.new.labels read_object (λ reading. overwrite_own c.args.rule c.args.name.now (reading c.args.need) c.args.body (reading c.args.label)) c.args.self.now c.args.rule c.args.need c.in_ok-have.have c.in_err-check.field-0.0 c.from_residual-in_err-check.result c.in_err-check.ensures.stops.0 need.0 c.in_ok-have.ensures.made
+    (λ reading read. change_stops reading c.args.self.now c.args.name.now s r.2 c.args.rule value_have (with_body (reading c.args.need) c.args.body (reading c.args.label)) (reading c.args.need) (reading c.in_ok-have.have)
+    (joined_is g.L.Labels.made g.L.Labels.meaning c.value_label.new.labels reading read g.L.Labels.room g.L.Labels.firm c.args.labels.now s.label s.existence c.in_ok-have.have c.in_ok-have.ensures.kept made.0 made.1 c.in_ok-have.ensures.made (value_is (g.L.Labels.meaning c.args.labels.now) c.args.self.now.rows c.present_named-place.result r.0 r.1 _ c.in_ok-have.ensures.meaning))
     (tested g.L.Labels.made g.L.Labels.meaning c.value_label.new.labels reading read c.args.need c.in_ok-have.have false need.0 c.in_ok-have.ensures.made c.in_err-check.ensures.stops.1))
     c.from_residual-in_err-check.ensures.1
 
 pub returns-clause-acts : goal.returns-clause-acts
 returns-clause-acts g c =
-    let r = placed c.args.self.now c.args.key.now c.present-place.result c.present-place.ensures in
+    let r = placed c.args.self.now c.args.name.now c.present_named-place.result c.present_named-place.ensures in
     let s = r.0.1 in
-    let made = HasObject-at (g.L.Labels.made c.args.labels.now) c.args.self.now c.args.key.now s r.2 c.requires.belongs in
+    let made = HasObject-at (g.L.Labels.made c.args.labels.now) c.args.self.now c.args.name.now s r.2 c.requires.belongs in
     let need = c.in_ok-have.ensures.kept.labels c.args.need c.requires.need in
     let label = c.in_ok-have.ensures.kept.labels c.args.label c.requires.label in
     let to = λ (x : Slot g.row.T.Denot). record x { body = c.args.body; label = c.in_ok-label.label } in
-    subst (λ (p : Object g.row.T.Denot). Acts g.L.Labels.made g.L.Labels.meaning c.join.new.self read_object (λ reading. overwrite_own c.args.rule c.args.key.now (reading c.args.need) c.args.body (reading c.args.label)) c.args.self.now p (Ok tt))
-    (sym (row_written _ c.args.self.now c.self.view_is c.args.key.now c.present-place.result c.present-place.ensures c.index_mut.result.now c.index_mut.ensures.value to c.set_body.new.self c.set_body.ensures))
-    (acts_done g.L.Labels.made g.L.Labels.meaning c.join.new.self read_object (λ reading. overwrite_own c.args.rule c.args.key.now (reading c.args.need) c.args.body (reading c.args.label)) c.args.self.now _
+    subst (λ (p : Object g.row.T.Denot). Acts g.L.Labels.made g.L.Labels.meaning c.join.new.self read_object (λ reading. overwrite_own c.args.rule c.args.name.now (reading c.args.need) c.args.body (reading c.args.label)) c.args.self.now p (Ok tt))
+    (sym (row_written _ c.args.self.now c.self.view_is c.args.name.now c.present_named-place.result c.present_named-place.ensures c.index_mut.result.now c.index_mut.ensures.value to c.set_body.new.self c.set_body.ensures))
+    (acts_done g.L.Labels.made g.L.Labels.meaning c.join.new.self read_object (λ reading. overwrite_own c.args.rule c.args.name.now (reading c.args.need) c.args.body (reading c.args.label)) c.args.self.now _
     (λ reading read.
     let earlier = IsReading-earlier g.L.Labels.made g.L.Labels.meaning g.L.Labels.room g.L.Labels.firm c.value_label.new.labels c.join.new.self reading c.in_ok-label.ensures.kept read in
     let is = joined_is g.L.Labels.made g.L.Labels.meaning c.join.new.self reading read g.L.Labels.room g.L.Labels.firm c.value_label.new.labels c.args.label c.args.need c.in_ok-label.label c.in_ok-label.ensures.kept label.0 need.0 c.in_ok-label.ensures.made c.in_ok-label.ensures.meaning in
-    change_does reading c.args.self.now c.args.key.now s r.2 c.args.rule value_have (with_body (reading c.args.need) c.args.body (reading c.args.label)) (reading c.args.need) (reading c.in_ok-have.have)
-    (joined_is g.L.Labels.made g.L.Labels.meaning c.value_label.new.labels reading earlier g.L.Labels.room g.L.Labels.firm c.args.labels.now s.label s.existence c.in_ok-have.have c.in_ok-have.ensures.kept made.0 made.1 c.in_ok-have.ensures.made (value_is (g.L.Labels.meaning c.args.labels.now) c.args.self.now.rows c.present-place.result r.0 r.1 _ c.in_ok-have.ensures.meaning))
+    change_does reading c.args.self.now c.args.name.now s r.2 c.args.rule value_have (with_body (reading c.args.need) c.args.body (reading c.args.label)) (reading c.args.need) (reading c.in_ok-have.have)
+    (joined_is g.L.Labels.made g.L.Labels.meaning c.value_label.new.labels reading earlier g.L.Labels.room g.L.Labels.firm c.args.labels.now s.label s.existence c.in_ok-have.have c.in_ok-have.ensures.kept made.0 made.1 c.in_ok-have.ensures.made (value_is (g.L.Labels.meaning c.args.labels.now) c.args.self.now.rows c.present_named-place.result r.0 r.1 _ c.in_ok-have.ensures.meaning))
     to (tested g.L.Labels.made g.L.Labels.meaning c.value_label.new.labels reading earlier c.args.need c.in_ok-have.have true need.0 c.in_ok-have.ensures.made c.in_ok-check.ensures.allows)
     (ap (λ (l : Label). record { body = c.args.body; label = l; existence = reading s.existence; marks = s.marks }) (sym is))))

@@ -1,0 +1,223 @@
+-- Heaps of which each label speaks of declared origins alone, and what acts and walks make of them.
+use Rattle.std.proofs.Common.{ℕ, zero, suc, Bool, true, false, ◌&&◌, cond, List, [], ◌∷◌, Option, Some, None, Ok, Err, slice_get, set}
+use Rattle.origin_labels.specs.Label.{Label, union, within}
+use Rattle.origin_labels.specs.Names.{same_name}
+use Rattle.flow_frames.specs.declared.faults.Rule.{Rule}
+use Rattle.flow_frames.specs.declared.faults.Rule.TheVariants.{W2, W3, W4, W5, W7}
+use Rattle.js_values.specs.declared.value.Labelled.{Labelled}
+use Rattle.js_values.specs.declared.ids.ObjId.{ObjId}
+use Rattle.js_values.specs.declared.property.Body.{Body}
+use Rattle.js_values.specs.declared.property.Body.TheVariants.{Data, Accessor}
+use Rattle.js_values.specs.declared.property.Marks.{Marks}
+use Rattle.js_values.specs.declared.property.Slot.{Slot}
+use Rattle.js_values.specs.Chains.{chain_within, beginning, onwards}
+use Rattle.js_values.specs.Objects.{Rows, Object, own, row_or_none, altered, number_of}
+use Rattle.js_values.specs.Walks.{Found, found_at, find, object_chain}
+use Rattle.object_heap.specs.Arrays.{element_of, length_key, is_past}
+use Rattle.object_heap.specs.Acts.{Acted, under, on_slot, change, with_rows, lengthened, stretched, add_absent, put_back, on_object, act_on, write, raise_existence, add, remove, raise_structure}
+use Rattle.prototype_walk.specs.declared.plan.PutPlan.{PutPlan}
+use Rattle.prototype_walk.specs.declared.plan.PutPlan.TheVariants.{Write, Add}
+use Rattle.prototype_walk.specs.Answers.{walk_of}
+use Rattle.prototype_walk.specs.Plans.{if_allowed, setter_plan, own_plan, inherited_plan, beyond_plan, plan_at, can_put}
+use Rattle.prototype_walk.specs.KeyLists.{existences, keys_after, keys}
+use Rattle.es_meaning.specs.Objects.{defined_over, defined, defined_all}
+use Rattle.low_equal.proofs.DeclaredLabels.{Each, IfThere, each_push, each_at, Own, own_bottom, own_union}
+
+module _ (count : ℕ) where
+  -- ---- properties and objects
+
+  -- the value label and the existence label
+  abbrev pub OwnSlot : Slot Label → Type 0
+  OwnSlot s = Own count s.label × Own count s.existence
+
+  abbrev pub OwnRows : Rows (Slot Label) → Type 0
+  OwnRows rows = Each (λ r. OwnSlot r.1) rows
+
+  pub record OwnObject (p : Object Label) : Type 0 where
+    pub link : Own count p.link
+    pub structure : Own count p.structure
+    pub rows : OwnRows p.rows
+
+  abbrev pub OwnHeap : List (Object Label) → Type 0
+  OwnHeap heap = Each OwnObject heap
+
+  -- what a key names
+  pub own_own : (key : List ℕ) (rows : Rows (Slot Label)) → OwnRows rows → IfThere OwnSlot (own key rows)
+  own_own key [] h = tt
+  own_own key (r ∷ rows) h = by_case (same_name r.0 key) (own_own key rows h.1)
+    where
+      by_case : (c : Bool) → IfThere OwnSlot (own key rows) → IfThere OwnSlot (cond c (Some r.1) (own key rows))
+      by_case true q = h.0
+      by_case false q = q
+
+  -- a property is changed or taken away
+  own_or_none : (key : List ℕ) (o : Option (Slot Label)) (rows : Rows (Slot Label)) → IfThere OwnSlot o → OwnRows rows → OwnRows (row_or_none key o rows)
+  own_or_none key None rows q h = h
+  own_or_none key (Some s) rows q h = (q, h)
+
+  own_altered : (key : List ℕ) (new : Slot Label → Option (Slot Label)) → ((s : Slot Label) → OwnSlot s → IfThere OwnSlot (new s)) → (rows : Rows (Slot Label)) → OwnRows rows → OwnRows (altered key new rows)
+  own_altered key new f [] h = tt
+  own_altered key new f (r ∷ rows) h = by_case (same_name r.0 key) (own_altered key new f rows h.1)
+    where
+      by_case : (c : Bool) → OwnRows (altered key new rows) → OwnRows (cond c (row_or_none r.0 (new r.1) rows) (r ∷ altered key new rows))
+      by_case true q = own_or_none r.0 (new r.1) rows (f r.1 h.0) h.1
+      by_case false q = (h.0, q)
+
+  -- keys are given properties
+  own_defined_over : (o : Option (Slot Label)) (key : List ℕ) (s : Slot Label) (rows : Rows (Slot Label)) → OwnSlot s → OwnRows rows → OwnRows (defined_over o key s rows)
+  own_defined_over None key s rows q h = each_push (λ r. OwnSlot r.1) rows (key, s) h q
+  own_defined_over (Some t) key s rows q h = own_altered key (λ t. Some s) (λ t p. q) rows h
+
+  pub own_defined_all : (keys : List (List ℕ)) (slots : List (Slot Label)) (rows : Rows (Slot Label)) → Each OwnSlot slots → OwnRows rows → OwnRows (defined_all keys slots rows)
+  own_defined_all [] slots rows q h = h
+  own_defined_all (key ∷ keys) [] rows q h = h
+  own_defined_all (key ∷ keys) (s ∷ slots) rows q h = own_defined_all keys slots (defined key s rows) q.1 (own_defined_over (own key rows) key s rows q.0 h)
+
+  -- ---- acts
+
+  -- what an act comes to
+  abbrev pub OwnActed : {X : Type 0} → (X → Type 0) → Acted X → Type 0
+  OwnActed Q (Ok x) = Q x
+  OwnActed Q (Err stop) = Own count stop.need × Own count stop.have
+
+  own_under : {X : Type 0} (Q : X → Type 0) (rule : Rule) (need have : Label) (a : Acted X) → Own count need → Own count have → OwnActed Q a → OwnActed Q (under rule need have a)
+  own_under Q rule need have a p q h = by_case (within need have)
+    where
+      by_case : (b : Bool) → OwnActed Q (cond b a (Err (record { rule = rule; need = need; have = have })))
+      by_case true = h
+      by_case false = (p, q)
+
+  own_on_slot : (o : Option (Slot Label)) (p : Object Label) (act : Slot Label → Acted (Object Label)) → IfThere OwnSlot o → OwnObject p → ((s : Slot Label) → OwnSlot s → OwnActed OwnObject (act s)) → OwnActed OwnObject (on_slot o p act)
+  own_on_slot None p act q h f = h
+  own_on_slot (Some s) p act q h f = f s q
+
+  own_change : (rule : Rule) (have : Slot Label → Label) (new : Slot Label → Slot Label) (key : List ℕ) (need : Label) (p : Object Label) → Own count need → ((s : Slot Label) → OwnSlot s → Own count (have s)) → ((s : Slot Label) → OwnSlot s → OwnSlot (new s))
+      → OwnObject p → OwnActed OwnObject (change rule have new key need p)
+  own_change rule have new key need p q f g h = own_on_slot (own key p.rows) p _ (own_own key p.rows h.rows) h
+      (λ s k. own_under OwnObject rule need (have s) _ q (f s k) (record { link = h.link; structure = h.structure; rows = own_altered key (λ t. Some (new t)) g p.rows h.rows }))
+
+  -- an object in a heap
+  each_put : (heap : List (Object Label)) (o : ℕ) (p : Object Label) → OwnHeap heap → OwnObject p → OwnHeap (set heap o p)
+  each_put [] o p h q = tt
+  each_put (x ∷ heap) zero p h q = (q, h.1)
+  each_put (x ∷ heap) (suc o) p h q = (h.0, each_put heap o p h.1 q)
+
+  own_put_back : (heap : List (Object Label)) (o : ℕ) (a : Acted (Object Label)) → OwnHeap heap → OwnActed OwnObject a → OwnActed OwnHeap (put_back heap o a)
+  own_put_back heap o (Ok p) h q = each_put heap o p h q
+  own_put_back heap o (Err stop) h q = q
+
+  own_on_object : (found : Option (Object Label)) (heap : List (Object Label)) (o : ℕ) (act : Object Label → Acted (Object Label)) → IfThere OwnObject found → OwnHeap heap → ((p : Object Label) → OwnObject p → OwnActed OwnObject (act p))
+      → OwnActed OwnHeap (on_object found heap o act)
+  own_on_object None heap o act q h f = h
+  own_on_object (Some p) heap o act q h f = own_put_back heap o (act p) h (f p q)
+
+  own_act : (o : ℕ) (act : Object Label → Acted (Object Label)) (heap : List (Object Label)) → OwnHeap heap → ((p : Object Label) → OwnObject p → OwnActed OwnObject (act p)) → OwnActed OwnHeap (act_on o act heap)
+  own_act o act heap h f = own_on_object (slice_get heap o) heap o act (each_at OwnObject heap o h) h f
+
+  pub own_write : (rule : Rule) (o : ℕ) (key : List ℕ) (need : Label) (v : Labelled Label) (heap : List (Object Label)) → Own count need → Own count v.label → OwnHeap heap → OwnActed OwnHeap (write rule o key need v heap)
+  own_write rule o key need v heap q k h = own_act o _ heap h (λ p r. own_change rule _ _ key need p q (λ s t. own_union count s.label s.existence t.0 t.1) (λ s t. (own_union count v.label need k q, t.1)) r)
+
+  pub own_raise_existence : (o : ℕ) (key : List ℕ) (need label : Label) (heap : List (Object Label)) → Own count need → Own count label → OwnHeap heap → OwnActed OwnHeap (raise_existence o key need label heap)
+  own_raise_existence o key need label heap q k h = own_act o _ heap h (λ p r. own_change _ _ _ key need p q (λ s t. t.1) (λ s t. (t.0, own_union count s.existence label t.1 k)) r)
+
+  pub own_raise_structure : (o : ℕ) (need label : Label) (heap : List (Object Label)) → Own count need → Own count label → OwnHeap heap → OwnActed OwnHeap (raise_structure o need label heap)
+  own_raise_structure o need label heap q k h = own_act o _ heap h (λ p r. own_under OwnObject W7 need p.structure _ q r.structure (record { link = r.link; structure = own_union count p.structure label r.structure k; rows = r.rows }))
+
+  pub own_remove : (o : ℕ) (key : List ℕ) (need : Label) (heap : List (Object Label)) → Own count need → OwnHeap heap → OwnActed OwnHeap (remove o key need heap)
+  own_remove o key need heap q h = own_act o _ heap h (λ p r. own_on_slot (own key p.rows) p _ (own_own key p.rows r.rows) r
+      (λ s t. own_under OwnObject W4 need s.existence _ q t.1 (own_under OwnObject W5 need p.structure _ q r.structure (record { link = r.link; structure = r.structure; rows = own_altered key (λ t. None) (λ t u. tt) p.rows r.rows }))))
+
+  -- an added property, and the `length` of an array
+  own_stretched : (i : Option ℕ) (length : Option (Slot Label)) (need : Label) (p : Object Label) (rows : Rows (Slot Label)) → Own count need → IfThere OwnSlot length → OwnObject p → OwnRows rows → OwnActed OwnObject (stretched i length need p rows)
+  own_stretched None length need p rows q k h r = record { link = h.link; structure = h.structure; rows = r }
+  own_stretched (Some i) None need p rows q k h r = record { link = h.link; structure = h.structure; rows = r }
+  own_stretched (Some i) (Some s) need p rows q k h r = by_case (is_past i s.body)
+    where
+      longer : OwnObject (with_rows p (altered length_key (λ t. Some (lengthened i need t)) rows))
+      longer = record { link = h.link; structure = h.structure; rows = own_altered length_key (λ t. Some (lengthened i need t)) (λ t u. (own_union count t.label need u.0 q, u.1)) rows r }
+
+      by_case : (b : Bool) → OwnActed OwnObject (cond b (under W2 need (union s.label s.existence) (Ok (with_rows p (altered length_key (λ t. Some (lengthened i need t)) rows)))) (Ok (with_rows p rows)))
+      by_case true = own_under OwnObject W2 need _ _ q (own_union count s.label s.existence k.0 k.1) longer
+      by_case false = record { link = h.link; structure = h.structure; rows = r }
+
+  own_add_absent : (o : Option (Slot Label)) (key : List ℕ) (need : Label) (body : Body) (label : Label) (marks : Marks) (p : Object Label) → Own count need → Own count label → OwnObject p → OwnActed OwnObject (add_absent o key need body label marks p)
+  own_add_absent (Some s) key need body label marks p q k h = h
+  own_add_absent None key need body label marks p q k h = own_under OwnObject W3 need p.structure _ q h.structure
+      (own_stretched (element_of p.class key) (own length_key p.rows) need p _ q (own_own length_key p.rows h.rows) h (each_push (λ r. OwnSlot r.1) p.rows _ h.rows (own_union count label need k q, h.structure)))
+
+  pub own_add : (o : ℕ) (key : List ℕ) (need : Label) (body : Body) (label : Label) (marks : Marks) (heap : List (Object Label)) → Own count need → Own count label → OwnHeap heap → OwnActed OwnHeap (add o key need body label marks heap)
+  own_add o key need body label marks heap q k h = own_act o _ heap h (λ p r. own_add_absent (own key p.rows) key need body label marks p q k r)
+
+  -- ---- walks
+
+  abbrev pub OwnChain : List (ℕ × Object Label) → Type 0
+  OwnChain objects = Each (λ e. OwnObject e.1) objects
+
+  own_onwards : (i : Option ℕ) (behind : ℕ → List (ℕ × Object Label)) → ((j : ℕ) → OwnChain (behind j)) → OwnChain (onwards i behind)
+  own_onwards None behind h = tt
+  own_onwards (Some i) behind h = h i
+
+  own_beginning : (o : ℕ) (p : Option (Object Label)) (behind : ℕ → List (ℕ × Object Label)) → IfThere OwnObject p → ((j : ℕ) → OwnChain (behind j)) → OwnChain (beginning o p (λ p. onwards (number_of p.proto) behind))
+  own_beginning o None behind q h = tt
+  own_beginning o (Some p) behind q h = (q, own_onwards (number_of p.proto) behind h)
+
+  own_chain_within : (heap : List (Object Label)) (n o : ℕ) → OwnHeap heap → OwnChain (chain_within (λ p. number_of p.proto) heap n o)
+  own_chain_within heap zero o h = tt
+  own_chain_within heap (suc n) o h = own_beginning o (slice_get heap o) _ (each_at OwnObject heap o h) (λ j. own_chain_within heap n j h)
+
+  pub own_chain : (heap : List (Object Label)) (o : ℕ) → OwnHeap heap → OwnChain (object_chain heap o)
+  own_chain heap o h = own_chain_within heap (suc o) o h
+
+  -- what is found, and the walk to it
+  pub record OwnFound (f : Found) : Type 0 where
+    pub walk : Own count f.walk
+    pub at : IfThere (λ x. OwnSlot x.1) f.at
+
+  own_found_at : (o : ℕ) (p : Object Label) (s : Option (Slot Label)) (rest : Found) → OwnObject p → IfThere OwnSlot s → OwnFound rest → OwnFound (found_at o p s rest)
+  own_found_at o p None rest h q r = record { walk = own_union count p.structure _ h.structure (own_union count p.link rest.walk h.link r.walk); at = r.at }
+  own_found_at o p (Some s) rest h q r = record { walk = q.1; at = q }
+
+  pub own_find : (key : List ℕ) (objects : List (ℕ × Object Label)) → OwnChain objects → OwnFound (find key objects)
+  own_find key [] h = record { walk = own_bottom count; at = tt }
+  own_find key (e ∷ objects) h = own_found_at e.0 e.1 (own key e.1.rows) (find key objects) h.0 (own_own key e.1.rows h.0.rows) (own_find key objects h.1)
+
+  -- what a put does
+  own_allowed : (b : Bool) (plan : PutPlan Label) (walk : Label) → Own count (walk_of plan) → Own count walk → Own count (walk_of (if_allowed b plan walk))
+  own_allowed true plan walk q k = q
+  own_allowed false plan walk q k = k
+
+  own_setter : (at : ℕ) (f : Option ObjId) (label walk : Label) → Own count label → Own count walk → Own count (walk_of (setter_plan at f label walk))
+  own_setter at None label walk q k = own_union count walk label k q
+  own_setter at (Some f) label walk q k = k
+
+  own_own_plan : (o : ℕ) (s : Slot Label) (body : Body) (walk : Label) → OwnSlot s → Own count walk → Own count (walk_of (own_plan o s body walk))
+  own_own_plan o s (Data v) walk q k = own_allowed s.marks.writable (Write walk) walk k k
+  own_own_plan o s (Accessor get set) walk q k = own_setter o set s.label walk q.0 k
+
+  own_inherited : (b : Bool) (at : ℕ) (s : Slot Label) (body : Body) (walk : Label) → OwnSlot s → Own count walk → Own count (walk_of (inherited_plan b at s body walk))
+  own_inherited b at s (Data v) walk q k = own_allowed (b && s.marks.writable) (Add walk) walk k k
+  own_inherited b at s (Accessor get set) walk q k = own_setter at set s.label walk q.0 k
+
+  own_beyond : (b : Bool) (f : Option (ℕ × Slot Label)) (walk : Label) → IfThere (λ x. OwnSlot x.1) f → Own count walk → Own count (walk_of (beyond_plan b f walk))
+  own_beyond b None walk q k = own_allowed b (Add walk) walk k k
+  own_beyond b (Some f) walk q k = own_inherited b f.0 f.1 f.1.body walk q k
+
+  own_plan_at : (o : ℕ) (p : Object Label) (s : Option (Slot Label)) (rest : Found) → OwnObject p → IfThere OwnSlot s → OwnFound rest → Own count (walk_of (plan_at o p s rest))
+  own_plan_at o p (Some s) rest h q r = own_own_plan o s s.body s.existence q q.1
+  own_plan_at o p None rest h q r = own_beyond p.extensible rest.at _ r.at (own_union count p.structure _ h.structure (own_union count p.link rest.walk h.link r.walk))
+
+  pub own_can_put : (key : List ℕ) (objects : List (ℕ × Object Label)) → OwnChain objects → Own count (walk_of (can_put key objects))
+  own_can_put key [] h = own_bottom count
+  own_can_put key (e ∷ objects) h = own_plan_at e.0 e.1 (own key e.1.rows) (find key objects) h.0 (own_own key e.1.rows h.0.rows) (own_find key objects h.1)
+
+  -- keys
+  own_existences : (rows : Rows (Slot Label)) → OwnRows rows → Own count (existences rows)
+  own_existences [] h = own_bottom count
+  own_existences (r ∷ rows) h = own_union count r.1.existence _ h.0.1 (own_existences rows h.1)
+
+  own_keys_after : (met : List (List ℕ)) (objects : List (ℕ × Object Label)) → OwnChain objects → Own count (keys_after met objects).walk
+  own_keys_after met [] h = own_bottom count
+  own_keys_after met (e ∷ objects) h = own_union count e.1.structure _ h.0.structure (own_union count e.1.link _ h.0.link (own_union count _ _ (own_existences e.1.rows h.0.rows) (own_keys_after _ objects h.1)))
+
+  pub own_keys : (objects : List (ℕ × Object Label)) → OwnChain objects → Own count (keys objects).walk
+  own_keys objects h = own_keys_after [] objects h

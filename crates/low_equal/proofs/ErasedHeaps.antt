@@ -1,0 +1,434 @@
+-- Objects without their labels: an act on a labelled heap is the act on the heap without labels, up to a broken rule, and what is found along prototypes
+-- is the same.
+use Rattle.std.proofs.Common.{◌≡◌, ℕ, zero, suc, Bool, true, false, cond, ◌&&◌, not, List, [], ◌∷◌, ◌++◌, map, length, set, Option, Some, None, Ok, Err, slice_get, refl, sym, ◌∙◌, ap, ap₂, subst, true≢false}
+use Rattle.std.specs.Option.{option_map}
+use Rattle.std.proofs.lemmas.List.{set-get_or}
+use Rattle.std.proofs.lemmas.Option.{none-some, same_Some, get_or_from_slice_get}
+use Rattle.origin_labels.specs.Label.{Label, within}
+use Rattle.origin_labels.specs.Names.{same_name, has_name}
+use Rattle.flow_frames.specs.declared.faults.Rule.{Rule}
+use Rattle.flow_frames.specs.declared.faults.Rule.TheVariants.{W3, W4, W5, W7, W8}
+use Rattle.flow_frames.specs.declared.faults.FlowStop.{FlowStop}
+use Rattle.js_values.specs.declared.value.Labelled.{Labelled}
+use Rattle.js_values.specs.declared.property.Body.{Body}
+use Rattle.js_values.specs.declared.property.Body.TheVariants.{Data, Accessor}
+use Rattle.js_values.specs.declared.property.Marks.{Marks}
+use Rattle.js_values.specs.declared.property.Slot.{Slot}
+use Rattle.js_values.specs.declared.ids.ObjId.{ObjId}
+use Rattle.js_values.specs.declared.inner.Class.{Class}
+use Rattle.js_values.specs.declared.inner.Class.TheVariants as class
+use Rattle.js_values.specs.Numerals.{index_of}
+use Rattle.js_values.specs.Objects.{Rows, Property, PlainInner, PlainObject, Object, number_of, own, row_or_none, altered, changed, with_row, keys_of}
+use Rattle.js_values.specs.Chains.{beginning, onwards, chain_within}
+use Rattle.js_values.specs.Walks.{plain_chain, object_chain, plain_found_at, plain_find, Found, found_at, find}
+use Rattle.js_ast.specs.Trees.{Statements}
+use Rattle.object_heap.specs.Arrays.{length_key, element_of}
+use Rattle.object_heap.specs.Acts as acts
+use Rattle.object_heap.specs.Acts.{Acted, under, Act, on_slot, change, value_have, existence_have, with_body, with_existence, added, stretched, add_absent, put_back, on_object, act_on}
+use Rattle.prototype_walk.specs.declared.plan.PutPlan.{PutPlan}
+use Rattle.prototype_walk.specs.declared.plan.PutPlan.TheVariants.{Write, Add, Setter, Refused}
+use Rattle.prototype_walk.specs.Plans as walks
+use Rattle.prototype_walk.specs.KeyLists as lists
+use Rattle.es_meaning.specs.Objects as plain
+use Rattle.es_meaning.specs.Objects.{defined_over, defined_all, Plan, writes, adds, refuses, calls, is_index, is_element, replaced, with_object, with_value}
+use Rattle.es_meaning.specs.Declared.{declared_statements}
+use Rattle.es_meaning.specs.Start.{global_object, start_heap}
+use Rattle.es_meaning.specs.Plain.{data_property, unless_found, with_variable, with_variables, first_heap}
+use Rattle.es_meaning.specs.Plain as meaning
+use Rattle.flow_meaning.specs.Erased.{erased_inner, erased_slot, erased_rows, erased_object, erased_heap, unlabelled_rows, unlabelled_inner, unlabelled_heap}
+use Rattle.flow_meaning.specs.Scopes.{Val}
+use Rattle.flow_meaning.specs.Tracked as tracked
+use Rattle.flow_meaning.specs.Tracked.{data_slot}
+
+-- ---- lists of objects
+
+-- as many objects
+pub length_erased : (heap : List (Object Label)) → length (erased_heap heap) ≡ length heap
+length_erased [] = refl
+length_erased (p ∷ heap) = ap suc (length_erased heap)
+
+-- a further object
+pub pushed_erased : (heap : List (Object Label)) (p : Object Label) → erased_heap (heap ++ p ∷ []) ≡ erased_heap heap ++ erased_object p ∷ []
+pushed_erased [] p = refl
+pushed_erased (q ∷ heap) p = ap (λ ps. erased_object q ∷ ps) (pushed_erased heap p)
+
+-- the object with this number
+pub object_erased : (heap : List (Object Label)) (i : ℕ) → slice_get (erased_heap heap) i ≡ option_map erased_object (slice_get heap i)
+object_erased [] i = refl
+object_erased (p ∷ heap) zero = refl
+object_erased (p ∷ heap) (suc i) = object_erased heap i
+
+-- another object in a place
+put_erased : (heap : List (Object Label)) (i : ℕ) (p : Object Label) → erased_heap (set heap i p) ≡ set (erased_heap heap) i (erased_object p)
+put_erased [] i p = refl
+put_erased (q ∷ heap) zero p = refl
+put_erased (q ∷ heap) (suc i) p = ap (λ ps. erased_object q ∷ ps) (put_erased heap i p)
+
+-- an object is put where it stands
+put_there : (heap : List PlainObject) (i : ℕ) (p : PlainObject) → slice_get heap i ≡ Some p → set heap i p ≡ heap
+put_there heap i p e = ap (λ x. set heap i x) (sym (get_or_from_slice_get heap i p p e)) ∙ set-get_or heap i p
+
+-- an object that stays as it is
+stays : (o : ℕ) (heap : List PlainObject) → with_object o (λ p. p) heap ≡ heap
+stays o heap = there (slice_get heap o) refl
+  where
+    there : (x : Option PlainObject) → slice_get heap o ≡ x → replaced x o (λ p. p) heap ≡ heap
+    there None e = refl
+    there (Some p) e = put_there heap o p e
+
+-- ---- rows
+
+-- what a key names
+pub own_erased : (key : List ℕ) (rows : Rows (Slot Label)) → own key (erased_rows rows) ≡ option_map erased_slot (own key rows)
+own_erased key [] = refl
+own_erased key (r ∷ rows) = by_case (same_name r.0 key) (own_erased key rows)
+  where
+    by_case : (b : Bool) → own key (erased_rows rows) ≡ option_map erased_slot (own key rows) → cond b (Some (erased_slot r.1)) (own key (erased_rows rows)) ≡ option_map erased_slot (cond b (Some r.1) (own key rows))
+    by_case true h = refl
+    by_case false h = h
+
+-- a row that there may be
+row_erased : (key : List ℕ) (s : Option (Slot Label)) (rows : Rows (Slot Label)) → erased_rows (row_or_none key s rows) ≡ row_or_none key (option_map erased_slot s) (erased_rows rows)
+row_erased key None rows = refl
+row_erased key (Some s) rows = refl
+
+-- what a key names is replaced or removed
+altered_erased : (key : List ℕ) (from : Slot Label → Option (Slot Label)) (to : Property → Option Property) → ((s : Slot Label) → option_map erased_slot (from s) ≡ to (erased_slot s)) → (rows : Rows (Slot Label))
+    → erased_rows (altered key from rows) ≡ altered key to (erased_rows rows)
+altered_erased key from to h [] = refl
+altered_erased key from to h (r ∷ rows) = by_case (same_name r.0 key) (altered_erased key from to h rows)
+  where
+    by_case : (b : Bool) → erased_rows (altered key from rows) ≡ altered key to (erased_rows rows)
+        → erased_rows (cond b (row_or_none r.0 (from r.1) rows) (r ∷ altered key from rows)) ≡ cond b (row_or_none r.0 (to (erased_slot r.1)) (erased_rows rows)) ((r.0, erased_slot r.1) ∷ altered key to (erased_rows rows))
+    by_case true ih = row_erased r.0 (from r.1) rows ∙ ap (λ s. row_or_none r.0 s (erased_rows rows)) (h r.1)
+    by_case false ih = ap (λ (rs : Rows Property). (r.0, erased_slot r.1) ∷ rs) ih
+
+-- a further row
+with_row_erased : (key : List ℕ) (s : Slot Label) (rows : Rows (Slot Label)) → erased_rows (with_row key s rows) ≡ with_row key (erased_slot s) (erased_rows rows)
+with_row_erased key s [] = refl
+with_row_erased key s (r ∷ rows) = ap (λ (rs : Rows Property). (r.0, erased_slot r.1) ∷ rs) (with_row_erased key s rows)
+
+-- the keys
+keys_erased : (rows : Rows (Slot Label)) → keys_of (erased_rows rows) ≡ keys_of rows
+keys_erased [] = refl
+keys_erased (r ∷ rows) = ap (λ (keys : List (List ℕ)). r.0 ∷ keys) (keys_erased rows)
+
+-- what an absent key names can't be altered
+absent_altered : (key : List ℕ) (to : Property → Option Property) (rows : Rows Property) → own key rows ≡ None → altered key to rows ≡ rows
+absent_altered key to [] e = refl
+absent_altered key to (r ∷ rows) e = by_case (same_name r.0 key) e (absent_altered key to rows)
+  where
+    by_case : (b : Bool) → cond b (Some r.1) (own key rows) ≡ None → (own key rows ≡ None → altered key to rows ≡ rows) → cond b (row_or_none r.0 (to r.1) rows) (r ∷ altered key to rows) ≡ r ∷ rows
+    by_case true e h = absurd (none-some r.1 (sym e))
+    by_case false e h = ap (λ (rs : Rows Property). r ∷ rs) (h e)
+
+-- a property that stays as it is
+unchanged : (key : List ℕ) (rows : Rows Property) → changed key (λ p. p) rows ≡ rows
+unchanged key [] = refl
+unchanged key (r ∷ rows) = by_case (same_name r.0 key) (unchanged key rows)
+  where
+    by_case : (b : Bool) → changed key (λ p. p) rows ≡ rows → cond b (row_or_none r.0 (Some r.1) rows) (r ∷ changed key (λ p. p) rows) ≡ r ∷ rows
+    by_case true h = refl
+    by_case false h = ap (λ (rs : Rows Property). r ∷ rs) h
+
+-- ---- acts
+
+-- what is done comes to this without labels, or is stopped by a broken rule
+pub data Does {X Y : Type 0} (erase : X → Y) (y : Y) : Acted X → Type 0 where
+  does : {x : X} → erase x ≡ y → Does erase y (Ok x)
+  breaks : {stop : FlowStop Label} → within stop.need stop.have ≡ false → Does erase y (Err stop)
+
+-- a rule goes on as what it guards, or stops
+does_under : {X Y : Type 0} {erase : X → Y} {y : Y} (rule : Rule) (need have : Label) {go_on : Acted X} → Does erase y go_on → Does erase y (under rule need have go_on)
+does_under {X} {Y} {erase} {y} rule need have {go_on} d = by_case (within need have) refl
+  where
+    by_case : (b : Bool) → within need have ≡ b → Does erase y (cond b go_on (Err (record { rule = rule; need = need; have = have })))
+    by_case true e = d
+    by_case false e = breaks e
+
+-- an act on an object of the heap
+act_on_does : (act : Act) (to : PlainObject → PlainObject) (o : ℕ) (heap : List (Object Label)) → ((p : Object Label) → slice_get heap o ≡ Some p → Does erased_object (to (erased_object p)) (act p))
+    → Does erased_heap (with_object o to (erased_heap heap)) (act_on o act heap)
+act_on_does act to o heap h = subst (λ x. Does erased_heap (replaced x o to (erased_heap heap)) (act_on o act heap)) (sym (object_erased heap o)) (there (slice_get heap o) refl)
+  where
+    put : {q : PlainObject} {a : Acted (Object Label)} → Does erased_object q a → Does erased_heap (set (erased_heap heap) o q) (put_back heap o a)
+    put (does {x = p} e) = does (put_erased heap o p ∙ ap (set (erased_heap heap) o) e)
+    put (breaks e) = breaks e
+
+    there : (x : Option (Object Label)) → slice_get heap o ≡ x → Does erased_heap (replaced (option_map erased_object x) o to (erased_heap heap)) (on_object x heap o act)
+    there None e = does refl
+    there (Some p) e = put (h p e)
+
+-- with other rows
+rows_does : (p : Object Label) (rows : Rows (Slot Label)) (others : Rows Property) → erased_rows rows ≡ others → Does erased_object (plain.with_rows (erased_object p) others) (Ok (acts.with_rows p rows))
+rows_does p rows others e = does (ap (plain.with_rows (erased_object p)) e)
+
+-- what is done with a property that there may be
+on_slot_does : (key : List ℕ) (to : Property → Option Property) (p : Object Label) (act : Slot Label → Acted (Object Label)) → ((s : Slot Label) → Does erased_object (plain.with_rows (erased_object p) (altered key to (erased_rows p.rows))) (act s))
+    → Does erased_object (plain.with_rows (erased_object p) (altered key to (erased_rows p.rows))) (on_slot (own key p.rows) p act)
+on_slot_does key to p act h = there (own key p.rows) refl
+  where
+    there : (x : Option (Slot Label)) → own key p.rows ≡ x → Does erased_object (plain.with_rows (erased_object p) (altered key to (erased_rows p.rows))) (on_slot x p act)
+    there None e = does (ap (plain.with_rows (erased_object p)) (sym (absent_altered key to (erased_rows p.rows) (own_erased key p.rows ∙ ap (option_map erased_slot) e))))
+    there (Some s) e = h s
+
+-- a property is changed
+change_does : (rule : Rule) (have : Slot Label → Label) (from : Slot Label → Slot Label) (to : Property → Property) (key : List ℕ) (need : Label) (p : Object Label) → ((s : Slot Label) → erased_slot (from s) ≡ to (erased_slot s))
+    → Does erased_object (plain.with_rows (erased_object p) (changed key to (erased_rows p.rows))) (change rule have from key need p)
+change_does rule have from to key need p h =
+    on_slot_does key (λ q. Some (to q)) p _ (λ s. does_under rule need (have s) (rows_does p _ _ (altered_erased key (λ x. Some (from x)) (λ q. Some (to q)) (λ x. ap (λ (q : Property). Some q) (h x)) p.rows)))
+
+-- it gets another value
+pub write_does : (rule : Rule) (o : ℕ) (key : List ℕ) (need : Label) (v : Labelled Label) (heap : List (Object Label)) → Does erased_heap (plain.write o key v.value (erased_heap heap)) (acts.write rule o key need v heap)
+write_does rule o key need v heap = act_on_does _ _ o heap (λ p e. change_does rule value_have (with_body need (Data v.value) v.label) (with_value v.value) key need p (λ s. refl))
+
+-- the object with this number hasn't the key
+abbrev pub HasNot : List (Object Label) → ℕ → List ℕ → Type 0
+HasNot heap o key = (p : Object Label) → slice_get heap o ≡ Some p → own key p.rows ≡ None
+
+-- the key names no element of it
+abbrev pub NamesNoElement : List (Object Label) → ℕ → List ℕ → Type 0
+NamesNoElement heap o key = (p : Object Label) → slice_get heap o ≡ Some p → element_of p.class key ≡ None
+
+-- a property is added that the object hasn't, and that is no element
+pub add_does : (o : ℕ) (key : List ℕ) (need : Label) (v : Labelled Label) (marks : Marks) (heap : List (Object Label)) → HasNot heap o key → NamesNoElement heap o key
+    → Does erased_heap (plain.add o key v.value marks (erased_heap heap)) (acts.add o key need (Data v.value) v.label marks heap)
+add_does o key need v marks heap absent free = act_on_does _ _ o heap (λ p e. there p (absent p e) (free p e))
+  where
+    there : (p : Object Label) → own key p.rows ≡ None → element_of p.class key ≡ None
+        → Does erased_object (plain.with_rows (erased_object p) (with_row key (record { body = Data v.value; marks = marks }) (erased_rows p.rows))) (acts.add_own key need (Data v.value) v.label marks p)
+    there p e f =
+        subst (λ x. Does erased_object (plain.with_rows (erased_object p) (with_row key (record { body = Data v.value; marks = marks }) (erased_rows p.rows))) (add_absent x key need (Data v.value) v.label marks p)) (sym e)
+        (does_under W3 need p.structure
+        (subst
+        (λ x. Does erased_object (plain.with_rows (erased_object p) (with_row key (record { body = Data v.value; marks = marks }) (erased_rows p.rows))) (stretched x (own length_key p.rows) need p (with_row key (added need (Data v.value) v.label marks p.structure) p.rows)))
+        (sym f) (rows_does p _ _ (with_row_erased key (added need (Data v.value) v.label marks p.structure) p.rows))))
+
+-- a property is removed
+pub remove_does : (o : ℕ) (key : List ℕ) (need : Label) (heap : List (Object Label)) → Does erased_heap (plain.remove o key (erased_heap heap)) (acts.remove o key need heap)
+remove_does o key need heap = act_on_does _ _ o heap (λ p e. on_slot_does key (λ q. None) p _ (λ s. does_under W4 need s.existence (does_under W5 need p.structure (rows_does p _ _ (altered_erased key (λ x. None) (λ q. None) (λ x. refl) p.rows)))))
+
+-- labels are raised, which is nothing without them
+pub raise_structure_does : (o : ℕ) (need label : Label) (heap : List (Object Label)) → Does erased_heap (erased_heap heap) (acts.raise_structure o need label heap)
+raise_structure_does o need label heap =
+    subst (λ h. Does erased_heap h (acts.raise_structure o need label heap)) (stays o (erased_heap heap)) (act_on_does _ (λ p. p) o heap (λ p e. does_under W7 need p.structure (does refl)))
+
+pub raise_existence_does : (o : ℕ) (key : List ℕ) (need label : Label) (heap : List (Object Label)) → Does erased_heap (erased_heap heap) (acts.raise_existence o key need label heap)
+raise_existence_does o key need label heap =
+    subst (λ h. Does erased_heap h (acts.raise_existence o key need label heap)) (stays o (erased_heap heap)) (act_on_does _ (λ p. p) o heap (λ p e. there p))
+  where
+    there : (p : Object Label) → Does erased_object (erased_object p) (acts.raise_own_existence key need label p)
+    there p =
+        subst (λ rows. Does erased_object (plain.with_rows (erased_object p) rows) (acts.raise_own_existence key need label p)) (unchanged key (erased_rows p.rows))
+        (change_does W8 existence_have (with_existence label) (λ q. q) key need p (λ s. refl))
+
+-- ---- walks
+
+abbrev erased_chain : List (ℕ × Object Label) → List (ℕ × PlainObject)
+erased_chain [] = []
+erased_chain (e ∷ objects) = (e.0, erased_object e.1) ∷ erased_chain objects
+
+abbrev pub erased_found : Option (ℕ × Slot Label) → Option (ℕ × Property)
+erased_found None = None
+erased_found (Some f) = Some (f.0, erased_slot f.1)
+
+-- the number of an object's prototype
+abbrev proto_of : Object Label → Option ℕ
+proto_of p = number_of p.proto
+
+abbrev plain_proto_of : PlainObject → Option ℕ
+plain_proto_of p = number_of p.proto
+
+-- what begins at an object that there may be
+onwards_erased : (o : Option ℕ) (f : ℕ → List (ℕ × Object Label)) (g : ℕ → List (ℕ × PlainObject)) → ((i : ℕ) → g i ≡ erased_chain (f i)) → onwards o g ≡ erased_chain (onwards o f)
+onwards_erased None f g h = refl
+onwards_erased (Some i) f g h = h i
+
+beginning_erased : (i : ℕ) (o : Option (Object Label)) (f : ℕ → List (ℕ × Object Label)) (g : ℕ → List (ℕ × PlainObject)) → ((i : ℕ) → g i ≡ erased_chain (f i))
+    → beginning i (option_map erased_object o) (λ p. onwards (plain_proto_of p) g) ≡ erased_chain (beginning i o (λ p. onwards (proto_of p) f))
+beginning_erased i None f g h = refl
+beginning_erased i (Some p) f g h = ap (λ (objects : List (ℕ × PlainObject)). (i, erased_object p) ∷ objects) (onwards_erased (proto_of p) f g h)
+
+-- an object and so many of its prototypes
+within_erased : (heap : List (Object Label)) (n i : ℕ) → chain_within plain_proto_of (erased_heap heap) n i ≡ erased_chain (chain_within proto_of heap n i)
+within_erased heap zero i = refl
+within_erased heap (suc n) i =
+    ap (λ o. beginning i o (λ p. onwards (plain_proto_of p) (chain_within plain_proto_of (erased_heap heap) n))) (object_erased heap i)
+    ∙ beginning_erased i (slice_get heap i) (chain_within proto_of heap n) (chain_within plain_proto_of (erased_heap heap) n) (within_erased heap n)
+
+-- all of them
+chain_erased : (heap : List (Object Label)) (o : ℕ) → plain_chain (erased_heap heap) o ≡ erased_chain (object_chain heap o)
+chain_erased heap o = within_erased heap (suc o) o
+
+-- what is found at an object, or behind it
+found_here : (o : ℕ) (p : Object Label) (s : Option (Slot Label)) (rest : Found) → plain_found_at o (option_map erased_slot s) (erased_found rest.at) ≡ erased_found (found_at o p s rest).at
+found_here o p None rest = refl
+found_here o p (Some s) rest = refl
+
+along_erased : (key : List ℕ) (objects : List (ℕ × Object Label)) → plain_find key (erased_chain objects) ≡ erased_found (find key objects).at
+along_erased key [] = refl
+along_erased key (e ∷ objects) = ap₂ (plain_found_at e.0) (own_erased key e.1.rows) (along_erased key objects) ∙ found_here e.0 e.1 (own key e.1.rows) (find key objects)
+
+-- what a key names along an object and its prototypes
+pub find_erased : (key : List ℕ) (heap : List (Object Label)) (o : ℕ) → plain_find key (plain_chain (erased_heap heap) o) ≡ erased_found (find key (object_chain heap o)).at
+find_erased key heap o = ap (plain_find key) (chain_erased heap o) ∙ along_erased key (object_chain heap o)
+
+-- the keys that weren't met
+fresh_erased : (met : List (List ℕ)) (rows : Rows (Slot Label)) → plain.fresh_keys met (erased_rows rows) ≡ lists.fresh_keys met rows
+fresh_erased met [] = refl
+fresh_erased met (r ∷ rows) = ap (λ (keys : List (List ℕ)). cond (r.1.marks.enumerable && not (has_name r.0 met)) (r.0 ∷ keys) keys) (fresh_erased met rows)
+
+keys_along : (met : List (List ℕ)) (objects : List (ℕ × Object Label)) → plain.keys_after met (erased_chain objects) ≡ (lists.keys_after met objects).keys
+keys_along met [] = refl
+keys_along met (e ∷ objects) =
+    ap₂ (λ (keys more : List (List ℕ)). keys ++ more) (fresh_erased met e.1.rows)
+    (ap (λ (keys : List (List ℕ)). plain.keys_after (met ++ keys) (erased_chain objects)) (keys_erased e.1.rows) ∙ keys_along (met ++ keys_of e.1.rows) objects)
+
+-- those that `for in` takes
+pub enumerable_erased : (heap : List (Object Label)) (o : ℕ) → plain.enumerable_keys (plain_chain (erased_heap heap) o) ≡ (lists.keys (object_chain heap o)).keys
+enumerable_erased heap o = ap plain.enumerable_keys (chain_erased heap o) ∙ keys_along [] (object_chain heap o)
+
+-- ---- what a put does
+
+-- the same without labels, where this holds of what is added
+pub data Plans (Absent : Type 0) : PutPlan Label → Plan → Type 0 where
+  both_write : {walk : Label} → Plans Absent (Write walk) writes
+  both_add : {walk : Label} → Absent → Plans Absent (Add walk) adds
+  both_refuse : {walk : Label} → Plans Absent (Refused walk) refuses
+  both_call : {at f : ObjId} {walk : Label} → Plans Absent (Setter at walk) (calls f)
+
+-- a setter that there may be
+setter_plans : {A : Type 0} (at : ℕ) (set : Option ObjId) (label walk : Label) → Plans A (walks.setter_plan at set label walk) (plain.setter_plan set)
+setter_plans at None label walk = both_refuse
+setter_plans at (Some f) label walk = both_call
+
+-- what a property of the object allows
+own_plans : {A : Type 0} (o : ℕ) (s : Slot Label) (body : Body) (walk : Label) → Plans A (walks.own_plan o s body walk) (plain.own_plan (erased_slot s) body)
+own_plans {A} o s (Data v) walk = by_case s.marks.writable
+  where
+    by_case : (b : Bool) → Plans A (walks.if_allowed b (Write walk) walk) (plain.if_allowed b writes)
+    by_case true = both_write
+    by_case false = both_refuse
+own_plans o s (Accessor get set) walk = setter_plans o set s.label walk
+
+-- a property may be added
+adding_plans : {A : Type 0} → A → (b : Bool) (walk : Label) → Plans A (walks.if_allowed b (Add walk) walk) (plain.if_allowed b adds)
+adding_plans a true walk = both_add a
+adding_plans a false walk = both_refuse
+
+-- what the prototypes allow
+inherited_plans : {A : Type 0} → A → (extensible : Bool) (at : ℕ) (s : Slot Label) (body : Body) (walk : Label) → Plans A (walks.inherited_plan extensible at s body walk) (plain.inherited_plan extensible (erased_slot s) body)
+inherited_plans a extensible at s (Data v) walk = adding_plans a (extensible && s.marks.writable) walk
+inherited_plans a extensible at s (Accessor get set) walk = setter_plans at set s.label walk
+
+beyond_plans : {A : Type 0} → A → (extensible : Bool) (f : Option (ℕ × Slot Label)) (walk : Label) → Plans A (walks.beyond_plan extensible f walk) (plain.beyond_plan extensible (erased_found f))
+beyond_plans a extensible None walk = adding_plans a extensible walk
+beyond_plans a extensible (Some f) walk = inherited_plans a extensible f.0 f.1 f.1.body walk
+
+-- the object, or its prototypes
+plans_at : {A : Type 0} (o : ℕ) (p : Object Label) (s : Option (Slot Label)) (rest : Found) → (s ≡ None → A) → Plans A (walks.plan_at o p s rest) (plain.plan_at (erased_object p) (option_map erased_slot s) (erased_found rest.at))
+plans_at o p (Some s) rest h = own_plans o s s.body s.existence
+plans_at o p None rest h = beyond_plans (h refl) p.extensible rest.at _
+
+-- what a put on an object does: nothing is added that is there
+pub can_put_erased : (key : List ℕ) (heap : List (Object Label)) (o : ℕ) → Plans (HasNot heap o key) (walks.can_put key (object_chain heap o)) (plain.can_put key (plain_chain (erased_heap heap) o))
+can_put_erased key heap o = subst (λ c. Plans (HasNot heap o key) (walks.can_put key (object_chain heap o)) (plain.can_put key c)) (sym (chain_erased heap o)) (there (slice_get heap o) refl)
+  where
+    behind : Object Label → List (ℕ × Object Label)
+    behind p = onwards (proto_of p) (chain_within proto_of heap o)
+
+    there : (x : Option (Object Label)) → slice_get heap o ≡ x → Plans (HasNot heap o key) (walks.can_put key (beginning o x behind)) (plain.can_put key (erased_chain (beginning o x behind)))
+    there None e = both_refuse
+    there (Some p) e =
+        subst (λ f. Plans (HasNot heap o key) (walks.can_put key ((o, p) ∷ behind p)) (plain.plan_at (erased_object p) (own key (erased_rows p.rows)) f)) (sym (along_erased key (behind p)))
+        (subst (λ s. Plans (HasNot heap o key) (walks.can_put key ((o, p) ∷ behind p)) (plain.plan_at (erased_object p) s (erased_found (find key (behind p)).at))) (sym (own_erased key p.rows))
+        (plans_at o p (own key p.rows) (find key (behind p)) (λ none q d. ap (λ (x : Object Label). own key x.rows) (same_Some q p (sym d ∙ e)) ∙ none)))
+
+-- a key that names no element
+no_index : (n : Option ℕ) → is_index n ≡ false → n ≡ None
+no_index None e = refl
+no_index (Some n) e = absurd (true≢false e)
+
+pub no_element : (kind : Class) (key : List ℕ) → is_element kind key ≡ false → element_of kind key ≡ None
+no_element class.Array key e = no_index (index_of key) e
+no_element class.Object key e = refl
+no_element class.Function key e = refl
+no_element class.Arguments key e = refl
+no_element class.Error key e = refl
+no_element class.Math key e = refl
+no_element class.Json key e = refl
+no_element class.String key e = refl
+no_element class.Number key e = refl
+no_element class.Boolean key e = refl
+
+-- ---- the object of a literal
+
+-- a key is given a property
+defined_here : (x : Option (Slot Label)) (key : List ℕ) (s : Slot Label) (rows : Rows (Slot Label)) → erased_rows (defined_over x key s rows) ≡ defined_over (option_map erased_slot x) key (erased_slot s) (erased_rows rows)
+defined_here None key s rows = with_row_erased key s rows
+defined_here (Some t) key s rows = altered_erased key (λ x. Some s) (λ q. Some (erased_slot s)) (λ x. refl) rows
+
+defined_erased : (key : List ℕ) (s : Slot Label) (rows : Rows (Slot Label)) → erased_rows (plain.defined key s rows) ≡ plain.defined key (erased_slot s) (erased_rows rows)
+defined_erased key s rows = defined_here (own key rows) key s rows ∙ ap (λ x. defined_over x key (erased_slot s) (erased_rows rows)) (sym (own_erased key rows))
+
+-- keys are given values in turn
+defined_all_erased : (label : Label) (keys : List (List ℕ)) (vs : List Val) (rows : Rows (Slot Label))
+    → erased_rows (defined_all keys (map (data_slot label) vs) rows) ≡ defined_all keys (map data_property (map (λ v. v.value) vs)) (erased_rows rows)
+defined_all_erased label [] vs rows = refl
+defined_all_erased label (key ∷ keys) [] rows = refl
+defined_all_erased label (key ∷ keys) (v ∷ vs) rows =
+    defined_all_erased label keys vs (plain.defined key (data_slot label v) rows) ∙ ap (defined_all keys (map data_property (map (λ v. v.value) vs))) (defined_erased key (data_slot label v) rows)
+
+-- the object
+pub literal_erased : (keys : List (List ℕ)) (vs : List Val) (label : Label) → erased_object (tracked.literal_object keys vs label) ≡ meaning.literal_object keys (map (λ v. v.value) vs)
+literal_erased keys vs label = ap (plain.with_rows (meaning.literal_object [] [])) (defined_all_erased label keys vs [])
+
+-- ---- the start
+
+-- rows get labels and lose them
+rows_same : (rows : Rows Property) → erased_rows (unlabelled_rows rows) ≡ rows
+rows_same [] = refl
+rows_same (r ∷ rows) = ap (λ (rs : Rows Property). r ∷ rs) (rows_same rows)
+
+-- what an object that a run starts with is besides its properties is so without labels: it is neither a function of the script nor a bound one
+abbrev IsFirst : PlainInner → Type 0
+IsFirst inner = erased_inner (unlabelled_inner inner) ≡ inner
+
+data AreFirst : List PlainObject → Type 0 where
+  none_first : AreFirst []
+  one_first : {p : PlainObject} {heap : List PlainObject} → IsFirst p.inner → AreFirst heap → AreFirst (p ∷ heap)
+
+-- objects get labels and lose them
+heap_same : {heap : List PlainObject} → AreFirst heap → erased_heap (unlabelled_heap heap) ≡ heap
+heap_same none_first = refl
+heap_same (one_first {p = p} {heap = heap} e h) = ap₂ (λ q ps. q ∷ ps) (ap₂ (λ inner rows. record p { inner = inner; rows = rows }) e (rows_same p.rows)) (heap_same h)
+
+-- one of them has other properties
+first_put : {heap : List PlainObject} (i : ℕ) (p : PlainObject) (rows : Rows Property) → slice_get heap i ≡ Some p → AreFirst heap → AreFirst (set heap i (plain.with_rows p rows))
+first_put i p rows e none_first = none_first
+first_put zero p rows e (one_first {p = q} f h) = one_first (subst (λ (x : PlainObject). IsFirst x.inner) (same_Some q p e) f) h
+first_put (suc i) p rows e (one_first f h) = one_first f (first_put i p rows e h)
+
+first_with : (o : ℕ) (rows : PlainObject → Rows Property) {heap : List PlainObject} → AreFirst heap → AreFirst (with_object o (λ p. plain.with_rows p (rows p)) heap)
+first_with o rows {heap} h = there (slice_get heap o) refl
+  where
+    there : (x : Option PlainObject) → slice_get heap o ≡ x → AreFirst (replaced x o (λ p. plain.with_rows p (rows p)) heap)
+    there None e = h
+    there (Some p) e = first_put o p (rows p) e h
+
+-- variables are added
+first_variable : (f : Option (ℕ × Property)) (name : List ℕ) {heap : List PlainObject} → AreFirst heap → AreFirst (unless_found f name heap)
+first_variable None name h = first_with global_object.0 _ h
+first_variable (Some f) name h = h
+
+first_variables : (names : List (List ℕ)) {heap : List PlainObject} → AreFirst heap → AreFirst (with_variables names heap)
+first_variables [] h = h
+first_variables (name ∷ names) h = first_variables names (first_variable _ name h)
+
+-- the objects that a run starts with
+starts_first : AreFirst start_heap
+starts_first = one_first refl (one_first refl (one_first refl (one_first refl (one_first refl (one_first refl (one_first refl (one_first refl (one_first refl none_first))))))))
+
+-- with their labels, and without
+pub first_heap_erased : (program : Statements) → erased_heap (unlabelled_heap (first_heap program)) ≡ first_heap program
+first_heap_erased program = heap_same (first_variables (declared_statements program) starts_first)

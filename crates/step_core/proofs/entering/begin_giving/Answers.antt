@@ -1,0 +1,19 @@
+use Rattle.std.proofs.Common.{arith}
+use Rattle.step_work.specs.declared.work.Next.TheVariants as next
+use Rattle.step_work.specs.Kept.{scopes_of}
+use Rattle.step_core.specs.Outlook.{here}
+use Rattle.step_core.proofs.Begun.{lowers}
+use Rattle.step_core.proofs.Stood.{standing_acts, standing_whole}
+use Rattle.step_core.proofs.Taking.{env_place}
+use Rattle.step_core.proofs.entering.begin_giving.Goals as goal
+
+pub returns-clause-begins : goal.returns-clause-begins
+returns-clause-begins g c tables inputs reading told turns read = c.give_variable.ensures.goes_on tables inputs reading here told turns read (env_place c.args.stack.now.tasks here)
+
+pub returns-clause-standing : goal.returns-clause-standing
+returns-clause-standing g c =
+    standing_acts g.L.Labels.made g.L.Labels.meaning g.L.Labels.room g.L.Labels.firm c.args.labels.now c.give_variable.new.labels c.give_variable.ensures.kept c.args.stack.now c.give_variable.new.stack c.args.world.now c.give_variable.new.world c.give_variable.result
+    (standing_whole g.L.Labels.made g.L.Labels.meaning c.args.labels.now c.args.stack.now c.args.world.now (scopes_of c.args.stack.now.tasks) (next.GiveVariable c.args.variable) (λ frames scopes whole. whole) c.requires.standing) c.give_variable.ensures.rests c.give_variable.ensures.stands c.give_variable.ensures.belongs c.give_variable.ensures.grows
+
+pub returns-clause-lowers : goal.returns-clause-lowers
+returns-clause-lowers g c = lowers c.args.stack.now c.give_variable.new.stack (next.GiveVariable c.args.variable) 1 c.give_variable.result (omega arith) c.give_variable.ensures.adds

@@ -1,0 +1,23 @@
+use Rattle.std.proofs.Common.{arith}
+use Rattle.js_values.specs.Readings.{HasValue}
+use Rattle.step_work.specs.declared.work.Next.TheVariants as next
+use Rattle.step_work.specs.Kept.{kept_operands, scopes_of}
+use Rattle.step_core.specs.Outlook.{here}
+use Rattle.step_core.proofs.Begun.{lowers}
+use Rattle.step_core.proofs.Parts.{behind_all}
+use Rattle.step_core.proofs.Stood.{standing_acts, standing_whole}
+use Rattle.step_core.proofs.entering.begin_keys.Goals as goal
+
+pub take_keys-requires-clause-made : goal.take_keys-requires-clause-made
+take_keys-requires-clause-made g c = behind_all (HasValue (g.L.Labels.made c.args.labels.now)) (kept_operands c.args.stack.now.tasks) c.args.stack.now.loose c.requires.standing.operands
+
+pub returns-clause-begins : goal.returns-clause-begins
+returns-clause-begins g c tables inputs reading told turns read = c.take_keys.ensures.goes_on tables inputs reading here told turns read
+
+pub returns-clause-standing : goal.returns-clause-standing
+returns-clause-standing g c =
+    standing_acts g.L.Labels.made g.L.Labels.meaning g.L.Labels.room g.L.Labels.firm c.args.labels.now c.take_keys.new.labels c.take_keys.ensures.kept c.args.stack.now c.take_keys.new.stack c.args.world.now c.take_keys.new.world c.take_keys.result
+    (standing_whole g.L.Labels.made g.L.Labels.meaning c.args.labels.now c.args.stack.now c.args.world.now (scopes_of c.args.stack.now.tasks) (next.Keys c.args.enumeration) (λ frames scopes whole. whole) c.requires.standing) c.take_keys.ensures.rests c.take_keys.ensures.stands c.take_keys.ensures.belongs c.take_keys.ensures.grows
+
+pub returns-clause-lowers : goal.returns-clause-lowers
+returns-clause-lowers g c = lowers c.args.stack.now c.take_keys.new.stack (next.Keys c.args.enumeration) 2 c.take_keys.result (omega arith) c.take_keys.ensures.adds

@@ -1,0 +1,174 @@
+-- Properties as they are put, in a reading of the labels.
+use Rattle.std.proofs.Common.{arith, ◌≡◌, ℕ, true, false, List, length, map, Option, Some, None, Result, Ok, Err, refl, sym, ap, ap₂, subst, ◌∙◌}
+use Rattle.std.specs.List.{slice_get}
+use Rattle.std.specs.Result.{IsErrAnd, OnOk}
+use Rattle.origin_labels.specs.Label.{Label, IsLabel, union}
+use Rattle.origin_labels.specs.Stores.{IsKept}
+use Rattle.flow_frames.specs.declared.faults.FlowFault.{FlowFault}
+use Rattle.flow_frames.specs.declared.faults.FlowFault.TheVariants as fault
+use Rattle.flow_frames.specs.declared.faults.Rule.{Rule}
+use Rattle.flow_frames.specs.declared.faults.Rule.TheVariants.{W2}
+use Rattle.flow_frames.specs.Frames.{context}
+use Rattle.flow_frames.specs.Held.{seen_frame}
+use Rattle.js_number.specs.declared.primitive.Primitive.{Primitive}
+use Rattle.js_values.specs.declared.ids.ObjId.{ObjId}
+use Rattle.js_values.specs.declared.property.Body.TheVariants.{Data}
+use Rattle.js_values.specs.declared.value.Labelled.{Labelled}
+use Rattle.js_values.specs.declared.value.Value.{Value}
+use Rattle.js_values.specs.declared.value.Value.TheVariants as value
+use Rattle.js_values.specs.Objects.{Object}
+use Rattle.js_values.specs.Readings.{IsReading, HasHeap, read_value, read_heap}
+use Rattle.js_values.specs.Walks.{object_chain}
+use Rattle.object_heap.specs.Acts as heap_acts
+use Rattle.object_heap.specs.Acts.{Acted}
+use Rattle.object_heap.specs.Answers as answers
+use Rattle.prototype_walk.specs.declared.plan.PutPlan.{PutPlan}
+use Rattle.prototype_walk.specs.declared.plan.PutPlan.TheVariants.{Write, Add, Setter, Refused}
+use Rattle.prototype_walk.specs.Answers.{Means, IsPlan, read_plan}
+use Rattle.prototype_walk.specs.Plans.{can_put}
+use Rattle.es_meaning.specs.Objects.{made_by_script}
+use Rattle.es_meaning.specs.Outcomes.{Goes, Ends}
+use Rattle.es_meaning.specs.Plain as plain
+use Rattle.es_meaning.specs.Start.{type_error}
+use Rattle.flow_meaning.specs.Tracked.{Reference, property_of, acted, put, put_on, put_by, put_property, put_value, get_value, throw_error}
+use Rattle.step_world.specs.declared.came.Came.{Came}
+use Rattle.step_world.specs.declared.came.Came.TheVariants as came
+use Rattle.step_world.specs.declared.came.Leaving.TheVariants as leaving
+use Rattle.step_world.specs.declared.world.World.{World}
+use Rattle.step_world.specs.Acts.{Acts}
+use Rattle.step_world.specs.Names.{property_of as member_of}
+use Rattle.step_world.specs.Worlds.{state_of, Belongs}
+use Rattle.step_world.proofs.ActLaws.{Acts-as, Belongs-later}
+use Rattle.step_names.specs.Elements.{element_in}
+use Rattle.step_names.proofs.PlanLaws.{read_element}
+
+-- a world with another heap
+abbrev pub with_heap : {T : Type 0} → List (Object T) → World T → World T
+with_heap heap w = record w { heap = heap }
+
+-- it belongs to a later store, if its heap does
+pub Belongs-heap : {S T : Type 0} (made : S → T → Type 0) (meaning : S → T → Label) (room : S → ℕ) (firm : S → _) (old new : S) → IsKept made meaning room firm old new → ((store : S) (label : T) → made store label → IsLabel (meaning store label)) → (w : World T) → Belongs made meaning old w
+    → (heap : List (Object T)) → HasHeap (made new) heap → length heap ≡ length w.heap → Belongs made meaning new (with_heap heap w)
+Belongs-heap made meaning room firm old new kept rising w belongs heap has same =
+    let later = Belongs-later made meaning room firm old new kept rising w belongs in
+    record { frames = later.frames; catch = later.catch; heap = has; records = later.records; started = let before = belongs.started in omega (arith, before, same) }
+
+-- ---- an act on the heap, as an act of the meaning
+
+module _ {S T X Y : Type 0} (made : S → T → Type 0) (meaning : S → T → Label) (store : S) (w : World T) (read : (T → Label) → X → Y) (x : X) (act : (T → Label) → List (Object Label) → Acted (List (Object Label))) (heap : List (Object T)) where
+  abbrev on_heap : World T → Result (Came X T) (FlowFault T) → Type 0
+  on_heap after result = Acts made meaning store read (λ reading s. acted (read reading x) (act reading s.heap) s) w after result
+
+  abbrev Heap : Result (Unit {0}) (FlowFault T) → Type 0
+  Heap r = answers.Acts made meaning store read_heap act w.heap heap r
+
+  heap_does : Heap (Ok tt) → on_heap (with_heap heap w) (Ok (came.Goes x))
+  unfolding acted
+  heap_does acts = record { says = λ reading is told turns. ap (λ a. acted (read reading x) a (state_of reading w told turns)) (acts.does reading is) }
+
+  heap_stops : (f : FlowFault T) → Heap (Err f) → on_heap w (Err f)
+  unfolding acted
+  heap_stops (fault.Stop stop) acts = record { says = λ reading is told turns. ap (λ a. acted (read reading x) a (state_of reading w told turns)) (acts.stops.2 reading is) }
+  heap_stops fault.OutOfMemory acts = record { says = λ reading is told turns. tt }
+
+  pub heap_done : (r : Result (Unit {0}) (FlowFault T)) → r ≡ Ok tt → Heap r → on_heap (with_heap heap w) (Ok (came.Goes x))
+  heap_done r ok acts = heap_does (subst Heap ok acts)
+
+  -- a refusal is handed on, and the heap is the same
+  pub heap_refused : (r : Result (Unit {0}) (FlowFault T)) (f : FlowFault T) (result : Result (Came X T) (FlowFault T)) → r ≡ Err f → IsErrAnd result (λ e. e ≡ f) → Heap r → on_heap (with_heap heap w) result
+  heap_refused r f (Ok y) err is acts = absurd is
+  heap_refused r f (Err e) err is acts =
+      let told = subst Heap (err ∙ ap Err (sym is)) acts in
+      subst (λ (h : List (Object T)). on_heap (with_heap h w) (Err e)) (sym told.unchanged) (heap_stops e told)
+
+-- ---- puts, by their plans
+
+module _ {S T : Type 0} (made : S → T → Type 0) (meaning : S → T → Label) (store : S) (w after : World T) (o : ObjId) (key : List ℕ) (label walk need : T) (v : Labelled T) (result : Result (Came (Unit {0}) T) (FlowFault T)) where
+  abbrev puts : ((T → Label) → PutPlan Label) → Rule → Type 0
+  puts plan rule = Acts made meaning store (λ reading (x : Unit {0}). x) (λ reading. put_by (plan reading) rule o.0 key (reading label) (read_value reading v)) w after result
+
+  module _ (means : Means made meaning store need (λ reading. union (context (map (seen_frame reading) w.frames.frames)) (union (reading label) (reading walk)))) where
+    pub put_writes : (rule : Rule) → Acts made meaning store (λ reading (x : Unit {0}). x) (λ reading s. acted tt (heap_acts.write rule o.0 key (reading need) (read_value reading v) s.heap) s) w after result → puts (λ reading. Write (reading walk)) rule
+    unfolding put_by
+    put_writes rule acts =
+        Acts-as made meaning store (λ reading (x : Unit {0}). x) (λ reading s. acted tt (heap_acts.write rule o.0 key (reading need) (read_value reading v) s.heap) s) (λ reading. put_by (Write (reading walk)) rule o.0 key (reading label) (read_value reading v)) w after result
+        (λ reading is told turns. let s = state_of reading w told turns in ap (λ n. acted tt (heap_acts.write rule o.0 key n (read_value reading v) s.heap) s) (sym (means.is reading is)))
+        acts
+
+    pub put_adds : (rule : Rule) → Acts made meaning store (λ reading (x : Unit {0}). x) (λ reading s. acted tt (heap_acts.add o.0 key (reading need) (Data v.value) (reading v.label) made_by_script s.heap) s) w after result → puts (λ reading. Add (reading walk)) rule
+    unfolding put_by
+    put_adds rule acts =
+        Acts-as made meaning store (λ reading (x : Unit {0}). x) (λ reading s. acted tt (heap_acts.add o.0 key (reading need) (Data v.value) (reading v.label) made_by_script s.heap) s) (λ reading. put_by (Add (reading walk)) rule o.0 key (reading label) (read_value reading v)) w after result
+        (λ reading is told turns. let s = state_of reading w told turns in ap (λ n. acted tt (heap_acts.add o.0 key n (Data v.value) (reading v.label) made_by_script s.heap) s) (sym (means.is reading is)))
+        acts
+
+  -- what is done by the plan is the put, where the key names no element
+  module _ (rule : Rule) where
+    pub put_planned : (plan this : PutPlan T) → plan ≡ this → element_in key (slice_get w.heap o.0) ≡ false → IsPlan made meaning store (λ reading. can_put key (object_chain (read_heap reading w.heap) o.0)) plan
+        → puts (λ reading. read_plan reading this) rule → Acts made meaning store (λ reading (x : Unit {0}). x) (λ reading. put rule o.0 key (reading label) (read_value reading v)) w after result
+    unfolding put put_on
+    put_planned plan this same none planned acts =
+        Acts-as made meaning store (λ reading (x : Unit {0}). x) (λ reading. put_by (read_plan reading this) rule o.0 key (reading label) (read_value reading v)) (λ reading. put rule o.0 key (reading label) (read_value reading v)) w after result
+        (λ reading is told turns.
+        let s = state_of reading w told turns in
+        ap (λ b. put_on b rule o.0 key (reading label) (read_value reading v) s) (read_element reading key w.heap o.0 ∙ none)
+        ∙ ap (λ p. put_by p rule o.0 key (reading label) (read_value reading v) s) (sym (ap (read_plan reading) (sym same) ∙ planned.is reading is)))
+        acts
+
+module _ {S T : Type 0} (made : S → T → Type 0) (meaning : S → T → Label) (store : S) (w : World T) (rule : Rule) (key : List ℕ) where
+  -- an element, and a setter
+  pub put_element : (o : ObjId) (label : T) (v : Labelled T) → element_in key (slice_get w.heap o.0) ≡ true → Acts made meaning store (λ reading (x : Unit {0}). x) (λ reading. put rule o.0 key (reading label) (read_value reading v)) w w (Ok (came.Leaves leaving.Unbuilt))
+  unfolding put put_on
+  put_element o label v element = record {
+    says = λ reading is told turns. ap (λ b. put_on b rule o.0 key (reading label) (read_value reading v) (state_of reading w told turns)) (read_element reading key w.heap o.0 ∙ element);
+  }
+
+  pub put_setter : (o at : ObjId) (label walk : T) (v : Labelled T) → Acts made meaning store (λ reading (x : Unit {0}). x) (λ reading. put_by (Setter at (reading walk)) rule o.0 key (reading label) (read_value reading v)) w w (Ok (came.Leaves leaving.Unbuilt))
+  unfolding put_by
+  put_setter o at label walk v = record { says = λ reading is told turns. refl }
+
+  pub put_refused : (o : ℕ) (label walk cause : T) (v : Labelled T) (after : World T) (result : Result (Came (Unit {0}) T) (FlowFault T)) → Means made meaning store cause (λ reading. union (reading label) (reading walk))
+      → Acts made meaning store (λ reading (x : Unit {0}). x) (λ reading. throw_error {X = Unit {0}} type_error (reading cause)) w after result
+      → Acts made meaning store (λ reading (x : Unit {0}). x) (λ reading. put_by (Refused (reading walk)) rule o key (reading label) (read_value reading v)) w after result
+  unfolding put_by
+  put_refused o label walk cause v after result means acts =
+      Acts-as made meaning store (λ reading (x : Unit {0}). x) (λ reading. throw_error type_error (reading cause)) (λ reading. put_by (Refused (reading walk)) rule o key (reading label) (read_value reading v)) w after result
+      (λ reading is told turns. ap (λ l. throw_error type_error l (state_of reading w told turns)) (sym (means.is reading is)))
+      acts
+
+-- ---- properties of values, by keys that are values
+
+module _ {S T : Type 0} (made : S → T → Type 0) (meaning : S → T → Label) (store : S) (w : World T) (base key : Labelled T) where
+  abbrev member : (T → Label) → Reference
+  member reading = member_of (read_value reading base) (read_value reading key)
+
+  module _ (p : Primitive) (primitive : base.value ≡ value.Primitive p) where
+    pub get_leaves : Acts made meaning store (λ reading. read_value reading) (λ reading. get_value (member reading)) w w (Ok (came.Leaves leaving.Unbuilt))
+    unfolding get_value property_of
+    get_leaves = record { says = λ reading is told turns. ap (λ b. property_of (union (reading base.label) (reading key.label)) b (plain.key_text key.value) (state_of reading w told turns)) primitive }
+
+    pub put_leaves : (v : Labelled T) → Acts made meaning store (λ reading (x : Unit {0}). x) (λ reading. put_value (member reading) (read_value reading v)) w w (Ok (came.Leaves leaving.Unbuilt))
+    unfolding put_value put_property
+    put_leaves v = record { says = λ reading is told turns. ap (λ b. put_property (union (reading base.label) (reading key.label)) b (plain.key_text key.value) (read_value reading v) (state_of reading w told turns)) primitive }
+
+  module _ (o : ObjId) (object : base.value ≡ value.Object o) (name : List ℕ) (named : name ≡ plain.key_text key.value) (label : T) (means : Means made meaning store label (λ reading. union (reading base.label) (reading key.label))) where
+    pub get_member : (result : Result (Came (Labelled T) T) (FlowFault T)) → Acts made meaning store (λ reading. read_value reading) (λ reading. property_of (reading label) (value.Object o) name) w w result → Acts made meaning store (λ reading. read_value reading) (λ reading. get_value (member reading)) w w result
+    unfolding get_value
+    get_member result acts =
+        Acts-as made meaning store (λ reading. read_value reading) (λ reading. property_of (reading label) (value.Object o) name) (λ reading. get_value (member reading)) w w result
+        (λ reading is told turns.
+        let s = state_of reading w told turns in
+        ap (λ b. property_of (union (reading base.label) (reading key.label)) b (plain.key_text key.value) s) object
+        ∙ ap₂ (λ l k. property_of l (value.Object o) k s) (sym (means.is reading is)) (sym named))
+        acts
+
+    pub put_member : (v : Labelled T) (after : World T) (result : Result (Came (Unit {0}) T) (FlowFault T)) → Acts made meaning store (λ reading (x : Unit {0}). x) (λ reading. put W2 o.0 name (reading label) (read_value reading v)) w after result
+        → Acts made meaning store (λ reading (x : Unit {0}). x) (λ reading. put_value (member reading) (read_value reading v)) w after result
+    unfolding put_value put_property
+    put_member v after result acts =
+        Acts-as made meaning store (λ reading (x : Unit {0}). x) (λ reading. put W2 o.0 name (reading label) (read_value reading v)) (λ reading. put_value (member reading) (read_value reading v)) w after result
+        (λ reading is told turns.
+        let s = state_of reading w told turns in
+        ap (λ b. put_property (union (reading base.label) (reading key.label)) b (plain.key_text key.value) (read_value reading v) s) object
+        ∙ ap₂ (λ l k. put W2 o.0 k l (read_value reading v) s) (sym (means.is reading is)) (sym named))
+        acts

@@ -1,0 +1,66 @@
+use Rattle.std.proofs.Common.{Ok, sym, ◌∙◌}
+use Rattle.std.specs.List.{slice_get}
+use Rattle.js_values.specs.Readings.{read_heap}
+use Rattle.js_values.specs.Walks.{object_chain}
+use Rattle.prototype_walk.specs.declared.plan.PutPlan.TheVariants.{Write, Add, Setter, Refused}
+use Rattle.prototype_walk.specs.Plans.{can_put}
+use Rattle.step_world.specs.declared.came.Came.TheVariants as came
+use Rattle.step_world.specs.declared.came.Leaving.TheVariants as leaving
+use Rattle.step_world.proofs.ActLaws.{Belongs-later}
+use Rattle.step_names.proofs.MeansLaws.{plan_later}
+use Rattle.step_names.proofs.PlanLaws.{written_has, added_hasnt, no_element}
+use Rattle.step_names.proofs.ObjectLaws.{put_planned, put_element, put_setter}
+use Rattle.step_names.proofs.putting.put_on_object.Goals as goal
+
+pub returns-then-element-clause-acts : goal.returns-then-element-clause-acts
+returns-then-element-clause-acts g c = put_element g.L.Labels.made g.L.Labels.meaning c.args.labels.now c.args.world.now c.args.rule c.args.key.now c.args.o c.args.label c.args.value (sym c.in_ok-element.ensures ∙ c.if-element.true)
+
+pub plan_of-requires-clause-other : goal.plan_of-requires-clause-other
+plan_of-requires-clause-other g c = no_element c.args.key.now (slice_get c.args.world.now.heap c.args.o.0) (sym c.in_ok-element.ensures ∙ c.if-element.false)
+
+pub returns-in_err-plan-clause-belongs : goal.returns-in_err-plan-clause-belongs
+returns-in_err-plan-clause-belongs g c = Belongs-later g.L.Labels.made g.L.Labels.meaning g.L.Labels.room g.L.Labels.firm c.args.labels.now c.plan_of.new.labels c.plan_of.ensures.kept g.met.L.Labels.rising c.args.world.now c.requires.belongs
+
+pub write-requires-clause-present : goal.write-requires-clause-present
+write-requires-clause-present g c = written_has g.L.Labels.made g.L.Labels.meaning c.plan_of.new.labels c.args.world.now.heap c.args.o.0 c.args.key.now c.in_ok-plan.plan c.in-Write.walk c.in_ok-plan.ensures.plan c.in-Write.is
+
+pub write-requires-clause-belongs : goal.write-requires-clause-belongs
+write-requires-clause-belongs g c = Belongs-later g.L.Labels.made g.L.Labels.meaning g.L.Labels.room g.L.Labels.firm c.args.labels.now c.plan_of.new.labels c.plan_of.ensures.kept g.met.L.Labels.rising c.args.world.now c.requires.belongs
+
+pub add-requires-clause-there : goal.add-requires-clause-there
+add-requires-clause-there g c = (added_hasnt g.L.Labels.made g.L.Labels.meaning c.plan_of.new.labels c.args.world.now.heap c.args.o.0 c.args.key.now c.in_ok-plan.plan c.in-Add.walk c.in_ok-plan.ensures.plan c.in-Add.is).0
+
+pub add-requires-clause-absent : goal.add-requires-clause-absent
+add-requires-clause-absent g c = (added_hasnt g.L.Labels.made g.L.Labels.meaning c.plan_of.new.labels c.args.world.now.heap c.args.o.0 c.args.key.now c.in_ok-plan.plan c.in-Add.walk c.in_ok-plan.ensures.plan c.in-Add.is).1
+
+pub add-requires-clause-belongs : goal.add-requires-clause-belongs
+add-requires-clause-belongs g c = Belongs-later g.L.Labels.made g.L.Labels.meaning g.L.Labels.room g.L.Labels.firm c.args.labels.now c.plan_of.new.labels c.plan_of.ensures.kept g.met.L.Labels.rising c.args.world.now c.requires.belongs
+
+pub refuse-requires-clause-belongs : goal.refuse-requires-clause-belongs
+refuse-requires-clause-belongs g c = Belongs-later g.L.Labels.made g.L.Labels.meaning g.L.Labels.room g.L.Labels.firm c.args.labels.now c.plan_of.new.labels c.plan_of.ensures.kept g.met.L.Labels.rising c.args.world.now c.requires.belongs
+
+pub returns-in-Write-clause-acts : goal.returns-in-Write-clause-acts
+returns-in-Write-clause-acts g c =
+    put_planned g.L.Labels.made g.L.Labels.meaning c.write.new.labels c.args.world.now c.write.new.world c.args.o c.args.key.now c.args.label c.in-Write.walk c.args.label c.args.value c.write.result c.args.rule c.in_ok-plan.plan (Write c.in-Write.walk) c.in-Write.is (sym c.in_ok-element.ensures ∙ c.if-element.false)
+    (plan_later g.L.Labels.made g.L.Labels.meaning g.L.Labels.room g.L.Labels.firm c.plan_of.new.labels c.write.new.labels c.write.ensures.kept (λ reading. can_put c.args.key.now (object_chain (read_heap reading c.args.world.now.heap) c.args.o.0)) c.in_ok-plan.plan c.in_ok-plan.ensures.plan)
+    c.write.ensures.acts
+
+pub returns-in-Add-clause-acts : goal.returns-in-Add-clause-acts
+returns-in-Add-clause-acts g c =
+    put_planned g.L.Labels.made g.L.Labels.meaning c.add.new.labels c.args.world.now c.add.new.world c.args.o c.args.key.now c.args.label c.in-Add.walk c.args.label c.args.value c.add.result c.args.rule c.in_ok-plan.plan (Add c.in-Add.walk) c.in-Add.is (sym c.in_ok-element.ensures ∙ c.if-element.false)
+    (plan_later g.L.Labels.made g.L.Labels.meaning g.L.Labels.room g.L.Labels.firm c.plan_of.new.labels c.add.new.labels c.add.ensures.kept (λ reading. can_put c.args.key.now (object_chain (read_heap reading c.args.world.now.heap) c.args.o.0)) c.in_ok-plan.plan c.in_ok-plan.ensures.plan)
+    (c.add.ensures.acts c.args.rule)
+
+pub returns-in-Setter-clause-acts : goal.returns-in-Setter-clause-acts
+returns-in-Setter-clause-acts g c =
+    put_planned g.L.Labels.made g.L.Labels.meaning c.plan_of.new.labels c.args.world.now c.args.world.now c.args.o c.args.key.now c.args.label c.in-Setter.walk c.args.label c.args.value (Ok (came.Leaves leaving.Unbuilt)) c.args.rule c.in_ok-plan.plan (Setter c.in-Setter.at c.in-Setter.walk) c.in-Setter.is (sym c.in_ok-element.ensures ∙ c.if-element.false) c.in_ok-plan.ensures.plan
+    (put_setter g.L.Labels.made g.L.Labels.meaning c.plan_of.new.labels c.args.world.now c.args.rule c.args.key.now c.args.o c.in-Setter.at c.args.label c.in-Setter.walk c.args.value)
+
+pub returns-in-Setter-clause-belongs : goal.returns-in-Setter-clause-belongs
+returns-in-Setter-clause-belongs g c = Belongs-later g.L.Labels.made g.L.Labels.meaning g.L.Labels.room g.L.Labels.firm c.args.labels.now c.plan_of.new.labels c.plan_of.ensures.kept g.met.L.Labels.rising c.args.world.now c.requires.belongs
+
+pub returns-in-Refused-clause-acts : goal.returns-in-Refused-clause-acts
+returns-in-Refused-clause-acts g c =
+    put_planned g.L.Labels.made g.L.Labels.meaning c.refuse.new.labels c.args.world.now c.refuse.new.world c.args.o c.args.key.now c.args.label c.in-Refused.walk c.args.label c.args.value c.refuse.result c.args.rule c.in_ok-plan.plan (Refused c.in-Refused.walk) c.in-Refused.is (sym c.in_ok-element.ensures ∙ c.if-element.false)
+    (plan_later g.L.Labels.made g.L.Labels.meaning g.L.Labels.room g.L.Labels.firm c.plan_of.new.labels c.refuse.new.labels c.refuse.ensures.kept (λ reading. can_put c.args.key.now (object_chain (read_heap reading c.args.world.now.heap) c.args.o.0)) c.in_ok-plan.plan c.in_ok-plan.ensures.plan)
+    (c.refuse.ensures.acts c.args.rule c.args.o.0 c.args.key.now c.args.value)

@@ -1,0 +1,20 @@
+use Rattle.std.proofs.Common.{ap, ◌∙◌}
+use Rattle.step_numbers.specs.Evaluated.{left_with, number_at_place}
+use Rattle.step_numbers.proofs.GlobalLaws.{named_beyond, named_inside}
+use Rattle.step_numbers.proofs.evaluating.named.Goals as goal
+
+pub returns-in-Some-clause-exact : goal.returns-in-Some-clause-exact
+returns-in-Some-clause-exact g c firm =
+    c.bound_number.ensures.exact ∙ ap (λ p. left_with (number_at_place p c.args.world.now.records c.args.world.now.heap c.args.name.now) c.args.turns) c.in-Some.ensures.innermost
+
+pub returns-in-Some-clause-named : goal.returns-in-Some-clause-named
+returns-in-Some-clause-named g c =
+    named_inside g.L.Labels.made g.L.Labels.meaning c.args.labels.now c.args.at.0 c.args.name.now c.args.world.now c.in-Some.e.0 c.bound_number.result c.in-Some.ensures.innermost c.requires.belongs.records c.bound_number.ensures.found
+
+pub returns-in-None-clause-exact : goal.returns-in-None-clause-exact
+returns-in-None-clause-exact g c firm =
+    c.global_number.ensures.exact firm ∙ ap (λ p. left_with (number_at_place p c.args.world.now.records c.args.world.now.heap c.args.name.now) c.args.turns) c.in-None.ensures.innermost
+
+pub returns-in-None-clause-named : goal.returns-in-None-clause-named
+returns-in-None-clause-named g c =
+    named_beyond g.L.Labels.made g.L.Labels.meaning c.global_number.new.labels c.args.at.0 c.args.name.now c.args.world.now c.global_number.result c.in-None.ensures.innermost c.global_number.ensures.held

@@ -1,0 +1,20 @@
+use Rattle.std.proofs.Common.{◌≡◌, ◌++◌, List, [], length}
+use Rattle.std.specs.List.{All}
+use Rattle.std.specs.Vec.Iter.{into_iter_items, into_iter_len}
+use Rattle.origin_labels.specs.Stores.{IsKept}
+use Rattle.js_values.specs.Objects.{Object}
+use Rattle.js_values.specs.Readings.{HasHeap, HasValue}
+use Rattle.step_objects.specs.Literals.{IsLiteral}
+use Rattle.step_objects.proofs.literals.define_all.Given as goal
+
+-- the object has the properties of the rows so far, and those that are left have labels of the store
+abbrev pub invariant-loop-key : goal.invariant-loop-key
+invariant-loop-key g l = record {
+  whole : l.yielded ++ into_iter_items l.key-iterator ≡ into_iter_items l.initial.key-iterator;
+  count : into_iter_len l.key-iterator ≡ length (into_iter_items l.key-iterator);
+  left : All (λ r. HasValue (g.L.Labels.made l.labels) r.1) (into_iter_items l.key-iterator);
+  kept : IsKept g.L.Labels.made g.L.Labels.meaning g.L.Labels.room g.L.Labels.firm l.fn.labels l.labels;
+  belongs : HasHeap (g.L.Labels.made l.labels) l.heap;
+  as_many : length l.heap ≡ length l.fn.heap;
+  literal : (before : List (Object g.row.T.Denot)) → l.fn.o.0 ≡ length before → IsLiteral g.L.Labels.made g.L.Labels.meaning l.fn.labels before l.fn.heap l.fn.context [] → IsLiteral g.L.Labels.made g.L.Labels.meaning l.labels before l.heap l.fn.context l.yielded;
+}

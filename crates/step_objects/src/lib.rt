@@ -1,0 +1,18 @@
+//! Objects: how a literal makes one, which values can have properties, which keys an object has, and how a property is deleted.
+#![tactic(auto)]
+
+mod asking;
+mod deleting;
+mod enumerating;
+mod literals;
+mod needing;
+mod parts;
+mod visiting;
+
+pub use asking::has_key;
+pub use deleting::remove_property;
+pub use enumerating::{keys_of, taking_keys};
+pub use literals::make_object;
+pub use needing::{base_needed, object_needed};
+pub use parts::text_of_key;
+pub use visiting::still_has;

@@ -1,0 +1,4 @@
+pub mod KeyLaws
+pub mod VisitPlans
+pub mod TakingFrames
+pub mod Looking

@@ -1,0 +1,4 @@
+var said = {};
+upgs(said, "voter");
+if (read("ballot") === "yes") said.yes = true;
+print("count", "yes" in said ? "Somebody said yes" : "Nobody said yes");
