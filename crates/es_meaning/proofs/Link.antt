@@ -9,10 +9,11 @@ use Rattle.js_ast.specs.declared.operators.UnaryOperator.TheVariants as unary_op
 use Rattle.js_ast.specs.declared.operators.PostfixOperator.TheVariants as postfix_operator
 use Rattle.js_ast.specs.declared.operators.BinaryOperator.{BinaryOperator}
 use Rattle.js_ast.specs.declared.operators.BinaryOperator.TheVariants as binary_operator
-use Rattle.js_ast.specs.Trees.{Ident, Expr, name, number, string, this, null, boolean, paren, array, object, function, member, index, new_with, new_bare, call, postfix, unary, binary, conditional, assign, comma, Exprs, no_exprs, more_exprs, MaybeExpr, absent, present, value, getter, setter, Properties, no_properties, more_properties, Target, target_expr, target_var, First, first_expr, first_var, Block, block_of, Statement, block, var, empty, expression, if_then, if_else, do_while, while, for, for_in, continue, break, return, throw, switch, labelled, try_catch, try_finally, try_both, debugger, function_declaration, Statements, no_statements, more_statements}
-use Rattle.es_meaning.specs.Environments.{Env}
-use Rattle.es_meaning.specs.Operations.{Ty, One, Value, Res, Direct, Act, object_of, base_needed, object_needed, has_key, Hint, number_hint, string_hint, Ops, Use, assigned, updated_by, prefixed, postfixed, asked, valued, deleted, given_text, Round, Visit, Rec}
-use Rattle.es_meaning.specs.Evaluation.{is_name, is_reference, keys_of, direct_of, operator_of, assigned_by, Conversion, unconverted, compared, numbers, keyed, primitives, conversion_of, takes_number, discard, give, enters, unary_done, binary_done, compared_left, primitive_left, number_left, has_left, has_right, binary_by, binary_values, unary_by, unary_value, assign_to, assign_giving, postfix_by, prefix_by, postfix_number, prefix_number, postfix_value, prefix_value, binary_right, and_right, or_right, choose_expr, comma_right, compound_done, compound_right, used, with_key, with_base, index_key, index_base, member_base, use_step, read_value, properties, more_values, arguments, more_arguments, call_step, typeof_step, delete_step, unary_step, binary_step, expr_step, variable_list, variables, more_variables, turn_test, tested_by, tested, updated, turned_by, turned_round, turn_step, loop, looped, looped_value, first_step, still_there, visits, visited, visit_body, target_step, visit_turn, visit_step, with_keys, enumerated, choose_stmt, choose_stmts, statements, more_statements_behind, block_step, stmt_step, step, Timed, ticking, eval, program_step}
+use Rattle.js_ast.specs.Trees.{Ident, Expr, name, number, string, this, null, boolean, paren, array, object, function, member, index, new_with, new_bare, call, postfix, unary, binary, conditional, assign, comma, Exprs, no_exprs, more_exprs, MaybeExpr, absent, present, value, getter, setter, Properties, no_properties, more_properties, Target, target_expr, target_var, First, first_expr, first_var, Clauses, no_clauses, case, default, Function, Block, block_of, Statement, block, var, empty, expression, if_then, if_else, do_while, while, for, for_in, continue, break, return, throw, switch, labelled, try_catch, try_finally, try_both, debugger, function_declaration, Statements, no_statements, more_statements}
+use Rattle.es_meaning.specs.Environments.{Env, Leaving, thrown, returned, left_by}
+use Rattle.es_meaning.specs.Directives.{Upgrade, upgrade_of}
+use Rattle.es_meaning.specs.Operations.{Ty, One, Value, Res, Direct, Act, object_of, base_needed, object_needed, has_key, refused_declaration, Hint, number_hint, string_hint, Ops, Use, assigned, updated_by, prefixed, postfixed, asked, valued, deleted, given_text, called, Calling, directly, calls, constructs, Round, Visit, Rec}
+use Rattle.es_meaning.specs.Evaluation.{is_name, is_reference, keys_of, operator_of, assigned_by, Conversion, unconverted, compared, numbers, keyed, primitives, conversion_of, takes_number, discard, give, enters, unary_done, binary_done, compared_left, primitive_left, number_left, has_left, has_right, binary_by, binary_values, unary_by, unary_value, assign_to, assign_giving, postfix_by, prefix_by, postfix_number, prefix_number, postfix_value, prefix_value, binary_right, and_right, or_right, choose_expr, comma_right, compound_done, compound_right, used, with_key, with_base, index_key, index_base, member_base, use_step, read_value, properties, more_values, statements, more_statements_behind, call_with, arguments, more_arguments, call_reference, call_value, construct_value, callee_step, direct_in, call_by, instance_done, instance_right, labels_of, carries_labels, text_of_label, typeof_step, delete_step, unary_step, binary_step, expr_step, variable_list, variables, more_variables, turn_test, tested_by, tested, updated, turned_by, turned_round, turn_step, loop, looped, looped_value, first_step, still_there, visits, visited, visit_body, target_step, visit_turn, visit_step, with_keys, enumerated, falls, falls_on, from_default, case_chosen, case_compared, cases, in_switch, switched, jump_with, return_step, upgraded, behind_expression, choose_stmt, choose_stmts, block_step, handled, unhandled, label_step, named_step, stmt_step, step, begun, Timed, ticking, eval, program_step}
 
 -- related results
 abbrev pub Rel : {W V V' : Type 0} → (W → V → V' → Type 0) → (t : Ty) → W → Res V t → Res V' t → Type 0
@@ -58,6 +59,9 @@ pub record Link (A B : Ops) : Type 1 where
   pub comparable : {w : W} {v u : A.V} {v' u' : B.V} → RV w v v' → RV w u u' → Lift Value w (A.comparable v u) (B.comparable v' u')
   pub act : {w : W} (f : Act) {vs : List A.V} {us : List B.V} → Rels (RV w) vs us → Lift Value w (A.act f vs) (B.act f us)
   pub direct : {w : W} (f : Direct) {vs : List A.V} {us : List B.V} → Rels (RV w) vs us → Lift Value w (A.direct f vs) (B.direct f us)
+  pub function : {w : W} (f : Function) {i j : ℕ} → RP w i j → Lift Value w (A.function f i) (B.function f j)
+  pub jump : {w : W} (leaving : Leaving) {e : Env A.H} {d : Env B.H} {v : A.V} {v' : B.V} → RE w e d → RV w v v' → Lift One w (A.jump leaving e v) (B.jump leaving d v')
+  pub raise : {w : W} (leaving : Leaving) {e : Env A.H} {d : Env B.H} (names : List (List ℕ)) → RE w e d → Lift One w (A.raise leaving e names) (B.raise leaving d names)
   pub unbuilt : (t : Ty) (w : W) → Lift t w (A.unbuilt t) (B.unbuilt t)
   -- references
   pub resolve : (t : Ty) {w : W} {i j : ℕ} (x : List ℕ) (k : A.N → A.M t) (k' : B.N → B.M t) → RP w i j
@@ -70,6 +74,9 @@ pub record Link (A B : Ops) : Type 1 where
       → ((w' : W) → Le w w' → (f : A.V) (f' : B.V) → RV w' f f' → Lift Value w' (k f) (k' f')) → Lift One w (A.put_value n v k) (B.put_value n' v' k')
   pub property : {w : W} {v u : A.V} {v' u' : B.V} → RV w v v' → RV w u u' → RN w (A.property v u) (B.property v' u')
   pub remove : {w : W} {n : A.N} {n' : B.N} → RN w n n' → Lift Value w (A.remove n) (B.remove n')
+  pub this_of : {w : W} {n : A.N} {n' : B.N} → RN w n n' → RV w (A.this_of n) (B.this_of n')
+  pub instance : {w : W} {v f : A.V} {v' f' : B.V} (k : A.V → A.M Value) (k' : B.V → B.M Value) → RV w v v' → RV w f f'
+      → ((w' : W) → Le w w' → (g : A.V) (g' : B.V) → RV w' g g' → Lift Value w' (k g) (k' g')) → Lift Value w (A.instance v f k) (B.instance v' f' k')
   -- scopes
   pub fork : (t : Ty) {w : W} {v : A.V} {v' : B.V} {m n : A.M t} {m' n' : B.M t} → RV w v v'
       → ((w' : W) → Le w w' → Lift t w' m m') → ((w' : W) → Le w w' → Lift t w' n n') → Lift t w (A.fork t v m n) (B.fork t v' m' n')
@@ -78,11 +85,27 @@ pub record Link (A B : Ops) : Type 1 where
   pub again : {w : W} {v : A.V} {v' : B.V} {m n : A.M One} {m' n' : B.M One} → RV w v v' → Lift One w m m' → Lift One w n n' → Lift One w (A.again v m n) (B.again v' m' n')
   pub keys : {w : W} {v : A.V} {v' : B.V} (k : List (List ℕ) → A.M One) (k' : List (List ℕ) → B.M One) → RV w v v'
       → ((w' : W) → Le w w' → (keys : List (List ℕ)) → Lift One w' (k keys) (k' keys)) → Lift One w (A.keys v k) (B.keys v' k')
+  pub declare : {w : W} (name : List ℕ) {v : A.V} {v' : B.V} {e : Env A.H} {d : Env B.H} (k : Env A.H → A.M One) (k' : Env B.H → B.M One) → RV w v v' → RE w e d
+      → ((w' : W) → Le w w' → (e' : Env A.H) (d' : Env B.H) → RE w' e' d' → Lift One w' (k e') (k' d')) → Lift One w (A.declare name v e k) (B.declare name v' d k')
+  -- a body is evaluated in any world: nothing of the call's is handed to it
+  pub call : {w : W} {f this : A.V} {f' this' : B.V} {vs : List A.V} {us : List B.V} (k : Statements → Env A.H → A.M One) (k' : Statements → Env B.H → B.M One) → RV w f f' → RV w this this' → Rels (RV w) vs us
+      → ((w' : W) (ss : Statements) (e : Env A.H) (d : Env B.H) → RE w' e d → Lift One w' (k ss e) (k' ss d)) → Lift Value w (A.call f this vs k) (B.call f' this' us k')
+  pub construct : {w : W} {f : A.V} {f' : B.V} {vs : List A.V} {us : List B.V} (k : Statements → Env A.H → A.M One) (k' : Statements → Env B.H → B.M One) → RV w f f' → Rels (RV w) vs us
+      → ((w' : W) (ss : Statements) (e : Env A.H) (d : Env B.H) → RE w' e d → Lift One w' (k ss e) (k' ss d)) → Lift Value w (A.construct f vs k) (B.construct f' us k')
+  pub attempt : {w : W} (handles finishes : Bool) {m n : A.M One} {m' n' : B.M One} (h : A.V → A.M One) (h' : B.V → B.M One)
+      → ((w' : W) → Le w w' → Lift One w' m m') → ((w' : W) → Le w w' → (v : A.V) (v' : B.V) → RV w' v v' → Lift One w' (h v) (h' v')) → ((w' : W) → Le w w' → Lift One w' n n')
+      → Lift One w (A.attempt handles finishes m h n) (B.attempt handles finishes m' h' n')
 
 -- turns of a `for in` over related values
 pub data Visits {V V' : Type 0} (R : V → V' → Type 0) : Visit V → Visit V' → Type 0 where
-  visits_of : {target : Target} {body : Statement} {a : V} {b : V'} {key : List ℕ} {others : List (List ℕ)} → R a b
-      → Visits R (record { target = target; body = body; object = a; key = key; others = others }) (record { target = target; body = body; object = b; key = key; others = others })
+  visits_of : {labels : List (Option (List ℕ))} {target : Target} {body : Statement} {a : V} {b : V'} {key : List ℕ} {others : List (List ℕ)} → R a b
+      → Visits R (record { labels = labels; target = target; body = body; object = a; key = key; others = others }) (record { labels = labels; target = target; body = body; object = b; key = key; others = others })
+
+-- calls of related values
+pub data Callings {V V' : Type 0} (R : V → V' → Type 0) : Calling V → Calling V' → Type 0 where
+  both_direct : {f : Direct} → Callings R (directly f) (directly f)
+  both_call : {f this : V} {f' this' : V'} → R f f' → R this this' → Callings R (calls f this) (calls f' this')
+  both_construct : {f : V} {f' : V'} → R f f' → Callings R (constructs f) (constructs f')
 
 module _ (A B : Ops) (K : Link A B) where
   -- linked meanings of parts
@@ -90,6 +113,7 @@ module _ (A B : Ops) (K : Link A B) where
     pub expr : (e : Expr) (w : K.W) (i j : ℕ) → K.RP w i j → K.Lift Value w (R.expr e i) (Q.expr e j)
     pub use_of : (use_as : Use) (e : Expr) (w : K.W) (i j : ℕ) → K.RP w i j → K.Lift Value w (R.use_of use_as e i) (Q.use_of use_as e j)
     pub stmt : (s : Statement) (w : K.W) (e : Env A.H) (d : Env B.H) → K.RE w e d → K.Lift One w (R.stmt s e) (Q.stmt s d)
+    pub named : (labels : List (List ℕ)) (s : Statement) (w : K.W) (e : Env A.H) (d : Env B.H) → K.RE w e d → K.Lift One w (R.named labels s e) (Q.named labels s d)
     pub turn : (round : Round) (w : K.W) (e : Env A.H) (d : Env B.H) → K.RE w e d → K.Lift One w (R.turn round e) (Q.turn round d)
     pub visit : (w : K.W) (v : Visit A.V) (u : Visit B.V) → Visits (K.RV w) v u → (e : Env A.H) (d : Env B.H) → K.RE w e d → K.Lift One w (R.visit v e) (Q.visit u d)
 
@@ -102,6 +126,11 @@ module _ (A B : Ops) (K : Link A B) where
 
   inside_visits : {w w' : K.W} {v : Visit A.V} {u : Visit B.V} → K.Inside w w' → Visits (K.RV w) v u → Visits (K.RV w') v u
   inside_visits l (visits_of r) = visits_of (K.inside_v l r)
+
+  more_callings : {w w' : K.W} {f : Calling A.V} {g : Calling B.V} → K.Le w w' → Callings (K.RV w) f g → Callings (K.RV w') f g
+  more_callings l both_direct = both_direct
+  more_callings l (both_call r q) = both_call (K.more_v l r) (K.more_v l q)
+  more_callings l (both_construct r) = both_construct (K.more_v l r)
 
   one_more : {w : K.W} {vs : List A.V} {us : List B.V} {v : A.V} {u : B.V} → Rels (K.RV w) vs us → K.RV w v u → Rels (K.RV w) (vs ++ v ∷ []) (us ++ u ∷ [])
   one_more nils r = conses r nils
@@ -235,6 +264,52 @@ module _ (A B : Ops) (K : Link A B) where
     unfolding read_value
     read_value_linked rn = K.get_value _ _ rn λ w1 l1 f f' rf. enters_linked rf
 
+    pub statements_linked : (ss : Statements) {w : K.W} {e : Env A.H} {d : Env B.H} → K.RE w e d → K.Lift One w (statements A R ss e) (statements B Q ss d)
+    unfolding statements
+    statements_linked no_statements {w = w} r = K.ret_one w
+    statements_linked (more_statements s ss) r = K.bind One One _ _ (h.stmt s _ _ _ r) λ w1 l1 u u' ru. statements_linked ss (K.more_e l1 r)
+
+    pub behind_linked : (ss : Statements) {w : K.W} {e : Env A.H} {d : Env B.H} → K.RE w e d → K.Lift One w (more_statements_behind A R ss e tt) (more_statements_behind B Q ss d tt)
+    unfolding more_statements_behind
+    behind_linked ss r = statements_linked ss r
+
+    call_with_linked : {f : Calling A.V} {g : Calling B.V} {w : K.W} {vs : List A.V} {us : List B.V} → Callings (K.RV w) f g → Rels (K.RV w) vs us → K.Lift Value w (call_with A R f vs) (call_with B Q g us)
+    unfolding call_with
+    call_with_linked (both_direct {f = f}) rs = K.direct f rs
+    call_with_linked (both_call rf rt) rs = K.call _ _ rf rt rs λ w1 ss e d r. statements_linked ss r
+    call_with_linked (both_construct rf) rs = K.construct _ _ rf rs λ w1 ss e d r. statements_linked ss r
+
+    pub arguments_linked : (es : Exprs) {f : Calling A.V} {g : Calling B.V} {w : K.W} {i j : ℕ} {vs : List A.V} {us : List B.V} → Callings (K.RV w) f g → K.RP w i j → Rels (K.RV w) vs us
+        → K.Lift Value w (arguments A R f vs es i) (arguments B Q g us es j)
+    unfolding arguments
+    arguments_linked no_exprs r p rs = call_with_linked r rs
+    arguments_linked (more_exprs e es) r p rs = K.bind Value Value _ _ (h.expr e _ _ _ p) λ w1 l1 v v' rv. arguments_linked es (more_callings l1 r) (K.more_p l1 p) (one_more (more_rels l1 rs) rv)
+
+    pub more_arguments_linked : (es : Exprs) {f : Calling A.V} {g : Calling B.V} {w : K.W} {i j : ℕ} {vs : List A.V} {us : List B.V} {v : A.V} {v' : B.V} → Callings (K.RV w) f g → K.RP w i j → Rels (K.RV w) vs us → K.RV w v v'
+        → K.Lift Value w (more_arguments A R f vs es i v) (more_arguments B Q g us es j v')
+    unfolding more_arguments
+    more_arguments_linked es r p rs rv = arguments_linked es r p (one_more rs rv)
+
+    pub call_reference_linked : (es : Exprs) {w : K.W} {i j : ℕ} {n : A.N} {n' : B.N} {f : A.V} {f' : B.V} → K.RP w i j → K.RN w n n' → K.RV w f f' → K.Lift Value w (call_reference A R n es i f) (call_reference B Q n' es j f')
+    unfolding call_reference
+    call_reference_linked es p rn rf = arguments_linked es (both_call rf (K.this_of rn)) p nils
+
+    pub call_value_linked : (es : Exprs) {w : K.W} {i j : ℕ} {f : A.V} {f' : B.V} → K.RP w i j → K.RV w f f' → K.Lift Value w (call_value A R es i f) (call_value B Q es j f')
+    unfolding call_value
+    call_value_linked es {w = w} p rf = arguments_linked es (both_call rf (K.literal w Undefined)) p nils
+
+    pub construct_value_linked : (es : Exprs) {w : K.W} {i j : ℕ} {f : A.V} {f' : B.V} → K.RP w i j → K.RV w f f' → K.Lift Value w (construct_value A R es i f) (construct_value B Q es j f')
+    unfolding construct_value
+    construct_value_linked es p rf = arguments_linked es (both_construct rf) p nils
+
+    pub instance_done_linked : {w : K.W} {v f : A.V} {v' f' : B.V} → K.RV w v v' → K.RV w f f' → K.Lift Value w (instance_done A R v f) (instance_done B Q v' f')
+    unfolding instance_done
+    instance_done_linked rv rf = K.instance _ _ rv rf λ w1 l1 g g' rg. enters_linked rg
+
+    pub instance_right_linked : (r : Expr) {w : K.W} {i j : ℕ} {v : A.V} {v' : B.V} → K.RP w i j → K.RV w v v' → K.Lift Value w (instance_right A R r i v) (instance_right B Q r j v')
+    unfolding instance_right
+    instance_right_linked r p rv = K.bind Value Value _ _ (h.expr r _ _ _ p) λ w1 l1 f f' rf. instance_done_linked (K.more_v l1 rv) rf
+
     pub used_linked : (use_as : Use) {w : K.W} {i j : ℕ} {n : A.N} {n' : B.N} → K.RP w i j → K.RN w n n' → K.Lift Value w (used A R use_as i n) (used B Q use_as j n')
     unfolding used
     used_linked (assigned r) p rn = K.bind Value Value _ _ (h.expr r _ _ _ p) λ w1 l1 v v' rv. assign_to_linked (K.more_n l1 rn) rv
@@ -245,6 +320,7 @@ module _ (A B : Ops) (K : Link A B) where
     used_linked valued p rn = read_value_linked rn
     used_linked deleted p rn = K.remove rn
     used_linked (given_text text) {w = w} p rn = assign_to_linked rn (K.literal w (Str text))
+    used_linked (called es) p rn = K.bind Value Value _ _ (K.get_value _ _ rn λ w1 l1 f f' rf. enters_linked rf) λ w1 l1 v v' rv. call_reference_linked es (K.more_p l1 p) (K.more_n l1 rn) rv
 
     pub with_key_linked : (use_as : Use) {w : K.W} {i j : ℕ} {b k : A.V} {b' k' : B.V} → K.RP w i j → K.RV w b b' → K.RV w k k' → K.Lift Value w (with_key A R use_as i b k) (with_key B Q use_as j b' k')
     unfolding with_key
@@ -290,43 +366,13 @@ module _ (A B : Ops) (K : Link A B) where
     use_linked use_as (assign there l o r) w i j p = K.unbuilt Value w
     use_linked use_as (comma there l r) w i j p = K.unbuilt Value w
 
-    arguments_linked : (f : Direct) (es : Exprs) {w : K.W} {i j : ℕ} {vs : List A.V} {us : List B.V} → K.RP w i j → Rels (K.RV w) vs us → K.Lift Value w (arguments A R f vs es i) (arguments B Q f us es j)
-    unfolding arguments
-    arguments_linked f no_exprs p rs = K.direct f rs
-    arguments_linked f (more_exprs e es) p rs = K.bind Value Value _ _ (h.expr e _ _ _ p) λ w1 l1 v v' rv. arguments_linked f es (K.more_p l1 p) (one_more (more_rels l1 rs) rv)
+    callee_linked : (b : Bool) (e : Expr) (es : Exprs) (w : K.W) (i j : ℕ) → K.RP w i j → K.Lift Value w (callee_step A R b e es i) (callee_step B Q b e es j)
+    callee_linked true e es w i j p = h.use_of (called es) e w i j p
+    callee_linked false e es w i j p = K.bind Value Value _ _ (h.expr e w i j p) λ w1 l1 f f' rf. call_value_linked es (K.more_p l1 p) rf
 
-    pub more_arguments_linked : (f : Direct) (es : Exprs) {w : K.W} {i j : ℕ} {vs : List A.V} {us : List B.V} {v : A.V} {v' : B.V} → K.RP w i j → Rels (K.RV w) vs us → K.RV w v v'
-        → K.Lift Value w (more_arguments A R f vs es i v) (more_arguments B Q f us es j v')
-    unfolding more_arguments
-    more_arguments_linked f es p rs rv = arguments_linked f es p (one_more rs rv)
-
-    call_linked : (f : Option Direct) (es : Exprs) (w : K.W) (i j : ℕ) → K.RP w i j → K.Lift Value w (call_step A R f es i) (call_step B Q f es j)
-    call_linked None es w i j p = K.unbuilt Value w
-    call_linked (Some f) es w i j p = arguments_linked f es p nils
-
-    callee_linked : (f : Expr) (at : ℕ) (es : Exprs) (w : K.W) (i j : ℕ) → K.RP w i j → K.Lift Value w (expr_step A R (call at f es) i) (expr_step B Q (call at f es) j)
-    unfolding expr_step
-    callee_linked (name there text) at es w i j p = call_linked (direct_of text) es w i j p
-    callee_linked (number there n) at es w i j p = K.unbuilt Value w
-    callee_linked (string there text v) at es w i j p = K.unbuilt Value w
-    callee_linked (this there) at es w i j p = K.unbuilt Value w
-    callee_linked (null there) at es w i j p = K.unbuilt Value w
-    callee_linked (boolean there b) at es w i j p = K.unbuilt Value w
-    callee_linked (paren there e) at es w i j p = K.unbuilt Value w
-    callee_linked (array there is final) at es w i j p = K.unbuilt Value w
-    callee_linked (object there ps final) at es w i j p = K.unbuilt Value w
-    callee_linked (function there f) at es w i j p = K.unbuilt Value w
-    callee_linked (member there e text) at es w i j p = K.unbuilt Value w
-    callee_linked (index there e n) at es w i j p = K.unbuilt Value w
-    callee_linked (new_with there e fs) at es w i j p = K.unbuilt Value w
-    callee_linked (new_bare there e) at es w i j p = K.unbuilt Value w
-    callee_linked (call there e fs) at es w i j p = K.unbuilt Value w
-    callee_linked (postfix there e o) at es w i j p = K.unbuilt Value w
-    callee_linked (unary there o e) at es w i j p = K.unbuilt Value w
-    callee_linked (binary there l o r) at es w i j p = K.unbuilt Value w
-    callee_linked (conditional there c a b) at es w i j p = K.unbuilt Value w
-    callee_linked (assign there l o r) at es w i j p = K.unbuilt Value w
-    callee_linked (comma there l r) at es w i j p = K.unbuilt Value w
+    call_linked : (direct : Option Direct) (e : Expr) (es : Exprs) (w : K.W) (i j : ℕ) → K.RP w i j → K.Lift Value w (call_by A R direct e es i) (call_by B Q direct e es j)
+    call_linked (Some f) e es w i j p = arguments_linked es both_direct p nils
+    call_linked None e es w i j p = callee_linked (is_reference e) e es w i j p
 
     properties_linked : (act : Act) (ps : Properties) {w : K.W} {i j : ℕ} {vs : List A.V} {us : List B.V} → K.RP w i j → Rels (K.RV w) vs us → K.Lift Value w (properties A R act vs ps i) (properties B Q act us ps j)
     unfolding properties
@@ -371,7 +417,7 @@ module _ (A B : Ops) (K : Link A B) where
     binary_step_linked l binary_operator.And r w i j p = K.bind Value Value _ _ (h.expr l w i j p) λ w1 l1 v v' rv. and_right_linked r (K.more_p l1 p) rv
     binary_step_linked l binary_operator.Or r w i j p = K.bind Value Value _ _ (h.expr l w i j p) λ w1 l1 v v' rv. or_right_linked r (K.more_p l1 p) rv
     binary_step_linked l binary_operator.In r w i j p = binary_linked l binary_operator.In r w i j p
-    binary_step_linked l binary_operator.Instanceof r w i j p = K.unbuilt Value w
+    binary_step_linked l binary_operator.Instanceof r w i j p = K.bind Value Value _ _ (h.expr l w i j p) λ w1 l1 v v' rv. instance_right_linked r (K.more_p l1 p) rv
     binary_step_linked l binary_operator.Multiply r w i j p = binary_linked l binary_operator.Multiply r w i j p
     binary_step_linked l binary_operator.Divide r w i j p = binary_linked l binary_operator.Divide r w i j p
     binary_step_linked l binary_operator.Remainder r w i j p = binary_linked l binary_operator.Remainder r w i j p
@@ -403,12 +449,12 @@ module _ (A B : Ops) (K : Link A B) where
     expr_linked (paren at e) w i j p = h.expr e w i j p
     expr_linked (array at is final) w i j p = K.unbuilt Value w
     expr_linked (object at ps final) w i j p = properties_linked (object_of (keys_of ps)) ps p nils
-    expr_linked (function at f) w i j p = K.unbuilt Value w
+    expr_linked (function at f) w i j p = K.function f p
     expr_linked (member at e text) w i j p = K.bind Value Value _ _ (h.expr e w i j p) λ w1 l1 b b' rb. member_base_linked valued text (K.more_p l1 p) rb
     expr_linked (index at e n) w i j p = K.bind Value Value _ _ (h.expr e w i j p) λ w1 l1 b b' rb. index_base_linked valued n (K.more_p l1 p) rb
-    expr_linked (new_with at e es) w i j p = K.unbuilt Value w
-    expr_linked (new_bare at e) w i j p = K.unbuilt Value w
-    expr_linked (call at e es) w i j p = callee_linked e at es w i j p
+    expr_linked (new_with at e es) w i j p = K.bind Value Value _ _ (h.expr e w i j p) λ w1 l1 f f' rf. construct_value_linked es (K.more_p l1 p) rf
+    expr_linked (new_bare at e) w i j p = K.bind Value Value _ _ (h.expr e w i j p) λ w1 l1 f f' rf. construct_value_linked no_exprs (K.more_p l1 p) rf
+    expr_linked (call at e es) w i j p = call_linked (direct_in e) e es w i j p
     expr_linked (postfix at e postfix_operator.Increment) w i j p = h.use_of (postfixed binary_operator.Add) e w i j p
     expr_linked (postfix at e postfix_operator.Decrement) w i j p = h.use_of (postfixed binary_operator.Subtract) e w i j p
     expr_linked (unary at o e) w i j p = unary_step_linked o e w i j p
@@ -484,16 +530,16 @@ module _ (A B : Ops) (K : Link A B) where
     unfolding still_there
     still_there_linked {w = w} rs r l rv = K.again rv (h.visit w _ _ rs _ _ r) l
 
-    visits_linked : (target : Target) (s : Statement) (keys : List (List ℕ)) {w : K.W} {o : A.V} {o' : B.V} {e : Env A.H} {d : Env B.H} → K.RV w o o' → K.RE w e d
-        → K.Lift One w (visits A R target s o keys e) (visits B Q target s o' keys d)
+    visits_linked : (labels : List (Option (List ℕ))) (target : Target) (s : Statement) (keys : List (List ℕ)) {w : K.W} {o : A.V} {o' : B.V} {e : Env A.H} {d : Env B.H} → K.RV w o o' → K.RE w e d
+        → K.Lift One w (visits A R labels target s o keys e) (visits B Q labels target s o' keys d)
     unfolding visits
-    visits_linked target s [] {w = w} ro r = K.ret_one w
-    visits_linked target s (key ∷ others) {w = w} ro r = K.bind Value One _ _ (K.act has_key (conses (K.literal w (Str key)) (conses ro nils))) λ w1 l1 v v' rv.
-        still_there_linked (visits_of (K.more_v l1 ro)) (K.more_e l1 r) (visits_linked target s others (K.more_v l1 ro) (K.more_e l1 r)) rv
+    visits_linked labels target s [] {w = w} ro r = K.ret_one w
+    visits_linked labels target s (key ∷ others) {w = w} ro r = K.bind Value One _ _ (K.act has_key (conses (K.literal w (Str key)) (conses ro nils))) λ w1 l1 v v' rv.
+        still_there_linked (visits_of (K.more_v l1 ro)) (K.more_e l1 r) (visits_linked labels target s others (K.more_v l1 ro) (K.more_e l1 r)) rv
 
     pub visited_linked : {w : K.W} {v : Visit A.V} {v' : Visit B.V} {e : Env A.H} {d : Env B.H} → Visits (K.RV w) v v' → K.RE w e d → K.Lift One w (visited A R v e tt) (visited B Q v' d tt)
     unfolding visited
-    visited_linked (visits_of {target = target} {body = body} {others = others} ro) r = visits_linked target body others ro r
+    visited_linked (visits_of {labels = labels} {target = target} {body = body} {others = others} ro) r = visits_linked labels target body others ro r
 
     pub visit_body_linked : (s : Statement) {w : K.W} {e : Env A.H} {d : Env B.H} (v : A.V) (v' : B.V) → K.RE w e d → K.Lift One w (visit_body A R s e v) (visit_body B Q s d v')
     unfolding visit_body
@@ -510,15 +556,73 @@ module _ (A B : Ops) (K : Link A B) where
 
     visit_linked : (w : K.W) (v : Visit A.V) (u : Visit B.V) → Visits (K.RV w) v u → (e : Env A.H) (d : Env B.H) → K.RE w e d → K.Lift One w (visit_step A R v e) (visit_step B Q u d)
     unfolding visit_step
-    visit_linked w v u rs e d r = K.bind One One _ _ (K.round true (None ∷ []) _ _ r λ w1 l1 e' d' r'. visit_turn_linked (inside_visits l1 rs) r') λ w1 l1 a b rab. visited_linked (more_visits l1 rs) (K.more_e l1 r)
+    visit_linked w _ _ (visits_of {labels = labels} {target = target} {body = body} {key = key} {others = others} ro) e d r =
+        K.bind One One _ _ (K.round true labels _ _ r λ w1 l1 e' d' r'. visit_turn_linked (visits_of {labels = labels} {target = target} {body = body} {key = key} {others = others} (K.inside_v l1 ro)) r')
+        λ w1 l1 a b rab. visited_linked (visits_of {labels = labels} {target = target} {body = body} {key = key} {others = others} (K.more_v l1 ro)) (K.more_e l1 r)
 
-    with_keys_linked : (target : Target) (s : Statement) {w : K.W} {o : A.V} {o' : B.V} {e : Env A.H} {d : Env B.H} → K.RV w o o' → K.RE w e d → K.Lift One w (with_keys A R target s o e) (with_keys B Q target s o' d)
+    with_keys_linked : (labels : List (Option (List ℕ))) (target : Target) (s : Statement) {w : K.W} {o : A.V} {o' : B.V} {e : Env A.H} {d : Env B.H} → K.RV w o o' → K.RE w e d → K.Lift One w (with_keys A R labels target s o e) (with_keys B Q labels target s o' d)
     unfolding with_keys
-    with_keys_linked target s ro r = K.keys _ _ ro λ w1 l1 keys. visits_linked target s keys (K.more_v l1 ro) (K.more_e l1 r)
+    with_keys_linked labels target s ro r = K.keys _ _ ro λ w1 l1 keys. visits_linked labels target s keys (K.more_v l1 ro) (K.more_e l1 r)
 
-    pub enumerated_linked : (target : Target) (s : Statement) {w : K.W} {e : Env A.H} {d : Env B.H} {o : A.V} {o' : B.V} → K.RE w e d → K.RV w o o' → K.Lift One w (enumerated A R target s e o) (enumerated B Q target s d o')
+    pub enumerated_linked : (labels : List (Option (List ℕ))) (target : Target) (s : Statement) {w : K.W} {e : Env A.H} {d : Env B.H} {o : A.V} {o' : B.V} → K.RE w e d → K.RV w o o' → K.Lift One w (enumerated A R labels target s e o) (enumerated B Q labels target s d o')
     unfolding enumerated
-    enumerated_linked target s r ro = K.round false (None ∷ []) _ _ r λ w1 l1 e' d' r'. with_keys_linked target s (K.inside_v l1 ro) r'
+    enumerated_linked labels target s r ro = K.round false labels _ _ r λ w1 l1 e' d' r'. with_keys_linked labels target s (K.inside_v l1 ro) r'
+
+    pub falls_linked : (cs : Clauses) {w : K.W} {e : Env A.H} {d : Env B.H} → K.RE w e d → K.Lift One w (falls A R cs e) (falls B Q cs d)
+    unfolding falls
+    falls_linked no_clauses {w = w} r = K.ret_one w
+    falls_linked (case c ss cs) r = K.bind One One _ _ (statements_linked ss r) λ w1 l1 u u' ru. falls_linked cs (K.more_e l1 r)
+    falls_linked (default ss cs) r = K.bind One One _ _ (statements_linked ss r) λ w1 l1 u u' ru. falls_linked cs (K.more_e l1 r)
+
+    pub falls_on_linked : (cs : Clauses) {w : K.W} {e : Env A.H} {d : Env B.H} → K.RE w e d → K.Lift One w (falls_on A R cs e tt) (falls_on B Q cs d tt)
+    unfolding falls_on
+    falls_on_linked cs r = falls_linked cs r
+
+    default_linked : (cs : Clauses) {w : K.W} {e : Env A.H} {d : Env B.H} → K.RE w e d → K.Lift One w (from_default A R cs e) (from_default B Q cs d)
+    default_linked no_clauses {w = w} r = K.ret_one w
+    default_linked (case c ss cs) r = default_linked cs r
+    default_linked (default ss cs) r = falls_linked (default ss cs) r
+
+    pub case_chosen_linked : (ss : Statements) (cs : Clauses) {w : K.W} {e : Env A.H} {d : Env B.H} {m : A.M One} {n : B.M One} {v : A.V} {v' : B.V} → K.RE w e d → K.Lift One w m n → K.RV w v v'
+        → K.Lift One w (case_chosen A R ss cs e m v) (case_chosen B Q ss cs d n v')
+    unfolding case_chosen
+    case_chosen_linked ss cs r l rv = K.again rv (K.bind One One _ _ (statements_linked ss r) λ w1 l1 u u' ru. falls_on_linked cs (K.more_e l1 r)) l
+
+    pub case_compared_linked : (ss : Statements) (cs : Clauses) {w : K.W} {e : Env A.H} {d : Env B.H} {m : A.M One} {n : B.M One} {v u : A.V} {v' u' : B.V} → K.RE w e d → ((w' : K.W) → K.Le w w' → K.Lift One w' m n) → K.RV w v v' → K.RV w u u'
+        → K.Lift One w (case_compared A R v ss cs e m u) (case_compared B Q v' ss cs d n u')
+    unfolding case_compared
+    case_compared_linked ss cs r l rv ru = K.bind Value One _ _ (K.binary binary_operator.StrictEqual rv ru) λ w1 l1 b b' rb. case_chosen_linked ss cs (K.more_e l1 r) (l w1 l1) rb
+
+    pub cases_linked : (all cs : Clauses) {w : K.W} {e : Env A.H} {d : Env B.H} {v : A.V} {v' : B.V} → K.RE w e d → K.RV w v v' → K.Lift One w (cases A R v all cs e) (cases B Q v' all cs d)
+    unfolding cases
+    cases_linked all no_clauses r rv = default_linked all r
+    cases_linked all (case c ss cs) r rv = K.bind Value One _ _ (h.expr c _ _ _ (K.place_of r)) λ w1 l1 u u' ru.
+        case_compared_linked ss cs (K.more_e l1 r) (λ w2 l2. cases_linked all cs (K.more_e l2 (K.more_e l1 r)) (K.more_v l2 (K.more_v l1 rv))) (K.more_v l1 rv) ru
+    cases_linked all (default ss cs) r rv = cases_linked all cs r rv
+
+    in_switch_linked : (cs : Clauses) {w : K.W} {e : Env A.H} {d : Env B.H} {v : A.V} {v' : B.V} → K.RE w e d → K.RV w v v' → K.Lift One w (in_switch A R v cs e) (in_switch B Q v' cs d)
+    unfolding in_switch
+    in_switch_linked cs r rv = K.again rv (cases_linked cs cs r rv) (cases_linked cs cs r rv)
+
+    pub switched_linked : (labels : List (List ℕ)) (cs : Clauses) {w : K.W} {e : Env A.H} {d : Env B.H} {v : A.V} {v' : B.V} → K.RE w e d → K.RV w v v' → K.Lift One w (switched A R labels cs e v) (switched B Q labels cs d v')
+    unfolding switched
+    switched_linked labels cs r rv = K.round false (labels_of labels) _ _ r λ w1 l1 e' d' r'. in_switch_linked cs r' (K.inside_v l1 rv)
+
+    pub jump_with_linked : (leaving : Leaving) {w : K.W} {e : Env A.H} {d : Env B.H} {v : A.V} {v' : B.V} → K.RE w e d → K.RV w v v' → K.Lift One w (jump_with A R leaving e v) (jump_with B Q leaving d v')
+    unfolding jump_with
+    jump_with_linked leaving r rv = K.jump leaving r rv
+
+    return_linked : (c : MaybeExpr) {w : K.W} {e : Env A.H} {d : Env B.H} → K.RE w e d → K.Lift One w (return_step A R c e) (return_step B Q c d)
+    return_linked absent {w = w} r = K.jump returned r (K.literal w Undefined)
+    return_linked (present c) r = K.bind Value One _ _ (h.expr c _ _ _ (K.place_of r)) λ w1 l1 v v' rv. jump_with_linked returned (K.more_e l1 r) rv
+
+    upgraded_linked : (upgrade : Option Upgrade) {w : K.W} {e : Env A.H} {d : Env B.H} → K.RE w e d → K.Lift One w (upgraded A R upgrade e) (upgraded B Q upgrade d)
+    upgraded_linked None {w = w} r = K.ret_one w
+    upgraded_linked (Some upgrade) r = K.raise upgrade.leaving upgrade.names r
+
+    pub behind_expression_linked : (upgrade : Option Upgrade) {w : K.W} {e : Env A.H} {d : Env B.H} → K.RE w e d → (v : A.V) (v' : B.V) → K.Lift One w (behind_expression A R upgrade e v) (behind_expression B Q upgrade d v')
+    unfolding behind_expression
+    behind_expression_linked upgrade r v v' = upgraded_linked upgrade r
 
     pub choose_stmt_linked : (s : Statement) {w : K.W} {e : Env A.H} {d : Env B.H} {v : A.V} {v' : B.V} → K.RE w e d → K.RV w v v' → K.Lift One w (choose_stmt A R s e v) (choose_stmt B Q s d v')
     unfolding choose_stmt
@@ -528,44 +632,77 @@ module _ (A B : Ops) (K : Link A B) where
     unfolding choose_stmts
     choose_stmts_linked s t r rv = K.fork One rv (λ w1 l1. h.stmt s w1 _ _ (K.more_e l1 r)) (λ w1 l1. h.stmt t w1 _ _ (K.more_e l1 r))
 
-    pub statements_linked : (ss : Statements) {w : K.W} {e : Env A.H} {d : Env B.H} → K.RE w e d → K.Lift One w (statements A R ss e) (statements B Q ss d)
-    unfolding statements
-    statements_linked no_statements {w = w} r = K.ret_one w
-    statements_linked (more_statements s ss) r = K.bind One One _ _ (h.stmt s _ _ _ r) λ w1 l1 u u' ru. statements_linked ss (K.more_e l1 r)
-
-    pub behind_linked : (ss : Statements) {w : K.W} {e : Env A.H} {d : Env B.H} → K.RE w e d → K.Lift One w (more_statements_behind A R ss e tt) (more_statements_behind B Q ss d tt)
-    unfolding more_statements_behind
-    behind_linked ss r = statements_linked ss r
-
     block_linked : (b : Block) {w : K.W} {e : Env A.H} {d : Env B.H} → K.RE w e d → K.Lift One w (block_step A R b e) (block_step B Q b d)
     block_linked (block_of at ss) r = statements_linked ss r
+
+    pub handled_linked : (ident : Ident) (b : Block) {w : K.W} {e : Env A.H} {d : Env B.H} {v : A.V} {v' : B.V} → K.RE w e d → K.RV w v v' → K.Lift One w (handled A R ident b e v) (handled B Q ident b d v')
+    unfolding handled
+    handled_linked ident b r rv = K.declare ident.text _ _ rv r λ w1 l1 e' d' r'. block_linked b r'
+
+    unhandled_linked : {w : K.W} {v : A.V} {v' : B.V} → K.RV w v v' → K.Lift One w (unhandled A R v) (unhandled B Q v')
+    unfolding unhandled
+    unhandled_linked {w = w} rv = K.ret_one w
+
+    label_linked : (b : Bool) (labels : List (List ℕ)) (text : List ℕ) (s : Statement) (w : K.W) (e : Env A.H) (d : Env B.H) → K.RE w e d → K.Lift One w (label_step A R b labels text s e) (label_step B Q b labels text s d)
+    label_linked true labels text s w e d r = h.named (text ∷ labels) s w e d r
+    label_linked false labels text s w e d r = K.round false (Some text ∷ []) _ _ r λ w1 l1 e' d' r'. h.stmt s w1 e' d' r'
+
+    named_linked : (labels : List (List ℕ)) (s : Statement) (w : K.W) (e : Env A.H) (d : Env B.H) → K.RE w e d → K.Lift One w (named_step A R labels s e) (named_step B Q labels s d)
+    unfolding named_step
+    named_linked labels (do_while at s c semi) w e d r = K.round false (labels_of labels) _ _ r λ w1 l1 e' d' r'. h.turn _ w1 e' d' r'
+    named_linked labels (while at c s) w e d r = loop_linked _ r
+    named_linked labels (for at first test update s) w e d r = first_linked first _ r
+    named_linked labels (for_in at target c s) w e d r = K.bind Value One _ _ (h.expr c w _ _ (K.place_of r)) λ w1 l1 v v' rv. enumerated_linked (labels_of labels) target s (K.more_e l1 r) rv
+    named_linked labels (switch at c cs) w e d r = K.bind Value One _ _ (h.expr c w _ _ (K.place_of r)) λ w1 l1 v v' rv. switched_linked labels cs (K.more_e l1 r) rv
+    named_linked labels (labelled at text s) w e d r = label_linked (carries_labels s) labels text s w e d r
+    named_linked labels (block b) w e d r = K.ret_one w
+    named_linked labels (var at ds semi) w e d r = K.ret_one w
+    named_linked labels (empty at) w e d r = K.ret_one w
+    named_linked labels (expression at c semi) w e d r = K.ret_one w
+    named_linked labels (if_then at c s) w e d r = K.ret_one w
+    named_linked labels (if_else at c s t) w e d r = K.ret_one w
+    named_linked labels (continue at label semi) w e d r = K.ret_one w
+    named_linked labels (break at label semi) w e d r = K.ret_one w
+    named_linked labels (return at c semi) w e d r = K.ret_one w
+    named_linked labels (throw at c semi) w e d r = K.ret_one w
+    named_linked labels (try_catch at b ident handler) w e d r = K.ret_one w
+    named_linked labels (try_finally at b last) w e d r = K.ret_one w
+    named_linked labels (try_both at b ident handler last) w e d r = K.ret_one w
+    named_linked labels (debugger at semi) w e d r = K.ret_one w
+    named_linked labels (function_declaration at f) w e d r = K.ret_one w
 
     stmt_linked : (s : Statement) (w : K.W) (e : Env A.H) (d : Env B.H) → K.RE w e d → K.Lift One w (stmt_step A R s e) (stmt_step B Q s d)
     unfolding stmt_step
     stmt_linked (block b) w e d r = block_linked b r
     stmt_linked (var at ds semi) w e d r = variables_linked (variable_list ds) w _ _ (K.place_of r)
     stmt_linked (empty at) w e d r = K.ret_one w
-    stmt_linked (expression at c semi) w e d r = K.bind Value One _ _ (h.expr c w _ _ (K.place_of r)) λ w1 l1 v v' rv. discard_linked rv
+    stmt_linked (expression at c semi) w e d r = K.bind Value One _ _ (h.expr c w _ _ (K.place_of r)) λ w1 l1 v v' rv. behind_expression_linked (upgrade_of c) (K.more_e l1 r) v v'
     stmt_linked (if_then at c s) w e d r = K.bind Value One _ _ (h.expr c w _ _ (K.place_of r)) λ w1 l1 v v' rv. choose_stmt_linked s (K.more_e l1 r) rv
     stmt_linked (if_else at c s t) w e d r = K.bind Value One _ _ (h.expr c w _ _ (K.place_of r)) λ w1 l1 v v' rv. choose_stmts_linked s t (K.more_e l1 r) rv
-    stmt_linked (do_while at s c semi) w e d r = K.round false (None ∷ []) _ _ r λ w1 l1 e' d' r'. h.turn _ w1 e' d' r'
-    stmt_linked (while at c s) w e d r = loop_linked _ r
-    stmt_linked (for at first test update s) w e d r = first_linked first _ r
-    stmt_linked (for_in at target c s) w e d r = K.bind Value One _ _ (h.expr c w _ _ (K.place_of r)) λ w1 l1 v v' rv. enumerated_linked target s (K.more_e l1 r) rv
-    stmt_linked (continue at label semi) w e d r = K.unbuilt One w
-    stmt_linked (break at label semi) w e d r = K.unbuilt One w
-    stmt_linked (return at c semi) w e d r = K.unbuilt One w
-    stmt_linked (throw at c semi) w e d r = K.unbuilt One w
-    stmt_linked (switch at c cs) w e d r = K.unbuilt One w
-    stmt_linked (labelled at text s) w e d r = K.unbuilt One w
-    stmt_linked (try_catch at b ident handler) w e d r = K.unbuilt One w
-    stmt_linked (try_finally at b final) w e d r = K.unbuilt One w
-    stmt_linked (try_both at b ident handler final) w e d r = K.unbuilt One w
+    stmt_linked (do_while at s c semi) w e d r = named_linked [] (do_while at s c semi) w e d r
+    stmt_linked (while at c s) w e d r = named_linked [] (while at c s) w e d r
+    stmt_linked (for at first test update s) w e d r = named_linked [] (for at first test update s) w e d r
+    stmt_linked (for_in at target c s) w e d r = named_linked [] (for_in at target c s) w e d r
+    stmt_linked (switch at c cs) w e d r = named_linked [] (switch at c cs) w e d r
+    stmt_linked (labelled at text s) w e d r = named_linked [] (labelled at text s) w e d r
+    stmt_linked (continue at label semi) w e d r = K.jump (left_by true (text_of_label label)) r (K.literal w Undefined)
+    stmt_linked (break at label semi) w e d r = K.jump (left_by false (text_of_label label)) r (K.literal w Undefined)
+    stmt_linked (return at c semi) w e d r = return_linked c r
+    stmt_linked (throw at c semi) w e d r = K.bind Value One _ _ (h.expr c w _ _ (K.place_of r)) λ w1 l1 v v' rv. jump_with_linked thrown (K.more_e l1 r) rv
+    stmt_linked (try_catch at b ident handler) w e d r = K.attempt true false _ _ (λ w1 l1. block_linked b (K.more_e l1 r)) (λ w1 l1 v v' rv. handled_linked ident handler (K.more_e l1 r) rv) (λ w1 l1. K.ret_one w1)
+    stmt_linked (try_finally at b last) w e d r = K.attempt false true _ _ (λ w1 l1. block_linked b (K.more_e l1 r)) (λ w1 l1 v v' rv. unhandled_linked rv) (λ w1 l1. block_linked last (K.more_e l1 r))
+    stmt_linked (try_both at b ident handler last) w e d r = K.attempt true true _ _ (λ w1 l1. block_linked b (K.more_e l1 r)) (λ w1 l1 v v' rv. handled_linked ident handler (K.more_e l1 r) rv) (λ w1 l1. block_linked last (K.more_e l1 r))
     stmt_linked (debugger at semi) w e d r = K.ret_one w
-    stmt_linked (function_declaration at f) w e d r = K.unbuilt One w
+    stmt_linked (function_declaration at f) w e d r = K.ret_one w
+
+    -- a program, that may declare its functions or not
+    pub begun_linked : (may_declare : Bool) (ss : Statements) {w : K.W} {e : Env A.H} {d : Env B.H} → K.RE w e d → K.Lift One w (begun A R may_declare ss e) (begun B Q may_declare ss d)
+    unfolding begun
+    begun_linked true ss r = statements_linked ss r
+    begun_linked false ss r = K.bind Value One _ _ (K.act refused_declaration nils) λ w1 l1 v v' rv. discard_linked rv
 
     pub step_linked : Linked (step A R) (step B Q)
-    step_linked = record { expr = expr_linked; use_of = use_linked; stmt = stmt_linked; turn = turn_linked; visit = visit_linked }
+    step_linked = record { expr = expr_linked; use_of = use_linked; stmt = stmt_linked; named = named_linked; turn = turn_linked; visit = visit_linked }
 
 -- with turns
 module _ (A B : Timed) (K : Link A.ops B.ops) (tick : (w : K.W) → K.Lift One w A.tick B.tick) where
@@ -577,6 +714,7 @@ module _ (A B : Timed) (K : Link A.ops B.ops) (tick : (w : K.W) → K.Lift One w
         expr = λ e w i j p. K.bind One Value _ _ (tick w) λ w1 l1 u u' ru. h.expr e w1 i j (K.more_p l1 p);
         use_of = λ use_as e w i j p. K.bind One Value _ _ (tick w) λ w1 l1 u u' ru. h.use_of use_as e w1 i j (K.more_p l1 p);
         stmt = λ s w e d r. K.bind One One _ _ (tick w) λ w1 l1 u u' ru. h.stmt s w1 e d (K.more_e l1 r);
+        named = λ labels s w e d r. K.bind One One _ _ (tick w) λ w1 l1 u u' ru. h.named labels s w1 e d (K.more_e l1 r);
         turn = λ round w e d r. K.bind One One _ _ (tick w) λ w1 l1 u u' ru. h.turn round w1 e d (K.more_e l1 r);
         visit = λ w v v' rs e d r. K.bind One One _ _ (tick w) λ w1 l1 u u' ru. h.visit w1 v v' (more_visits A.ops B.ops K l1 rs) e d (K.more_e l1 r);
       }
@@ -586,24 +724,24 @@ module _ (A B : Timed) (K : Link A.ops B.ops) (tick : (w : K.W) → K.Lift One w
     -- the parts
     pub linked : (n : ℕ) → Linked A.ops B.ops K (eval A n) (eval B n)
     unfolding eval
-    linked zero = record { expr = λ e w i j p. ended Value w; use_of = λ use_as e w i j p. ended Value w; stmt = λ s w e d r. ended One w; turn = λ round w e d r. ended One w; visit = λ w v u rs e d r. ended One w }
+    linked zero = record { expr = λ e w i j p. ended Value w; use_of = λ use_as e w i j p. ended Value w; stmt = λ s w e d r. ended One w; named = λ labels s w e d r. ended One w; turn = λ round w e d r. ended One w; visit = λ w v u rs e d r. ended One w }
     linked (suc n) = ticking_linked (eval A n) (eval B n) (linked n)
 
     -- and programs
-    pub program_linked : (n : ℕ) (ss : Statements) {w : K.W} {e : Env A.ops.H} {d : Env B.ops.H} → K.RE w e d → K.Lift One w (program_step A n ss e) (program_step B n ss d)
+    pub program_linked : (n : ℕ) (may_declare : Bool) (ss : Statements) {w : K.W} {e : Env A.ops.H} {d : Env B.ops.H} → K.RE w e d → K.Lift One w (program_step A n may_declare ss e) (program_step B n may_declare ss d)
     unfolding program_step
-    program_linked n ss r = statements_linked A.ops B.ops K (eval A n) (eval B n) (linked n) ss r
+    program_linked n may_declare ss r = begun_linked A.ops B.ops K (eval A n) (eval B n) (linked n) may_declare ss r
 
   -- to a depth and a larger one, where what is out of depth is related to anything
   module _ (ended : (t : Ty) (w : K.W) (x : B.ops.M t) → K.Lift t w (A.ended t) x) where
     -- the parts
     pub longer : (n m : ℕ) → n ≤ m → Linked A.ops B.ops K (eval A n) (eval B m)
     unfolding eval
-    longer zero m le = record { expr = λ e w i j p. ended Value w _; use_of = λ use_as e w i j p. ended Value w _; stmt = λ s w e d r. ended One w _; turn = λ round w e d r. ended One w _; visit = λ w v u rs e d r. ended One w _ }
+    longer zero m le = record { expr = λ e w i j p. ended Value w _; use_of = λ use_as e w i j p. ended Value w _; stmt = λ s w e d r. ended One w _; named = λ labels s w e d r. ended One w _; turn = λ round w e d r. ended One w _; visit = λ w v u rs e d r. ended One w _ }
     longer (suc n) zero le = absurd (omega arith)
     longer (suc n) (suc m) le = ticking_linked (eval A n) (eval B m) (longer n m (omega arith))
 
     -- and programs
-    pub program_longer : (n m : ℕ) → n ≤ m → (ss : Statements) {w : K.W} {e : Env A.ops.H} {d : Env B.ops.H} → K.RE w e d → K.Lift One w (program_step A n ss e) (program_step B m ss d)
+    pub program_longer : (n m : ℕ) → n ≤ m → (may_declare : Bool) (ss : Statements) {w : K.W} {e : Env A.ops.H} {d : Env B.ops.H} → K.RE w e d → K.Lift One w (program_step A n may_declare ss e) (program_step B m may_declare ss d)
     unfolding program_step
-    program_longer n m le ss r = statements_linked A.ops B.ops K (eval A n) (eval B m) (longer n m le) ss r
+    program_longer n m le may_declare ss r = begun_linked A.ops B.ops K (eval A n) (eval B m) (longer n m le) may_declare ss r

@@ -1,5 +1,5 @@
 -- With more turns a run that is over is the same.
-use Rattle.std.proofs.Common.{◌≡◌, ℕ, zero, suc, ◌+◌, ◌-◌, ◌≤◌, List, ◌∷◌, Bool, true, false, length, Option, Some, None, Result, Ok, Err, slice_get, refl, ap₂, subst, arith}
+use Rattle.std.proofs.Common.{◌≡◌, ℕ, zero, suc, ◌+◌, ◌-◌, ◌≤◌, List, ◌∷◌, Bool, true, false, length, Option, Some, None, Result, Ok, Err, slice_get, ◌&&◌, refl, ap, ap₂, subst, arith}
 use Rattle.flow_policy.specs.Policies.{Tables}
 use Rattle.flow_policy.specs.Inputs.{Given}
 use Rattle.js_number.specs.declared.primitive.Primitive.{Primitive}
@@ -10,17 +10,19 @@ use Rattle.js_values.specs.declared.property.Body.TheVariants.{Data, Accessor}
 use Rattle.js_values.specs.Objects.{Property}
 use Rattle.js_values.specs.Records.{Binding}
 use Rattle.js_values.specs.Walks.{plain_chain, plain_find}
-use Rattle.js_ast.specs.Trees.{Statements}
-use Rattle.es_meaning.specs.Outcomes.{Halt, out_of_turns, halted, Outcome, Goes, Jumps, Ends, From, ret, and_then, ◌>>=◌}
-use Rattle.es_meaning.specs.Environments.{Env, with_around}
-use Rattle.es_meaning.specs.Operations.{Ty, One, Res, Direct, read, print, lbl, upgs, upge, Act, object_of, base_needed, object_needed, has_key, Ops}
+use Rattle.js_ast.specs.Trees.{Function, Statements}
+use Rattle.js_ast.specs.Functions.{FunctionCode, functions_of}
+use Rattle.es_meaning.specs.Outcomes.{Exit, Halt, out_of_turns, halted, Outcome, Goes, Jumps, Ends, From, ret, and_then, ◌>>=◌}
+use Rattle.es_meaning.specs.Environments.{Env, with_around, with_place, aimed}
+use Rattle.es_meaning.specs.Functions.{Callee, not_callable, empty_callee, of_script, unbuilt_callee}
+use Rattle.es_meaning.specs.Operations.{Ty, One, Res, Direct, read, print, lbl, upgs, upge, Act, object_of, base_needed, object_needed, has_key, refused_declaration, Ops}
 use Rattle.es_meaning.specs.Operations.{Value as a_value}
 use Rattle.es_meaning.specs.Operators.{is_object, truth, converts_beside, unary_of, binary_of}
 use Rattle.es_meaning.specs.Evaluation.{program_step}
 use Rattle.es_meaning.specs.Laws.{MoreTurns}
 use Rattle.es_meaning.specs.Objects.{Plan, writes, adds, refuses, calls, can_put, own_in}
 use Rattle.es_meaning.specs.Start.{ErrorKind, global_object}
-use Rattle.es_meaning.specs.Plain.{State, Jump, P, Place, in_record, on_global, nowhere, Reference, of_name, of_property, resolved, binding_at, given, unless_object, seen, throw_error, bound, held, found_globally, found, property_of, named, get_value, typeof_value, assigned, assigned_to, put_by, put_on, is_element_of, put, put_property, put_named, put_value, removed_if, removed_own, remove, make_object, needed, has, act, key_list, with_list, choose, spend, leaves_it, ended_round, read_channel, print_value, print_channel, label_by, raise_by, raise_of, raise_at, direct, plain, timed, outermost_env, start, run_of, plain_run}
+use Rattle.es_meaning.specs.Plain.{State, Jump, P, Place, in_record, on_global, nowhere, Reference, of_name, of_property, resolved, binding_at, given, unless_object, seen, throw_error, bound, held, found_globally, found, property_of, named, get_value, typeof_value, assigned, assigned_to, put_by, put_on, is_element_of, put, put_property, put_named, put_value, removed_if, removed_own, remove, make_object, needed, has, act, key_list, with_list, choose, spend, leaves_it, ended_round, read_channel, print_value, print_channel, label_by, raise_by, raise_of, raise_at, direct, make_function, with_call, callee_at, entered, is_return, ended_call, prototype_of, with_fresh, constructed, ended_construction, prototype_name, is_function_at, is_instance, instance_of, instance_if, jumps_to, is_throw, handled_throw, finished, attempt, may_declare, raised_by, named_origins, plain, timed, outermost_env, start, run_of, plain_run}
 use Rattle.es_meaning.proofs.Link.{Rels, nils, conses, Rel, Link, program_longer}
 
 -- ---- turns
@@ -256,6 +258,7 @@ module _ (k : ℕ) where
   act_on base_needed vs = needed_on _ _
   act_on object_needed vs = needed_on _ _
   act_on has_key vs = has_on _ _
+  act_on refused_declaration vs = throw_on Value _
 
   -- the keys of a value
   list_on : (list : Option (List (List ℕ))) (next last : List (List ℕ) → P (Unit {0})) → ((keys : List (List ℕ)) → On (Unit {0}) (next keys) (last keys)) → On (Unit {0}) (with_list list next) (with_list list last)
@@ -276,10 +279,112 @@ module _ (k : ℕ) where
   round_on n _ _ (jumps {j = j} {s = s}) = left_on (leaves_it n j.exit) j s
   round_on n _ _ ends = ends
 
-  module _ (tables : Tables) (inputs : Given) where
+  -- ---- functions
+
+  -- one is made
+  function_on : (functions : List FunctionCode) (f : Function) (i : ℕ) → On Value (make_function functions f i) (make_function functions f i)
+  unfolding make_function
+  function_on functions f i = record { on = λ s. goes }
+
+  -- computations on a body, from each environment
+  abbrev Bodies : (Statements → Env (Unit {0}) → P (Unit {0})) → (Statements → Env (Unit {0}) → P (Unit {0})) → Type 0
+  Bodies f g = (ss : Statements) (e : Env (Unit {0})) → On (Unit {0}) (f ss e) (g ss e)
+
+  -- a call begins
+  entered_on : (functions : List FunctionCode) (callee : Callee) (base : Value) (vs : List Value) (f g : Statements → Env (Unit {0}) → P (Unit {0})) → Bodies f g → On (Unit {0}) (entered functions callee base vs f) (entered functions callee base vs g)
+  unfolding entered with_call
+  entered_on functions not_callable base vs f g h = record { on = λ s. (throw_on (Unit {0}) _).on s }
+  entered_on functions empty_callee base vs f g h = record { on = λ s. goes }
+  entered_on functions unbuilt_callee base vs f g h = record { on = λ s. ends }
+  entered_on functions (of_script number code place) base vs f g h = record { on = λ s. (h _ _).on (with_call functions number code place base vs s) }
+
+  -- and ends
+  returned_on : (b : Bool) (j : Jump) (s : State) → Longer {X = Value} out_of_turns (more_turns_in k) (choose b (Goes j.value s) (Jumps j s)) (choose b (Goes j.value (more_turns_in k s)) (Jumps j (more_turns_in k s)))
+  returned_on true j s = goes
+  returned_on false j s = jumps
+
+  call_ends_on : (o p : Outcome Halt Jump (Unit {0}) State) → Longer out_of_turns (more_turns_in k) o p → Longer out_of_turns (more_turns_in k) (ended_call o) (ended_call p)
+  unfolding ended_call
+  call_ends_on _ _ wants = wants
+  call_ends_on _ _ goes = goes
+  call_ends_on _ _ (jumps {j = j} {s = s}) = returned_on (is_return j.exit) j s
+  call_ends_on _ _ ends = ends
+
+  -- an object is constructed
+  constructed_on : (functions : List FunctionCode) (callee : Callee) (v : Value) (vs : List Value) (f g : Statements → Env (Unit {0}) → P (Unit {0})) → Bodies f g → On (Unit {0}) (constructed functions callee v vs f) (constructed functions callee v vs g)
+  unfolding constructed
+  constructed_on functions not_callable v vs f g h = record { on = λ s. (throw_on (Unit {0}) _).on s }
+  constructed_on functions empty_callee v vs f g h = record { on = λ s. (throw_on (Unit {0}) _).on s }
+  constructed_on functions unbuilt_callee v vs f g h = record { on = λ s. ends }
+  constructed_on functions (of_script number code place) v vs f g h = record { on = λ s. (entered_on functions (of_script number code place) _ vs f g h).on (with_fresh (prototype_of s.heap v) s) }
+
+  construction_ends_on : (fresh : ℕ) (o p : Outcome Halt Jump Value State) → Longer out_of_turns (more_turns_in k) o p → Longer out_of_turns (more_turns_in k) (ended_construction fresh o) (ended_construction fresh p)
+  unfolding ended_construction
+  construction_ends_on fresh _ _ wants = wants
+  construction_ends_on fresh _ _ goes = goes
+  construction_ends_on fresh _ _ jumps = jumps
+  construction_ends_on fresh _ _ ends = ends
+
+  -- `instanceof`
+  is_instance_on : (o : ℕ) (proto : Value) → On Value (is_instance o proto) (is_instance o proto)
+  unfolding is_instance
+  is_instance_on o (value.Primitive p) = record { on = λ s. (throw_on Value _).on s }
+  is_instance_on o (value.Object proto) = record { on = λ s. goes }
+
+  instance_of_on : (v f : Value) → On Value (instance_of v f) (instance_of v f)
+  unfolding instance_of
+  instance_of_on (value.Primitive p) f = record { on = λ s. goes }
+  instance_of_on (value.Object o) f = record { on = λ s. (bind_longer _ _ (property_on f prototype_name) (λ proto. is_instance_on o.0 proto)).on s }
+
+  instance_on : (b : Bool) (v f : Value) → On Value (instance_if b v f) (instance_if b v f)
+  unfolding instance_if
+  instance_on true v f = record { on = λ s. (instance_of_on v f).on s }
+  instance_on false v f = record { on = λ s. (throw_on Value _).on s }
+
+  -- ---- jumps
+
+  jumps_on : (to : Option (Exit × Unit {0})) (v : Value) → On (Unit {0}) (jumps_to to v) (jumps_to to v)
+  unfolding jumps_to
+  jumps_on None v = record { on = λ s. goes }
+  jumps_on (Some to) v = record { on = λ s. jumps }
+
+  -- what is thrown is handled
+  caught_on : (b : Bool) (f g : Value → P (Unit {0})) → ((v : Value) → On (Unit {0}) (f v) (g v)) → (j : Jump) (s : State)
+      → Longer out_of_turns (more_turns_in k) (choose b (f j.value s) (Jumps j s)) (choose b (g j.value (more_turns_in k s)) (Jumps j (more_turns_in k s)))
+  caught_on true f g h j s = (h j.value).on s
+  caught_on false f g h j s = jumps
+
+  handled_on : (handles : Bool) (f g : Value → P (Unit {0})) → ((v : Value) → On (Unit {0}) (f v) (g v)) → (o p : Outcome Halt Jump (Unit {0}) State) → Longer out_of_turns (more_turns_in k) o p
+      → Longer out_of_turns (more_turns_in k) (handled_throw handles f o) (handled_throw handles g p)
+  unfolding handled_throw
+  handled_on handles f g h _ _ wants = wants
+  handled_on handles f g h _ _ goes = goes
+  handled_on handles f g h _ _ (jumps {j = j} {s = s}) = caught_on (handles && is_throw j.exit) f g h j s
+  handled_on handles f g h _ _ ends = ends
+
+  -- and what is done last
+  finished_on : (m n : P (Unit {0})) → On (Unit {0}) m n → (o p : Outcome Halt Jump (Unit {0}) State) → Longer out_of_turns (more_turns_in k) o p → Longer out_of_turns (more_turns_in k) (finished m o) (finished n p)
+  unfolding finished
+  finished_on m n l _ _ wants = wants
+  finished_on m n l _ _ (goes {s = s}) = l.on s
+  finished_on m n l _ _ (jumps {j = j} {s = s}) = then_longer (λ u t. Jumps j t) (λ u t. Jumps j t) (l.on s) (λ u. record { on = λ t. jumps })
+  finished_on m n l _ _ ends = ends
+
+  attempt_on : (handles finishes : Bool) {m m' n n' : P (Unit {0})} (f g : Value → P (Unit {0})) → On (Unit {0}) m m' → ((v : Value) → On (Unit {0}) (f v) (g v)) → On (Unit {0}) n n'
+      → On (Unit {0}) (attempt handles finishes m f n) (attempt handles finishes m' g n')
+  unfolding attempt
+  attempt_on handles finishes f g l h q = record { on = λ s. finished_on _ _ (choose_longer finishes q (record { on = λ t. goes })) _ _ (handled_on handles f g h _ _ (l.on s)) }
+
+  module _ (tables : Tables) (inputs : Given) (functions : List FunctionCode) where
     -- the unlabelled meaning
     abbrev A : Ops
-    A = plain tables inputs
+    A = plain tables inputs functions
+
+    -- a directive
+    raised_on : (os : Option (List ℕ)) → On (Unit {0}) (raised_by tables inputs os) (raised_by tables inputs os)
+    unfolding raised_by
+    raised_on None = record { on = λ s. ends }
+    raised_on (Some os) = record { on = λ s. goes }
 
     -- a line is read
     read_on : (i : Option ℕ) → On Value (read_channel tables inputs i) (read_channel tables inputs i)
@@ -331,7 +436,7 @@ module _ (k : ℕ) where
     direct_on upge vs = raise_at_on _ _ _
 
     -- the unlabelled meaning, linked with itself
-    pub lasting : Link (plain tables inputs) (plain tables inputs)
+    pub lasting : Link (plain tables inputs functions) (plain tables inputs functions)
     lasting = record {
       W = Unit {0};
       Le = λ v w. Unit {0};
@@ -372,14 +477,26 @@ module _ (k : ℕ) where
       round = λ {w = w} turn labels {e = e} f g r h. at_equal (λ d. A.round turn labels d f) (λ d. A.round turn labels d g) r
           (record { on = λ s. round_on (length e.around) _ _ ((h w tt (with_around turn labels tt e) (with_around turn labels tt e) refl).on s) });
       again = λ {v = v} {m = m} {n = n} {m' = m'} {n' = n'} r l q. at_equal (λ x. A.again x m n) (λ x. A.again x m' n') r (choose_longer (truth v) l q);
+      function = λ f {i = i} p. at_equal (A.function f) (A.function f) p (function_on functions f i);
+      jump = λ leaving {e = e} {v = v} {v' = v'} r q. at_equal (λ d. A.jump leaving d v) (λ d. A.jump leaving d v') r (at_equal (A.jump leaving e) (A.jump leaving e) q (jumps_on (aimed tt leaving e) v));
+      raise = λ leaving {e = e} names r. at_equal (λ d. A.raise leaving d names) (λ d. A.raise leaving d names) r (raised_on (named_origins tables inputs names));
+      this_of = λ r. ap A.this_of r;
+      instance = λ {v = v} {f = f} {f' = f'} m n r q h. at_equal (λ x. A.instance x f m) (λ x. A.instance x f' n) r (at_equal (λ x. A.instance v x m) (λ x. A.instance v x n) q (record { on = λ s. (instance_on (is_function_at s.heap f) v f).on s }));
+      declare = λ {w = w} name {v = v} {v' = v'} {e = e} {d = d} f g r q h. at_equal (λ x. A.declare name x e f) (λ x. A.declare name x d g) r (at_equal (λ d. A.declare name v d f) (λ d. A.declare name v d g) q
+          (record { on = λ s. (h w tt (with_place (length s.records) e) (with_place (length s.records) e) refl).on _ }));
+      call = λ {f = f} {this = b} {f' = f'} {this' = b'} {vs = vs} {us = us} m n r q rs h. at_equal (λ x. A.call x b vs m) (λ x. A.call x b' us n) r (at_equal (λ x. A.call f x vs m) (λ x. A.call f x us n) q (at_equal (λ xs. A.call f b xs m) (λ xs. A.call f b xs n) (rels_equal rs)
+          (record { on = λ s. call_ends_on _ _ ((entered_on functions (callee_at functions s.heap f) b vs m n (λ ss e. h tt ss e e refl)).on s) })));
+      construct = λ {f = f} {vs = vs} {us = us} m n r rs h. at_equal (λ x. A.construct x vs m) (λ x. A.construct x us n) r (at_equal (λ xs. A.construct f xs m) (λ xs. A.construct f xs n) (rels_equal rs)
+          (record { on = λ s. construction_ends_on (length s.heap) _ _ (call_ends_on _ _ ((constructed_on functions (callee_at functions s.heap f) f vs m n (λ ss e. h tt ss e e refl)).on s)) }));
+      attempt = λ {w = w} handles finishes f g l h q. attempt_on handles finishes f g (l w tt) (λ v. h w tt v v refl) (q w tt);
       keys = λ {w = w} {v = v} f g r h. at_equal (λ x. A.keys x f) (λ x. A.keys x g) r (record { on = λ s. (list_on (key_list s.heap v) f g (λ keys. h w tt keys)).on s });
     }
 
     -- a program, to a depth and a larger one
-    program_lasts : (program : Statements) (n m : ℕ) → n ≤ m → (e : Env (Unit {0})) (s : State) → Longer out_of_turns (more_turns_in k) (program_step (timed tables inputs) n program e s) (program_step (timed tables inputs) m program e (more_turns_in k s))
+    program_lasts : (may : Bool) (program : Statements) (n m : ℕ) → n ≤ m → (e : Env (Unit {0})) (s : State) → Longer out_of_turns (more_turns_in k) (program_step (timed tables inputs functions) n may program e s) (program_step (timed tables inputs functions) m may program e (more_turns_in k s))
     unfolding lasting
-    program_lasts program n m le e s =
-        (program_longer (timed tables inputs) (timed tables inputs) lasting (λ w. record { on = λ s. spend_on s.turns s }) (λ t w x. record { on = λ s. wants }) n m le program {w = tt} {e = e} {d = e} refl).on s
+    program_lasts may program n m le e s =
+        (program_longer (timed tables inputs functions) (timed tables inputs functions) lasting (λ w. record { on = λ s. spend_on s.turns s }) (λ t w x. record { on = λ s. wants }) n m le may program {w = tt} {e = e} {d = e} refl).on s
 
 -- what a run prints and how it ends
 run_lasts : (k : ℕ) (o p : Outcome Halt Jump (Unit {0}) State) → Longer out_of_turns (more_turns_in k) o p → ((run_of o).ending ≡ halted out_of_turns → ⊥) → run_of p ≡ run_of o
@@ -392,7 +509,7 @@ run_lasts k _ _ ends out = refl
 lasts : (tables : Tables) (inputs : Given) (program : Statements) (few k : ℕ) → ((plain_run tables inputs program few).ending ≡ halted out_of_turns → ⊥)
     → plain_run tables inputs program (beyond k few) ≡ plain_run tables inputs program few
 unfolding plain_run
-lasts tables inputs program few k out = run_lasts k _ _ (program_lasts k tables inputs program few (beyond k few) (few_beyond k few) (outermost_env tt) (start tables inputs program few)) out
+lasts tables inputs program few k out = run_lasts k _ _ (program_lasts k tables inputs (functions_of program) (may_declare program) program few (beyond k few) (few_beyond k few) (outermost_env tt) (start tables inputs program few)) out
 
 -- more turns change no run that ends otherwise
 pub more_turns : MoreTurns

@@ -1,6 +1,6 @@
--- The names that a script declares as variables, in the order in which they stand (ECMA-262 10.5, 12.2). Those of functions in it are no part of it.
+-- What code declares, in the order in which it stands (ECMA-262 10.5): the names of its variables (12.2), and its functions (13). What functions in it declare is no part of it.
 use Rattle.std.specs.Prelude.{ℕ, List, [], ◌∷◌, ◌++◌}
-use Rattle.js_ast.specs.Trees.{Declarations, one_declaration, more_declarations, First, first_expr, first_var, Target, target_expr, target_var, Clauses, no_clauses, case, default, Block, block_of, Statement, block, var, if_then, if_else, do_while, while, for, for_in, switch, labelled, try_catch, try_finally, try_both, Statements, no_statements, more_statements}
+use Rattle.js_ast.specs.Trees.{Declarations, one_declaration, more_declarations, First, first_expr, first_var, Target, target_expr, target_var, Clauses, no_clauses, case, default, Block, block_of, Statement, block, var, if_then, if_else, do_while, while, for, for_in, switch, labelled, try_catch, try_finally, try_both, function_declaration, Function, Statements, no_statements, more_statements}
 
 abbrev pub declared_in : Declarations → List (List ℕ)
 declared_in (one_declaration ident init) = ident.text ∷ []
@@ -42,3 +42,9 @@ abbrev mutual
   pub declared_statements : Statements → List (List ℕ)
   declared_statements no_statements = []
   declared_statements (more_statements s ss) = declared_statement s ++ declared_statements ss
+
+-- functions are declared directly in the code alone
+abbrev pub declared_functions : Statements → List Function
+declared_functions no_statements = []
+declared_functions (more_statements (function_declaration at f) ss) = f ∷ declared_functions ss
+declared_functions (more_statements s ss) = declared_functions ss

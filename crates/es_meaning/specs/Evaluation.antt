@@ -1,5 +1,5 @@
 -- The evaluator, node by node (ECMA-262 11 and 12). What is done with the value of a part stands under a name of its own.
-use Rattle.std.specs.Prelude.{ℕ, zero, suc, Bool, true, false, List, [], ◌∷◌, ◌++◌, pos, Option, Some, None, codes, if◌then◌else◌}
+use Rattle.std.specs.Prelude.{ℕ, zero, suc, Bool, true, false, List, [], ◌∷◌, ◌++◌, map, pos, Option, Some, None, codes, if◌then◌else◌}
 use Rattle.origin_labels.specs.Names.{same_name}
 use Rattle.js_number.specs.declared.primitive.Primitive.TheVariants.{Undefined, Null, Num, Str}
 use Rattle.js_number.specs.declared.primitive.Primitive.TheVariants as prims
@@ -11,9 +11,10 @@ use Rattle.js_ast.specs.declared.operators.BinaryOperator.TheVariants as binary_
 use Rattle.js_ast.specs.declared.operators.AssignOperator.{AssignOperator}
 use Rattle.js_ast.specs.declared.operators.AssignOperator.TheVariants as assign_operator
 use Rattle.js_ast.specs.Keys.{key_text}
-use Rattle.js_ast.specs.Trees.{Ident, Expr, name, number, string, this, null, boolean, paren, object, member, index, call, postfix, unary, binary, conditional, assign, comma, Exprs, no_exprs, more_exprs, MaybeExpr, absent, present, Property, value, getter, setter, Properties, no_properties, more_properties, Target, target_expr, target_var, Declarations, one_declaration, more_declarations, First, first_expr, first_var, Block, block_of, Statement, block, var, empty, expression, if_then, if_else, do_while, while, for, for_in, debugger, Statements, no_statements, more_statements}
-use Rattle.es_meaning.specs.Environments.{Env}
-use Rattle.es_meaning.specs.Operations.{Ty, One, Value, Res, Direct, read, print, lbl, upgs, upge, Act, object_of, base_needed, object_needed, has_key, Hint, no_hint, number_hint, string_hint, Ops, Use, assigned, updated_by, prefixed, postfixed, asked, valued, deleted, given_text, Round, Visit, Rec}
+use Rattle.js_ast.specs.Trees.{Ident, Expr, name, number, string, this, null, boolean, paren, object, function, member, index, new_with, new_bare, call, postfix, unary, binary, conditional, assign, comma, Exprs, no_exprs, more_exprs, MaybeExpr, absent, present, Property, value, getter, setter, Properties, no_properties, more_properties, Target, target_expr, target_var, Declarations, one_declaration, more_declarations, First, first_expr, first_var, Clauses, no_clauses, case, default, Block, block_of, Statement, block, var, empty, expression, if_then, if_else, do_while, while, for, for_in, continue, break, return, throw, switch, labelled, try_catch, try_finally, try_both, debugger, function_declaration, Statements, no_statements, more_statements}
+use Rattle.es_meaning.specs.Environments.{Env, Leaving, thrown, returned, left_by}
+use Rattle.es_meaning.specs.Directives.{Upgrade, upgrade_of}
+use Rattle.es_meaning.specs.Operations.{Ty, One, Value, Res, Direct, read, print, lbl, upgs, upge, Act, object_of, base_needed, object_needed, has_key, refused_declaration, Hint, no_hint, number_hint, string_hint, Ops, Use, assigned, updated_by, prefixed, postfixed, asked, valued, deleted, given_text, called, Calling, directly, calls, constructs, Round, Visit, Rec}
 
 -- whether it is a name, also in parentheses
 unfoldable pub is_name : Expr → Bool
@@ -48,14 +49,38 @@ direct_of text =
     if same_name text (codes "upgs") then Some upgs else
     if same_name text (codes "upge") then Some upge else None
 
+-- the functions of the product are called by their names, without parentheses
+abbrev pub direct_in : Expr → Option Direct
+direct_in (name at text) = direct_of text
+direct_in _ = None
+
 -- variables in their order
 abbrev pub variable_list : Declarations → List (Ident × MaybeExpr)
 variable_list (one_declaration ident init) = (ident, init) ∷ []
 variable_list (more_declarations ident init ds) = (ident, init) ∷ variable_list ds
 
--- what a loop without a name evaluates of a turn
-abbrev pub round_of : Statement → MaybeExpr → MaybeExpr → Round
-round_of s update test = record { labels = None ∷ []; body = s; update = update; test = test }
+-- the labels by which a loop or a switch behind labels is left: none, or one of them (ECMA-262 12.12)
+abbrev pub labels_of : List (List ℕ) → List (Option (List ℕ))
+labels_of labels = None ∷ map Some labels
+
+-- what a loop evaluates of a turn
+abbrev pub round_of : List (List ℕ) → Statement → MaybeExpr → MaybeExpr → Round
+round_of labels s update test = record { labels = labels_of labels; body = s; update = update; test = test }
+
+-- a loop or a switch, also behind labels: it carries the labels
+abbrev pub carries_labels : Statement → Bool
+carries_labels (do_while at s e semi) = true
+carries_labels (while at e s) = true
+carries_labels (for at first test update s) = true
+carries_labels (for_in at target e s) = true
+carries_labels (switch at e cs) = true
+carries_labels (labelled at text s) = carries_labels s
+carries_labels _ = false
+
+-- the text of a label, or none
+abbrev pub text_of_label : Option Ident → Option (List ℕ)
+text_of_label None = None
+text_of_label (Some ident) = Some ident.text
 
 -- how an operator between two values converts them: not at all, as `==` does, both to primitive values first, the left one to a number before
 -- the right one to a primitive value, or the left one to a key where the right one is an object (ECMA-262 11.5 to 11.10)
@@ -225,6 +250,39 @@ module _ (O : Ops) where
     unfoldable pub comma_right : Expr → ℕ → O.V → O.M Value
     comma_right r i v = R.expr r i
 
+    -- ---- functions: statements in their order (ECMA-262 12.1), and calls
+
+    unfoldable pub statements : Statements → Env O.H → O.M One
+    statements no_statements e = O.ret One tt
+    statements (more_statements s ss) e = O.bind One One (R.stmt s e) (λ u. statements ss e)
+
+    unfoldable pub more_statements_behind : Statements → Env O.H → Res O.V One → O.M One
+    more_statements_behind ss e u = statements ss e
+
+    -- a call with its arguments (ECMA-262 11.2.2, 11.2.3)
+    unfoldable pub call_with : Calling O.V → List O.V → O.M Value
+    call_with (directly f) vs = O.direct f vs
+    call_with (calls f base) vs = O.call f base vs statements
+    call_with (constructs f) vs = O.construct f vs statements
+
+    -- the arguments (ECMA-262 11.2.4), from the left, and then the call
+    unfoldable pub arguments : Calling O.V → List O.V → Exprs → ℕ → O.M Value
+    arguments f vs no_exprs i = call_with f vs
+    arguments f vs (more_exprs e es) i = O.bind Value Value (R.expr e i) (λ v. arguments f (vs ++ v ∷ []) es i)
+
+    unfoldable pub more_arguments : Calling O.V → List O.V → Exprs → ℕ → O.V → O.M Value
+    more_arguments f vs es i v = arguments f (vs ++ v ∷ []) es i
+
+    -- what is called is a reference, or another value, which has no `this`; or it constructs
+    unfoldable pub call_reference : O.N → Exprs → ℕ → O.V → O.M Value
+    call_reference n es i f = arguments (calls f (O.this_of n)) [] es i
+
+    unfoldable pub call_value : Exprs → ℕ → O.V → O.M Value
+    call_value es i f = arguments (calls f (O.literal Undefined)) [] es i
+
+    unfoldable pub construct_value : Exprs → ℕ → O.V → O.M Value
+    construct_value es i f = arguments (constructs f) [] es i
+
     -- ---- references
 
     -- a compound assignment: the old value, the operand, and then the reference has what the operator gives
@@ -248,6 +306,7 @@ module _ (O : Ops) where
     used valued i n = read_value n
     used deleted i n = O.remove n
     used (given_text text) i n = assign_to n (O.literal (Str text))
+    used (called es) i n = O.bind Value Value (O.get_value n enters) (call_reference n es i)
 
     -- a property (ECMA-262 11.2.1): its base, whether that can have properties, its key, and then it is a reference
     unfoldable pub with_key : Use → ℕ → O.V → O.V → O.M Value
@@ -273,18 +332,15 @@ module _ (O : Ops) where
     use_step use_as (paren at e) i = R.use_of use_as e i
     use_step use_as _ i = O.unbuilt Value
 
-    -- ---- arguments (ECMA-262 11.2.4), from the left, and then the call
+    -- ---- calls (ECMA-262 11.2.3): the callee is a reference, or else an expression
 
-    unfoldable pub arguments : Direct → List O.V → Exprs → ℕ → O.M Value
-    arguments f vs no_exprs i = O.direct f vs
-    arguments f vs (more_exprs e es) i = O.bind Value Value (R.expr e i) (λ v. arguments f (vs ++ v ∷ []) es i)
+    abbrev pub callee_step : Bool → Expr → Exprs → ℕ → O.M Value
+    callee_step true e es i = R.use_of (called es) e i
+    callee_step false e es i = O.bind Value Value (R.expr e i) (call_value es i)
 
-    unfoldable pub more_arguments : Direct → List O.V → Exprs → ℕ → O.V → O.M Value
-    more_arguments f vs es i v = arguments f (vs ++ v ∷ []) es i
-
-    abbrev pub call_step : Option Direct → Exprs → ℕ → O.M Value
-    call_step None es i = O.unbuilt Value
-    call_step (Some f) es i = arguments f [] es i
+    abbrev pub call_by : Option Direct → Expr → Exprs → ℕ → O.M Value
+    call_by (Some f) e es i = arguments (directly f) [] es i
+    call_by None e es i = callee_step (is_reference e) e es i
 
     -- ---- objects (ECMA-262 11.1.5): the values of their properties in their order, and then the object
 
@@ -297,6 +353,13 @@ module _ (O : Ops) where
     more_values act vs ps i v = properties act (vs ++ v ∷ []) ps i
 
     -- ---- expressions
+
+    -- `instanceof` (ECMA-262 11.8.6)
+    unfoldable pub instance_done : O.V → O.V → O.M Value
+    instance_done v f = O.instance v f enters
+
+    unfoldable pub instance_right : Expr → ℕ → O.V → O.M Value
+    instance_right r i v = O.bind Value Value (R.expr r i) (instance_done v)
 
     abbrev pub typeof_step : Bool → Expr → ℕ → O.M Value
     typeof_step false e i = O.bind Value Value (R.expr e i) (unary_value unary_operator.Typeof)
@@ -317,7 +380,7 @@ module _ (O : Ops) where
     unfoldable pub binary_step : Expr → BinaryOperator → Expr → ℕ → O.M Value
     binary_step l binary_operator.And r i = O.bind Value Value (R.expr l i) (and_right r i)
     binary_step l binary_operator.Or r i = O.bind Value Value (R.expr l i) (or_right r i)
-    binary_step l binary_operator.Instanceof r i = O.unbuilt Value
+    binary_step l binary_operator.Instanceof r i = O.bind Value Value (R.expr l i) (instance_right r i)
     binary_step l o r i = O.bind Value Value (R.expr l i) (binary_right o r i)
 
     unfoldable pub expr_step : Expr → ℕ → O.M Value
@@ -331,7 +394,10 @@ module _ (O : Ops) where
     expr_step (object at ps final) i = properties (object_of (keys_of ps)) [] ps i
     expr_step (member at e text) i = O.bind Value Value (R.expr e i) (member_base valued text i)
     expr_step (index at e n) i = O.bind Value Value (R.expr e i) (index_base valued n i)
-    expr_step (call at (name there text) es) i = call_step (direct_of text) es i
+    expr_step (function at f) i = O.function f i
+    expr_step (new_with at e es) i = O.bind Value Value (R.expr e i) (construct_value es i)
+    expr_step (new_bare at e) i = O.bind Value Value (R.expr e i) (construct_value no_exprs i)
+    expr_step (call at e es) i = call_by (direct_in e) e es i
     expr_step (postfix at e postfix_operator.Increment) i = R.use_of (postfixed binary_operator.Add) e i
     expr_step (postfix at e postfix_operator.Decrement) i = R.use_of (postfixed binary_operator.Subtract) e i
     expr_step (unary at o e) i = unary_step o e i
@@ -402,13 +468,13 @@ module _ (O : Ops) where
     unfoldable pub still_there : Visit O.V → Env O.H → O.M One → O.V → O.M One
     still_there visit e rest v = O.again v (R.visit visit e) rest
 
-    unfoldable pub visits : Target → Statement → O.V → List (List ℕ) → Env O.H → O.M One
-    visits target s o [] e = O.ret One tt
-    visits target s o (key ∷ others) e =
-        O.bind Value One (O.act has_key (O.literal (Str key) ∷ o ∷ [])) (still_there (record { target = target; body = s; object = o; key = key; others = others }) e (visits target s o others e))
+    unfoldable pub visits : List (Option (List ℕ)) → Target → Statement → O.V → List (List ℕ) → Env O.H → O.M One
+    visits labels target s o [] e = O.ret One tt
+    visits labels target s o (key ∷ others) e =
+        O.bind Value One (O.act has_key (O.literal (Str key) ∷ o ∷ [])) (still_there (record { labels = labels; target = target; body = s; object = o; key = key; others = others }) e (visits labels target s o others e))
 
     unfoldable pub visited : Visit O.V → Env O.H → Res O.V One → O.M One
-    visited visit e u = visits visit.target visit.body visit.object visit.others e
+    visited visit e u = visits visit.labels visit.target visit.body visit.object visit.others e
 
     unfoldable pub visit_body : Statement → Env O.H → O.V → O.M One
     visit_body s e v = R.stmt s e
@@ -422,13 +488,64 @@ module _ (O : Ops) where
     visit_turn visit e = O.bind Value One (target_step visit.target visit.key e.place) (visit_body visit.body e)
 
     unfoldable pub visit_step : Visit O.V → Env O.H → O.M One
-    visit_step visit e = O.bind One One (O.round true (None ∷ []) e (visit_turn visit)) (visited visit e)
+    visit_step visit e = O.bind One One (O.round true visit.labels e (visit_turn visit)) (visited visit e)
 
-    unfoldable pub with_keys : Target → Statement → O.V → Env O.H → O.M One
-    with_keys target s o e = O.keys o (λ keys. visits target s o keys e)
+    unfoldable pub with_keys : List (Option (List ℕ)) → Target → Statement → O.V → Env O.H → O.M One
+    with_keys labels target s o e = O.keys o (λ keys. visits labels target s o keys e)
 
-    unfoldable pub enumerated : Target → Statement → Env O.H → O.V → O.M One
-    enumerated target s e o = O.round false (None ∷ []) e (with_keys target s o)
+    unfoldable pub enumerated : List (Option (List ℕ)) → Target → Statement → Env O.H → O.V → O.M One
+    enumerated labels target s e o = O.round false labels e (with_keys labels target s o)
+
+    -- ---- `switch` (ECMA-262 12.11): its value and each case that is tested raise its frame. From the first case that is equal on, or else from the
+    -- default clause on, the statements of all clauses are evaluated
+
+    unfoldable pub falls : Clauses → Env O.H → O.M One
+    falls no_clauses e = O.ret One tt
+    falls (case c ss cs) e = O.bind One One (statements ss e) (λ u. falls cs e)
+    falls (default ss cs) e = O.bind One One (statements ss e) (λ u. falls cs e)
+
+    unfoldable pub falls_on : Clauses → Env O.H → Res O.V One → O.M One
+    falls_on cs e u = falls cs e
+
+    abbrev pub from_default : Clauses → Env O.H → O.M One
+    from_default no_clauses e = O.ret One tt
+    from_default (case c ss cs) e = from_default cs e
+    from_default (default ss cs) e = falls (default ss cs) e
+
+    -- a case, by whether it is equal
+    unfoldable pub case_chosen : Statements → Clauses → Env O.H → O.M One → O.V → O.M One
+    case_chosen ss cs e others v = O.again v (O.bind One One (statements ss e) (falls_on cs e)) others
+
+    unfoldable pub case_compared : O.V → Statements → Clauses → Env O.H → O.M One → O.V → O.M One
+    case_compared v ss cs e others u = O.bind Value One (O.binary binary_operator.StrictEqual v u) (case_chosen ss cs e others)
+
+    -- the clauses that are left, of all
+    unfoldable pub cases : O.V → Clauses → Clauses → Env O.H → O.M One
+    cases v all no_clauses e = from_default all e
+    cases v all (case c ss cs) e = O.bind Value One (R.expr c e.place) (case_compared v ss cs e (cases v all cs e))
+    cases v all (default ss cs) e = cases v all cs e
+
+    unfoldable pub in_switch : O.V → Clauses → Env O.H → O.M One
+    in_switch v cs e = O.again v (cases v cs cs e) (cases v cs cs e)
+
+    unfoldable pub switched : List (List ℕ) → Clauses → Env O.H → O.V → O.M One
+    switched labels cs e v = O.round false (labels_of labels) e (in_switch v cs)
+
+    -- ---- jumps (ECMA-262 12.7 to 12.9, 12.13), `try` (12.14) and upgrade directives
+
+    unfoldable pub jump_with : Leaving → Env O.H → O.V → O.M One
+    jump_with leaving e v = O.jump leaving e v
+
+    abbrev pub return_step : MaybeExpr → Env O.H → O.M One
+    return_step absent e = O.jump returned e (O.literal Undefined)
+    return_step (present c) e = O.bind Value One (R.expr c e.place) (jump_with returned e)
+
+    abbrev pub upgraded : Option Upgrade → Env O.H → O.M One
+    upgraded None e = O.ret One tt
+    upgraded (Some upgrade) e = O.raise upgrade.leaving e upgrade.names
+
+    unfoldable pub behind_expression : Option Upgrade → Env O.H → O.V → O.M One
+    behind_expression upgrade e v = upgraded upgrade e
 
     -- ---- statements
 
@@ -438,35 +555,53 @@ module _ (O : Ops) where
     unfoldable pub choose_stmts : Statement → Statement → Env O.H → O.V → O.M One
     choose_stmts s t e v = O.fork One v (R.stmt s e) (R.stmt t e)
 
-    -- a list of statements, in their order (ECMA-262 12.1)
-    unfoldable pub statements : Statements → Env O.H → O.M One
-    statements no_statements e = O.ret One tt
-    statements (more_statements s ss) e = O.bind One One (R.stmt s e) (λ u. statements ss e)
-
-    unfoldable pub more_statements_behind : Statements → Env O.H → Res O.V One → O.M One
-    more_statements_behind ss e u = statements ss e
-
     abbrev pub block_step : Block → Env O.H → O.M One
     block_step (block_of at ss) e = statements ss e
+
+    -- what is caught has a name in the handler
+    unfoldable pub handled : Ident → Block → Env O.H → O.V → O.M One
+    handled ident handler e v = O.declare ident.text v e (block_step handler)
+
+    unfoldable pub unhandled : O.V → O.M One
+    unhandled v = O.ret One tt
+
+    -- a labelled statement (ECMA-262 12.12): a loop and a switch carry the label, and what is neither is left by it
+    abbrev pub label_step : Bool → List (List ℕ) → List ℕ → Statement → Env O.H → O.M One
+    label_step true labels text s e = R.named (text ∷ labels) s e
+    label_step false labels text s e = O.round false (Some text ∷ []) e (R.stmt s)
+
+    -- a loop, a switch or a labelled statement behind labels
+    unfoldable pub named_step : List (List ℕ) → Statement → Env O.H → O.M One
+    named_step labels (do_while at s c semi) e = O.round false (labels_of labels) e (R.turn (round_of labels s absent (present c)))
+    named_step labels (while at c s) e = loop (round_of labels s absent (present c)) e
+    named_step labels (for at first test update s) e = first_step first (round_of labels s update test) e
+    named_step labels (for_in at target c s) e = O.bind Value One (R.expr c e.place) (enumerated (labels_of labels) target s e)
+    named_step labels (switch at c cs) e = O.bind Value One (R.expr c e.place) (switched labels cs e)
+    named_step labels (labelled at text s) e = label_step (carries_labels s) labels text s e
+    named_step labels _ e = O.ret One tt
 
     unfoldable pub stmt_step : Statement → Env O.H → O.M One
     stmt_step (block b) e = block_step b e
     stmt_step (var at ds semi) e = declarations ds e.place
     stmt_step (empty at) e = O.ret One tt
-    stmt_step (expression at c semi) e = O.bind Value One (R.expr c e.place) discard
+    stmt_step (expression at c semi) e = O.bind Value One (R.expr c e.place) (behind_expression (upgrade_of c) e)
     stmt_step (if_then at c s) e = O.bind Value One (R.expr c e.place) (choose_stmt s e)
     stmt_step (if_else at c s t) e = O.bind Value One (R.expr c e.place) (choose_stmts s t e)
-    stmt_step (do_while at s c semi) e = O.round false (None ∷ []) e (R.turn (round_of s absent (present c)))
-    stmt_step (while at c s) e = loop (round_of s absent (present c)) e
-    stmt_step (for at first test update s) e = first_step first (round_of s update test) e
-    stmt_step (for_in at target c s) e = O.bind Value One (R.expr c e.place) (enumerated target s e)
+    stmt_step (continue at label semi) e = O.jump (left_by true (text_of_label label)) e (O.literal Undefined)
+    stmt_step (break at label semi) e = O.jump (left_by false (text_of_label label)) e (O.literal Undefined)
+    stmt_step (return at c semi) e = return_step c e
+    stmt_step (throw at c semi) e = O.bind Value One (R.expr c e.place) (jump_with thrown e)
+    stmt_step (try_catch at b ident handler) e = O.attempt true false (block_step b e) (handled ident handler e) (O.ret One tt)
+    stmt_step (try_finally at b last) e = O.attempt false true (block_step b e) unhandled (block_step last e)
+    stmt_step (try_both at b ident handler last) e = O.attempt true true (block_step b e) (handled ident handler e) (block_step last e)
     stmt_step (debugger at semi) e = O.ret One tt
-    stmt_step _ e = O.unbuilt One
+    stmt_step (function_declaration at f) e = O.ret One tt
+    stmt_step s e = named_step [] s e
 
     -- ---- parts
 
     abbrev pub step : Rec O
-    step = record { expr = expr_step; use_of = use_step; stmt = stmt_step; turn = turn_step; visit = visit_step }
+    step = record { expr = expr_step; use_of = use_step; stmt = stmt_step; named = named_step; turn = turn_step; visit = visit_step }
 
 -- Operations with a count of turns: to enter a part costs one.
 pub record Timed : Type 1 where
@@ -482,15 +617,20 @@ ticking T R = record {
   expr = λ e i. behind T.ops Value T.tick (R.expr e i);
   use_of = λ use_as e i. behind T.ops Value T.tick (R.use_of use_as e i);
   stmt = λ s e. behind T.ops One T.tick (R.stmt s e);
+  named = λ labels s e. behind T.ops One T.tick (R.named labels s e);
   turn = λ round e. behind T.ops One T.tick (R.turn round e);
   visit = λ visit e. behind T.ops One T.tick (R.visit visit e);
 }
 
 -- n bounds how deep the parts go: nodes in nodes, and turns behind turns
 unfoldable pub eval : (T : Timed) → ℕ → Rec T.ops
-eval T zero = record { expr = λ e i. T.ended Value; use_of = λ use_as e i. T.ended Value; stmt = λ s e. T.ended One; turn = λ round e. T.ended One; visit = λ visit e. T.ended One }
+eval T zero = record { expr = λ e i. T.ended Value; use_of = λ use_as e i. T.ended Value; stmt = λ s e. T.ended One; named = λ labels s e. T.ended One; turn = λ round e. T.ended One; visit = λ visit e. T.ended One }
 eval T (suc n) = ticking T (step T.ops (eval T n))
 
--- the statements of a program
-unfoldable pub program_step : (T : Timed) → ℕ → Statements → Env T.ops.H → T.ops.M One
-program_step T n ss e = statements T.ops (eval T n) ss e
+-- the statements of a program, if it may declare its functions, and else an exception
+unfoldable pub begun : (O : Ops) → Rec O → Bool → Statements → Env O.H → O.M One
+begun O R true ss e = statements O R ss e
+begun O R false ss e = O.bind Value One (O.act refused_declaration []) (discard O)
+
+unfoldable pub program_step : (T : Timed) → ℕ → Bool → Statements → Env T.ops.H → T.ops.M One
+program_step T n may_declare ss e = begun T.ops (eval T n) may_declare ss e

@@ -1,7 +1,12 @@
 pub mod Declared
+pub mod Directives
 pub mod Environments
 pub mod Evaluation
+pub mod FunctionRows
+pub mod Functions
+pub mod JumpRows
 pub mod Laws
+pub mod Naming
 pub mod ObjectRows
 pub mod Objects
 pub mod Operations

@@ -4,8 +4,8 @@ use Rattle.std.specs.Prelude.{ℕ, Bool, List, Option}
 use Rattle.js_number.specs.declared.primitive.Primitive.{Primitive}
 use Rattle.js_ast.specs.declared.operators.UnaryOperator.{UnaryOperator}
 use Rattle.js_ast.specs.declared.operators.BinaryOperator.{BinaryOperator}
-use Rattle.js_ast.specs.Trees.{Expr, Statement, MaybeExpr, Target}
-use Rattle.es_meaning.specs.Environments.{Env}
+use Rattle.js_ast.specs.Trees.{Expr, Exprs, Function, Statement, Statements, MaybeExpr, Target}
+use Rattle.es_meaning.specs.Environments.{Env, Leaving}
 
 -- what a computation gives: nothing, or a value
 pub data Ty : Type 0 where
@@ -36,6 +36,8 @@ pub data Act : Type 0 where
   object_needed : Act
   -- whether the second, an object, or a prototype of it has the first as a key (ECMA-262 8.12.6)
   has_key : Act
+  -- an exception, since the outermost code may not declare a function as it does (ECMA-262 10.5)
+  refused_declaration : Act
 
 -- which primitive value of an object is asked for (ECMA-262 9.1)
 pub data Hint : Type 0 where
@@ -62,6 +64,11 @@ pub record Ops : Type 1 where
   pub act : Act → List V → M Value
   -- a function of the product, by its arguments
   pub direct : Direct → List V → M Value
+  -- a function of the script is made, in a record of variables (ECMA-262 13.2)
+  pub function : Function → ℕ → M Value
+  -- a jump takes a value along, and an upgrade directive joins the origins of these names to what such a jump depends on
+  pub jump : Leaving → Env H → V → M One
+  pub raise : Leaving → Env H → List (List ℕ) → M One
   -- a part of the language that can't be run yet
   pub unbuilt : (t : Ty) → M t
   -- ---- references (ECMA-262 8.7)
@@ -76,6 +83,10 @@ pub record Ops : Type 1 where
   pub put_value : N → V → (V → M Value) → M One
   -- it is deleted (ECMA-262 11.4.1)
   pub remove : N → M Value
+  -- what a call of it has as `this` (ECMA-262 11.2.3): the base of a property, and undefined for a name
+  pub this_of : N → V
+  -- whether a value is an instance of a function (ECMA-262 11.8.6). A getter of its `prototype` is entered as is said
+  pub instance : V → V → (V → M Value) → M Value
   -- ---- scopes: those that a jump can reach hand the environment in which it can
   -- one of two computations, as a value chooses
   pub fork : (t : Ty) → V → M t → M t → M t
@@ -85,6 +96,13 @@ pub record Ops : Type 1 where
   pub again : V → M One → M One → M One
   -- the keys that `for in` takes of a value (ECMA-262 12.6.4) are handed on, in the loop's frame
   pub keys : V → (List (List ℕ) → M One) → M One
+  -- a name has a value in a record of its own (ECMA-262 12.14)
+  pub declare : List ℕ → V → Env H → (Env H → M One) → M One
+  -- a value is called with a `this` and arguments (ECMA-262 13.2.1), or makes an object with arguments (13.2.2). The body is evaluated as is said
+  pub call : V → V → List V → (Statements → Env H → M One) → M Value
+  pub construct : V → List V → (Statements → Env H → M One) → M Value
+  -- a block, what is done with what it throws, if anything, and what is done last, if anything (ECMA-262 12.14)
+  pub attempt : Bool → Bool → M One → (V → M One) → M One → M One
 
 -- what is done with a reference
 pub data Use : Type 0 where
@@ -103,6 +121,14 @@ pub data Use : Type 0 where
   deleted : Use
   -- it is given a text
   given_text : List ℕ → Use
+  -- its value is called with arguments
+  called : Exprs → Use
+
+-- what is done with arguments: a function of the product is asked, a value is called with a `this`, or it makes an object
+pub data Calling (V : Type 0) : Type 0 where
+  directly : Direct → Calling V
+  calls : V → V → Calling V
+  constructs : V → Calling V
 
 -- what a turn of a loop evaluates: its body, and behind it what its header changes, and its condition
 pub record Round : Type 0 where
@@ -113,6 +139,7 @@ pub record Round : Type 0 where
 
 -- what a turn of a `for in` evaluates: its target, which is given the key, and its body. The other keys are left
 pub record Visit (V : Type 0) : Type 0 where
+  pub labels : List (Option (List ℕ))
   pub target : Target
   pub body : Statement
   pub object : V
@@ -126,6 +153,8 @@ pub record Rec (O : Ops) : Type 0 where
   -- a reference or its parentheses, and what is done with it
   pub use_of : Use → Expr → ℕ → O.M Value
   pub stmt : Statement → Env O.H → O.M One
+  -- a loop, a switch or a labelled statement behind labels (ECMA-262 12.12)
+  pub named : List (List ℕ) → Statement → Env O.H → O.M One
   -- a turn of a loop, and those behind it
   pub turn : Round → Env O.H → O.M One
   pub visit : Visit O.V → Env O.H → O.M One

@@ -1,12 +1,13 @@
 -- The unlabelled meaning: the evaluator over values without labels.
-use Rattle.std.specs.Prelude.{ℕ, zero, suc, ◌+◌, List, [], ◌∷◌, ◌++◌, map, Bool, true, false, length, replicate, Option, Some, None, Result, Ok, Err, codes, slice_get, slice_index, slice_set, nat_eq}
-use Rattle.std.specs.List.{position}
+use Rattle.std.specs.Prelude.{ℕ, zero, suc, pos, ◌+◌, ◌&&◌, List, [], ◌∷◌, ◌++◌, map, Bool, true, false, length, replicate, Option, Some, None, Result, Ok, Err, codes, slice_get, slice_index, slice_set, nat_eq}
+use Rattle.std.specs.List.{position, list_any}
+use Rattle.std.specs.Option.{is_some, option_map}
 use Rattle.origin_labels.specs.Names.{same_name}
 use Rattle.flow_policy.specs.declared.policy.Channel.{Channel}
 use Rattle.flow_policy.specs.Policies.{Tables}
 use Rattle.flow_policy.specs.Inputs.{Given, given_on}
 use Rattle.js_number.specs.declared.primitive.Primitive.{Primitive}
-use Rattle.js_number.specs.declared.primitive.Primitive.TheVariants.{Undefined, Null, Str}
+use Rattle.js_number.specs.declared.primitive.Primitive.TheVariants.{Undefined, Null, Num, Str}
 use Rattle.js_number.specs.declared.primitive.Primitive.TheVariants as prims
 use Rattle.js_number.specs.Conversions.{text_of}
 use Rattle.js_values.specs.declared.value.Value.{Value}
@@ -14,18 +15,22 @@ use Rattle.js_values.specs.declared.value.Value.TheVariants as value
 use Rattle.js_values.specs.declared.property.Body.{Body}
 use Rattle.js_values.specs.declared.property.Body.TheVariants.{Data, Accessor}
 use Rattle.js_values.specs.declared.inner.Class.TheVariants as class
+use Rattle.js_values.specs.declared.ids.ObjId.{ObjId}
 use Rattle.js_values.specs.Objects.{Property, PlainObject, plain as plain_inner, fresh_plain}
 use Rattle.js_values.specs.Records.{Binding, Record, rebound, lookup, bound_in}
 use Rattle.js_values.specs.Walks.{plain_chain, plain_find}
-use Rattle.js_ast.specs.Trees.{Statements}
-use Rattle.es_meaning.specs.Outcomes.{Exit, throws, leaves, Halt, left, out_of_turns, Ending, done, threw, halted, Outcome, Goes, Jumps, Ends, From, ret, ◌>>=◌}
-use Rattle.es_meaning.specs.Environments.{Env, with_around}
-use Rattle.es_meaning.specs.Operations.{Res, Direct, read, print, lbl, upgs, upge, Act, object_of, base_needed, object_needed, has_key, Ops}
+use Rattle.js_ast.specs.Trees.{Function, name_of, body_of, Statements}
+use Rattle.js_ast.specs.Functions.{FunctionCode, functions_of}
+use Rattle.es_meaning.specs.Outcomes.{Exit, throws, returns, leaves, Halt, left, out_of_turns, Ending, done, threw, halted, Outcome, Goes, Jumps, Ends, From, ret, and_then, ◌>>=◌}
+use Rattle.es_meaning.specs.Environments.{Env, with_around, with_place, called_env, aimed}
+use Rattle.es_meaning.specs.Operations.{Res, Direct, read, print, lbl, upgs, upge, Act, object_of, base_needed, object_needed, has_key, refused_declaration, Ops}
 use Rattle.es_meaning.specs.Operators.{Seen, a_primitive, an_object, is_object, truth, converts_beside, unary_of, binary_of, not_built}
-use Rattle.es_meaning.specs.Declared.{declared_statements}
+use Rattle.es_meaning.specs.Declared.{declared_statements, declared_functions}
+use Rattle.es_meaning.specs.Naming.{names_in_statements}
+use Rattle.es_meaning.specs.Functions.{env_id, property_with, function_objects, objects_of, references_of, behind_functions, closes_over, own_name, Callee, not_callable, empty_callee, of_script, unbuilt_callee, is_function, callee_of, arguments_object, binds, this_name, name_text, entry_record, made_if}
 use Rattle.es_meaning.specs.Evaluation.{Timed, program_step}
 use Rattle.es_meaning.specs.Objects as objects
-use Rattle.es_meaning.specs.Objects.{Plan, writes, adds, refuses, calls, can_put, is_element, made_by_script, declared_by_script, defined_all, own_in, enumerable_keys}
+use Rattle.es_meaning.specs.Objects.{Plan, writes, adds, refuses, calls, can_put, is_element, made_by_script, declared_by_script, defined, defined_all, with_rows, with_object, own_in, enumerable_keys}
 use Rattle.es_meaning.specs.Start.{id, ErrorKind, reference_error, type_error, object_prototype, global_object, start_heap, engine_error, shown}
 
 -- ---- what both meanings speak of
@@ -128,16 +133,66 @@ abbrev pub with_variables : List (List ℕ) → List PlainObject → List PlainO
 with_variables [] heap = heap
 with_variables (name ∷ names) heap = with_variables names (with_variable name heap)
 
--- the objects that a run of a script starts with
+-- ---- and its functions, in front of them: each is a property, whatever the prototype of the global object has. An own property that is configurable is
+-- defined anew, and one that isn't is given the function where that is allowed; else the declaration is refused
+
+abbrev pub with_property : List ℕ → Property → List PlainObject → List PlainObject
+with_property name p heap = with_object global_object.0 (λ g. with_rows g (defined name p g.rows)) heap
+
+abbrev pub put_by_plan : Plan → List ℕ → Value → List PlainObject → List PlainObject
+put_by_plan writes name v heap = objects.write global_object.0 name v heap
+put_by_plan adds name v heap = objects.add global_object.0 name v made_by_script heap
+put_by_plan refuses name v heap = heap
+put_by_plan (calls f) name v heap = heap
+
+abbrev pub may_hold : Property → Body → Bool
+may_hold p (Data v) = p.marks.writable && p.marks.enumerable
+may_hold p (Accessor get set) = false
+
+abbrev pub declared_in_place : Bool → List ℕ → Value → List PlainObject → Option (List PlainObject)
+declared_in_place true name v heap = Some (put_by_plan (can_put name (plain_chain heap global_object.0)) name v heap)
+declared_in_place false name v heap = None
+
+abbrev pub declared_anew : Bool → Property → List ℕ → Value → List PlainObject → Option (List PlainObject)
+declared_anew true p name v heap = Some (with_property name (property_with v declared_by_script) heap)
+declared_anew false p name v heap = declared_in_place (may_hold p p.body) name v heap
+
+abbrev pub declared_over : Option (ℕ × Property) → List ℕ → Value → List PlainObject → Option (List PlainObject)
+declared_over None name v heap = Some (objects.add global_object.0 name v declared_by_script heap)
+declared_over (Some f) name v heap = declared_anew f.1.marks.configurable f.1 name v heap
+
+-- the function is made, and then it is declared
+abbrev pub declared_function : List FunctionCode → Function → List PlainObject → Option (List PlainObject)
+declared_function functions f heap =
+    let made = heap ++ function_objects functions (length heap) 0 f in
+    declared_over (plain_find (name_text (name_of f)) (plain_chain made global_object.0)) (name_text (name_of f)) (value.Object (id (length heap))) made
+
+abbrev pub and_functions : Option (List PlainObject) → (List PlainObject → Option (List PlainObject)) → Option (List PlainObject)
+and_functions None next = None
+and_functions (Some heap) next = next heap
+
+unfoldable pub with_functions : List FunctionCode → List Function → List PlainObject → Option (List PlainObject)
+with_functions functions [] heap = Some heap
+with_functions functions (f ∷ fs) heap = and_functions (declared_function functions f heap) (λ made. with_functions functions fs made)
+
+-- the heap with what the outermost code declares, unless a declaration is refused
+unfoldable pub entered_heap : Statements → Option (List PlainObject)
+entered_heap program = option_map (λ heap. with_variables (declared_statements program) heap) (with_functions (functions_of program) (declared_functions program) start_heap)
+
+abbrev pub heap_or : List PlainObject → Option (List PlainObject) → List PlainObject
+heap_or heap None = heap
+heap_or heap (Some entered) = entered
+
+-- the objects that a run of a script starts with, and whether it may declare its functions: where it may not, no statement is evaluated
 abbrev pub first_heap : Statements → List PlainObject
-first_heap program = with_variables (declared_statements program) start_heap
+first_heap program = heap_or start_heap (entered_heap program)
+
+abbrev pub may_declare : Statements → Bool
+may_declare program = is_some (entered_heap program)
 
 -- the record of the outermost code: nothing is outside it, and it has `this`
-abbrev pub this_name : List ℕ
-this_name = codes "this"
-
 abbrev pub outermost : {V : Type 0} → V → Record V
-outermost v = record { outer = None; bindings = record { name = this_name; mutable = false; value = v } ∷ [] }
+outermost v = record { outer = None; bindings = binds false this_name v }
 
 -- the statements of a script are evaluated in it, and no jump can reach anything round them
 abbrev pub outermost_env : {H : Type 0} → H → Env H
@@ -348,6 +403,7 @@ act (object_of keys) vs = make_object keys vs
 act base_needed vs = needed (is_coercible (argument_or undefined 0 vs)) (argument_or undefined 0 vs)
 act object_needed vs = needed (is_object (argument_or undefined 0 vs)) (argument_or undefined 0 vs)
 act has_key vs = has (key_text (argument_or undefined 0 vs)) (argument_or undefined 1 vs)
+act refused_declaration vs = throw_error type_error
 
 -- the keys that `for in` takes of a value: none of undefined and null
 abbrev pub key_list : List PlainObject → Value → Option (List (List ℕ))
@@ -374,6 +430,171 @@ unfoldable pub ended_round : ℕ → Outcome Halt Jump (Unit {0}) State → Outc
 ended_round n (Goes u s) = Goes tt s
 ended_round n (Jumps j s) = choose (leaves_it n j.exit) (Goes tt s) (Jumps j s)
 ended_round n (Ends halt s) = Ends halt s
+
+-- ---- functions
+
+-- a further record
+abbrev pub with_record : Record Value → State → State
+with_record r s = record s { records = s.records ++ r ∷ [] }
+
+-- a function is made, with a record for its own name (ECMA-262 13, 13.2)
+unfoldable pub make_function : List FunctionCode → Function → ℕ → P Value
+make_function functions f place s =
+    let v = value.Object (id (length s.heap)) in
+    Goes v (record s { heap = s.heap ++ function_objects functions (length s.heap) (closes_over (name_of f) place (length s.records)) f; records = s.records ++ own_name (name_of f) place v })
+
+-- what a value is for a call
+abbrev pub callee_in : List FunctionCode → Option PlainObject → Callee
+callee_in functions None = not_callable
+callee_in functions (Some p) = callee_of functions p.class p.inner
+
+unfoldable pub callee_at : List FunctionCode → List PlainObject → Value → Callee
+callee_at functions heap (value.Primitive p) = not_callable
+callee_at functions heap (value.Object o) = callee_in functions (slice_get heap o.0)
+
+-- a call begins (ECMA-262 10.4.3, 10.5): its record is inside that of the function, and the functions that it declares are made, and its `arguments` object
+unfoldable pub with_call : List FunctionCode → ℕ → Function → ℕ → Value → List Value → State → State
+with_call functions number f place this args s =
+    let declared = declared_functions (body_of f) in
+    let here = length s.records in
+    let next = behind_functions (length s.heap) declared in
+    record s {
+      heap = s.heap ++ (objects_of functions (length s.heap) here declared ++ made_if (names_in_statements (body_of f)) (arguments_object number here args));
+      records = s.records ++ entry_record f place (record {
+        this = this;
+        function = value.Primitive (Num (pos number));
+        args = args;
+        missing = undefined;
+        functions = references_of (length s.heap) declared;
+        arguments = value.Object (id next);
+      }) ∷ [];
+    }
+
+-- the body is evaluated in the record of the call
+abbrev pub in_call : (Statements → Env (Unit {0}) → P (Unit {0})) → Function → ℕ → P (Unit {0})
+in_call body f here = body (body_of f) (called_env here tt)
+
+unfoldable pub entered : List FunctionCode → Callee → Value → List Value → (Statements → Env (Unit {0}) → P (Unit {0})) → P (Unit {0})
+entered functions not_callable this args body s = throw_error type_error s
+entered functions empty_callee this args body s = Goes tt s
+entered functions unbuilt_callee this args body s = Ends (left not_built) s
+entered functions (of_script number f place) this args body s = in_call body f (length s.records) (with_call functions number f place this args s)
+
+-- a call gives what is returned, or undefined (ECMA-262 13.2.1)
+abbrev pub is_return : Exit → Bool
+is_return throws = false
+is_return returns = true
+is_return (leaves n) = false
+
+unfoldable pub ended_call : Outcome Halt Jump (Unit {0}) State → Outcome Halt Jump Value State
+ended_call (Goes u s) = Goes undefined s
+ended_call (Jumps j s) = choose (is_return j.exit) (Goes j.value s) (Jumps j s)
+ended_call (Ends halt s) = Ends halt s
+
+-- what `new` makes has the `prototype` of the function as its prototype, or that of all objects where this is no object (ECMA-262 13.2.2). That of a
+-- function of the script is data, since it can't be configured
+abbrev pub value_in : Body → Value
+value_in (Data v) = v
+value_in (Accessor get set) = undefined
+
+abbrev pub value_found : Option (ℕ × Property) → Value
+value_found None = undefined
+value_found (Some f) = value_in f.1.body
+
+abbrev pub prototype_name : List ℕ
+prototype_name = codes "prototype"
+
+abbrev pub object_or_default : Value → ObjId
+object_or_default (value.Primitive p) = object_prototype
+object_or_default (value.Object o) = o
+
+abbrev pub prototype_of : List PlainObject → Value → ObjId
+prototype_of heap (value.Primitive p) = object_prototype
+prototype_of heap (value.Object o) = object_or_default (value_found (plain_find prototype_name (plain_chain heap o.0)))
+
+abbrev pub with_fresh : ObjId → State → State
+with_fresh proto s = record s { heap = s.heap ++ fresh_plain class.Object plain_inner (Some proto) ∷ [] }
+
+unfoldable pub constructed : List FunctionCode → Callee → Value → List Value → (Statements → Env (Unit {0}) → P (Unit {0})) → P (Unit {0})
+constructed functions not_callable f args body s = throw_error type_error s
+constructed functions empty_callee f args body s = throw_error type_error s
+constructed functions unbuilt_callee f args body s = Ends (left not_built) s
+constructed functions (of_script number code place) f args body s =
+    entered functions (of_script number code place) (value.Object (id (length s.heap))) args body (with_fresh (prototype_of s.heap f) s)
+
+-- an object that the function returns stands for what was made
+abbrev pub object_or : ℕ → Value → Value
+object_or fresh (value.Primitive p) = value.Object (id fresh)
+object_or fresh (value.Object o) = value.Object o
+
+unfoldable pub ended_construction : ℕ → Outcome Halt Jump Value State → Outcome Halt Jump Value State
+ended_construction fresh (Goes v s) = Goes (object_or fresh v) s
+ended_construction fresh (Jumps j s) = Jumps j s
+ended_construction fresh (Ends halt s) = Ends halt s
+
+-- ---- `instanceof` (ECMA-262 11.8.6, 15.3.5.3)
+
+abbrev pub is_function_in : Option PlainObject → Bool
+is_function_in None = false
+is_function_in (Some p) = is_function p.class
+
+abbrev pub is_function_at : List PlainObject → Value → Bool
+is_function_at heap (value.Primitive p) = false
+is_function_at heap (value.Object o) = is_function_in (slice_get heap o.0)
+
+-- the object is a prototype of the first of the chain
+abbrev pub behind_first : {A : Type 0} → List A → List A
+behind_first [] = []
+behind_first (a ∷ as_) = as_
+
+abbrev pub is_prototype_in : ℕ → List (ℕ × PlainObject) → Bool
+is_prototype_in proto chain = list_any (λ e. nat_eq e.0 proto) (behind_first chain)
+
+unfoldable pub is_instance : ℕ → Value → P Value
+is_instance o (value.Primitive p) s = throw_error type_error s
+is_instance o (value.Object proto) s = Goes (value.Primitive (prims.Bool (is_prototype_in proto.0 (plain_chain s.heap o)))) s
+
+unfoldable pub instance_of : Value → Value → P Value
+instance_of (value.Primitive p) f s = Goes (value.Primitive (prims.Bool false)) s
+instance_of (value.Object o) f s = (property_of f prototype_name >>= λ proto. is_instance o.0 proto) s
+
+unfoldable pub instance_if : Bool → Value → Value → P Value
+instance_if true v f s = instance_of v f s
+instance_if false v f s = throw_error type_error s
+
+-- ---- jumps
+
+unfoldable pub jumps_to : Option (Exit × Unit {0}) → Value → P (Unit {0})
+jumps_to None v s = Goes tt s
+jumps_to (Some to) v s = Jumps (record { exit = to.0; value = v }) s
+
+abbrev pub is_throw : Exit → Bool
+is_throw throws = true
+is_throw returns = false
+is_throw (leaves n) = false
+
+-- a throw is handled, if there is a handler (ECMA-262 12.14)
+unfoldable pub handled_throw : Bool → (Value → P (Unit {0})) → Outcome Halt Jump (Unit {0}) State → Outcome Halt Jump (Unit {0}) State
+handled_throw handles handler (Goes u s) = Goes u s
+handled_throw handles handler (Jumps j s) = choose (handles && is_throw j.exit) (handler j.value s) (Jumps j s)
+handled_throw handles handler (Ends halt s) = Ends halt s
+
+-- what is done last is done behind each of these, and then a jump goes on
+unfoldable pub finished : P (Unit {0}) → Outcome Halt Jump (Unit {0}) State → Outcome Halt Jump (Unit {0}) State
+finished last (Goes u s) = last s
+finished last (Jumps j s) = and_then (last s) (λ u t. Jumps j t)
+finished last (Ends halt s) = Ends halt s
+
+unfoldable pub attempt : Bool → Bool → P (Unit {0}) → (Value → P (Unit {0})) → P (Unit {0}) → P (Unit {0})
+attempt handles finishes block handler last s = finished (choose finishes last (ret tt)) (handled_throw handles handler (block s))
+
+-- ---- what a reference's base is for a call
+abbrev pub base_of : Reference → Value
+base_of (of_name name place) = undefined
+base_of (of_property v key) = v
+
+abbrev pub in_own_record : List ℕ → Value → Env (Unit {0}) → (Env (Unit {0}) → P (Unit {0})) → P (Unit {0})
+in_own_record name v e next s = next (with_place (length s.records) e) (with_record (record { outer = Some (env_id e.place); bindings = binds true name v }) s)
 
 module _ (tables : Tables) (inputs : Given) where
   unfoldable pub read_channel : Option ℕ → P Value
@@ -414,39 +635,57 @@ module _ (tables : Tables) (inputs : Given) where
   direct upgs vs = raise_of (is_object (argument_or undefined 0 vs)) (others vs)
   direct upge vs = raise_at (is_object (argument_or undefined 0 vs)) (argument_or undefined 1 vs) (others (others vs))
 
-  abbrev pub plain : Ops
-  plain = record {
-    V = Value;
-    N = Reference;
-    H = Unit {0};
-    M = λ t. P (Res Value t);
-    ret = λ t a. ret a;
-    bind = λ t u m f. m >>= f;
-    literal = value.Primitive;
-    unary = λ o v s. given (unary_of o (seen s.heap v)) s;
-    binary = λ o v u. given (binary_of o v u);
-    primitive = λ hint v. unless_object (is_object v) v;
-    comparable = λ v u. unless_object (converts_beside v u) v;
-    act = act;
-    direct = direct;
-    unbuilt = λ t s. Ends (left not_built) s;
-    resolve = λ t i x k s. k (resolved s.records s.heap i x) s;
-    property = λ v k. of_property v (key_text k);
-    get_value = λ n k. get_value n;
-    typeof_value = λ n k. typeof_value n;
-    put_value = λ n v k. put_value n v;
-    remove = remove;
-    fork = λ t v m n. choose (truth v) m n;
-    round = λ turn labels e k s. ended_round (length e.around) (k (with_around turn labels tt e) s);
-    again = λ v m n. choose (truth v) m n;
-    keys = λ v next s. with_list (key_list s.heap v) next s;
-  }
+  -- a directive changes nothing, and leaves where an origin isn't declared
+  unfoldable pub raised_by : Option (List ℕ) → P (Unit {0})
+  raised_by None s = Ends (left leaves_origins) s
+  raised_by (Some origins) s = Goes tt s
 
-  abbrev pub timed : Timed
-  timed = record { ops = plain; tick = λ s. spend s.turns s; ended = λ t s. Ends out_of_turns s }
+  abbrev pub named_origins : List (List ℕ) → Option (List ℕ)
+  named_origins names = origins_of tables.origins (map (λ name. value.Primitive (Str name)) names)
 
   abbrev pub start : Statements → ℕ → State
   start program turns = record { heap = first_heap program; records = outermost (value.Object global_object) ∷ []; positions = replicate (length tables.inputs) 0; lines = []; turns = turns }
+
+  module _ (functions : List FunctionCode) where
+    abbrev pub plain : Ops
+    plain = record {
+      V = Value;
+      N = Reference;
+      H = Unit {0};
+      M = λ t. P (Res Value t);
+      ret = λ t a. ret a;
+      bind = λ t u m f. m >>= f;
+      literal = value.Primitive;
+      unary = λ o v s. given (unary_of o (seen s.heap v)) s;
+      binary = λ o v u. given (binary_of o v u);
+      primitive = λ hint v. unless_object (is_object v) v;
+      comparable = λ v u. unless_object (converts_beside v u) v;
+      act = act;
+      direct = direct;
+      function = make_function functions;
+      jump = λ leaving e v. jumps_to (aimed tt leaving e) v;
+      raise = λ leaving e names. raised_by (named_origins names);
+      unbuilt = λ t s. Ends (left not_built) s;
+      resolve = λ t i x k s. k (resolved s.records s.heap i x) s;
+      property = λ v k. of_property v (key_text k);
+      get_value = λ n k. get_value n;
+      typeof_value = λ n k. typeof_value n;
+      put_value = λ n v k. put_value n v;
+      remove = remove;
+      this_of = base_of;
+      instance = λ v f k s. instance_if (is_function_at s.heap f) v f s;
+      fork = λ t v m n. choose (truth v) m n;
+      round = λ turn labels e k s. ended_round (length e.around) (k (with_around turn labels tt e) s);
+      again = λ v m n. choose (truth v) m n;
+      keys = λ v next s. with_list (key_list s.heap v) next s;
+      declare = in_own_record;
+      call = λ f this args body s. ended_call (entered functions (callee_at functions s.heap f) this args body s);
+      construct = λ f args body s. ended_construction (length s.heap) (ended_call (constructed functions (callee_at functions s.heap f) f args body s));
+      attempt = attempt;
+    }
+
+    abbrev pub timed : Timed
+    timed = record { ops = plain; tick = λ s. spend s.turns s; ended = λ t s. Ends out_of_turns s }
 
 -- the lines of a run and how it ends
 pub record Run : Type 0 where
@@ -461,4 +700,4 @@ run_of (Ends halt s) = record { lines = s.lines; ending = halted halt }
 
 -- what a script prints and how it ends, with so many turns
 unfoldable pub plain_run : Tables → Given → Statements → ℕ → Run
-plain_run tables inputs program turns = run_of (program_step (timed tables inputs) turns program (outermost_env tt) (start tables inputs program turns))
+plain_run tables inputs program turns = run_of (program_step (timed tables inputs (functions_of program)) turns (may_declare program) program (outermost_env tt) (start tables inputs program turns))

@@ -1,5 +1,5 @@
 -- The objects that a run starts with, the errors of the engine, and what is shown of a value.
-use Rattle.std.specs.Prelude.{ℕ, true, false, List, [], ◌∷◌, ◌++◌, Option, Some, None, codes, slice_get}
+use Rattle.std.specs.Prelude.{ℕ, pos, true, false, List, [], ◌∷◌, ◌++◌, Option, Some, None, codes, slice_get}
 use Rattle.std.specs.Fmt.{signed_decimal}
 use Rattle.flow_text.specs.Written.{escaped}
 use Rattle.js_number.specs.declared.primitive.Primitive.{Primitive}
@@ -42,6 +42,9 @@ object_prototype = id 0
 abbrev pub global_object : ObjId
 global_object = id 1
 
+abbrev pub function_prototype : ObjId
+function_prototype = id 9
+
 abbrev pub error_prototype : ErrorKind → ObjId
 error_prototype error = id 2
 error_prototype eval_error = id 3
@@ -71,6 +74,10 @@ fixed = record { writable = false; enumerable = false; configurable = false }
 abbrev pub global : PlainObject
 global = record (fresh_plain class.Object plain (Some object_prototype)) { rows = (codes "undefined", record { body = Data (value.Primitive Undefined); marks = fixed }) ∷ [] }
 
+-- the prototype of functions, which is a function itself (ECMA-262 15.3.4)
+abbrev pub prototype_of_functions : PlainObject
+prototype_of_functions = record (fresh_plain class.Function plain (Some object_prototype)) { rows = (codes "length", record { body = Data (value.Primitive (Num (pos 0))); marks = fixed }) ∷ [] }
+
 abbrev pub start_heap : List PlainObject
 start_heap = fresh_plain class.Object plain None
     ∷ global
@@ -80,7 +87,8 @@ start_heap = fresh_plain class.Object plain None
     ∷ prototype_of_errors reference_error (error_prototype error)
     ∷ prototype_of_errors syntax_error (error_prototype error)
     ∷ prototype_of_errors type_error (error_prototype error)
-    ∷ prototype_of_errors uri_error (error_prototype error) ∷ []
+    ∷ prototype_of_errors uri_error (error_prototype error)
+    ∷ prototype_of_functions ∷ []
 
 -- an error that the engine makes has no properties of its own
 abbrev pub engine_error : ErrorKind → PlainObject

@@ -1,25 +1,28 @@
 -- Performing the plan of a part is the labelled step of the part.
-use Rattle.std.proofs.Common.{◌≡◌, ℕ, List, Option, Some, None, Bool, true, false, length, nat_lt, refl, ◌∙◌, ap, ap₂, subst}
+use Rattle.std.proofs.Common.{◌≡◌, ℕ, List, Option, Some, None, Bool, true, false, length, nat_lt, ◌&&◌, refl, ◌∙◌, ap, ap₂, subst}
 use Rattle.origin_labels.specs.Label.{Label, bottom, union}
 use Rattle.flow_policy.specs.Policies.{Tables}
 use Rattle.flow_policy.specs.Inputs.{Given}
 use Rattle.flow_frames.specs.declared.kind.Kind.{Kind}
 use Rattle.flow_frames.specs.declared.kind.Kind.TheVariants as kind
-use Rattle.js_ast.specs.Trees.{Statements}
+use Rattle.js_ast.specs.Trees.{body_of, Statements}
+use Rattle.js_ast.specs.Functions.{FunctionCode}
 use Rattle.es_meaning.specs.Outcomes.{left, Outcome, Goes, Jumps, Ends, ret, and_then, ◌>>=◌}
-use Rattle.es_meaning.specs.Environments.{Env, with_around}
+use Rattle.es_meaning.specs.Environments.{Env, with_around, with_place, called_env, aimed}
+use Rattle.es_meaning.specs.Functions.{Callee, not_callable, empty_callee, of_script, unbuilt_callee}
+use Rattle.es_meaning.specs.Start.{type_error}
 use Rattle.es_meaning.specs.Operations.{Ty, One, Value, Res, Ops, Visit, Rec}
 use Rattle.es_meaning.specs.Operators.{is_object, truth, converts_beside, binary_of, not_built}
-use Rattle.es_meaning.specs.Evaluation.{step, statements}
-use Rattle.es_meaning.specs.Plain.{choose, outermost_env}
+use Rattle.es_meaning.specs.Evaluation.{step, begun}
+use Rattle.es_meaning.specs.Plain.{choose, is_throw, may_declare, outermost_env}
 use Rattle.prototype_walk.specs.KeyLists.{Keys}
-use Rattle.es_meaning.proofs.Link.{Visits, visits_of, Link, Linked, step_linked, statements_linked}
+use Rattle.es_meaning.proofs.Link.{Visits, visits_of, Link, Linked, step_linked, begun_linked}
 use Rattle.es_meaning.proofs.Longer.{equal_results, rels_equal}
-use Rattle.flow_meaning.specs.Scopes.{Val, Halt, State, Jump, L, cut_to, pushed_on, Left, popped, scope, settled, round_kind, raise}
+use Rattle.flow_meaning.specs.Scopes.{Val, Halt, State, Jump, L, cut_to, pushed_on, Came, ended, caught, Left, popped, stay, scope, settled, answer, construction, quiet, react, resume, finish, tried, round_kind, raise}
 use Rattle.flow_meaning.specs.Tracked as tracked
-use Rattle.flow_meaning.specs.Tracked.{resolved, key_list, labelled}
-use Rattle.flow_meaning.specs.Planned.{Part, an_expr, a_use, a_stmt, a_turn, a_visit, Completion, gave, jumped, Plan, Give, Ask, End, Then, and_plan, with_result, as_plan, outcome_of, end_branch, end_round, with_list, planned, asking, plan, program_plan, Ran, Evaluator, untyped, and_go, completed, perform, of_rec}
-use Rattle.flow_meaning.proofs.Steady.{Steady, Holds, holds, ret_steady, ends_steady, given_steady, unless_steady, raise_steady, unary_steady, value_steady, typeof_steady, put_steady, remove_steady, act_steady, direct_steady}
+use Rattle.flow_meaning.specs.Tracked.{throw_error, CallBody, with_call, callee_at, with_fresh, prototype_of, is_function_at, with_name, named_origins, resolved, key_list, labelled}
+use Rattle.flow_meaning.specs.Planned.{Part, an_expr, a_use, a_stmt, a_named, a_turn, a_visit, Completion, gave, jumped, Plan, Give, Ask, End, Then, and_plan, with_result, as_plan, outcome_of, end_branch, end_round, end_call, end_construction, as_stayed, with_stay, end_last, do_last, end_handler, do_handle, do_react, end_block, PlannedBody, enter_call, enter_construction, with_list, planned, asking, plan, program_plan, Ran, Evaluator, untyped, and_go, completed, perform, of_rec}
+use Rattle.flow_meaning.proofs.Steady.{Steady, Holds, holds, ret_steady, ends_steady, given_steady, unless_steady, raise_steady, unary_steady, value_steady, typeof_steady, put_steady, remove_steady, act_steady, direct_steady, throws_steady, function_steady, instance_steady, jumps_steady, raised_steady, quiet_steady, resume_steady}
 
 -- ---- no part of a plan but what it asks for changes the turns
 
@@ -104,18 +107,18 @@ pub perform_asked : (e : Evaluator) (part : Part) (s : State) → perform e (Ask
 unfolding perform
 perform_asked e part s = and_give e (e part s)
 
-module _ (tables : Tables) (inputs : Given) (Q : Rec (labelled tables inputs)) where
+module _ (tables : Tables) (inputs : Given) (functions : List FunctionCode) (Q : Rec (labelled tables inputs functions)) where
   -- the meaning of the parts
   abbrev evaluator : Evaluator
-  evaluator = of_rec tables inputs Q
+  evaluator = of_rec tables inputs functions Q
 
   -- the plans
   abbrev A : Ops
-  A = planned tables inputs
+  A = planned tables inputs functions
 
   -- the labelled meaning
   abbrev B : Ops
-  B = labelled tables inputs
+  B = labelled tables inputs functions
 
   -- a plan that does what a computation does
   pub record Lift (t : Ty) (m : State → Plan) (n : L (Res Val t)) : Type 0 where
@@ -196,6 +199,132 @@ module _ (tables : Tables) (inputs : Given) (Q : Rec (labelled tables inputs)) w
   unfolding end_round
   round_performed turn labels e {m} {n} l = scope_performed One One (round_kind turn) bottom (λ c. tt) {m = λ depth. m (with_around turn labels depth e)} {n = λ depth. n (with_around turn labels depth e)} (λ depth. l (with_around turn labels depth e))
 
+  -- ---- calls
+
+  -- computations on a body, from each environment
+  abbrev Bodies : PlannedBody → CallBody → Type 0
+  Bodies f g = (ss : Statements) (e : Env ℕ) → Lift One (f ss e) (g ss e)
+
+  -- in the frame of a call
+  entered_performed : (callee : Callee) (label : Label) (base : Val) (vs : List Val) (f : PlannedBody) (g : CallBody) (depth : ℕ) → Bodies f g
+      → Lift One (enter_call functions callee label base vs f depth) (tracked.entered functions callee label base vs g depth)
+  unfolding enter_call tracked.entered with_call perform completed
+  entered_performed not_callable label base vs f g depth h = act One (throw_error type_error label) (throws_steady (Unit {0}) type_error label)
+  entered_performed empty_callee label base vs f g depth h = record { same = λ s. refl; keeps = λ s. refl }
+  entered_performed unbuilt_callee label base vs f g depth h = record { same = λ s. refl; keeps = λ s. tt }
+  entered_performed (of_script number code place) label base vs f g depth h = record {
+    same = λ s. (h (body_of code) (called_env (length s.records) depth)).same (with_call functions number code place base vs s);
+    keeps = λ s. (h (body_of code) (called_env (length s.records) depth)).keeps (with_call functions number code place base vs s);
+  }
+
+  call_performed : (v base : Val) (vs : List Val) (f : PlannedBody) (g : CallBody) → Bodies f g → Lift Value (A.call v base vs f) (B.call v base vs g)
+  unfolding end_call
+  call_performed v base vs f g h = scope_performed One Value kind.Call v.label answer
+      {m = λ depth s. enter_call functions (callee_at functions s.heap v.value) v.label base vs f depth s} {n = λ depth s. tracked.entered functions (callee_at functions s.heap v.value) v.label base vs g depth s}
+      (λ depth. record { same = λ s. (entered_performed (callee_at functions s.heap v.value) v.label base vs f g depth h).same s; keeps = λ s. (entered_performed (callee_at functions s.heap v.value) v.label base vs f g depth h).keeps s })
+
+  -- and of a construction
+  constructed_performed : (callee : Callee) (v : Val) (vs : List Val) (f : PlannedBody) (g : CallBody) (depth : ℕ) → Bodies f g
+      → Lift One (enter_construction functions callee v vs f depth) (tracked.constructed functions callee v vs g depth)
+  unfolding enter_construction tracked.constructed perform completed
+  constructed_performed not_callable v vs f g depth h = act One (throw_error type_error v.label) (throws_steady (Unit {0}) type_error v.label)
+  constructed_performed empty_callee v vs f g depth h = act One (throw_error type_error v.label) (throws_steady (Unit {0}) type_error v.label)
+  constructed_performed unbuilt_callee v vs f g depth h = record { same = λ s. refl; keeps = λ s. tt }
+  constructed_performed (of_script number code place) v vs f g depth h = record {
+    same = λ s. (entered_performed (of_script number code place) v.label _ vs f g depth h).same (with_fresh (prototype_of s.heap v.value) s);
+    keeps = λ s. (entered_performed (of_script number code place) v.label _ vs f g depth h).keeps (with_fresh (prototype_of s.heap v.value) s);
+  }
+
+  construct_at : (fresh : ℕ) (v : Val) (vs : List Val) (f : PlannedBody) (g : CallBody) → Bodies f g
+      → Lift Value (λ s. and_plan (enter_construction functions (callee_at functions s.heap v.value) v vs f (length s.frames) (pushed_on kind.Call v.label s)) (end_construction fresh (length s.frames)))
+      (scope kind.Call v.label (λ depth s. tracked.constructed functions (callee_at functions s.heap v.value) v vs g depth s) >>= λ l. ret (construction fresh l))
+  unfolding end_construction
+  construct_at fresh v vs f g h = scope_performed One Value kind.Call v.label (construction fresh)
+      {m = λ depth s. enter_construction functions (callee_at functions s.heap v.value) v vs f depth s} {n = λ depth s. tracked.constructed functions (callee_at functions s.heap v.value) v vs g depth s}
+      (λ depth. record { same = λ s. (constructed_performed (callee_at functions s.heap v.value) v vs f g depth h).same s; keeps = λ s. (constructed_performed (callee_at functions s.heap v.value) v vs f g depth h).keeps s })
+
+  construct_performed : (v : Val) (vs : List Val) (f : PlannedBody) (g : CallBody) → Bodies f g → Lift Value (A.construct v vs f) (B.construct v vs g)
+  construct_performed v vs f g h = record { same = λ s. (construct_at (length s.heap) v vs f g h).same s; keeps = λ s. (construct_at (length s.heap) v vs f g h).keeps s }
+
+  -- ---- `try`
+
+  -- a plan that does what an equal computation does
+  along : {t : Ty} {m : State → Plan} (n n' : L (Res Val t)) → ((s : State) → n s ≡ n' s) → Lift t m n → Lift t m n'
+  along {t} n n' e l = record { same = λ s. l.same s ∙ ap (untyped t) (e s); keeps = λ s. l.keeps s }
+
+  -- computations behind each other
+  then_twice : {X Y Z : Type 0} (o : Outcome Halt Jump X State) (f : X → L Y) (g : Y → L Z) → and_then o (λ a s. and_then (f a s) g) ≡ and_then (and_then o f) g
+  then_twice (Goes a s) f g = refl
+  then_twice (Jumps j s) f g = refl
+  then_twice (Ends halt s) f g = refl
+
+  -- a jump that has reached its frame stays
+  stayed : (b : Bool) (j : Jump) (s : State) (f : Came (Unit {0}) → State → Plan) (g : Came (Unit {0}) → L (Unit {0})) → ((how : Came (Unit {0})) → Lift One (f how) (g how))
+      → perform evaluator (as_stayed (choose b (Goes (caught j) s) (Jumps j s)) f) ≡ untyped One (and_then (choose b (Goes (caught j) s) (Jumps j s)) g)
+  unfolding perform completed
+  stayed true j s f g h = (h (caught j)).same s
+  stayed false j s f g h = refl
+
+  stayed_keeps : (b : Bool) (j : Jump) (s : State) (f : Came (Unit {0}) → State → Plan) → ((how : Came (Unit {0})) (s : State) → Keeps s.turns (f how s)) → Keeps s.turns (as_stayed (choose b (Goes (caught j) s) (Jumps j s)) f)
+  stayed_keeps true j s f h = h (caught j) s
+  stayed_keeps false j s f h = refl
+
+  after_stay : (depth : ℕ) (f : Came (Unit {0}) → State → Plan) (g : Came (Unit {0}) → L (Unit {0})) → ((how : Came (Unit {0})) → Lift One (f how) (g how))
+      → (o : Outcome Halt Jump (Unit {0}) State) → and_go (untyped One o) (λ c s. perform evaluator (with_stay depth f c s)) ≡ untyped One (and_then (stay depth o) g)
+  unfolding and_go stay
+  after_stay depth f g h (Goes a s) = (h (ended a)).same s
+  after_stay depth f g h (Jumps j s) = stayed (nat_lt depth (length s.frames)) j s f g h
+  after_stay depth f g h (Ends halt s) = refl
+
+  keeps_stay : (depth : ℕ) (f : Came (Unit {0}) → State → Plan) → ((how : Came (Unit {0})) (s : State) → Keeps s.turns (f how s)) → (c : Completion) (s : State) → Keeps s.turns (with_stay depth f c s)
+  unfolding stay
+  keeps_stay depth f h (gave v) s = h (ended tt) s
+  keeps_stay depth f h (jumped j) s = stayed_keeps (nat_lt depth (length s.frames)) j s f h
+
+  stay_performed : (depth : ℕ) {m : State → Plan} {n : L (Unit {0})} (f : Came (Unit {0}) → State → Plan) (g : Came (Unit {0}) → L (Unit {0})) → Lift One m n → ((how : Came (Unit {0})) → Lift One (f how) (g how))
+      → Lift One (λ s. and_plan (m s) (with_stay depth f)) (λ s. and_then (stay depth (n s)) g)
+  stay_performed depth {m} {n} f g l h = record {
+    same = λ s. follow One m (with_stay depth f) s (n s) _ (l.same s) (after_stay depth f g h (n s));
+    keeps = λ s. keeps_and s.turns (m s) (with_stay depth f) (l.keeps s) (keeps_stay depth f (λ how s. (h how).keeps s));
+  }
+
+  -- what is done last
+  last_performed : (finishes : Bool) {m : State → Plan} {n : L (Unit {0})} (how : Came (Unit {0})) → Lift One m n → Lift One (do_last finishes m how) (finish finishes n how)
+  unfolding finish end_last
+  last_performed finishes how l = bind_performed One One _ _ (act One quiet quiet_steady) (λ u. bind_performed One One (λ v s. as_plan One (resume how tt s)) (resume how) (choose_performed finishes l (act One (ret tt) (ret_steady tt))) (λ v. act One (resume how tt) (resume_steady how)))
+
+  -- the handler, in the same frame
+  steady_choice : (b : Bool) → Steady (choose b (ret tt) quiet)
+  steady_choice true = ret_steady tt
+  steady_choice false = quiet_steady
+
+  handle_performed : (b finishes : Bool) {m : State → Plan} {n : L (Unit {0})} (f : Val → State → Plan) (g : Val → L (Unit {0})) (depth : ℕ) (j : Jump) → ((v : Val) → Lift One (f v) (g v)) → Lift One m n
+      → Lift One (choose b (do_handle finishes f m depth j) (do_last finishes m (caught j))) (choose b (choose finishes (ret tt) quiet >>= λ u s. stay depth (g j.value s)) (ret (caught j)) >>= finish finishes n)
+  unfolding end_handler
+  handle_performed false finishes f g depth j h l = last_performed finishes (caught j) l
+  handle_performed true finishes {m} {n} f g depth j h l =
+      along _ _ (λ s. then_twice (choose finishes (ret tt) quiet s) (λ u s. stay depth (g j.value s)) (finish finishes n))
+      (bind_performed One One _ (λ u s. and_then (stay depth (g j.value s)) (finish finishes n)) (act One (choose finishes (ret tt) quiet) (steady_choice finishes)) (λ u. stay_performed depth (do_last finishes m) (finish finishes n) (h j.value) (λ how. last_performed finishes how l)))
+
+  react_performed : (handles finishes : Bool) {m : State → Plan} {n : L (Unit {0})} (f : Val → State → Plan) (g : Val → L (Unit {0})) (depth : ℕ) (how : Came (Unit {0})) → ((v : Val) → Lift One (f v) (g v)) → Lift One m n
+      → Lift One (do_react handles finishes f m depth how) (react handles finishes g depth how >>= finish finishes n)
+  unfolding react
+  react_performed handles finishes f g depth (ended u) h l = last_performed finishes (ended u) l
+  react_performed handles finishes f g depth (caught j) h l = handle_performed (handles && is_throw j.exit) finishes f g depth j h l
+
+  tried_performed : (handles finishes : Bool) {m k : State → Plan} {m' k' : L (Unit {0})} (f : Val → State → Plan) (g : Val → L (Unit {0})) (depth : ℕ) → Lift One m m' → ((v : Val) → Lift One (f v) (g v)) → Lift One k k'
+      → Lift One (λ s. and_plan (m s) (end_block handles finishes f k depth)) (tried handles finishes m' g k' depth)
+  unfolding end_block
+  tried_performed handles finishes {m} {k} {m'} {k'} f g depth l h q =
+      along _ _ (λ s. then_twice (stay depth (m' s)) (react handles finishes g depth) (finish finishes k'))
+      (stay_performed depth (do_react handles finishes f k depth) (λ how. react handles finishes g depth how >>= finish finishes k') l (λ how. react_performed handles finishes f g depth how h q))
+
+  attempt_performed : (handles finishes : Bool) {m k : State → Plan} {m' k' : L (Unit {0})} (f : Val → State → Plan) (g : Val → L (Unit {0})) → Lift One m m' → ((v : Val) → Lift One (f v) (g v)) → Lift One k k'
+      → Lift One (A.attempt handles finishes m f k) (B.attempt handles finishes m' g k')
+  unfolding end_round
+  attempt_performed handles finishes {m} {k} {m'} {k'} f g l h q = scope_performed One One kind.Try bottom (λ c. tt)
+      {m = λ depth s. and_plan (m s) (end_block handles finishes f k depth)} {n = tried handles finishes m' g k'} (λ depth. tried_performed handles finishes f g depth l h q)
+
   -- the keys of a value
   list_performed : (list : Option Keys) (label : Label) (f : List (List ℕ) → State → Plan) (g : List (List ℕ) → L (Unit {0})) → ((keys : List (List ℕ)) → Lift One (f keys) (g keys))
       → Lift One (with_list list label f) (tracked.with_list list label g)
@@ -206,7 +335,7 @@ module _ (tables : Tables) (inputs : Given) (Q : Rec (labelled tables inputs)) w
       record { same = λ s. l.same s; keeps = λ s. l.keeps s }
 
   -- the plans and the labelled meaning, linked
-  pub performed : Link (planned tables inputs) (labelled tables inputs)
+  pub performed : Link (planned tables inputs functions) (labelled tables inputs functions)
   performed = record {
     W = Unit {0};
     Le = λ v w. Unit {0};
@@ -228,7 +357,7 @@ module _ (tables : Tables) (inputs : Given) (Q : Rec (labelled tables inputs)) w
     ret_value = λ {a = a} r. at_equal (A.ret Value a) (B.ret Value) r (act Value (ret a) (ret_steady a));
     bind = λ t u {w = w} f g l h. bind_performed t u f g l (λ a. h w tt a a (equal_results Val t w a));
     literal = λ w v. refl;
-    unary = λ o {v = v} r. at_equal (A.unary o v) (B.unary o) r (act Value (B.unary o v) (unary_steady tables inputs o v));
+    unary = λ o {v = v} r. at_equal (A.unary o v) (B.unary o) r (act Value (B.unary o v) (unary_steady tables inputs functions o v));
     binary = λ o {v = v} {u = u} {u' = u'} r q. at_equal (A.binary o v u) (λ x. B.binary o x u') r
         (at_equal (A.binary o v u) (B.binary o v) q (act Value (B.binary o v u) (given_steady (union v.label u.label) (binary_of o v.value u.value))));
     primitive = λ hint {v = v} r. at_equal (A.primitive hint v) (B.primitive hint) r (act Value (B.primitive hint v) (unless_steady (is_object v.value) v));
@@ -249,6 +378,20 @@ module _ (tables : Tables) (inputs : Given) (Q : Rec (labelled tables inputs)) w
     round = λ {w = w} turn labels {e = e} f g r h. at_equal (A.round turn labels e f) (λ d. B.round turn labels d g) r (round_performed turn labels e (λ d. h w tt d d refl));
     again = λ {v = v} {m = m} {n = n} {m' = m'} {n' = n'} r l k. at_equal (A.again v m n) (λ x. B.again x m' n') r
         (bind_performed One One _ _ (act One (raise v.label) (raise_steady v.label)) (λ u. choose_performed (truth v.value) l k));
+    function = λ f {i = i} p. at_equal (A.function f i) (B.function f) p (act Value (B.function f i) (function_steady functions f i));
+    jump = λ leaving {e = e} {v = v} {v' = v'} r q. at_equal (A.jump leaving e v) (λ d. B.jump leaving d v') r (at_equal (A.jump leaving e v) (B.jump leaving e) q (act One (B.jump leaving e v) (jumps_steady (aimed 0 leaving e) v)));
+    raise = λ leaving {e = e} names r. at_equal (A.raise leaving e names) (λ d. B.raise leaving d names) r (act One (B.raise leaving e names) (raised_steady tables inputs leaving (aimed 0 leaving e) (named_origins tables inputs names)));
+    this_of = λ r. ap A.this_of r;
+    instance = λ {v = v} {f = f} {f' = f'} m n r q h. at_equal (A.instance v f m) (λ x. B.instance x f' n) r (at_equal (A.instance v f m) (λ x. B.instance v x n) q
+        (act Value (B.instance v f (B.ret Value)) (record { steady = λ n s. (instance_steady (is_function_at s.heap f.value) v f).steady n s })));
+    declare = λ {w = w} name {v = v} {v' = v'} {e = e} {d = d} f g r q h. at_equal (A.declare name v e f) (λ x. B.declare name x d g) r (at_equal (A.declare name v e f) (λ d. B.declare name v d g) q (record {
+      same = λ s. (h w tt (with_place (length s.records) e) (with_place (length s.records) e) refl).same (with_name e.place name v s);
+      keeps = λ s. (h w tt (with_place (length s.records) e) (with_place (length s.records) e) refl).keeps (with_name e.place name v s);
+    }));
+    call = λ {f = f} {this = b} {f' = f'} {this' = b'} {vs = vs} {us = us} m n r q rs h. at_equal (A.call f b vs m) (λ x. B.call x b' us n) r (at_equal (A.call f b vs m) (λ x. B.call f x us n) q (at_equal (A.call f b vs m) (λ xs. B.call f b xs n) (rels_equal rs)
+        (call_performed f b vs m n (λ ss e. h tt ss e e refl))));
+    construct = λ {f = f} {vs = vs} {us = us} m n r rs h. at_equal (A.construct f vs m) (λ x. B.construct x us n) r (at_equal (A.construct f vs m) (λ xs. B.construct f xs n) (rels_equal rs) (construct_performed f vs m n (λ ss e. h tt ss e e refl)));
+    attempt = λ {w = w} handles finishes f g l h q. attempt_performed handles finishes f g (l w tt) (λ v. h w tt v v refl) (q w tt);
     keys = λ {w = w} {v = v} f g r h. at_equal (A.keys v f) (λ x. B.keys x g) r
         (record { same = λ s. (list_performed (key_list s.heap v.value) v.label f g (λ keys. h w tt keys)).same s; keeps = λ s. (list_performed (key_list s.heap v.value) v.label f g (λ keys. h w tt keys)).keeps s });
   }
@@ -258,50 +401,53 @@ module _ (tables : Tables) (inputs : Given) (Q : Rec (labelled tables inputs)) w
   asked t part n h = record { same = λ s. perform_asked evaluator part s ∙ h s; keeps = λ s. (refl, λ c t. refl) }
 
   visits_equal : {v u : Visit Val} → Visits (λ (x : Val) (y : Val). x ≡ y) v u → v ≡ u
-  visits_equal (visits_of {target = target} {body = body} {key = key} {others = others} e) = ap (λ o. record { target = target; body = body; object = o; key = key; others = others }) e
+  visits_equal (visits_of {labels = labels} {target = target} {body = body} {key = key} {others = others} e) = ap (λ o. record { labels = labels; target = target; body = body; object = o; key = key; others = others }) e
 
   -- asking for the parts, and their meaning
-  asking_linked : Linked (planned tables inputs) (labelled tables inputs) performed (asking tables inputs) Q
+  asking_linked : Linked (planned tables inputs functions) (labelled tables inputs functions) performed (asking tables inputs functions) Q
   unfolding performed
   asking_linked = record {
     expr = λ e w i j p. at_equal (λ s. Ask (an_expr e i) s Give) (Q.expr e) p (asked Value (an_expr e i) (Q.expr e i) (λ s. refl));
     use_of = λ use_as e w i j p. at_equal (λ s. Ask (a_use use_as e i) s Give) (Q.use_of use_as e) p (asked Value (a_use use_as e i) (Q.use_of use_as e i) (λ s. refl));
     stmt = λ stmt w e d r. at_equal (λ s. Ask (a_stmt stmt e) s Give) (Q.stmt stmt) r (asked One (a_stmt stmt e) (Q.stmt stmt e) (λ s. refl));
+    named = λ labels stmt w e d r. at_equal (λ s. Ask (a_named labels stmt e) s Give) (Q.named labels stmt) r (asked One (a_named labels stmt e) (Q.named labels stmt e) (λ s. refl));
     turn = λ round w e d r. at_equal (λ s. Ask (a_turn round e) s Give) (Q.turn round) r (asked One (a_turn round e) (Q.turn round e) (λ s. refl));
     visit = λ w v u rs e d r. at_equal (λ s. Ask (a_visit v e) s Give) (Q.visit u) r (at_equal (λ s. Ask (a_visit v e) s Give) (λ x. Q.visit x e) (visits_equal rs) (asked One (a_visit v e) (Q.visit v e) (λ s. refl)));
   }
 
   -- the steps of all parts
-  steps_linked : Linked (planned tables inputs) (labelled tables inputs) performed (step (planned tables inputs) (asking tables inputs)) (step (labelled tables inputs) Q)
-  steps_linked = step_linked (planned tables inputs) (labelled tables inputs) performed (asking tables inputs) Q asking_linked
+  steps_linked : Linked (planned tables inputs functions) (labelled tables inputs functions) performed (step (planned tables inputs functions) (asking tables inputs functions)) (step (labelled tables inputs functions) Q)
+  steps_linked = step_linked (planned tables inputs functions) (labelled tables inputs functions) performed (asking tables inputs functions) Q asking_linked
 
   -- the plan of a part, performed with the meaning of its parts, is the step of the part
-  pub perform_step : (part : Part) (s : State) → perform (of_rec tables inputs Q) (plan tables inputs part s) ≡ of_rec tables inputs (step (labelled tables inputs) Q) part s
+  pub perform_step : (part : Part) (s : State) → perform (of_rec tables inputs functions Q) (plan tables inputs functions part s) ≡ of_rec tables inputs functions (step (labelled tables inputs functions) Q) part s
   unfolding performed plan
   perform_step (an_expr e i) s = (steps_linked.expr e tt i i refl).same s
   perform_step (a_use use_as e i) s = (steps_linked.use_of use_as e tt i i refl).same s
   perform_step (a_stmt stmt e) s = (steps_linked.stmt stmt tt e e refl).same s
+  perform_step (a_named labels stmt e) s = (steps_linked.named labels stmt tt e e refl).same s
   perform_step (a_turn round e) s = (steps_linked.turn round tt e e refl).same s
   perform_step (a_visit visit e) s = (steps_linked.visit tt visit visit (visits_of refl) e e refl).same s
 
   -- and changes no turns
-  pub plan_keeps : (part : Part) (s : State) → Keeps s.turns (plan tables inputs part s)
+  pub plan_keeps : (part : Part) (s : State) → Keeps s.turns (plan tables inputs functions part s)
   unfolding performed plan
   plan_keeps (an_expr e i) s = (steps_linked.expr e tt i i refl).keeps s
   plan_keeps (a_use use_as e i) s = (steps_linked.use_of use_as e tt i i refl).keeps s
   plan_keeps (a_stmt stmt e) s = (steps_linked.stmt stmt tt e e refl).keeps s
+  plan_keeps (a_named labels stmt e) s = (steps_linked.named labels stmt tt e e refl).keeps s
   plan_keeps (a_turn round e) s = (steps_linked.turn round tt e e refl).keeps s
   plan_keeps (a_visit visit e) s = (steps_linked.visit tt visit visit (visits_of refl) e e refl).keeps s
 
   -- that of a program
-  program_performed : (program : Statements) → Lift One (program_plan tables inputs program) (statements (labelled tables inputs) Q program (outermost_env 0))
+  program_performed : (program : Statements) → Lift One (program_plan tables inputs functions program) (begun (labelled tables inputs functions) Q (may_declare program) program (outermost_env 0))
   unfolding performed program_plan
-  program_performed program = statements_linked (planned tables inputs) (labelled tables inputs) performed (asking tables inputs) Q asking_linked program refl
+  program_performed program = begun_linked (planned tables inputs functions) (labelled tables inputs functions) performed (asking tables inputs functions) Q asking_linked (may_declare program) program refl
 
   -- performed with the meaning of the parts it is the program's step
-  pub perform_program : (program : Statements) (s : State) → perform (of_rec tables inputs Q) (program_plan tables inputs program s) ≡ untyped One (statements (labelled tables inputs) Q program (outermost_env 0) s)
+  pub perform_program : (program : Statements) (s : State) → perform (of_rec tables inputs functions Q) (program_plan tables inputs functions program s) ≡ untyped One (begun (labelled tables inputs functions) Q (may_declare program) program (outermost_env 0) s)
   perform_program program s = (program_performed program).same s
 
   -- and changes no turns
-  pub program_keeps : (program : Statements) (s : State) → Keeps s.turns (program_plan tables inputs program s)
+  pub program_keeps : (program : Statements) (s : State) → Keeps s.turns (program_plan tables inputs functions program s)
   program_keeps program s = (program_performed program).keeps s

@@ -6,7 +6,7 @@ use Rattle.flow_policy.specs.Inputs.{Given}
 use Rattle.flow_frames.specs.declared.faults.Rule.{Rule}
 use Rattle.flow_frames.specs.Frames.{context}
 use Rattle.flow_frames.specs.Held.{meant_at}
-use Rattle.flow_frames.specs.Rules.{jump_need}
+use Rattle.flow_frames.specs.Rules.{jump_need, raise_need}
 use Rattle.js_number.specs.declared.primitive.Primitive.{Primitive}
 use Rattle.js_values.specs.declared.value.Value.{Value}
 use Rattle.js_values.specs.declared.value.Value.TheVariants as value
@@ -21,14 +21,17 @@ use Rattle.prototype_walk.specs.declared.plan.PutPlan.{PutPlan}
 use Rattle.prototype_walk.specs.declared.plan.PutPlan.TheVariants.{Write, Add, Setter, Refused}
 use Rattle.prototype_walk.specs.Plans.{can_put}
 use Rattle.js_ast.specs.declared.operators.UnaryOperator.{UnaryOperator}
+use Rattle.js_ast.specs.Trees.{Function}
+use Rattle.js_ast.specs.Functions.{FunctionCode}
 use Rattle.es_meaning.specs.Outcomes as es
-use Rattle.es_meaning.specs.Outcomes.{Outcome, Goes, Jumps, Ends, ret, and_then, ◌>>=◌}
-use Rattle.es_meaning.specs.Operations.{Direct, read, print, lbl, upgs, upge, Act, object_of, base_needed, object_needed, has_key, Ops}
+use Rattle.es_meaning.specs.Environments.{Leaving}
+use Rattle.es_meaning.specs.Outcomes.{Exit, Outcome, Goes, Jumps, Ends, ret, and_then, ◌>>=◌}
+use Rattle.es_meaning.specs.Operations.{Direct, read, print, lbl, upgs, upge, Act, object_of, base_needed, object_needed, has_key, refused_declaration}
 use Rattle.es_meaning.specs.Operators.{unary_of}
 use Rattle.es_meaning.specs.Start.{ErrorKind}
-use Rattle.es_meaning.specs.Plain.{Place, in_record, on_global, nowhere, binding_at}
-use Rattle.flow_meaning.specs.Scopes.{Val, Halt, State, Jump, L, guard, raise, reached, jump_to, jump}
-use Rattle.flow_meaning.specs.Tracked.{ends, with_error, throw_error, given, unless_object, seen, Reference, of_name, of_property, global_walk, bound, held, found_globally, found, property_of, named, get_value, typeof_value, assigned, assigned_to, acted, put_by, put_on, is_element_of, put, put_property, put_named, put_value, removed_if, removed_own, removed_in, remove_property, remove, make_object, needed, has, act, raise_structure, raise_existence, raise_of, raise_at, read_channel, print_value, print_channel, label_by, direct, labelled}
+use Rattle.es_meaning.specs.Plain.{Place, in_record, on_global, nowhere, prototype_name, binding_at}
+use Rattle.flow_meaning.specs.Scopes.{Val, Halt, State, Jump, L, guard, raise, reached, jump_to, jump, raise_frame, frame_of, quiet, Came, ended, caught, resume}
+use Rattle.flow_meaning.specs.Tracked.{ends, with_error, throw_error, given, unless_object, seen, Reference, of_name, of_property, global_walk, bound, held, found_globally, found, property_of, named, get_value, typeof_value, assigned, assigned_to, acted, put_by, put_on, is_element_of, put, put_property, put_named, put_value, removed_if, removed_own, removed_in, remove_property, remove, make_object, needed, has, act, make_function, is_instance, instance_of, instance_if, jumps_to, raises, raised_by, raise_structure, raise_existence, raise_of, raise_at, read_channel, print_value, print_channel, label_by, direct, labelled}
 
 -- the state with so many turns left
 abbrev pub with_turns : ℕ → State → State
@@ -94,7 +97,7 @@ jump_steady X cause j = record {
 }
 
 -- an exception of the engine
-throws_steady : (X : Type 0) (kind : ErrorKind) (cause : Label) → Steady {X = X} (throw_error kind cause)
+pub throws_steady : (X : Type 0) (kind : ErrorKind) (cause : Label) → Steady {X = X} (throw_error kind cause)
 unfolding throw_error
 throws_steady X kind cause = record { steady = λ n s. (jump_steady X cause _).steady n (with_error kind s) }
 
@@ -256,20 +259,72 @@ act_steady (object_of keys) vs = make_steady keys vs
 act_steady base_needed vs = needed_steady _ _
 act_steady object_needed vs = needed_steady _ _
 act_steady has_key vs = has_steady _ _ _
+act_steady refused_declaration vs = throws_steady Val _ _
 
 -- the innermost frame is raised
 pub raise_steady : (label : Label) → Steady (raise label)
 unfolding raise
 raise_steady label = record { steady = λ n s. refl }
 
-module _ (tables : Tables) (inputs : Given) where
-  -- the labelled meaning
-  abbrev A : Ops
-  A = labelled tables inputs
+-- ---- functions, jumps and directives
 
+-- a function is made
+pub function_steady : (functions : List FunctionCode) (f : Function) (i : ℕ) → Steady (make_function functions f i)
+unfolding make_function
+function_steady functions f i = record { steady = λ n s. refl }
+
+-- `instanceof`
+is_instance_steady : (label : Label) (o : ℕ) (v : Value) → Steady (is_instance label o v)
+unfolding is_instance
+is_instance_steady label o (value.Primitive p) = record { steady = λ n s. (throws_steady Val _ _).steady n s }
+is_instance_steady label o (value.Object proto) = record { steady = λ n s. refl }
+
+instance_of_steady : (v : Val) (base : Value) (f : Val) → Steady (instance_of v base f)
+unfolding instance_of
+instance_of_steady v (value.Primitive p) f = record { steady = λ n s. refl }
+instance_of_steady v (value.Object o) f = record { steady = λ n s. (bind_steady _ (property_steady f.label f.value prototype_name) (λ proto. is_instance_steady _ o.0 proto.value)).steady n s }
+
+pub instance_steady : (b : Bool) (v f : Val) → Steady (instance_if b v f)
+unfolding instance_if
+instance_steady true v f = record { steady = λ n s. (instance_of_steady v v.value f).steady n s }
+instance_steady false v f = record { steady = λ n s. (throws_steady Val _ _).steady n s }
+
+-- a jump to where it aims
+pub jumps_steady : (to : Option (Exit × ℕ)) (v : Val) → Steady (jumps_to to v)
+unfolding jumps_to
+jumps_steady None v = record { steady = λ n s. refl }
+jumps_steady (Some to) v = record { steady = λ n s. (jump_steady (Unit {0}) _ _).steady n s }
+
+-- a directive
+frame_steady : (depth : ℕ) (label : Label) → Steady (raise_frame depth label)
+unfolding raise_frame
+frame_steady depth label = record { steady = λ n s. (guard_steady (within (raise_need s.frames depth) (meant_at s.frames depth)) _ _ _ (record { steady = λ n s. refl })).steady n s }
+
+raises_steady : (leaving : Leaving) (to : Option (Exit × ℕ)) (label : Label) → Steady (raises leaving to label)
+unfolding raises
+raises_steady leaving None label = record { steady = λ n s. refl }
+raises_steady leaving (Some to) label = record { steady = λ n s. (frame_steady (frame_of leaving to.1 s.frames) label).steady n s }
+
+-- the innermost frame catches no longer, and a jump that waited is issued again
+pub quiet_steady : Steady quiet
+unfolding quiet
+quiet_steady = record { steady = λ n s. refl }
+
+pub resume_steady : (how : Came (Unit {0})) → Steady (resume how tt)
+unfolding resume
+resume_steady (ended u) = record { steady = λ n s. refl }
+resume_steady (caught j) = record { steady = λ n s. (jump_steady (Unit {0}) _ _).steady n s }
+
+module _ (tables : Tables) (inputs : Given) where
   -- an operator in front of a value
-  pub unary_steady : (o : UnaryOperator) (v : Val) → Steady (A.unary o v)
-  unary_steady o v = record { steady = λ n s. (given_steady v.label (unary_of o (seen s.heap v.value))).steady n s }
+  pub unary_steady : (functions : List FunctionCode) (o : UnaryOperator) (v : Val) → Steady ((labelled tables inputs functions).unary o v)
+  unary_steady functions o v = record { steady = λ n s. (given_steady v.label (unary_of o (seen s.heap v.value))).steady n s }
+
+  -- a directive names origins
+  pub raised_steady : (leaving : Leaving) (to : Option (Exit × ℕ)) (os : Option (List ℕ)) → Steady (raised_by tables inputs leaving to os)
+  unfolding raised_by
+  raised_steady leaving to None = record { steady = λ n s. refl }
+  raised_steady leaving to (Some os) = record { steady = λ n s. (raises_steady leaving to _).steady n s }
 
   -- a line is read
   read_steady : (i : Option ℕ) (name : Label) → Steady (read_channel tables inputs i name)

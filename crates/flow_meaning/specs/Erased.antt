@@ -45,24 +45,45 @@ module _ {T : Type 0} where
   erased_records [] = []
   erased_records (r ∷ records) = erased_record r ∷ erased_records records
 
--- ---- what is unlabelled, with empty labels
+-- ---- what is unlabelled, with a label wherever one stands: so it is made in a context
+
+abbrev pub labelled_by : Label → Value → Labelled Label
+labelled_by label v = record { value = v; label = label }
+
+abbrev pub labelled_values : Label → List Value → List (Labelled Label)
+labelled_values label [] = []
+labelled_values label (v ∷ vs) = labelled_by label v ∷ labelled_values label vs
+
+abbrev pub made_rows : Label → Rows Property → Rows (Slot Label)
+made_rows label [] = []
+made_rows label (r ∷ rows) = (r.0, record { body = r.1.body; label = label; existence = label; marks = r.1.marks }) ∷ made_rows label rows
+
+abbrev pub made_inner : Label → PlainInner → Inner Label
+made_inner label plain = Plain
+made_inner label (script function env) = Script function env
+made_inner label (native which) = Native which
+made_inner label (bound target this args) = Bound target label (labelled_by label this) (labelled_values label args)
+
+abbrev pub made_object : Label → PlainObject → Object Label
+made_object label p = record { class = p.class; inner = made_inner label p.inner; proto = p.proto; link = label; structure = label; extensible = p.extensible; rows = made_rows label p.rows }
+
+abbrev pub made_objects : Label → List PlainObject → List (Object Label)
+made_objects label [] = []
+made_objects label (p ∷ objects) = made_object label p ∷ made_objects label objects
+
+-- ---- with empty labels
 
 abbrev pub unlabelled : Value → Labelled Label
-unlabelled v = record { value = v; label = bottom }
+unlabelled v = labelled_by bottom v
 
 abbrev pub unlabelled_rows : Rows Property → Rows (Slot Label)
-unlabelled_rows [] = []
-unlabelled_rows (r ∷ rows) = (r.0, record { body = r.1.body; label = bottom; existence = bottom; marks = r.1.marks }) ∷ unlabelled_rows rows
+unlabelled_rows rows = made_rows bottom rows
 
--- an object that a run starts with is neither a function of the script nor one that calls another
 abbrev pub unlabelled_inner : PlainInner → Inner Label
-unlabelled_inner plain = Plain
-unlabelled_inner (native which) = Native which
-unlabelled_inner _ = Plain
+unlabelled_inner inner = made_inner bottom inner
 
 abbrev pub unlabelled_object : PlainObject → Object Label
-unlabelled_object p = record { class = p.class; inner = unlabelled_inner p.inner; proto = p.proto; link = bottom; structure = bottom; extensible = p.extensible; rows = unlabelled_rows p.rows }
+unlabelled_object p = made_object bottom p
 
 abbrev pub unlabelled_heap : List PlainObject → List (Object Label)
-unlabelled_heap [] = []
-unlabelled_heap (p ∷ heap) = unlabelled_object p ∷ unlabelled_heap heap
+unlabelled_heap heap = made_objects bottom heap

@@ -1,4 +1,6 @@
 pub mod Erased
+pub mod FunctionRows
+pub mod JumpRows
 pub mod Laws
 pub mod ObjectRows
 pub mod Planned

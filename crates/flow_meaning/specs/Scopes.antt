@@ -1,14 +1,14 @@
 -- The labelled state, and computations that open and leave frames under the flow rules. Frames say what decides that the run is where it is.
-use Rattle.std.specs.Prelude.{ℕ, suc, ◌-◌, List, [], ◌∷◌, ◌++◌, Bool, true, false, length, take, drop, nat_lt, Option, if◌then◌else◌}
+use Rattle.std.specs.Prelude.{ℕ, suc, ◌-◌, ◌&&◌, List, [], ◌∷◌, ◌++◌, Bool, true, false, length, take, drop, nat_lt, Option, if◌then◌else◌}
 use Rattle.origin_labels.specs.Label.{Label, bottom, union, within}
 use Rattle.flow_frames.specs.declared.kind.Kind.{Kind}
 use Rattle.flow_frames.specs.declared.kind.Kind.TheVariants as kind
 use Rattle.flow_frames.specs.declared.faults.Rule.{Rule}
-use Rattle.flow_frames.specs.declared.faults.Rule.TheVariants.{W9}
+use Rattle.flow_frames.specs.declared.faults.Rule.TheVariants.{W9, W10}
 use Rattle.flow_frames.specs.Frames.{Frame}
 use Rattle.flow_frames.specs.Held.{meant_at}
-use Rattle.flow_frames.specs.Changes.{pushed, raised}
-use Rattle.flow_frames.specs.Rules.{jump_need}
+use Rattle.flow_frames.specs.Changes.{pushed, raised, changed_at}
+use Rattle.flow_frames.specs.Rules.{jump_need, raise_need}
 use Rattle.js_values.specs.declared.value.Labelled.{Labelled}
 use Rattle.js_values.specs.Objects.{Object}
 use Rattle.js_values.specs.Records.{Record}
@@ -16,8 +16,8 @@ use Rattle.es_meaning.specs.Outcomes as es
 use Rattle.es_meaning.specs.Outcomes.{Exit, Outcome, Goes, Jumps, Ends, From, ret, and_then, ◌>>=◌}
 use Rattle.es_meaning.specs.Operations.{Ty, One, Value, Res}
 use Rattle.es_meaning.specs.Operators.{truth}
-use Rattle.es_meaning.specs.Environments.{Env, with_around}
-use Rattle.es_meaning.specs.Plain.{Line, undefined, choose}
+use Rattle.es_meaning.specs.Environments.{Env, with_around, Leaving, thrown, returned, left_by}
+use Rattle.es_meaning.specs.Plain.{Line, undefined, choose, is_throw, object_or}
 use Rattle.flow_meaning.specs.Erased.{unlabelled}
 
 -- a value with the origins that it depends on
@@ -101,6 +101,23 @@ jump_to depth cause j s = under W9 (jump_need s.frames depth cause) (meant_at s.
 unfoldable pub jump : {X : Type 0} → Label → Jump → L X
 jump cause j s = jump_to (reached j.to s.frames) cause j s
 
+-- an upgrade directive raises the frame at a depth, if rule W10 allows it
+unfoldable pub raise_frame : ℕ → Label → L (Unit {0})
+raise_frame depth label s = under W10 (raise_need s.frames depth) (meant_at s.frames depth) (λ t. Goes tt (record t { frames = raised t.frames depth label })) s
+
+-- it speaks of the frame to which such a jump goes: a throw goes to the one that catches it
+abbrev pub frame_of : Leaving → ℕ → List Frame → ℕ
+frame_of thrown to frames = reached to frames
+frame_of returned to frames = to
+frame_of (left_by turn label) to frames = to
+
+-- the innermost frame catches no longer
+abbrev pub quieted_in : State → State
+quieted_in s = record s { frames = changed_at (λ f. record f { active = false }) s.frames (innermost s.frames) }
+
+unfoldable pub quiet : L (Unit {0})
+quiet s = Goes tt (quieted_in s)
+
 -- ---- scopes
 
 -- how the end of a frame was come to: by its end, or by a jump that reached it
@@ -118,6 +135,12 @@ unfoldable pub popped : {X : Type 0} → ℕ → Outcome Halt Jump X State → O
 popped depth (Goes a s) = Goes (record { label = meant_at s.frames depth; how = ended a }) (cut_to depth s)
 popped depth (Jumps j s) = choose (nat_lt depth (length s.frames)) (Goes (record { label = meant_at s.frames depth; how = caught j }) (cut_to depth s)) (Jumps j (cut_to depth s))
 popped depth (Ends halt s) = Ends halt s
+
+-- a jump that has reached the frame at a depth stays there, and else passes
+unfoldable pub stay : {X : Type 0} → ℕ → Outcome Halt Jump X State → Outcome Halt Jump (Came X) State
+stay depth (Goes a s) = Goes (ended a) s
+stay depth (Jumps j s) = choose (nat_lt depth (length s.frames)) (Goes (caught j) s) (Jumps j s)
+stay depth (Ends halt s) = Ends halt s
 
 -- what is done in a frame of its own, which is told the frame's depth
 abbrev pub scope : {X : Type 0} → Kind → Label → (ℕ → L X) → L (Left X)
@@ -150,3 +173,42 @@ round turn labels e k = scope (round_kind turn) bottom (λ depth. k (with_around
 -- a condition raises the frame of its loop
 abbrev pub again : Val → L (Unit {0}) → L (Unit {0}) → L (Unit {0})
 again v m n = raise v.label >>= λ u. choose (truth v.value) m n
+
+-- ---- calls: the result has the frame's label
+
+-- what is returned, or undefined
+abbrev pub given_back : Came (Unit {0}) → Val
+given_back (ended u) = unlabelled undefined
+given_back (caught j) = j.value
+
+abbrev pub answer : Left (Unit {0}) → Val
+answer c = joined c.label (given_back c.how)
+
+-- an object that the function returns stands for the one that was made, of which this is the number. That a primitive is returned depends on its label
+abbrev pub made_or : ℕ → Val → Val
+made_or fresh v = record { value = object_or fresh v.value; label = v.label }
+
+abbrev pub construction : ℕ → Left (Unit {0}) → Val
+construction fresh c = joined c.label (made_or fresh (given_back c.how))
+
+-- ---- `try`: all of it is done in one frame, which is active while its block is, and while a handler is behind which something is done last
+
+-- what is thrown is handled, if there is a handler
+unfoldable pub react : Bool → Bool → (Val → L (Unit {0})) → ℕ → Came (Unit {0}) → L (Came (Unit {0}))
+react handles finishes handler depth (ended u) = ret (ended u)
+react handles finishes handler depth (caught j) = choose (handles && is_throw j.exit) (choose finishes (ret tt) quiet >>= λ u s. stay depth (handler j.value s)) (ret (caught j))
+
+-- a jump that waited is issued again, from inside the frame
+unfoldable pub resume : Came (Unit {0}) → Unit {0} → L (Unit {0})
+resume (ended u) v = ret tt
+resume (caught j) v = jump bottom j
+
+-- what is done last
+unfoldable pub finish : Bool → L (Unit {0}) → Came (Unit {0}) → L (Unit {0})
+finish finishes last how = quiet >>= λ u. choose finishes last (ret tt) >>= resume how
+
+abbrev pub tried : Bool → Bool → L (Unit {0}) → (Val → L (Unit {0})) → L (Unit {0}) → ℕ → L (Unit {0})
+tried handles finishes block handler last depth = (λ s. stay depth (block s)) >>= react handles finishes handler depth >>= finish finishes last
+
+abbrev pub attempt : Bool → Bool → L (Unit {0}) → (Val → L (Unit {0})) → L (Unit {0}) → L (Unit {0})
+attempt handles finishes block handler last = scope kind.Try bottom (tried handles finishes block handler last) >>= λ c. ret tt

@@ -1,5 +1,5 @@
 -- The labelled meaning: the evaluator over values with labels, under the flow rules.
-use Rattle.std.specs.Prelude.{ℕ, zero, suc, List, [], ◌∷◌, ◌++◌, Bool, true, false, length, replicate, map, Option, Some, None, Result, Ok, Err, slice_get}
+use Rattle.std.specs.Prelude.{ℕ, zero, suc, pos, nat_eq, if◌then◌else◌, List, [], ◌∷◌, ◌++◌, Bool, true, false, length, replicate, map, Option, Some, None, Result, Ok, Err, slice_get}
 use Rattle.origin_labels.specs.Label.{Label, bottom, union, label_of}
 use Rattle.flow_policy.specs.declared.policy.Channel.{Channel}
 use Rattle.flow_policy.specs.Policies.{Tables}
@@ -10,7 +10,7 @@ use Rattle.flow_frames.specs.declared.faults.Rule.TheVariants.{W1, W2, W11, W12}
 use Rattle.flow_frames.specs.Frames.{context}
 use Rattle.flow_frames.specs.Changes.{pushed}
 use Rattle.js_number.specs.declared.primitive.Primitive.{Primitive}
-use Rattle.js_number.specs.declared.primitive.Primitive.TheVariants.{Undefined, Null}
+use Rattle.js_number.specs.declared.primitive.Primitive.TheVariants.{Undefined, Null, Num, Str}
 use Rattle.js_number.specs.declared.primitive.Primitive.TheVariants as prims
 use Rattle.js_number.specs.Conversions.{text_of}
 use Rattle.js_values.specs.declared.value.Value.{Value}
@@ -19,7 +19,7 @@ use Rattle.js_values.specs.declared.property.Body.{Body}
 use Rattle.js_values.specs.declared.property.Body.TheVariants.{Data, Accessor}
 use Rattle.js_values.specs.declared.property.Slot.{Slot}
 use Rattle.js_values.specs.declared.inner.Class.TheVariants as class
-use Rattle.js_values.specs.declared.inner.Inner.TheVariants.{Plain}
+use Rattle.js_values.specs.declared.inner.Inner.TheVariants.{Plain, Script}
 use Rattle.js_values.specs.Objects.{Object, own, fresh_object}
 use Rattle.js_values.specs.Records.{Binding, lookup, Record}
 use Rattle.js_values.specs.Walks.{Found, find, object_chain}
@@ -29,17 +29,22 @@ use Rattle.prototype_walk.specs.declared.plan.PutPlan.{PutPlan}
 use Rattle.prototype_walk.specs.declared.plan.PutPlan.TheVariants.{Write, Add, Setter, Refused}
 use Rattle.prototype_walk.specs.Plans.{can_put}
 use Rattle.prototype_walk.specs.KeyLists.{Keys, keys}
-use Rattle.js_ast.specs.Trees.{Statements}
+use Rattle.js_ast.specs.Trees.{Function, name_of, body_of, Statements}
+use Rattle.js_ast.specs.Functions.{FunctionCode, functions_of}
 use Rattle.es_meaning.specs.Outcomes as es
-use Rattle.es_meaning.specs.Outcomes.{throws, left, out_of_turns, Ending, done, threw, halted, Outcome, Goes, Jumps, Ends, ret, ◌>>=◌}
-use Rattle.es_meaning.specs.Operations.{Res, Direct, read, print, lbl, upgs, upge, Act, object_of, base_needed, object_needed, has_key, Ops}
+use Rattle.es_meaning.specs.Outcomes.{Exit, throws, left, out_of_turns, Ending, done, threw, halted, Outcome, Goes, Jumps, Ends, ret, ◌>>=◌}
+use Rattle.es_meaning.specs.Environments.{Env, with_place, called_env, Leaving, aimed}
+use Rattle.es_meaning.specs.Operations.{Res, Direct, read, print, lbl, upgs, upge, Act, object_of, base_needed, object_needed, has_key, refused_declaration, Ops}
 use Rattle.es_meaning.specs.Operators.{Seen, a_primitive, an_object, is_object, converts_beside, unary_of, binary_of, not_built}
 use Rattle.es_meaning.specs.Evaluation.{Timed, program_step}
+use Rattle.es_meaning.specs.Declared.{declared_functions}
+use Rattle.es_meaning.specs.Naming.{names_in_statements}
+use Rattle.es_meaning.specs.Functions.{env_id, function_objects, objects_of, references_of, behind_functions, closes_over, own_name, Callee, not_callable, empty_callee, of_script, unbuilt_callee, is_function, callee_of, arguments_rows, binds, entry_record, made_if}
 use Rattle.es_meaning.specs.Objects.{is_element, made_by_script, defined_all}
-use Rattle.es_meaning.specs.Start.{id, ErrorKind, reference_error, type_error, object_prototype, global_object, error_prototype, shown}
-use Rattle.es_meaning.specs.Plain.{undefined, leaves_channels, leaves_origins, leaves_wrappers, argument_or, others, channel_of, origins_of, value_read, positions_behind, line_at, channel_name, seen_of, first_heap, outermost, outermost_env, assigned_in, Place, in_record, on_global, nowhere, place_from, key_text, binding_at, is_coercible, is_found}
-use Rattle.flow_meaning.specs.Erased.{erased_heap, unlabelled, unlabelled_heap}
-use Rattle.flow_meaning.specs.Scopes.{Val, joined, LabelledLine, Halt, as_plain, stopped, State, Jump, L, under, raise, jump, fork, round, again}
+use Rattle.es_meaning.specs.Start.{id, built_in, ErrorKind, reference_error, type_error, object_prototype, global_object, error_prototype, shown}
+use Rattle.es_meaning.specs.Plain.{undefined, leaves_channels, leaves_origins, leaves_wrappers, argument_or, others, channel_of, origins_of, value_read, positions_behind, line_at, channel_name, seen_of, first_heap, may_declare, outermost, outermost_env, value_in, prototype_name, object_or_default, assigned_in, Place, in_record, on_global, nowhere, place_from, key_text, binding_at, is_coercible, is_found}
+use Rattle.flow_meaning.specs.Erased.{erased_inner, erased_heap, labelled_by, labelled_values, made_objects, unlabelled, unlabelled_heap}
+use Rattle.flow_meaning.specs.Scopes.{Val, joined, LabelledLine, Halt, as_plain, stopped, State, Jump, L, under, raise, jump, raise_frame, frame_of, scope, fork, round, again, answer, construction, attempt}
 
 abbrev pub ends : {X : Type 0} → es.Halt → L X
 ends halt s = Ends (as_plain halt) s
@@ -275,7 +280,157 @@ unfoldable pub act : Act → List Val → L Val
 act (object_of keys) vs = make_object keys vs
 act base_needed vs = needed (is_coercible (argument 0 vs).value) (argument 0 vs)
 act object_needed vs = needed (is_object (argument 0 vs).value) (argument 0 vs)
+act refused_declaration vs = throw_error type_error bottom
 act has_key vs = has (union (argument 0 vs).label (argument 1 vs).label) (key_text (argument 0 vs).value) (argument 1 vs).value
+
+-- ---- functions: what is made depends on the context
+
+-- a function, and a record for its own name
+unfoldable pub make_function : List FunctionCode → Function → ℕ → L Val
+make_function functions f place s =
+    let v = value.Object (id (length s.heap)) in
+    Goes (unlabelled v) (record s {
+      heap = s.heap ++ made_objects (context s.frames) (function_objects functions (length s.heap) (closes_over (name_of f) place (length s.records)) f);
+      records = s.records ++ own_name (name_of f) place (labelled_by (context s.frames) v);
+    })
+
+-- what a value is for a call
+abbrev pub callee_in : List FunctionCode → Option (Object Label) → Callee
+callee_in functions None = not_callable
+callee_in functions (Some p) = callee_of functions p.class (erased_inner p.inner)
+
+unfoldable pub callee_at : List FunctionCode → List (Object Label) → Value → Callee
+callee_at functions heap (value.Primitive p) = not_callable
+callee_at functions heap (value.Object o) = callee_in functions (slice_get heap o.0)
+
+-- the `arguments` object of a call: the arguments have their labels besides
+abbrev pub arguments_object : ℕ → ℕ → List Val → Label → Object Label
+arguments_object number place args label = record (fresh_object class.Arguments (Script number (env_id place)) (Some object_prototype) label label) {
+  rows = arguments_rows (record { body = Data (value.Primitive (Num (pos (length args)))); label = label; existence = label; marks = built_in }) (map (data_slot label) args);
+}
+
+-- a call begins. `this` and the function's number have their own labels, and all else that is bound has the context besides
+unfoldable pub with_call : List FunctionCode → ℕ → Function → ℕ → Val → List Val → State → State
+with_call functions number f place this args s =
+    let here = context s.frames in
+    let declared = declared_functions (body_of f) in
+    record s {
+      heap = s.heap ++ (made_objects here (objects_of functions (length s.heap) (length s.records) declared) ++ made_if (names_in_statements (body_of f)) (arguments_object number (length s.records) args here));
+      records = s.records ++ entry_record f place (record {
+        this = this;
+        function = unlabelled (value.Primitive (Num (pos number)));
+        args = map (joined here) args;
+        missing = labelled_by here undefined;
+        functions = labelled_values here (references_of (length s.heap) declared);
+        arguments = labelled_by here (value.Object (id (behind_functions (length s.heap) declared)));
+      }) ∷ [];
+    }
+
+abbrev pub CallBody : Type 0
+CallBody = Statements → Env ℕ → L (Unit {0})
+
+-- the body is evaluated in the record of the call, whose frame has this depth
+abbrev pub in_call : CallBody → Function → ℕ → ℕ → L (Unit {0})
+in_call body f here depth = body (body_of f) (called_env here depth)
+
+-- in the frame of the call. What can't be called throws, by the label of the value
+unfoldable pub entered : List FunctionCode → Callee → Label → Val → List Val → CallBody → ℕ → L (Unit {0})
+entered functions not_callable label this args body depth s = throw_error type_error label s
+entered functions empty_callee label this args body depth s = Goes tt s
+entered functions unbuilt_callee label this args body depth s = ends (left not_built) s
+entered functions (of_script number f place) label this args body depth s = in_call body f (length s.records) depth (with_call functions number f place this args s)
+
+abbrev pub call : List FunctionCode → Val → Val → List Val → CallBody → L Val
+call functions f this args body = scope kind.Call f.label (λ depth s. entered functions (callee_at functions s.heap f.value) f.label this args body depth s) >>= λ c. ret (answer c)
+
+-- the `prototype` of a function of the script, which is data: it depends on the walk to it and has its value label besides
+abbrev pub value_found : Label → Option (ℕ × Slot Label) → Val
+value_found walk None = labelled_by walk undefined
+value_found walk (Some f) = labelled_by (union walk f.1.label) (value_in f.1.body)
+
+abbrev pub prototype_of : List (Object Label) → Value → Val
+prototype_of heap (value.Primitive p) = unlabelled undefined
+prototype_of heap (value.Object o) = let walk = find prototype_name (object_chain heap o.0) in value_found walk.walk walk.at
+
+-- what `new` makes: its link depends on the value that gave the prototype
+abbrev pub with_fresh : Val → State → State
+with_fresh proto s = record s { heap = s.heap ++ fresh_object class.Object Plain (Some (object_or_default proto.value)) (union (context s.frames) proto.label) (context s.frames) ∷ [] }
+
+unfoldable pub constructed : List FunctionCode → Callee → Val → List Val → CallBody → ℕ → L (Unit {0})
+constructed functions not_callable f args body depth s = throw_error type_error f.label s
+constructed functions empty_callee f args body depth s = throw_error type_error f.label s
+constructed functions unbuilt_callee f args body depth s = ends (left not_built) s
+constructed functions (of_script number code place) f args body depth s =
+    entered functions (of_script number code place) f.label (unlabelled (value.Object (id (length s.heap)))) args body depth (with_fresh (prototype_of s.heap f.value) s)
+
+abbrev pub construct : List FunctionCode → Val → List Val → CallBody → L Val
+construct functions f args body s = (scope kind.Call f.label (λ depth t. constructed functions (callee_at functions t.heap f.value) f args body depth t) >>= λ c. ret (construction (length s.heap) c)) s
+
+-- ---- `instanceof`
+
+abbrev pub is_function_in : Option (Object Label) → Bool
+is_function_in None = false
+is_function_in (Some p) = is_function p.class
+
+abbrev pub is_function_at : List (Object Label) → Value → Bool
+is_function_at heap (value.Primitive p) = false
+is_function_at heap (value.Object o) = is_function_in (slice_get heap o.0)
+
+-- an object and its prototypes: whether a further one is this, and the links up to it
+pub record Linked : Type 0 where
+  pub is : Bool
+  pub links : Label
+
+abbrev pub linked_beyond : Label → Linked → Linked
+linked_beyond link rest = record { is = rest.is; links = union link rest.links }
+
+abbrev pub linked_to : ℕ → ℕ → Label → Linked → Linked
+linked_to proto o link rest = if nat_eq o proto then record { is = true; links = link } else linked_beyond link rest
+
+-- from the link of an object on
+abbrev pub linked_from : ℕ → Label → List (ℕ × Object Label) → Linked
+linked_from proto link [] = record { is = false; links = link }
+linked_from proto link (e ∷ chain) = linked_to proto e.0 link (linked_from proto e.1.link chain)
+
+abbrev pub linked : ℕ → List (ℕ × Object Label) → Linked
+linked proto [] = record { is = false; links = bottom }
+linked proto (e ∷ chain) = linked_from proto e.1.link chain
+
+-- the label is that of both operands and of the read of `prototype`
+unfoldable pub is_instance : Label → ℕ → Value → L Val
+is_instance label o (value.Primitive p) s = throw_error type_error label s
+is_instance label o (value.Object proto) s = let walk = linked proto.0 (object_chain s.heap o) in Goes (truth_of walk.is (union label walk.links)) s
+
+unfoldable pub instance_of : Val → Value → Val → L Val
+instance_of v (value.Primitive p) f s = Goes (truth_of false (union v.label f.label)) s
+instance_of v (value.Object o) f s = (property_of f.label f.value prototype_name >>= λ proto. is_instance (union v.label (union f.label proto.label)) o.0 proto.value) s
+
+unfoldable pub instance_if : Bool → Val → Val → L Val
+instance_if true v f s = instance_of v v.value f s
+instance_if false v f s = throw_error type_error f.label s
+
+-- ---- jumps and directives
+
+unfoldable pub jumps_to : Option (Exit × ℕ) → Val → L (Unit {0})
+jumps_to None v s = Goes tt s
+jumps_to (Some to) v s = jump bottom (record { exit = to.0; to = to.1; value = v }) s
+
+unfoldable pub raises : Leaving → Option (Exit × ℕ) → Label → L (Unit {0})
+raises leaving None label s = Goes tt s
+raises leaving (Some to) label s = raise_frame (frame_of leaving to.1 s.frames) label s
+
+-- ---- what a reference's base is for a call
+
+abbrev pub base_of : Reference → Val
+base_of (of_name name place walk) = unlabelled undefined
+base_of (of_property v key label) = v
+
+-- a record with one name, which has the context besides
+abbrev pub with_name : ℕ → List ℕ → Val → State → State
+with_name place name v s = record s { records = s.records ++ record { outer = Some (env_id place); bindings = binds true name (joined (context s.frames) v) } ∷ [] }
+
+abbrev pub in_own_record : List ℕ → Val → Env ℕ → (Env ℕ → L (Unit {0})) → L (Unit {0})
+in_own_record name v e next s = next (with_place (length s.records) e) (with_name e.place name v s)
 
 module _ (tables : Tables) (inputs : Given) where
   abbrev pub reads : ℕ → Label → L Val
@@ -333,36 +488,13 @@ module _ (tables : Tables) (inputs : Given) where
   direct upgs vs = raise_of (argument 0 vs).value (argument 0 vs).label (others vs)
   direct upge vs = raise_at (argument 0 vs).value (argument 0 vs).label (argument 1 vs) (others (others vs))
 
-  abbrev pub labelled : Ops
-  labelled = record {
-    V = Val;
-    N = Reference;
-    H = ℕ;
-    M = λ t. L (Res Val t);
-    ret = λ t a. ret a;
-    bind = λ t u m f. m >>= f;
-    literal = λ v. unlabelled (value.Primitive v);
-    unary = λ o v s. given v.label (unary_of o (seen s.heap v.value)) s;
-    binary = λ o v u. given (union v.label u.label) (binary_of o v.value u.value);
-    primitive = λ hint v. unless_object (is_object v.value) v;
-    comparable = λ v u. unless_object (converts_beside v.value u.value) v;
-    act = act;
-    direct = direct;
-    unbuilt = λ t. ends (left not_built);
-    resolve = λ t i x k s. k (resolved s.records s.heap i x) s;
-    property = λ v k. of_property v (key_text k.value) k.label;
-    get_value = λ n k. get_value n;
-    typeof_value = λ n k. typeof_value n;
-    put_value = λ n v k. put_value n v;
-    remove = remove;
-    fork = fork;
-    round = round;
-    again = again;
-    keys = λ v next s. with_list (key_list s.heap v.value) v.label next s;
-  }
+  -- a directive names origins
+  abbrev pub named_origins : List (List ℕ) → Option (List ℕ)
+  named_origins names = origins_of tables.origins (map (λ name. value.Primitive (Str name)) names)
 
-  abbrev pub timed : Timed
-  timed = record { ops = labelled; tick = λ s. spend s.turns s; ended = λ t. ends out_of_turns }
+  unfoldable pub raised_by : Leaving → Option (Exit × ℕ) → Option (List ℕ) → L (Unit {0})
+  raised_by leaving to None s = ends (left leaves_origins) s
+  raised_by leaving to (Some origins) s = raises leaving to (label_of origins) s
 
   abbrev pub start : Statements → ℕ → State
   start program turns = record {
@@ -373,6 +505,47 @@ module _ (tables : Tables) (inputs : Given) where
     lines = [];
     turns = turns;
   }
+
+  module _ (functions : List FunctionCode) where
+    abbrev pub labelled : Ops
+    labelled = record {
+      V = Val;
+      N = Reference;
+      H = ℕ;
+      M = λ t. L (Res Val t);
+      ret = λ t a. ret a;
+      bind = λ t u m f. m >>= f;
+      literal = λ v. unlabelled (value.Primitive v);
+      unary = λ o v s. given v.label (unary_of o (seen s.heap v.value)) s;
+      binary = λ o v u. given (union v.label u.label) (binary_of o v.value u.value);
+      primitive = λ hint v. unless_object (is_object v.value) v;
+      comparable = λ v u. unless_object (converts_beside v.value u.value) v;
+      act = act;
+      direct = direct;
+      function = make_function functions;
+      jump = λ leaving e v. jumps_to (aimed 0 leaving e) v;
+      raise = λ leaving e names. raised_by leaving (aimed 0 leaving e) (named_origins names);
+      unbuilt = λ t. ends (left not_built);
+      resolve = λ t i x k s. k (resolved s.records s.heap i x) s;
+      property = λ v k. of_property v (key_text k.value) k.label;
+      get_value = λ n k. get_value n;
+      typeof_value = λ n k. typeof_value n;
+      put_value = λ n v k. put_value n v;
+      remove = remove;
+      this_of = base_of;
+      instance = λ v f k s. instance_if (is_function_at s.heap f.value) v f s;
+      fork = fork;
+      round = round;
+      again = again;
+      keys = λ v next s. with_list (key_list s.heap v.value) v.label next s;
+      declare = in_own_record;
+      call = call functions;
+      construct = construct functions;
+      attempt = attempt;
+    }
+
+    abbrev pub timed : Timed
+    timed = record { ops = labelled; tick = λ s. spend s.turns s; ended = λ t. ends out_of_turns }
 
 -- the labelled lines of a run and how it ends
 pub record Run : Type 0 where
@@ -386,4 +559,4 @@ run_of (Ends halt s) = record { lines = s.lines; ending = halted halt }
 
 -- what a monitored script prints and how it ends, with so many turns
 unfoldable pub tracked_run : Tables → Given → Statements → ℕ → Run
-tracked_run tables inputs program turns = run_of (program_step (timed tables inputs) turns program (outermost_env 0) (start tables inputs program turns))
+tracked_run tables inputs program turns = run_of (program_step (timed tables inputs (functions_of program)) turns (may_declare program) program (outermost_env 0) (start tables inputs program turns))

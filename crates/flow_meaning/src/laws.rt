@@ -1,5 +1,7 @@
 //! The laws of the meaning, as functions that do nothing.
 
+ghost use Rattle.flow_meaning.specs.FunctionRows.{WorkedRows as FunctionRows};
+ghost use Rattle.flow_meaning.specs.JumpRows.{WorkedRows as JumpRows};
 ghost use Rattle.flow_meaning.specs.Laws.{MoreTurns, IsPerformed};
 ghost use Rattle.flow_meaning.specs.ObjectRows.{WorkedRows as ObjectRows};
 ghost use Rattle.flow_meaning.specs.Rows.{WorkedRows};
@@ -18,4 +20,6 @@ pub fn performed()
 pub fn rows()
     ensures scripts { WorkedRows }
     ensures objects { ObjectRows }
+    ensures functions { FunctionRows }
+    ensures jumps { JumpRows }
 {}

@@ -1,11 +1,11 @@
 -- What a labelled run keeps of its lines: each is on an output channel. The operations, linked with themselves, keep it.
-use Rattle.std.proofs.Common.{◌≡◌, ℕ, zero, suc, ◌<◌, Bool, true, false, nat_lt, List, [], ◌∷◌, ◌++◌, length, get_or, Option, Some, None, Result, Ok, Err, slice_get, refl, sym, ap, subst, ◌∙◌, inl, inr, arith}
+use Rattle.std.proofs.Common.{◌≡◌, ℕ, zero, suc, ◌<◌, Bool, true, false, ◌&&◌, nat_lt, List, [], ◌∷◌, ◌++◌, length, get_or, Option, Some, None, Result, Ok, Err, slice_get, refl, sym, ap, subst, ◌∙◌, inl, inr, arith}
 use Rattle.std.specs.Prelude.{is_some}
 use Rattle.std.specs.List.{list_all, find, position}
 use Rattle.std.proofs.lemmas.Bool.{and_parts, and_from}
 use Rattle.std.proofs.lemmas.List.Quantifiers.{position-Some}
 use Rattle.std.proofs.lemmas.Option.{slice_get_cases}
-use Rattle.origin_labels.specs.Label.{Label, bottom, union}
+use Rattle.origin_labels.specs.Label.{Label, bottom, union, label_of}
 use Rattle.origin_labels.specs.Names.{same_name}
 use Rattle.flow_policy.specs.declared.policy.Channel.{Channel}
 use Rattle.flow_policy.specs.Policies.{Tables, channel_named}
@@ -14,7 +14,7 @@ use Rattle.flow_policy.proofs.ViewLaws.{named_is}
 use Rattle.flow_frames.specs.declared.kind.Kind.{Kind}
 use Rattle.flow_frames.specs.declared.kind.Kind.TheVariants as kind
 use Rattle.flow_frames.specs.declared.faults.Rule.{Rule}
-use Rattle.flow_frames.specs.declared.faults.Rule.TheVariants.{W1, W2, W9, W11, W12}
+use Rattle.flow_frames.specs.declared.faults.Rule.TheVariants.{W1, W2, W9, W10, W11, W12}
 use Rattle.js_number.specs.declared.primitive.Primitive.{Primitive}
 use Rattle.js_number.specs.declared.primitive.Primitive.TheVariants as prims
 use Rattle.js_values.specs.declared.value.Value.{Value}
@@ -28,19 +28,21 @@ use Rattle.object_heap.specs.Acts.{Acted}
 use Rattle.prototype_walk.specs.declared.plan.PutPlan.{PutPlan}
 use Rattle.prototype_walk.specs.declared.plan.PutPlan.TheVariants.{Write, Add, Setter, Refused}
 use Rattle.prototype_walk.specs.KeyLists.{Keys}
-use Rattle.js_ast.specs.Trees.{Statements}
+use Rattle.js_ast.specs.Trees.{Statements, Function, body_of}
+use Rattle.js_ast.specs.Functions.{FunctionCode, functions_of}
 use Rattle.es_meaning.specs.Outcomes as es
-use Rattle.es_meaning.specs.Outcomes.{left, out_of_turns, Outcome, Goes, Jumps, Ends, ret, and_then, ◌>>=◌}
-use Rattle.es_meaning.specs.Environments.{Env, with_around}
-use Rattle.es_meaning.specs.Operations.{Ty, One, Res, Direct, read, print, lbl, upgs, upge, Act, object_of, base_needed, object_needed, has_key}
+use Rattle.es_meaning.specs.Outcomes.{Exit, left, out_of_turns, Outcome, Goes, Jumps, Ends, ret, and_then, ◌>>=◌}
+use Rattle.es_meaning.specs.Environments.{Env, with_around, with_place, called_env, Leaving, aimed}
+use Rattle.es_meaning.specs.Functions.{Callee, not_callable, empty_callee, of_script, unbuilt_callee}
+use Rattle.es_meaning.specs.Operations.{Ty, One, Res, Direct, read, print, lbl, upgs, upge, Act, object_of, base_needed, object_needed, has_key, refused_declaration}
 use Rattle.es_meaning.specs.Operations.{Value as a_value}
 use Rattle.es_meaning.specs.Operators.{is_object, truth, converts_beside, unary_of, binary_of, not_built}
 use Rattle.es_meaning.specs.Evaluation.{program_step}
 use Rattle.es_meaning.specs.Start.{ErrorKind}
-use Rattle.es_meaning.specs.Plain.{leaves_wrappers, choose, key_text, binding_at, outermost_env, channel_of, channel_name, name_at, number_of_channel, Place, in_record, on_global, nowhere}
+use Rattle.es_meaning.specs.Plain.{leaves_wrappers, choose, is_throw, prototype_name, may_declare, key_text, binding_at, outermost_env, channel_of, channel_name, name_at, number_of_channel, Place, in_record, on_global, nowhere}
 use Rattle.es_meaning.proofs.Link.{Rel, Link, program_linked}
-use Rattle.flow_meaning.specs.Scopes.{Val, LabelledLine, Halt, State, Jump, L, guard, raise, jump_to, jump, cut_to, pushed_on, Left, popped, scope, settled, fork, round_kind, round, again}
-use Rattle.flow_meaning.specs.Tracked.{ends, with_error, throw_error, given, unless_object, seen, Reference, of_name, of_property, resolved, bound, held, found_globally, found, property_of, named as value_named, get_value, typeof_value, assigned, assigned_to, acted, put_by, put_on, put, put_property, put_named, put_value, removed_if, removed_own, removed_in, remove_property, remove, make_object, needed, has, key_list, with_list, act, spend, argument, read_channel, print_value, print_channel, label_by, raise_structure, raise_existence, raise_of, raise_at, names_in, direct, labelled, timed, start, run_of, tracked_run}
+use Rattle.flow_meaning.specs.Scopes.{Val, LabelledLine, Halt, State, Jump, L, guard, raise, jump_to, jump, cut_to, pushed_on, Left, Came, ended, caught, popped, stay, scope, settled, fork, round_kind, round, again, answer, construction, raise_frame, quiet, react, resume, finish, tried, attempt}
+use Rattle.flow_meaning.specs.Tracked.{ends, with_error, throw_error, given, unless_object, seen, Reference, of_name, of_property, resolved, bound, held, found_globally, found, property_of, named as value_named, get_value, typeof_value, assigned, assigned_to, acted, put_by, put_on, put, put_property, put_named, put_value, removed_if, removed_own, removed_in, remove_property, remove, make_object, needed, has, key_list, with_list, act, spend, argument, read_channel, print_value, print_channel, label_by, raise_structure, raise_existence, raise_of, raise_at, names_in, direct, labelled, timed, start, run_of, tracked_run, make_function, CallBody, entered, with_call, call, callee_at, constructed, with_fresh, prototype_of, construct, is_function_at, is_instance, instance_of, instance_if, jumps_to, raises, raised_by, named_origins, with_name}
 use Rattle.low_equal.specs.Runs.{state_of}
 
 -- ---- names of output channels
@@ -343,6 +345,7 @@ module _ (tables : Tables) (inputs : Given) where
   act_keeping : (a : Act) (vs : List Val) → Keeping (act a vs)
   unfolding act
   act_keeping (object_of keys) vs = record { keeps = λ s h. made_keeps keys vs s h }
+  act_keeping refused_declaration vs = record { keeps = λ s h. throw_keeps _ _ _ s h }
   act_keeping base_needed vs = record { keeps = λ s h. needed_keeps _ (argument 0 vs) s h }
   act_keeping object_needed vs = record { keeps = λ s h. needed_keeps _ (argument 0 vs) s h }
   act_keeping has_key vs = record { keeps = λ s h. has_keeps _ _ (argument 1 vs).value s h }
@@ -416,6 +419,106 @@ module _ (tables : Tables) (inputs : Given) where
   direct_keeping upgs vs = raise_of_keeping _ _ _
   direct_keeping upge vs = raise_at_keeping _ _ _ _
 
+  -- ---- functions
+
+  -- one is made
+  function_keeps : (functions : List FunctionCode) (f : Function) (place : ℕ) (s : State) → AreNamed tables s.lines → Keeps (make_function functions f place s)
+  unfolding make_function
+  function_keeps functions f place s h = h
+
+  -- a body of a call
+  entered_keeps : (functions : List FunctionCode) (c : Callee) (label : Label) (this : Val) (args : List Val) (k : CallBody) (depth : ℕ) → ((ss : Statements) (e : Env ℕ) → Keeping (k ss e)) → (s : State) → AreNamed tables s.lines → Keeps (entered functions c label this args k depth s)
+  unfolding entered with_call
+  entered_keeps functions not_callable label this args k depth l s h = throw_keeps _ _ _ s h
+  entered_keeps functions empty_callee label this args k depth l s h = h
+  entered_keeps functions unbuilt_callee label this args k depth l s h = h
+  entered_keeps functions (of_script number f place) label this args k depth l s h = (l (body_of f) (called_env (length s.records) depth)).keeps (with_call functions number f place this args s) h
+
+  call_keeping : (functions : List FunctionCode) (f this : Val) (args : List Val) (k : CallBody) → ((ss : Statements) (e : Env ℕ) → Keeping (k ss e)) → Keeping (call functions f this args k)
+  call_keeping functions f this args k l =
+      bind_keeping _ (scope_keeping kind.Call f.label (λ depth s. entered functions (callee_at functions s.heap f.value) f.label this args k depth s) (λ depth. record { keeps = λ s h. entered_keeps functions (callee_at functions s.heap f.value) f.label this args k depth l s h })) (λ c. ret_keeping (answer c))
+
+  -- of a construction
+  constructed_keeps : (functions : List FunctionCode) (c : Callee) (f : Val) (args : List Val) (k : CallBody) (depth : ℕ) → ((ss : Statements) (e : Env ℕ) → Keeping (k ss e)) → (s : State) → AreNamed tables s.lines → Keeps (constructed functions c f args k depth s)
+  unfolding constructed
+  constructed_keeps functions not_callable f args k depth l s h = throw_keeps _ _ _ s h
+  constructed_keeps functions empty_callee f args k depth l s h = throw_keeps _ _ _ s h
+  constructed_keeps functions unbuilt_callee f args k depth l s h = h
+  constructed_keeps functions (of_script number code place) f args k depth l s h = entered_keeps functions (of_script number code place) f.label _ args k depth l (with_fresh (prototype_of s.heap f.value) s) h
+
+  construct_keeping : (functions : List FunctionCode) (f : Val) (args : List Val) (k : CallBody) → ((ss : Statements) (e : Env ℕ) → Keeping (k ss e)) → Keeping (construct functions f args k)
+  construct_keeping functions f args k l = record {
+    keeps = λ s h. (bind_keeping (λ c. ret (construction (length s.heap) c)) (scope_keeping kind.Call f.label (λ depth t. constructed functions (callee_at functions t.heap f.value) f args k depth t) (λ depth. record { keeps = λ t g. constructed_keeps functions (callee_at functions t.heap f.value) f args k depth l t g })) (λ c. ret_keeping (construction (length s.heap) c))).keeps s h;
+  }
+
+  -- an object is asked whether it is an instance
+  is_instance_keeps : (label : Label) (o : ℕ) (v : Value) (s : State) → AreNamed tables s.lines → Keeps (is_instance label o v s)
+  unfolding is_instance
+  is_instance_keeps label o (value.Primitive p) s h = throw_keeps _ _ _ s h
+  is_instance_keeps label o (value.Object proto) s h = h
+
+  instance_of_keeps : (v : Val) (u : Value) (f : Val) (s : State) → AreNamed tables s.lines → Keeps (instance_of v u f s)
+  unfolding instance_of
+  instance_of_keeps v (value.Primitive p) f s h = h
+  instance_of_keeps v (value.Object o) f s h = keeps_then (property_of f.label f.value prototype_name s) (λ proto. is_instance (union v.label (union f.label proto.label)) o.0 proto.value) (property_keeps f.label f.value prototype_name s h) (λ proto. record { keeps = λ t g. is_instance_keeps _ o.0 proto.value t g })
+
+  instance_keeps : (b : Bool) (v f : Val) (s : State) → AreNamed tables s.lines → Keeps (instance_if b v f s)
+  unfolding instance_if
+  instance_keeps true v f s h = instance_of_keeps v v.value f s h
+  instance_keeps false v f s h = throw_keeps _ _ _ s h
+
+  -- ---- jumps, directives and `try`
+
+  jumps_keeping : (to : Option (Exit × ℕ)) (v : Val) → Keeping (jumps_to to v)
+  unfolding jumps_to
+  jumps_keeping None v = record { keeps = λ s h. h }
+  jumps_keeping (Some to) v = record { keeps = λ s h. jump_keeps _ _ _ s h }
+
+  raises_keeping : (leaving : Leaving) (to : Option (Exit × ℕ)) (label : Label) → Keeping (raises leaving to label)
+  unfolding raises raise_frame
+  raises_keeping leaving None label = record { keeps = λ s h. h }
+  raises_keeping leaving (Some to) label = record { keeps = λ s h. guard_keeps _ W10 _ _ _ s h h }
+
+  raised_keeping : (leaving : Leaving) (to : Option (Exit × ℕ)) (os : Option (List ℕ)) → Keeping (raised_by tables inputs leaving to os)
+  unfolding raised_by
+  raised_keeping leaving to None = halts_keeping _
+  raised_keeping leaving to (Some os) = raises_keeping leaving to (label_of os)
+
+  quiet_keeping : Keeping quiet
+  unfolding quiet
+  quiet_keeping = record { keeps = λ s h. h }
+
+  stayed_keeps : {X : Type 0} (b : Bool) (how : Came X) (j : Jump) (s : State) → AreNamed tables s.lines → Keeps (choose b (Goes how s) (Jumps j s))
+  stayed_keeps true how j s h = h
+  stayed_keeps false how j s h = h
+
+  stay_keeps : {X : Type 0} (depth : ℕ) (o : Outcome Halt Jump X State) → Keeps o → Keeps (stay depth o)
+  unfolding stay
+  stay_keeps depth (Goes a s) h = h
+  stay_keeps depth (Jumps j s) h = stayed_keeps (nat_lt depth (length s.frames)) (caught j) j s h
+  stay_keeps depth (Ends halt s) h = h
+
+  react_keeping : (handles finishes : Bool) (handler : Val → L (Unit {0})) (depth : ℕ) (how : Came (Unit {0})) → ((v : Val) → Keeping (handler v)) → Keeping (react handles finishes handler depth how)
+  unfolding react
+  react_keeping handles finishes handler depth (ended u) l = ret_keeping (ended u)
+  react_keeping handles finishes handler depth (caught j) l =
+      choose_keeping (handles && is_throw j.exit)
+      (bind_keeping _ (choose_keeping finishes (ret_keeping tt) quiet_keeping) (λ u. record { keeps = λ s h. stay_keeps depth (handler j.value s) ((l j.value).keeps s h) }))
+      (ret_keeping (caught j))
+
+  resume_keeping : (how : Came (Unit {0})) (v : Unit {0}) → Keeping (resume how v)
+  unfolding resume
+  resume_keeping (ended u) v = ret_keeping tt
+  resume_keeping (caught j) v = record { keeps = λ s h. jump_keeps _ _ _ s h }
+
+  finish_keeping : (finishes : Bool) {last : L (Unit {0})} (how : Came (Unit {0})) → Keeping last → Keeping (finish finishes last how)
+  unfolding finish
+  finish_keeping finishes how l = bind_keeping _ quiet_keeping (λ u. bind_keeping (resume how) (choose_keeping finishes l (ret_keeping tt)) (resume_keeping how))
+
+  attempt_keeping : (handles finishes : Bool) {block last : L (Unit {0})} (handler : Val → L (Unit {0})) → Keeping block → ((v : Val) → Keeping (handler v)) → Keeping last → Keeping (attempt handles finishes block handler last)
+  attempt_keeping handles finishes {block} {last} handler b l f =
+      bind_keeping _ (scope_keeping kind.Try bottom (tried handles finishes block handler last) (λ depth. bind_keeping _ (bind_keeping _ (record { keeps = λ s h. stay_keeps depth (block s) (b.keeps s h) }) (λ how. react_keeping handles finishes handler depth how l)) (λ how. finish_keeping finishes how f))) (λ c. ret_keeping tt)
+
   -- ---- the operations
 
   -- any result
@@ -424,51 +527,61 @@ module _ (tables : Tables) (inputs : Given) where
   any_result a_value a = tt
 
   -- linked with themselves: what is said of the first of two alone
-  naming : Link (labelled tables inputs) (labelled tables inputs)
-  naming = record {
-    W = Unit {0};
-    Le = λ v w. Unit {0};
-    RV = λ w v u. Unit {0};
-    RN = λ w n m. Unit {0};
-    RP = λ w i j. Unit {0};
-    RE = λ w e d. Unit {0};
-    Lift = λ t w m n. Keeping m;
-    Inside = λ v w. Unit {0};
-    inside_v = λ p r. tt;
-    le_refl = λ w. tt;
-    le_trans = λ p q. tt;
-    more_v = λ p r. tt;
-    more_n = λ p r. tt;
-    more_p = λ p r. tt;
-    more_e = λ p r. tt;
-    place_of = λ r. tt;
-    ret_one = λ w. ret_keeping tt;
-    ret_value = λ {a = a} r. ret_keeping a;
-    bind = λ t u f g l h. bind_keeping f l (λ a. h tt tt a a (any_result t a));
-    literal = λ w v. tt;
-    unary = λ o {v = v} r. record { keeps = λ s h. (given_keeping v.label (unary_of o (seen s.heap v.value))).keeps s h };
-    binary = λ o {v = v} {u = u} r q. given_keeping (union v.label u.label) (binary_of o v.value u.value);
-    primitive = λ hint {v = v} r. unless_keeping (is_object v.value) v;
-    comparable = λ {v = v} {u = u} r q. unless_keeping (converts_beside v.value u.value) v;
-    act = λ a {vs = vs} rs. act_keeping a vs;
-    direct = λ f {vs = vs} rs. direct_keeping f vs;
-    unbuilt = λ t w. halts_keeping (left not_built);
-    resolve = λ t {i = i} x f g p h. record { keeps = λ s k. (h tt tt (resolved s.records s.heap i x) (resolved s.records s.heap i x) tt).keeps s k };
-    property = λ r q. tt;
-    get_value = λ {n = n} f g r h. value_keeping n;
-    typeof_value = λ {n = n} f g r h. typeof_keeping n;
-    put_value = λ {n = n} {v = v} f g r q h. put_keeping n v;
-    remove = λ {n = n} r. remove_keeping n;
-    fork = λ t {v = v} r h k. fork_keeping t v (h tt tt) (k tt tt);
-    round = λ turn labels {e = e} f g r h. round_keeping turn labels e f (λ d. h tt tt d d tt);
-    again = λ {v = v} r h k. again_keeping v h k;
-    keys = λ {v = v} f g r h. record { keeps = λ s k. (list_keeping (key_list s.heap v.value) v.label f (λ ks. h tt tt ks)).keeps s k };
-  }
+  module _ (functions : List FunctionCode) where
+    naming : Link (labelled tables inputs functions) (labelled tables inputs functions)
+    naming = record {
+      W = Unit {0};
+      Le = λ v w. Unit {0};
+      RV = λ w v u. Unit {0};
+      RN = λ w n m. Unit {0};
+      RP = λ w i j. Unit {0};
+      RE = λ w e d. Unit {0};
+      Lift = λ t w m n. Keeping m;
+      Inside = λ v w. Unit {0};
+      inside_v = λ p r. tt;
+      le_refl = λ w. tt;
+      le_trans = λ p q. tt;
+      more_v = λ p r. tt;
+      more_n = λ p r. tt;
+      more_p = λ p r. tt;
+      more_e = λ p r. tt;
+      place_of = λ r. tt;
+      ret_one = λ w. ret_keeping tt;
+      ret_value = λ {a = a} r. ret_keeping a;
+      bind = λ t u f g l h. bind_keeping f l (λ a. h tt tt a a (any_result t a));
+      literal = λ w v. tt;
+      unary = λ o {v = v} r. record { keeps = λ s h. (given_keeping v.label (unary_of o (seen s.heap v.value))).keeps s h };
+      binary = λ o {v = v} {u = u} r q. given_keeping (union v.label u.label) (binary_of o v.value u.value);
+      primitive = λ hint {v = v} r. unless_keeping (is_object v.value) v;
+      comparable = λ {v = v} {u = u} r q. unless_keeping (converts_beside v.value u.value) v;
+      act = λ a {vs = vs} rs. act_keeping a vs;
+      direct = λ f {vs = vs} rs. direct_keeping f vs;
+      function = λ f {i = i} r. record { keeps = λ s h. function_keeps functions f i s h };
+      jump = λ leaving {e = e} {v = v} r q. jumps_keeping (aimed 0 leaving e) v;
+      raise = λ leaving {e = e} names r. raised_keeping leaving (aimed 0 leaving e) (named_origins tables inputs names);
+      unbuilt = λ t w. halts_keeping (left not_built);
+      resolve = λ t {i = i} x f g p h. record { keeps = λ s k. (h tt tt (resolved s.records s.heap i x) (resolved s.records s.heap i x) tt).keeps s k };
+      property = λ r q. tt;
+      get_value = λ {n = n} f g r h. value_keeping n;
+      typeof_value = λ {n = n} f g r h. typeof_keeping n;
+      put_value = λ {n = n} {v = v} f g r q h. put_keeping n v;
+      remove = λ {n = n} r. remove_keeping n;
+      this_of = λ r. tt;
+      instance = λ {v = v} {f = f} k k' r q h. record { keeps = λ s g. instance_keeps (is_function_at s.heap f.value) v f s g };
+      fork = λ t {v = v} r h k. fork_keeping t v (h tt tt) (k tt tt);
+      round = λ turn labels {e = e} f g r h. round_keeping turn labels e f (λ d. h tt tt d d tt);
+      again = λ {v = v} r h k. again_keeping v h k;
+      keys = λ {v = v} f g r h. record { keeps = λ s k. (list_keeping (key_list s.heap v.value) v.label f (λ ks. h tt tt ks)).keeps s k };
+      declare = λ name {v = v} {e = e} k k' r q h. record { keeps = λ s g. (h tt tt (with_place (length s.records) e) (with_place (length s.records) e) tt).keeps (with_name e.place name v s) g };
+      call = λ {f = f} {this = this} {vs = vs} k k' r q rs h. call_keeping functions f this vs k (λ ss e. h tt ss e e tt);
+      construct = λ {f = f} {vs = vs} k k' r rs h. construct_keeping functions f vs k (λ ss e. h tt ss e e tt);
+      attempt = λ handles finishes h h' b l f. attempt_keeping handles finishes h (b tt tt) (λ v. l tt tt v v tt) (f tt tt);
+    }
 
-  -- a program
-  program_keeping : (n : ℕ) (program : Statements) → Keeping (program_step (timed tables inputs) n program (outermost_env 0))
-  unfolding naming
-  program_keeping n program = program_linked (timed tables inputs) (timed tables inputs) naming (λ w. record { keeps = λ s h. spend_keeps s.turns s h }) (λ t w. halts_keeping out_of_turns) n program {w = tt} {e = outermost_env 0} {d = outermost_env 0} tt
+    -- a program
+    program_keeping : (n : ℕ) (declares : Bool) (program : Statements) → Keeping (program_step (timed tables inputs functions) n declares program (outermost_env 0))
+    unfolding naming
+    program_keeping n declares program = program_linked (timed tables inputs functions) (timed tables inputs functions) naming (λ w. record { keeps = λ s h. spend_keeps s.turns s h }) (λ t w. halts_keeping out_of_turns) n declares program {w = tt} {e = outermost_env 0} {d = outermost_env 0} tt
 
 run_lines : (o : Outcome Halt Jump (Unit {0}) State) → (run_of o).lines ≡ (state_of o).lines
 run_lines (Goes u s) = refl
@@ -479,4 +592,4 @@ run_lines (Ends halt s) = refl
 pub named : (tables : Tables) (inputs : Given) (program : Statements) (turns : ℕ) → AreNamed tables (tracked_run tables inputs program turns).lines
 unfolding tracked_run
 named tables inputs program turns =
-    subst (AreNamed tables) (sym (run_lines (program_step (timed tables inputs) turns program (outermost_env 0) (start tables inputs program turns)))) ((program_keeping tables inputs turns program).keeps (start tables inputs program turns) refl)
+    subst (AreNamed tables) (sym (run_lines (program_step (timed tables inputs (functions_of program)) turns (may_declare program) program (outermost_env 0) (start tables inputs program turns)))) ((program_keeping tables inputs (functions_of program) turns (may_declare program) program).keeps (start tables inputs program turns) refl)

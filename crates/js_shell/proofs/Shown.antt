@@ -9,6 +9,7 @@ use Rattle.flow_text.specs.Written.{escaped}
 use Rattle.flow_text.proofs.Laws.{no_line_end, ascii_bytes, ascii_front_bytes}
 use Rattle.flow_policy.specs.Policies.{Tables}
 use Rattle.flow_policy.specs.Inputs.{Given}
+use Rattle.js_ast.specs.Functions.{functions_of}
 use Rattle.js_ast.specs.Trees.{Statements}
 use Rattle.js_number.specs.declared.primitive.Primitive.{Primitive}
 use Rattle.js_number.specs.declared.primitive.Primitive.TheVariants as prims
@@ -22,7 +23,7 @@ use Rattle.js_values.specs.Objects.{Property, PlainObject}
 use Rattle.js_values.specs.Walks.{plain_chain, plain_find}
 use Rattle.es_meaning.specs.Outcomes.{threw, Outcome, Goes, Jumps, Ends}
 use Rattle.es_meaning.specs.Evaluation.{program_step}
-use Rattle.es_meaning.specs.Plain.{outermost_env}
+use Rattle.es_meaning.specs.Plain.{may_declare, outermost_env}
 use Rattle.es_meaning.specs.Start.{shown, shown_primitive, shown_name, shown_body, shown_found, shown_class, class_name}
 use Rattle.flow_meaning.specs.Erased.{erased_heap}
 use Rattle.flow_meaning.specs.Scopes.{Halt, State, Jump}
@@ -139,4 +140,4 @@ outcome_shown (Ends halt s) text e = absurd cc
 -- what a run shows of an exception that leaves it
 pub run_shown : (tables : Tables) (inputs : Given) (program : Statements) (turns : ℕ) (text : List ℕ) → (tracked_run tables inputs program turns).ending ≡ threw text → on_line (utf8_of text) ≡ true
 unfolding tracked_run
-run_shown tables inputs program turns text e = outcome_shown (program_step (timed tables inputs) turns program (outermost_env 0) (start tables inputs program turns)) text e
+run_shown tables inputs program turns text e = outcome_shown (program_step (timed tables inputs (functions_of program)) turns (may_declare program) program (outermost_env 0) (start tables inputs program turns)) text e

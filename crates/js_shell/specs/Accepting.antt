@@ -16,6 +16,7 @@ use Rattle.js_parse_expr.specs.declared.fault.ParseFault.{ParseFault}
 use Rattle.js_parse_expr.specs.declared.fault.ParseFault.TheVariants as parse_fault
 use Rattle.js_parse_expr.specs.Parsed.{fault_at as parse_fault_at}
 use Rattle.js_parse.specs.Programs.{IsProgram, IsFault as IsNoProgram}
+use Rattle.js_ast.specs.IsMarked.{IsMarked}
 use Rattle.js_early.specs.EarlyErrors.{early_error}
 use Rattle.flow_policy.specs.Policies.{Tables}
 use Rattle.flow_policy.specs.Inputs.{Given, IsGivenTo}
@@ -174,6 +175,11 @@ Accepts words contents (Err r) = IfSome (refusal_reply r) (λ reply. OfFiles con
 abbrev pub IsGiven : Accepted → Type 0
 IsGiven (accepted.Run task) = IsGivenTo task.policy task.inputs
 IsGiven accepted.Program = Unit {0}
+
+-- the functions of a script that is run are marked
+abbrev pub HasMarks : Accepted → Type 0
+HasMarks (accepted.Run task) = IsMarked task.script
+HasMarks accepted.Program = Unit {0}
 
 abbrev pub is_usage : {T : Type 0} → Result T Refusal → Bool
 is_usage (Err refusal.Usage) = true

@@ -3,8 +3,9 @@
 ghost use Rattle.std.specs.Prelude.{◌≡◌, ◌↔◌, ◌≤◌, ℕ, length, List, Option, Some, true, Err, IfOk, IfSome, OnOk};
 ghost use Rattle.flow_io.specs.Files.{Rose, IsStoreKept};
 ghost use Rattle.flow_policy.specs.Inputs.{IsGivenTo};
+ghost use Rattle.js_ast.specs.IsMarked.{IsMarked};
 ghost use Rattle.js_shell.specs.Replies.{command_of, Reaches};
-ghost use Rattle.js_shell.specs.Accepting.{ReadsSource, AcceptsProgram, AcceptsScript, AcceptsPolicy, AcceptsInput, Accepts, IsGiven, is_usage};
+ghost use Rattle.js_shell.specs.Accepting.{ReadsSource, AcceptsProgram, AcceptsScript, AcceptsPolicy, AcceptsInput, Accepts, HasMarks, IsGiven, is_usage};
 ghost use Rattle.js_shell.specs.Seen.{seen_commands, seen_script, seen_work, texts_of};
 
 use crate::refusals::Refusal;
@@ -80,6 +81,7 @@ pub(crate) fn accept<F: Store>(
     ensures kept { IsStoreKept F.contents F.may_ask F.faults store.old store.new }
     ensures accepts { Accepts (texts_of words.now) (F.contents store.old) (seen_work result) }
     ensures given { IfOk result (λ accepted. IsGiven accepted) }
+    ensures marked { IfOk result (λ accepted. HasMarks accepted) }
     ensures usage { (is_usage result ≡ true) ↔ (command_of (texts_of words.now) ≡ None) }
     ensures read_fault { result ≡ Err Refusal.ReadFault → Rose (F.faults store.old) (F.faults store.new) }
 {
@@ -139,6 +141,7 @@ fn accept_program<F: Store>(alloc: Global, store: &mut F, path: &str) -> Result<
 fn accept_script<F: Store>(alloc: Global, store: &mut F, path: &str) -> Result<Program, Refusal>
     requires { F.may_ask store.old path.now ≡ true }
     ensures kept { IsStoreKept F.contents F.may_ask F.faults store.old store.new }
+    ensures marked { IfOk result IsMarked }
     ensures accepts { AcceptsScript (F.contents store.old) path.now (seen_script result) }
     ensures read_fault { result ≡ Err Refusal.ReadFault → Rose (F.faults store.old) (F.faults store.new) }
 {

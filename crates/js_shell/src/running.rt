@@ -4,6 +4,7 @@ ghost use Rattle.std.specs.Prelude.{◌≡◌, ◌≤◌, true, false, length, I
 ghost use Rattle.std.specs.Option.{is_some};
 ghost use Rattle.flow_io.specs.Files.{Rose};
 ghost use Rattle.flow_policy.specs.Inputs.{IsGivenTo};
+ghost use Rattle.js_ast.specs.IsMarked.{IsMarked};
 ghost use Rattle.js_ast.specs.Views.{view_program};
 ghost use Rattle.flow_meaning.specs.Tracked.{tracked_run};
 ghost use Rattle.step_run.specs.Ran.{HasDeclared, told_by};
@@ -30,6 +31,7 @@ pub(crate) fn run<K: Sink>(
     inputs: &Inputs,
     sink: &mut K,
 ) -> Status
+    requires marked { IsMarked program.now }
     requires room { length policy.now.origins ≤ 64 }
     requires given { IsGivenTo policy.now inputs.now }
     requires open { K.shut sink.old ≡ false }

@@ -1,7 +1,8 @@
 //! Sources: the program that bytes are, or why they are none, or none that can be run yet.
 
-ghost use Rattle.std.specs.Prelude.{◌≡◌, ◌≤◌, length, Some, Err};
+ghost use Rattle.std.specs.Prelude.{◌≡◌, ◌≤◌, length, Some, Err, IfOk};
 ghost use Rattle.flow_text.specs.Places.{place_of};
+ghost use Rattle.js_ast.specs.IsMarked.{IsMarked};
 ghost use Rattle.js_ast.specs.Views.{view_program};
 ghost use Rattle.js_faults.specs.declared.fault.EarlyError.{EarlyError};
 ghost use Rattle.js_scan.specs.Tokens.{fault_at, IsTokens, IsFaultOf};
@@ -39,7 +40,8 @@ pub(crate) fn check_program(alloc: Global, bytes: &[u8]) -> Result<(), Refusal>
 /// The program that the bytes of a source are, all of whose nodes are built.
 pub(crate) fn script_of(alloc: Global, bytes: &[u8]) -> Result<Program, Refusal>
     requires { length bytes.now ≤ source_limit }
-    ensures { TakesScript bytes.now (seen_script result) }
+    ensures takes { TakesScript bytes.now (seen_script result) }
+    ensures marked { IfOk result IsMarked }
 {
     let source = source_of(alloc, bytes)?;
     match first_unbuilt(&source.program) {
@@ -51,7 +53,8 @@ pub(crate) fn script_of(alloc: Global, bytes: &[u8]) -> Result<Program, Refusal>
 /// The program that the bytes of a source are, with its text.
 fn source_of(alloc: Global, bytes: &[u8]) -> Result<Source, Refusal>
     requires { length bytes.now ≤ source_limit }
-    ensures { TakesSource bytes.now result }
+    ensures takes { TakesSource bytes.now result }
+    ensures marked { IfOk result (λ source. IsMarked source.program) }
 {
     let text = text_of(alloc, bytes)?;
     let tokens = tokens_of(alloc, &text)?;
@@ -102,7 +105,8 @@ fn no_tokens(text: &Text, fault: ScanFault) -> Refusal
 /// The program that the tokens of a text are.
 fn program_of(alloc: Global, text: &Text, tokens: &[Token]) -> Result<Program, Refusal>
     requires { IsTokens text.now tokens.now }
-    ensures { TakesTree text.now tokens.now result }
+    ensures takes { TakesTree text.now tokens.now result }
+    ensures marked { IfOk result IsMarked }
 {
     match parse(alloc, tokens, text.len()) {
         Ok(program) => Ok(program),

@@ -6,14 +6,13 @@ use Rattle.std.specs.Option.{is_none}
 use Rattle.std.proofs.lemmas.List.Elements.{All-nil, All-cons, All-append, All-head, All-tail, All-weaker}
 use Rattle.js_ast.specs.declared.token.Token.{Token}
 use Rattle.js_ast.specs.Words.{Word}
-use Rattle.js_ast.specs.Trees.{Ident, Semi, Expr, name, number, string, this, null, boolean, paren, object, member, index, call, postfix, unary, binary, conditional, assign, comma, at_of, Exprs, no_exprs, more_exprs, MaybeExpr, absent, present, Property, value, getter, setter, Properties, no_properties, more_properties, Declarations, one_declaration, more_declarations, First, first_expr, first_var, Target, target_expr, target_var, block_of, Statement, block, var, empty, expression, if_then, if_else, do_while, while, for, for_in, continue, break, return, throw, switch, labelled, try_catch, try_finally, try_both, debugger, function_declaration, Statements, no_statements, more_statements}
-use Rattle.js_ast.specs.Grammar.{Part, ◌⨾◌, nothing, place_of as first_place, At, OnLine, Takes, ReadsIdent, FinalComma, Ends, StartsExpression, last_initialiser, Reads, ReadsExprs, ReadsMaybe, ReadsProperty, ReadsProperties, ReadsInitialiser, ReadsDeclarations, ReadsFirst, ReadsTarget, ReadsStatement, ReadsStatements}
+use Rattle.js_ast.specs.Trees.{Ident, Semi, Expr, name, number, string, this, null, boolean, paren, array, object, function, member, index, new_with, new_bare, call, postfix, unary, binary, conditional, assign, comma, at_of, Exprs, no_exprs, more_exprs, MaybeExpr, absent, present, Property, value, getter, setter, Properties, no_properties, more_properties, Function, function_of, Declarations, one_declaration, more_declarations, First, first_expr, first_var, Target, target_expr, target_var, Clauses, no_clauses, case, default, Block, block_of, Statement, block, var, empty, expression, if_then, if_else, do_while, while, for, for_in, continue, break, return, throw, switch, labelled, try_catch, try_finally, try_both, debugger, function_declaration, Statements, no_statements, more_statements}
+use Rattle.js_ast.specs.Grammar.{Part, ◌⨾◌, nothing, place_of as first_place, At, OnLine, Takes, ReadsIdent, MaybeIdent, ReadsIdents, FinalComma, Ends, StartsExpression, last_initialiser, Reads, ReadsExprs, ReadsMaybe, ReadsProperty, ReadsProperties, ReadsFunction, ReadsInitialiser, ReadsDeclarations, ReadsFirst, ReadsTarget, ReadsClauses, ReadsBlock, ReadsStatement, ReadsStatements}
 use Rattle.js_list_parser.proofs.Begins.{reads_place}
 use Rattle.js_list_parser.proofs.Lengths.{Shortens, ident_shortens, expr_shortens, statement_shortens}
-use Rattle.js_list_parser.proofs.Fronts.{Fronts, nothing_fixed, takes_fixed, name_fixed, key_fixed, end_loose, expr_fixed, property_fixed, statement_loose}
-use Rattle.js_faults.specs.Directives.{directive_in}
+use Rattle.js_list_parser.proofs.Fronts.{Fronts, nothing_fixed, takes_fixed, name_fixed, key_fixed, label_fixed, end_loose, expr_fixed, property_fixed}
 use Rattle.es_meaning.specs.Evaluation.{is_reference}
-use Rattle.js_unbuilt.specs.Unbuilt.{place_of, is_reserved, is_callee, takes_operand, is_built, are_values, takes_keys, unless, unbuilt_ident, unbuilt_expr, unbuilt_exprs, unbuilt_properties, unbuilt_maybe, unbuilt_declarations, unbuilt_first, unbuilt_target, unbuilt_statement, unbuilt_statements, least_of, least}
+use Rattle.js_unbuilt.specs.Unbuilt.{is_reserved, is_callee, takes_operand, are_values, takes_keys, unless, unless_callee, unbuilt_ident, unbuilt_idents, unbuilt_name, unbuilt_expr, unbuilt_exprs, unbuilt_properties, unbuilt_function, unbuilt_maybe, unbuilt_declarations, unbuilt_first, unbuilt_target, unbuilt_clauses, unbuilt_block, unbuilt_statement, unbuilt_statements, least_of, least}
 use Rattle.js_unbuilt.specs.Looking.{first_in, unbuilt_property}
 use Rattle.js_unbuilt.proofs.Looked.{properties_step}
 
@@ -196,17 +195,34 @@ node {at} {p} {xs} false place shorter f = record {
 leaf : {at : ℕ} {p : Part} (b : Bool) → IsPlace at p → Shortens p → Stands p [] → Stands p (unless b at)
 leaf {at} b place shorter f = recast (append-nil (unless b at)) (node b place shorter f)
 
+-- a part that may be passed over
+unless_passed : {p : Part} {xs : List ℕ} (b : Bool) → Stands p [] → Stands p xs → Stands p (unless_callee b xs)
+unless_passed true passed f = passed
+unless_passed false passed f = f
+
 -- ---- nodes and their parts
 
 ident : (i : Ident) → Stands (ReadsIdent i) (unbuilt_ident i)
 ident i = leaf (not (is_reserved i.text)) (λ ts rest h. h.0) (ident_shortens i) (at_place token)
 
+maybe_ident : (i : Option Ident) → Stands (MaybeIdent i) (unbuilt_name i)
+maybe_ident None = no_token
+maybe_ident (Some i) = ident i
+
+idents : (is : List Ident) → Stands (ReadsIdents is) (unbuilt_idents is)
+idents [] = no_token
+idents (i ∷ []) = recast (sym (append-nil (unbuilt_ident i))) (ident i)
+idents (i ∷ j ∷ is) = both (ident i) (then token (idents (j ∷ is)))
+
 module _ (e : Expr) where
   in_node : {xs : List ℕ} (b : Bool) → Stands (Reads e) xs → Stands (Reads e) (unless b (at_of e) ++ xs)
   in_node b f = node b (reads_place e) (expr_shortens e) f
 
+header : (a b c d : List ℕ) → (a ++ (b ++ c)) ++ d ≡ a ++ (b ++ (c ++ d))
+header a b c d = append_assoc a (b ++ c) d ∙ ap (λ (more : List ℕ). a ++ more) (append_assoc b c d)
+
 mutual
-  unfolding unbuilt_expr unbuilt_exprs unbuilt_properties
+  unfolding unbuilt_expr unbuilt_exprs unbuilt_properties unbuilt_function unbuilt_maybe unbuilt_declarations unbuilt_first unbuilt_target unbuilt_clauses unbuilt_block unbuilt_statement unbuilt_statements
 
   expr : (e : Expr) → Stands (Reads e) (unbuilt_expr e)
   expr (name at text) = leaf (not (is_reserved text)) (reads_place (name at text)) (expr_shortens (name at text)) (at_place token)
@@ -216,17 +232,20 @@ mutual
   expr (null at) = at_place token
   expr (boolean at b) = at_place token
   expr (paren at e) = at_place (between (expr e))
+  expr (array at items final) = in_node (array at items final) false (passing (expr_fixed (array at items final)))
   expr (object at ps final) = in_node (object at ps final) (are_values ps) (at_place (between (properties ps final)))
+  expr (function at f) = at_place (then token (code f))
   expr (member at e text) = at_place (ahead (expr e) (then token (passing (name_fixed text))))
   expr (index at e n) = at_place (both (expr e) (between (expr n)))
-  expr (call at e es) = in_node (call at e es) (is_callee e) (at_place (then (passing (expr_fixed e)) (between (exprs es))))
+  expr (new_with at e es) = at_place (then token (both (expr e) (between (exprs es))))
+  expr (new_bare at e) = at_place (then token (expr e))
+  expr (call at e es) = at_place (both (unless_passed (is_callee e) (passing (expr_fixed e)) (expr e)) (between (exprs es)))
   expr (postfix at e o) = in_node (postfix at e o) (is_reference e) (at_place (ahead (expr e) (on_line token)))
   expr (unary at o e) = in_node (unary at o e) (takes_operand o e) (at_place (then token (expr e)))
-  expr (binary at l o r) = in_node (binary at l o r) (is_built o) (at_place (both (expr l) (then token (expr r))))
+  expr (binary at l o r) = at_place (both (expr l) (then token (expr r)))
   expr (conditional at e a b) = at_place (both (expr e) (then token (both (expr a) (then token (expr b)))))
   expr (assign at l o r) = in_node (assign at l o r) (is_reference l) (at_place (both (expr l) (then token (expr r))))
   expr (comma at l r) = at_place (both (expr l) (then token (expr r)))
-  expr e = in_node e false (passing (expr_fixed e))
 
   exprs : (es : Exprs) → Stands (ReadsExprs es) (unbuilt_exprs es)
   exprs no_exprs = no_token
@@ -243,73 +262,65 @@ mutual
   properties (more_properties p no_properties) final = recast (sym (append-nil (unbuilt_property p)) ∙ sym (properties_step p no_properties)) (ahead (property p) (final_comma final))
   properties (more_properties p (more_properties q ps)) final = recast (sym (properties_step p (more_properties q ps))) (both (property p) (then token (properties (more_properties q ps) final)))
 
-maybe : (e : MaybeExpr) → Stands (ReadsMaybe e) (unbuilt_maybe e)
-maybe absent = no_token
-maybe (present e) = expr e
+  code : (f : Function) → Stands (ReadsFunction f) (unbuilt_function f)
+  code (function_of at i params body) = both (maybe_ident i) (both (between (idents params)) (between (statements body)))
 
-initialiser : (e : MaybeExpr) → Stands (ReadsInitialiser e) (unbuilt_maybe e)
-initialiser absent = no_token
-initialiser (present e) = then token (expr e)
+  maybe : (e : MaybeExpr) → Stands (ReadsMaybe e) (unbuilt_maybe e)
+  maybe absent = no_token
+  maybe (present e) = expr e
 
-declarations : (ds : Declarations) → Stands (ReadsDeclarations ds) (unbuilt_declarations ds)
-declarations (one_declaration i init) = both (ident i) (initialiser init)
-declarations (more_declarations i init ds) = recast (append_assoc (unbuilt_ident i) (unbuilt_maybe init) (unbuilt_declarations ds)) (both (both (ident i) (initialiser init)) (then token (declarations ds)))
+  initialiser : (e : MaybeExpr) → Stands (ReadsInitialiser e) (unbuilt_maybe e)
+  initialiser absent = no_token
+  initialiser (present e) = then token (expr e)
 
-first : (f : First) → Stands (ReadsFirst f) (unbuilt_first f)
-first (first_expr e) = maybe e
-first (first_var ds) = then token (declarations ds)
+  declarations : (ds : Declarations) → Stands (ReadsDeclarations ds) (unbuilt_declarations ds)
+  declarations (one_declaration i init) = both (ident i) (initialiser init)
+  declarations (more_declarations i init ds) = recast (append_assoc (unbuilt_ident i) (unbuilt_maybe init) (unbuilt_declarations ds)) (both (both (ident i) (initialiser init)) (then token (declarations ds)))
 
-target : (t : Target) → Stands (ReadsTarget t) (unbuilt_target t)
-target (target_expr e) = expr e
-target (target_var i) = then token (ident i)
+  first : (f : First) → Stands (ReadsFirst f) (unbuilt_first f)
+  first (first_expr e) = maybe e
+  first (first_var ds) = then token (declarations ds)
 
--- a statement stands where its first token begins
-statement_place : (t : Statement) → IsPlace (place_of t) (ReadsStatement t)
-statement_place (block (block_of at body)) ts rest h = h.0
-statement_place (var at ds semi) ts rest h = h.0
-statement_place (empty at) ts rest h = h.0
-statement_place (expression at e semi) ts rest h = h.1.0
-statement_place (if_then at e s) ts rest h = h.0
-statement_place (if_else at e s u) ts rest h = h.0
-statement_place (do_while at s e semi) ts rest h = h.0
-statement_place (while at e s) ts rest h = h.0
-statement_place (for at f test step s) ts rest h = h.0
-statement_place (for_in at target e s) ts rest h = h.0
-statement_place (continue at label semi) ts rest h = h.0
-statement_place (break at label semi) ts rest h = h.0
-statement_place (return at absent semi) ts rest h = h.0
-statement_place (return at (present e) semi) ts rest h = h.0
-statement_place (throw at e semi) ts rest h = h.0
-statement_place (switch at e cs) ts rest h = h.0
-statement_place (labelled at text s) ts rest h = h.0
-statement_place (try_catch at b i handler) ts rest h = h.0
-statement_place (try_finally at b final) ts rest h = h.0
-statement_place (try_both at b i handler final) ts rest h = h.0
-statement_place (debugger at semi) ts rest h = h.0
-statement_place (function_declaration at f) ts rest h = h.0
+  target : (t : Target) → Stands (ReadsTarget t) (unbuilt_target t)
+  target (target_expr e) = expr e
+  target (target_var i) = then token (ident i)
 
-header : (a b c d : List ℕ) → (a ++ (b ++ c)) ++ d ≡ a ++ (b ++ (c ++ d))
-header a b c d = append_assoc a (b ++ c) d ∙ ap (λ (more : List ℕ). a ++ more) (append_assoc b c d)
+  clauses : (cs : Clauses) → Stands (ReadsClauses cs) (unbuilt_clauses cs)
+  clauses no_clauses = no_token
+  clauses (case e ss cs) = recast (append_assoc (unbuilt_expr e) (unbuilt_statements ss) (unbuilt_clauses cs)) (both (then token (both (expr e) (then token (statements ss)))) (clauses cs))
+  clauses (default ss cs) = both (then token (then token (statements ss))) (clauses cs)
 
-mutual
-  unfolding unbuilt_statement unbuilt_statements
+  braced : (b : Block) → Stands (ReadsBlock b) (unbuilt_block b)
+  braced (block_of at body) = at_place (between (statements body))
 
   statement : (t : Statement) → Stands (ReadsStatement t) (unbuilt_statement t)
-  statement (block (block_of at body)) = at_place (between (statements body))
+  statement (block b) = braced b
   statement (var at ds semi) = at_place (then token (ahead (declarations ds) (end (last_initialiser ds) semi)))
   statement (empty at) = at_place token
-  statement (expression at e semi) = node (is_none (directive_in e)) (statement_place (expression at e semi)) (statement_shortens (expression at e semi)) (starts (at_place (ahead (expr e) (end (Some e) semi))))
+  statement (expression at e semi) = starts (at_place (ahead (expr e) (end (Some e) semi)))
   statement (if_then at e t) = at_place (then token (both (between (expr e)) (statement t)))
   statement (if_else at e t u) = at_place (then token (both (between (expr e)) (both (statement t) (then token (statement u)))))
   statement (do_while at t e semi) = at_place (then token (both (statement t) (then token (ahead (between (expr e)) (end None semi)))))
   statement (while at e t) = at_place (then token (both (between (expr e)) (statement t)))
   statement (for at f test step t) =
       at_place (then token (recast (header (unbuilt_first f) (unbuilt_maybe test) (unbuilt_maybe step) (unbuilt_statement t)) (both (between (both (first f) (then token (both (maybe test) (then token (maybe step)))))) (statement t))))
+  -- a statement with a place of its own stands where its first token begins
   statement (for_in at g e t) =
-      node (takes_keys g) (statement_place (for_in at g e t)) (statement_shortens (for_in at g e t))
+      node (takes_keys g) (λ ts rest h. h.0) (statement_shortens (for_in at g e t))
       (at_place (then token (recast (append_assoc (unbuilt_target g) (unbuilt_expr e) (unbuilt_statement t)) (both (between (both (target g) (then token (expr e)))) (statement t)))))
+  statement (continue at label semi) = at_place (then token (then (passing (label_fixed label)) (end None semi)))
+  statement (break at label semi) = at_place (then token (then (passing (label_fixed label)) (end None semi)))
+  statement (return at absent semi) = at_place (then token (end None semi))
+  statement (return at (present e) semi) = at_place (then token (ahead (on_line (expr e)) (end (Some e) semi)))
+  statement (throw at e semi) = at_place (then token (ahead (on_line (expr e)) (end (Some e) semi)))
+  statement (switch at e cs) = at_place (then token (both (between (expr e)) (between (clauses cs))))
+  statement (labelled at text t) = at_place (then token (then token (statement t)))
+  statement (try_catch at b i handler) = at_place (then token (both (braced b) (then token (both (between (ident i)) (braced handler)))))
+  statement (try_finally at b final) = at_place (then token (both (braced b) (then token (braced final))))
+  statement (try_both at b i handler final) =
+      at_place (then token (both (braced b) (recast (append_assoc (unbuilt_ident i) (unbuilt_block handler) (unbuilt_block final)) (both (then token (both (between (ident i)) (braced handler))) (then token (braced final))))))
   statement (debugger at semi) = at_place (then token (end None semi))
-  statement t = node false (statement_place t) (statement_shortens t) (passing (statement_loose t))
+  statement (function_declaration at f) = at_place (then token (code f))
 
   statements : (ss : Statements) → Stands (ReadsStatements ss) (unbuilt_statements ss)
   statements no_statements = no_token

@@ -3,14 +3,17 @@ use Rattle.std.proofs.Common.{refl, sym, ap, ◌∙◌, ◌≡◌, ℕ, Bool, tr
 use Rattle.std.specs.List.{list_all}
 use Rattle.std.specs.Option.{is_none}
 use Rattle.std.specs.Str.{bytes_eq}
+use Rattle.js_ast.specs.declared.trees.Clause.{Clause, out-Clause}
 use Rattle.js_ast.specs.declared.trees.Property.{Property}
+use Rattle.js_ast.specs.Nodes.{nodes_of}
 use Rattle.js_ast.specs.Trees as trees
-use Rattle.js_ast.specs.Trees.{value, getter, setter, more_properties}
-use Rattle.js_ast.specs.Views.{view_property, view_properties}
+use Rattle.js_ast.specs.Trees.{absent, present, value, getter, setter, more_properties, no_clauses}
+use Rattle.js_ast.specs.Views.{clause_by, view_maybe_expr, view_property, view_properties, view_clause, view_stmts}
+use Rattle.js_ast.proofs.ViewLaws.{parts_clause}
 use Rattle.es_meaning.specs.Operations.{read, print, lbl, upgs, upge}
 use Rattle.es_meaning.specs.Evaluation.{direct_of}
-use Rattle.js_unbuilt.specs.Unbuilt.{is_reserved, is_called, are_values, unbuilt_properties}
-use Rattle.js_unbuilt.specs.Looking.{first_in, or_next, is_value, unbuilt_property}
+use Rattle.js_unbuilt.specs.Unbuilt.{is_reserved, is_called, are_values, unbuilt_expr, unbuilt_properties, unbuilt_maybe, unbuilt_clauses, unbuilt_statements}
+use Rattle.js_unbuilt.specs.Looking.{first_in, or_next, is_value, unbuilt_property, unbuilt_clause}
 
 pub none_behind : (f : Option ℕ) → or_next f None ≡ f
 none_behind None = refl
@@ -20,9 +23,9 @@ pub first_append : (xs ys : List ℕ) → first_in (xs ++ ys) ≡ or_next (first
 first_append [] ys = refl
 first_append (at ∷ xs) ys = refl
 
--- what stands behind the header of a `for`, also of one with `in`
-pub behind_header : (a b c d : List ℕ) → or_next (first_in (a ++ (b ++ c))) (first_in d) ≡ first_in (a ++ (b ++ (c ++ d)))
-behind_header a b c d = sym (first_append (a ++ (b ++ c)) d) ∙ ap first_in (append_assoc a (b ++ c) d ∙ ap (λ (more : List ℕ). a ++ more) (append_assoc b c d))
+-- what is found in two parts is found in what is listed of both
+pub found_in_both : (whole xs ys : List ℕ) (result found next : Option ℕ) → whole ≡ xs ++ ys → result ≡ or_next found next → found ≡ first_in xs → next ≡ first_in ys → result ≡ first_in whole
+found_in_both whole xs ys result found next parts is here behind = rw (is, here, behind, parts) (sym (first_append xs ys))
 
 -- ---- names
 
@@ -63,3 +66,32 @@ values_step (setter at key f) ps = refl
 pub all_values : (ps : List Property) → are_values (view_properties ps) ≡ list_all (λ p. is_value (view_property p)) ps
 all_values [] = refl
 all_values (p ∷ ps) = values_step (view_property p) (view_properties ps) ∙ ap (λ (others : Bool). is_value (view_property p) && others) (all_values ps)
+
+-- ---- clauses
+
+-- a clause by its parts, and those behind it
+clauses_step : (e : trees.MaybeExpr) (ss : trees.Statements) (cs : trees.Clauses) → unbuilt_clauses (clause_by e ss cs) ≡ unbuilt_clause (clause_by e ss no_clauses) ++ unbuilt_clauses cs
+unfolding unbuilt_clauses
+clauses_step absent ss cs = refl
+clauses_step (present e) ss cs = sym (append_assoc (unbuilt_expr e) (unbuilt_statements ss) (unbuilt_clauses cs))
+
+-- a clause has a test, or none, and statements
+clause_parts : (e : trees.MaybeExpr) (ss : trees.Statements) → unbuilt_clause (clause_by e ss no_clauses) ≡ unbuilt_maybe e ++ unbuilt_statements ss
+unfolding unbuilt_maybe
+clause_parts absent ss = refl
+clause_parts (present e) ss = refl
+
+-- one clause, and those behind it
+pub first_clause : (c : Clause) (cs : trees.Clauses) → first_in (unbuilt_clauses (view_clause c cs)) ≡ or_next (first_in (unbuilt_clause (view_clause c no_clauses))) (first_in (unbuilt_clauses cs))
+first_clause c cs =
+    let alone = unbuilt_clause (view_clause c no_clauses) in
+    let test = view_maybe_expr (out-Clause c).test in
+    let body = view_stmts (nodes_of (out-Clause c).body) in
+    ap first_in (ap unbuilt_clauses (parts_clause c cs) ∙ clauses_step test body cs ∙ ap (λ (ats : List ℕ). ats ++ unbuilt_clauses cs) (ap unbuilt_clause (sym (parts_clause c no_clauses)))) ∙ first_append alone (unbuilt_clauses cs)
+
+-- a clause alone
+pub clause_alone : (c : Clause) → first_in (unbuilt_clause (view_clause c no_clauses)) ≡ or_next (first_in (unbuilt_maybe (view_maybe_expr (out-Clause c).test))) (first_in (unbuilt_statements (view_stmts (nodes_of (out-Clause c).body))))
+clause_alone c =
+    let test = view_maybe_expr (out-Clause c).test in
+    let body = view_stmts (nodes_of (out-Clause c).body) in
+    ap first_in (ap unbuilt_clause (parts_clause c no_clauses) ∙ clause_parts test body) ∙ first_append (unbuilt_maybe test) (unbuilt_statements body)

@@ -50,6 +50,7 @@ in_variables [] = None
 in_variables (d ∷ ds) = or_next (in_variable d) (in_variables ds)
 
 variables_from : (d : Ident × MaybeExpr) (ds : List (Ident × MaybeExpr)) → first_in (unbuilt_declarations (declarations_from d ds)) ≡ or_next (in_variable d) (in_variables ds)
+unfolding unbuilt_declarations
 variables_from d [] = sym (none_behind (in_variable d))
 variables_from d (e ∷ es) =
     let others = unbuilt_declarations (declarations_from e es) in

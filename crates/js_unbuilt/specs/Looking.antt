@@ -1,9 +1,7 @@
 -- How the code looks for the first node that isn't built: it takes the first of those that are listed, and looks no further.
 use Rattle.std.specs.Prelude.{ℕ, Bool, true, false, List, [], ◌∷◌, ◌++◌, Option, Some, None}
-use Rattle.std.specs.Option.{is_none}
-use Rattle.js_ast.specs.Trees.{Property, value, getter, setter, block, var, empty, expression, if_then, if_else, do_while, while, for, for_in, debugger, Statement}
-use Rattle.js_faults.specs.Directives.{directive_in}
-use Rattle.js_unbuilt.specs.Unbuilt.{place_of, takes_keys, unless, unbuilt_expr, unbuilt_maybe, unbuilt_declarations, unbuilt_first, unbuilt_target}
+use Rattle.js_ast.specs.Trees.{Property, value, getter, setter, Clauses, no_clauses, case, default}
+use Rattle.js_unbuilt.specs.Unbuilt.{unbuilt_expr, unbuilt_statements}
 
 -- the first of some places
 abbrev pub first_in : List ℕ → Option ℕ
@@ -27,17 +25,8 @@ unbuilt_property (value at key e) = unbuilt_expr e
 unbuilt_property (getter at key f) = []
 unbuilt_property (setter at key f) = []
 
--- what is listed of a statement in front of its own statements
-abbrev pub unbuilt_head : Statement → List ℕ
-unbuilt_head (block b) = []
-unbuilt_head (var at ds semi) = unbuilt_declarations ds
-unbuilt_head (empty at) = []
-unbuilt_head (expression at e semi) = unless (is_none (directive_in e)) at ++ unbuilt_expr e
-unbuilt_head (if_then at e s) = unbuilt_expr e
-unbuilt_head (if_else at e s u) = unbuilt_expr e
-unbuilt_head (do_while at s e semi) = []
-unbuilt_head (while at e s) = unbuilt_expr e
-unbuilt_head (for at first test step s) = unbuilt_first first ++ (unbuilt_maybe test ++ unbuilt_maybe step)
-unbuilt_head (for_in at target e s) = unless (takes_keys target) at ++ (unbuilt_target target ++ unbuilt_expr e)
-unbuilt_head (debugger at semi) = []
-unbuilt_head s = place_of s ∷ []
+-- what is listed of the first of some clauses
+abbrev pub unbuilt_clause : Clauses → List ℕ
+unbuilt_clause no_clauses = []
+unbuilt_clause (case e ss cs) = unbuilt_expr e ++ unbuilt_statements ss
+unbuilt_clause (default ss cs) = unbuilt_statements ss

@@ -4,35 +4,8 @@ use Rattle.std.specs.Option.{is_none}
 use Rattle.std.specs.Str.{bytes_eq}
 use Rattle.js_ast.specs.declared.operators.UnaryOperator.{UnaryOperator}
 use Rattle.js_ast.specs.declared.operators.UnaryOperator.TheVariants as unary_operator
-use Rattle.js_ast.specs.declared.operators.BinaryOperator.{BinaryOperator}
-use Rattle.js_ast.specs.declared.operators.BinaryOperator.TheVariants as binary_operator
-use Rattle.js_ast.specs.Trees.{Ident, Expr, name, number, string, this, null, boolean, paren, object, member, index, call, postfix, unary, binary, conditional, assign, comma, at_of, Exprs, no_exprs, more_exprs, MaybeExpr, absent, present, value, getter, setter, Properties, no_properties, more_properties, Target, target_expr, target_var, Declarations, one_declaration, more_declarations, First, first_expr, first_var, block_of, Statement, block, var, empty, expression, if_then, if_else, do_while, while, for, for_in, continue, break, return, throw, switch, labelled, try_catch, try_finally, try_both, debugger, function_declaration, Statements, no_statements, more_statements}
-use Rattle.js_faults.specs.Directives.{directive_in}
+use Rattle.js_ast.specs.Trees.{Ident, Expr, name, number, string, this, null, boolean, paren, array, object, function, member, index, new_with, new_bare, call, postfix, unary, binary, conditional, assign, comma, Exprs, no_exprs, more_exprs, MaybeExpr, absent, present, value, getter, setter, Properties, no_properties, more_properties, Target, target_expr, target_var, Declarations, one_declaration, more_declarations, First, first_expr, first_var, Clauses, no_clauses, case, default, Block, block_of, Statement, block, var, empty, expression, if_then, if_else, do_while, while, for, for_in, continue, break, return, throw, switch, labelled, try_catch, try_finally, try_both, debugger, function_declaration, Function, function_of, Statements, no_statements, more_statements}
 use Rattle.es_meaning.specs.Evaluation.{is_reference, direct_of}
-
--- the place of a statement's first token
-abbrev pub place_of : Statement → ℕ
-place_of (block (block_of at body)) = at
-place_of (var at ds semi) = at
-place_of (empty at) = at
-place_of (expression at e semi) = at
-place_of (if_then at e s) = at
-place_of (if_else at e s u) = at
-place_of (do_while at s e semi) = at
-place_of (while at e s) = at
-place_of (for at first test step s) = at
-place_of (for_in at target e s) = at
-place_of (continue at label semi) = at
-place_of (break at label semi) = at
-place_of (return at e semi) = at
-place_of (throw at e semi) = at
-place_of (switch at e cs) = at
-place_of (labelled at text s) = at
-place_of (try_catch at b ident handler) = at
-place_of (try_finally at b final) = at
-place_of (try_both at b ident handler final) = at
-place_of (debugger at semi) = at
-place_of (function_declaration at f) = at
 
 -- the functions of the product are called by their names, and these have no other use yet
 unfoldable pub is_reserved : List ℕ → Bool
@@ -52,11 +25,6 @@ abbrev pub takes_operand : UnaryOperator → Expr → Bool
 takes_operand unary_operator.Increment e = is_reference e
 takes_operand unary_operator.Decrement e = is_reference e
 takes_operand _ e = true
-
--- operators between operands are built
-abbrev pub is_built : BinaryOperator → Bool
-is_built binary_operator.Instanceof = false
-is_built _ = true
 
 -- each property of an object is a value: getters and setters aren't built
 abbrev pub are_values : Properties → Bool
@@ -79,8 +47,21 @@ unless false at = at ∷ []
 abbrev pub unbuilt_ident : Ident → List ℕ
 unbuilt_ident ident = unless (not (is_reserved ident.text)) ident.at
 
--- the node where it isn't built, and those of its parts that aren't; what a call calls is no part of it. Of a kind that isn't built at all the
--- node stands alone: none of its parts stands in front of it
+abbrev pub unbuilt_idents : List Ident → List ℕ
+unbuilt_idents [] = []
+unbuilt_idents (ident ∷ idents) = unbuilt_ident ident ++ unbuilt_idents idents
+
+abbrev pub unbuilt_name : Option Ident → List ℕ
+unbuilt_name None = []
+unbuilt_name (Some ident) = unbuilt_ident ident
+
+-- what is called by a function's own name is no part of a call
+abbrev pub unless_callee : Bool → List ℕ → List ℕ
+unless_callee true places = []
+unless_callee false places = places
+
+-- the node where it isn't built, and those of its parts that aren't. An array literal isn't built at all: it stands alone, as none of its parts stands
+-- in front of it. A getter and a setter are listed by their object
 unfoldable mutual
   pub unbuilt_expr : Expr → List ℕ
   unbuilt_expr (name at text) = unless (not (is_reserved text)) at
@@ -90,17 +71,20 @@ unfoldable mutual
   unbuilt_expr (null at) = []
   unbuilt_expr (boolean at b) = []
   unbuilt_expr (paren at e) = unbuilt_expr e
+  unbuilt_expr (array at items final) = at ∷ []
   unbuilt_expr (object at ps final) = unless (are_values ps) at ++ unbuilt_properties ps
+  unbuilt_expr (function at f) = unbuilt_function f
   unbuilt_expr (member at e text) = unbuilt_expr e
   unbuilt_expr (index at e n) = unbuilt_expr e ++ unbuilt_expr n
-  unbuilt_expr (call at e es) = unless (is_callee e) at ++ unbuilt_exprs es
+  unbuilt_expr (new_with at e es) = unbuilt_expr e ++ unbuilt_exprs es
+  unbuilt_expr (new_bare at e) = unbuilt_expr e
+  unbuilt_expr (call at e es) = unless_callee (is_callee e) (unbuilt_expr e) ++ unbuilt_exprs es
   unbuilt_expr (postfix at e o) = unless (is_reference e) at ++ unbuilt_expr e
   unbuilt_expr (unary at o e) = unless (takes_operand o e) at ++ unbuilt_expr e
-  unbuilt_expr (binary at l o r) = unless (is_built o) at ++ (unbuilt_expr l ++ unbuilt_expr r)
+  unbuilt_expr (binary at l o r) = unbuilt_expr l ++ unbuilt_expr r
   unbuilt_expr (conditional at c a b) = unbuilt_expr c ++ (unbuilt_expr a ++ unbuilt_expr b)
   unbuilt_expr (assign at l o r) = unless (is_reference l) at ++ (unbuilt_expr l ++ unbuilt_expr r)
   unbuilt_expr (comma at l r) = unbuilt_expr l ++ unbuilt_expr r
-  unbuilt_expr e = at_of e ∷ []
 
   pub unbuilt_exprs : Exprs → List ℕ
   unbuilt_exprs no_exprs = []
@@ -113,38 +97,58 @@ unfoldable mutual
   unbuilt_properties (more_properties (getter at key f) ps) = unbuilt_properties ps
   unbuilt_properties (more_properties (setter at key f) ps) = unbuilt_properties ps
 
-abbrev pub unbuilt_maybe : MaybeExpr → List ℕ
-unbuilt_maybe absent = []
-unbuilt_maybe (present e) = unbuilt_expr e
+  -- a function has a name and parameters, in front of its body
+  pub unbuilt_function : Function → List ℕ
+  unbuilt_function (function_of at ident params body) = unbuilt_name ident ++ (unbuilt_idents params ++ unbuilt_statements body)
 
-abbrev pub unbuilt_declarations : Declarations → List ℕ
-unbuilt_declarations (one_declaration ident e) = unbuilt_ident ident ++ unbuilt_maybe e
-unbuilt_declarations (more_declarations ident e ds) = unbuilt_ident ident ++ (unbuilt_maybe e ++ unbuilt_declarations ds)
+  pub unbuilt_maybe : MaybeExpr → List ℕ
+  unbuilt_maybe absent = []
+  unbuilt_maybe (present e) = unbuilt_expr e
 
-abbrev pub unbuilt_first : First → List ℕ
-unbuilt_first (first_expr e) = unbuilt_maybe e
-unbuilt_first (first_var ds) = unbuilt_declarations ds
+  pub unbuilt_declarations : Declarations → List ℕ
+  unbuilt_declarations (one_declaration ident e) = unbuilt_ident ident ++ unbuilt_maybe e
+  unbuilt_declarations (more_declarations ident e ds) = unbuilt_ident ident ++ (unbuilt_maybe e ++ unbuilt_declarations ds)
 
--- what a `for in` gives its keys to
-abbrev pub unbuilt_target : Target → List ℕ
-unbuilt_target (target_expr e) = unbuilt_expr e
-unbuilt_target (target_var ident) = unbuilt_ident ident
+  pub unbuilt_first : First → List ℕ
+  unbuilt_first (first_expr e) = unbuilt_maybe e
+  unbuilt_first (first_var ds) = unbuilt_declarations ds
 
--- the same of statements. An upgrade directive isn't built
-unfoldable mutual
+  -- what a `for in` gives its keys to
+  pub unbuilt_target : Target → List ℕ
+  unbuilt_target (target_expr e) = unbuilt_expr e
+  unbuilt_target (target_var ident) = unbuilt_ident ident
+
+  pub unbuilt_clauses : Clauses → List ℕ
+  unbuilt_clauses no_clauses = []
+  unbuilt_clauses (case e ss cs) = unbuilt_expr e ++ (unbuilt_statements ss ++ unbuilt_clauses cs)
+  unbuilt_clauses (default ss cs) = unbuilt_statements ss ++ unbuilt_clauses cs
+
+  pub unbuilt_block : Block → List ℕ
+  unbuilt_block (block_of at body) = unbuilt_statements body
+
+  -- the same of statements. A label is no name that is bound
   pub unbuilt_statement : Statement → List ℕ
-  unbuilt_statement (block (block_of at body)) = unbuilt_statements body
+  unbuilt_statement (block b) = unbuilt_block b
   unbuilt_statement (var at ds semi) = unbuilt_declarations ds
   unbuilt_statement (empty at) = []
-  unbuilt_statement (expression at e semi) = unless (is_none (directive_in e)) at ++ unbuilt_expr e
+  unbuilt_statement (expression at e semi) = unbuilt_expr e
   unbuilt_statement (if_then at e s) = unbuilt_expr e ++ unbuilt_statement s
   unbuilt_statement (if_else at e s u) = unbuilt_expr e ++ (unbuilt_statement s ++ unbuilt_statement u)
   unbuilt_statement (do_while at s e semi) = unbuilt_statement s ++ unbuilt_expr e
   unbuilt_statement (while at e s) = unbuilt_expr e ++ unbuilt_statement s
   unbuilt_statement (for at first test step s) = unbuilt_first first ++ (unbuilt_maybe test ++ (unbuilt_maybe step ++ unbuilt_statement s))
   unbuilt_statement (for_in at target e s) = unless (takes_keys target) at ++ (unbuilt_target target ++ (unbuilt_expr e ++ unbuilt_statement s))
+  unbuilt_statement (continue at label semi) = []
+  unbuilt_statement (break at label semi) = []
+  unbuilt_statement (return at e semi) = unbuilt_maybe e
+  unbuilt_statement (throw at e semi) = unbuilt_expr e
+  unbuilt_statement (switch at e cs) = unbuilt_expr e ++ unbuilt_clauses cs
+  unbuilt_statement (labelled at text s) = unbuilt_statement s
+  unbuilt_statement (try_catch at b ident handler) = unbuilt_block b ++ (unbuilt_ident ident ++ unbuilt_block handler)
+  unbuilt_statement (try_finally at b final) = unbuilt_block b ++ unbuilt_block final
+  unbuilt_statement (try_both at b ident handler final) = unbuilt_block b ++ (unbuilt_ident ident ++ (unbuilt_block handler ++ unbuilt_block final))
   unbuilt_statement (debugger at semi) = []
-  unbuilt_statement s = place_of s ∷ []
+  unbuilt_statement (function_declaration at f) = unbuilt_function f
 
   pub unbuilt_statements : Statements → List ℕ
   unbuilt_statements no_statements = []

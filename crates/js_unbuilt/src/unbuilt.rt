@@ -1,22 +1,23 @@
 //! The first node of a program, in source order, that can't be run yet.
 
-ghost use Rattle.std.specs.Prelude.{◌≡◌, ◌≤◌, ◌++◌, ℕ, List, IfSome, not};
+ghost use Rattle.std.specs.Prelude.{◌≡◌, ◌≤◌, ◌++◌, ℕ, List, IfSome};
 ghost use Rattle.std.specs.List.{All};
 ghost use Rattle.std.specs.List.Sorted.{IsNonDecreasingBy};
 ghost use Rattle.std.specs.Option.{is_none};
 ghost use Rattle.js_ast.specs.declared.token.Token.{Token};
 ghost use Rattle.js_ast.specs.Grammar.{SpellsProgram};
 ghost use Rattle.js_ast.specs.Nodes.{nodes_of};
-ghost use Rattle.js_ast.specs.Views.{view_ident, view_expr, view_exprs, view_maybe_expr, view_property, view_properties, view_declaration, view_declarations, view_first, view_target, view_stmt, view_stmts, view_program};
-ghost use Rattle.js_faults.specs.Directives.{directive_in};
+ghost use Rattle.js_ast.specs.Trees.{no_clauses};
+ghost use Rattle.js_ast.specs.Views.{view_ident, view_name, view_idents, view_expr, view_exprs, view_maybe_expr, view_property, view_properties, view_function, view_declaration, view_declarations, view_first, view_target, view_clause, view_clauses, view_block, view_stmt, view_stmts, view_program};
 ghost use Rattle.es_meaning.specs.Evaluation.{is_reference};
-ghost use Rattle.js_unbuilt.specs.Unbuilt.{is_reserved, is_callee, takes_operand, is_built, are_values, takes_keys, unless, unbuilt_ident, unbuilt_expr, unbuilt_exprs, unbuilt_properties, unbuilt_maybe, unbuilt_declarations, unbuilt_first, unbuilt_target, unbuilt_statement, unbuilt_statements, first_unbuilt};
-ghost use Rattle.js_unbuilt.specs.Looking.{first_in, or_next, is_value, unbuilt_property, unbuilt_head};
+ghost use Rattle.js_unbuilt.specs.Unbuilt.{is_reserved, is_callee, takes_operand, are_values, takes_keys, unless, unless_callee, unbuilt_ident, unbuilt_idents, unbuilt_name, unbuilt_expr, unbuilt_exprs, unbuilt_properties, unbuilt_function, unbuilt_maybe, unbuilt_declarations, unbuilt_first, unbuilt_target, unbuilt_clauses, unbuilt_block, unbuilt_statement, unbuilt_statements, first_unbuilt};
+ghost use Rattle.js_unbuilt.specs.Looking.{first_in, or_next, is_value, unbuilt_property, unbuilt_clause};
 
 use flow_text::Text;
 use js_ast::{
-    BinaryOperator, Declaration, Declarations, Expr, ExprKind, ExprList, ForFirst, ForTarget,
-    Ident, Program, Property, PropertyKind, PropertyList, Stmt, StmtKind, StmtList, UnaryOperator,
+    Block, Clause, ClauseList, Declaration, Declarations, Expr, ExprKind, ExprList, ForFirst,
+    ForTarget, Function, Ident, IdentList, Program, Property, PropertyKind, PropertyList, Stmt,
+    StmtKind, StmtList, UnaryOperator,
 };
 
 // `read`, `print`, `lbl`, `upgs` and `upge`
@@ -75,12 +76,6 @@ fn takes_operand(operator: UnaryOperator, operand: &Expr) -> bool
     }
 }
 
-fn is_built(operator: BinaryOperator) -> bool
-    ensures { result ≡ is_built operator }
-{
-    !matches!(operator, BinaryOperator::Instanceof)
-}
-
 fn is_value(property: &Property) -> bool
     ensures { result ≡ is_value (view_property property.now) }
 {
@@ -100,19 +95,6 @@ fn takes_keys(target: &ForTarget) -> bool
     match target {
         ForTarget::Expr(e) => is_reference(e),
         ForTarget::Var(_) => true,
-    }
-}
-
-/// Whether a statement of this expression is an upgrade directive.
-#[tactic(auto, unfolding(js_faults::specs::Directives::is_directive))]
-fn is_directive(e: &Expr) -> bool
-    ensures { is_none (directive_in (view_expr e.now)) ≡ not result }
-{
-    match &*e.kind {
-        ExprKind::String { value, .. } => {
-            value.units().starts_with(&[0x66, 0x6C, 0x6F, 0x77, 0x20])
-        }
-        _ => false,
     }
 }
 
@@ -169,22 +151,22 @@ fn in_expr(e: &Expr) -> Option<usize>
         }
         ExprKind::Member { base, .. } => in_expr(base),
         ExprKind::Index { base, index } => first_of(in_expr(base), in_expr(index)),
-        ExprKind::Call { callee, args } => where_built(is_callee(callee), e.at, in_exprs(args)),
+        ExprKind::Function(f) => in_function(f),
+        ExprKind::New { callee, args } => {
+            let found = in_expr(callee);
+            match args {
+                Some(args) => first_of(found, in_exprs(args)),
+                None => found,
+            }
+        }
+        ExprKind::Call { callee, args } => first_of(in_callee(callee), in_exprs(args)),
         ExprKind::Postfix { operand, .. } => {
             where_built(is_reference(operand), e.at, in_expr(operand))
         }
         ExprKind::Unary { operator, operand } => {
             where_built(takes_operand(*operator, operand), e.at, in_expr(operand))
         }
-        ExprKind::Binary {
-            left,
-            operator,
-            right,
-        } => where_built(
-            is_built(*operator),
-            e.at,
-            first_of(in_expr(left), in_expr(right)),
-        ),
+        ExprKind::Binary { left, right, .. } => first_of(in_expr(left), in_expr(right)),
         ExprKind::Assign { target, value, .. } => {
             where_built(
                 is_reference(target),
@@ -196,7 +178,19 @@ fn in_expr(e: &Expr) -> Option<usize>
         ExprKind::Conditional { test, then, other } => {
             first_of_three(in_expr(test), in_expr(then), in_expr(other))
         }
-        ExprKind::Array { .. } | ExprKind::Function(_) | ExprKind::New { .. } => Some(e.at),
+        ExprKind::Array { .. } => Some(e.at),
+    }
+}
+
+/// The first place in what is called, which isn't looked at where a function of the product is called by its name.
+#[cycle(walk)]
+fn in_callee(callee: &Expr) -> Option<usize>
+    ensures { result ≡ first_in (unless_callee (is_callee (view_expr callee.now)) (unbuilt_expr (view_expr callee.now))) }
+{
+    if is_callee(callee) {
+        None
+    } else {
+        in_expr(callee)
     }
 }
 
@@ -238,6 +232,42 @@ fn in_properties(list: &PropertyList) -> Option<usize>
     None
 }
 
+/// The first place in a function: in its name, its parameters or its body.
+#[cycle(walk)]
+#[tactic(auto, using(crate::proofs::Looked::first_append, js_ast::proofs::ViewLaws::parts_function), unfolding(crate::specs::Unbuilt::unbuilt_function))]
+fn in_function(f: &Function) -> Option<usize>
+    ensures { result ≡ first_in (unbuilt_function (view_function f.now)) }
+{
+    first_of_three(
+        in_name(&f.name),
+        in_idents(&f.params),
+        in_statements(&f.body),
+    )
+}
+
+fn in_name(name: &Option<Ident>) -> Option<usize>
+    ensures { result ≡ first_in (unbuilt_name (view_name name.now)) }
+{
+    match name {
+        Some(ident) => in_ident(ident),
+        None => None,
+    }
+}
+
+fn in_idents(list: &IdentList) -> Option<usize>
+    ensures { result ≡ first_in (unbuilt_idents (view_idents (nodes_of list.now))) }
+{
+    'idents: for ident in list.items() {
+        let found = in_ident(ident);
+        if found.is_some() {
+            return found;
+        }
+    }
+    None
+}
+
+#[cycle(walk)]
+#[tactic(auto, unfolding(crate::specs::Unbuilt::unbuilt_maybe))]
 fn in_maybe(e: &Option<Expr>) -> Option<usize>
     ensures { result ≡ first_in (unbuilt_maybe (view_maybe_expr e.now)) }
 {
@@ -248,6 +278,7 @@ fn in_maybe(e: &Option<Expr>) -> Option<usize>
 }
 
 /// The first place in a variable and its initialiser.
+#[cycle(walk)]
 #[tactic(auto, using(crate::proofs::Looked::first_append))]
 fn in_declaration(declaration: &Declaration) -> Option<usize>
     ensures { result ≡ first_in (unbuilt_ident (view_declaration declaration.now).0 ++ unbuilt_maybe (view_declaration declaration.now).1) }
@@ -255,6 +286,7 @@ fn in_declaration(declaration: &Declaration) -> Option<usize>
     first_of(in_ident(&declaration.name), in_maybe(&declaration.value))
 }
 
+#[cycle(walk)]
 fn in_declarations(declarations: &Declarations) -> Option<usize>
     ensures { result ≡ first_in (unbuilt_declarations (view_declarations declarations.now)) }
 {
@@ -271,6 +303,8 @@ fn in_declarations(declarations: &Declarations) -> Option<usize>
     None
 }
 
+#[cycle(walk)]
+#[tactic(auto, unfolding(crate::specs::Unbuilt::unbuilt_first))]
 fn in_first(first: &ForFirst) -> Option<usize>
     ensures { result ≡ first_in (unbuilt_first (view_first first.now)) }
 {
@@ -280,6 +314,8 @@ fn in_first(first: &ForFirst) -> Option<usize>
     }
 }
 
+#[cycle(walk)]
+#[tactic(auto, unfolding(crate::specs::Unbuilt::unbuilt_target))]
 fn in_target(target: &ForTarget) -> Option<usize>
     ensures { result ≡ first_in (unbuilt_target (view_target target.now)) }
 {
@@ -289,85 +325,115 @@ fn in_target(target: &ForTarget) -> Option<usize>
     }
 }
 
-/// The first place in an expression that is a statement.
-#[tactic(auto, using(crate::proofs::Looked::first_append))]
-fn in_expression(at: usize, e: &Expr) -> Option<usize>
-    ensures { result ≡ first_in (unless (is_none (directive_in (view_expr e.now))) at ++ unbuilt_expr (view_expr e.now)) }
+/// The first place in the test of a clause of a `switch`, or none for `default`, and in its statements.
+#[cycle(walk)]
+#[tactic(auto, using(crate::proofs::Looked::clause_alone))]
+fn in_clause(clause: &Clause) -> Option<usize>
+    ensures { result ≡ first_in (unbuilt_clause (view_clause clause.now no_clauses)) }
 {
-    where_built(!is_directive(e), at, in_expr(e))
+    first_of(in_maybe(&clause.test), in_statements(&clause.body))
 }
 
-/// The first place in the header of a `for`.
-#[tactic(auto, using(crate::proofs::Looked::first_append))]
-fn in_header(first: &ForFirst, test: &Option<Expr>, update: &Option<Expr>) -> Option<usize>
-    ensures { result ≡ first_in (unbuilt_first (view_first first.now) ++ (unbuilt_maybe (view_maybe_expr test.now) ++ unbuilt_maybe (view_maybe_expr update.now))) }
+#[cycle(walk)]
+fn in_clauses(list: &ClauseList) -> Option<usize>
+    ensures { result ≡ first_in (unbuilt_clauses (view_clauses (nodes_of list.now))) }
 {
-    first_of_three(in_first(first), in_maybe(test), in_maybe(update))
+    'clauses: for clause in list.items() {
+        let found = in_clause(clause);
+        if found.is_some() {
+            return found;
+        }
+    }
+    None
 }
 
-/// The first place in the header of a `for` with `in`.
-#[tactic(auto, using(crate::proofs::Looked::first_append))]
-fn in_keys(at: usize, target: &ForTarget, object: &Expr) -> Option<usize>
-    ensures { result ≡ first_in (unless (takes_keys (view_target target.now)) at ++ (unbuilt_target (view_target target.now) ++ unbuilt_expr (view_expr object.now))) }
+#[cycle(walk)]
+#[tactic(auto, using(js_ast::proofs::ViewLaws::parts_block), unfolding(crate::specs::Unbuilt::unbuilt_block))]
+fn in_block(block: &Block) -> Option<usize>
+    ensures { result ≡ first_in (unbuilt_block (view_block block.now)) }
 {
-    where_built(
-        takes_keys(target),
-        at,
-        first_of(in_target(target), in_expr(object)),
-    )
+    in_statements(&block.body)
 }
 
-/// The first place in what stands in front of a statement's own statements, or the statement's where it isn't built.
-#[tactic(auto, using(js_ast::proofs::ViewLaws::held_expr, js_ast::specs::declared::trees::ExprKind::TheViews::the_lemmas))]
-fn in_head(s: &Stmt) -> Option<usize>
-    ensures { result ≡ first_in (unbuilt_head (view_stmt s.now)) }
+/// The first place in a handler: in its name, or in its statements.
+#[cycle(walk)]
+#[tactic(auto, using(crate::proofs::Looked::first_append))]
+fn in_handler(param: &Ident, handler: &Block) -> Option<usize>
+    ensures { result ≡ first_in (unbuilt_ident (view_ident param.now) ++ unbuilt_block (view_block handler.now)) }
+{
+    first_of(in_ident(param), in_block(handler))
+}
+
+#[cycle(walk)]
+#[tactic(auto, using(crate::proofs::Looked::first_append, js_ast::proofs::ViewLaws::held_expr, js_ast::proofs::ViewLaws::held_clauses, js_ast::proofs::ViewLaws::held_stmts, js_ast::specs::declared::trees::ExprKind::TheViews::the_lemmas), unfolding(crate::specs::Unbuilt::unbuilt_block, crate::specs::Unbuilt::unbuilt_statement))]
+fn in_statement(s: &Stmt) -> Option<usize>
+    ensures { result ≡ first_in (unbuilt_statement (view_stmt s.now)) }
 {
     match &*s.kind {
-        StmtKind::Empty | StmtKind::Debugger(_) | StmtKind::Block(_) | StmtKind::DoWhile { .. } => {
-            None
-        }
+        StmtKind::Empty
+        | StmtKind::Debugger(_)
+        | StmtKind::Continue { .. }
+        | StmtKind::Break { .. } => None,
+        StmtKind::Block(list) => in_statements(list),
         StmtKind::Var { declarations, .. } => in_declarations(declarations),
-        StmtKind::Expr { expr, .. } => in_expression(s.at, expr),
-        StmtKind::If { test, .. } => in_expr(test),
-        StmtKind::While { test, .. } => in_expr(test),
+        StmtKind::Expr { expr, .. } => in_expr(expr),
+        StmtKind::If {
+            test,
+            then,
+            other: None,
+        } => first_of(in_expr(test), in_statement(then)),
+        StmtKind::If {
+            test,
+            then,
+            other: Some(other),
+        } => first_of_three(in_expr(test), in_statement(then), in_statement(other)),
+        StmtKind::DoWhile { body, test, .. } => first_of(in_statement(body), in_expr(test)),
+        StmtKind::While { test, body } => first_of(in_expr(test), in_statement(body)),
         StmtKind::For {
             first,
             test,
             update,
-            ..
-        } => in_header(first, test, update),
-        StmtKind::ForIn { target, object, .. } => in_keys(s.at, target, object),
-        _ => Some(s.at),
+            body,
+        } => first_of(
+            in_first(first),
+            first_of_three(in_maybe(test), in_maybe(update), in_statement(body)),
+        ),
+        StmtKind::ForIn {
+            target,
+            object,
+            body,
+        } => where_built(
+            takes_keys(target),
+            s.at,
+            first_of_three(in_target(target), in_expr(object), in_statement(body)),
+        ),
+        StmtKind::Return { value, .. } => in_maybe(value),
+        StmtKind::Throw { value, .. } => in_expr(value),
+        StmtKind::Switch { value, clauses } => first_of(in_expr(value), in_clauses(clauses)),
+        StmtKind::Labelled { body, .. } => in_statement(body),
+        StmtKind::TryCatch {
+            block,
+            param,
+            handler,
+        } => first_of(in_block(block), in_handler(param, handler)),
+        StmtKind::TryFinally { block, finalizer } => {
+            first_of(in_block(block), in_block(finalizer))
+        }
+        StmtKind::TryBoth {
+            block,
+            param,
+            handler,
+            finalizer,
+        } => first_of_three(
+            in_block(block),
+            in_handler(param, handler),
+            in_block(finalizer),
+        ),
+        StmtKind::Function(f) => in_function(f),
     }
 }
 
-#[cycle(statements)]
-#[tactic(auto, using(crate::proofs::Looked::first_append, crate::proofs::Looked::behind_header, js_ast::proofs::ViewLaws::held_expr, js_ast::proofs::ViewLaws::held_stmts, js_ast::specs::declared::trees::ExprKind::TheViews::the_lemmas), unfolding(crate::specs::Unbuilt::unbuilt_statement))]
-fn in_statement(s: &Stmt) -> Option<usize>
-    ensures { result ≡ first_in (unbuilt_statement (view_stmt s.now)) }
-{
-    let head = in_head(s);
-    match &*s.kind {
-        StmtKind::Block(list) => in_statements(list),
-        StmtKind::If {
-            then,
-            other: None,
-            ..
-        } => first_of(head, in_statement(then)),
-        StmtKind::If {
-            then,
-            other: Some(other),
-            ..
-        } => first_of_three(head, in_statement(then), in_statement(other)),
-        StmtKind::DoWhile { body, test, .. } => first_of(in_statement(body), in_expr(test)),
-        StmtKind::While { body, .. } => first_of(head, in_statement(body)),
-        StmtKind::For { body, .. } => first_of(head, in_statement(body)),
-        StmtKind::ForIn { body, .. } => first_of(head, in_statement(body)),
-        _ => head,
-    }
-}
-
-#[cycle(statements)]
+#[cycle(walk)]
 fn in_statements(list: &StmtList) -> Option<usize>
     ensures { result ≡ first_in (unbuilt_statements (view_stmts (nodes_of list.now))) }
 {

@@ -108,7 +108,7 @@ module _ (observer : Label) (tables : Tables) where
       go false w = refl
 
   -- one jump in both
-  jump_seen : {X : Type 0} (P : Pairing → X → X → Type 0) {γ : Pairing} (cause : Label) {j k : Jump} (s t : State) → JumpsAgree observer tables γ j k → LowEqual observer tables γ s t → IsSeen observer s → InStep observer tables P γ (jump cause j s) (jump cause k t)
+  pub jump_seen : {X : Type 0} (P : Pairing → X → X → Type 0) {γ : Pairing} (cause : Label) {j k : Jump} (s t : State) → JumpsAgree observer tables γ j k → LowEqual observer tables γ s t → IsSeen observer s → InStep observer tables P γ (jump cause j s) (jump cause k t)
   unfolding jump jump_to
   jump_seen P {γ} cause {j} {k} s t q r v = subst (λ d. InStep observer tables P γ (jump_to (reached j.to s.frames) cause j s) (jump_to d cause k t)) (ap₂ reached q.to (same_frames observer tables r v))
       (let d = reached j.to s.frames in
@@ -133,20 +133,20 @@ module _ (observer : Label) (tables : Tables) where
   prototype_below type_error = omega arith
   prototype_below uri_error = omega arith
 
-  error_formed : (kind : ErrorKind) (l : Label) (n : ℕ) → length start_heap ≤ n → IsFormed n (engine_error kind l)
+  error_formed : (kind : ErrorKind) (l : Label) (n : ℕ) → length start_heap ≤ n → IsFormed observer n (engine_error kind l)
   error_formed kind l n h = record {
-    below = λ q e. let is : (error_prototype kind) ≡ q = same_Some _ q e in let b = prototype_below kind in subst (λ (o : ObjId). o.0 < n) is (omega arith);
+    below = λ v q e. let is : (error_prototype kind) ≡ q = same_Some _ q e in let b = prototype_below kind in subst (λ (o : ObjId). o.0 < n) is (omega arith);
     distinct = no_keys;
   }
 
   -- the start objects stand
   has_start : {β : Pairing} {h g : List (Object Label)} → HeapsAgree observer β h g → length start_heap ≤ length h
-  has_start r = let b = start_stands observer r 8 (omega arith) in omega arith
+  has_start r = let b = start_stands observer r 9 (omega arith) in omega arith
 
   -- an error made where the context is hidden can't be told
   same_error : (kind : ErrorKind) (s : State) → Same observer tables s (with_error kind s)
   same_error kind s = record {
-    looks = λ β u r. low_heap observer tables r (new_left observer (engine_error kind (context s.frames)) (error_formed kind (context s.frames) (length s.heap) (has_start r.heap)) r.heap) r.records;
+    looks = λ β u r. low_heap observer tables r (new_left observer (engine_error kind (context s.frames)) r.heap) r.records;
     frames = refl;
   }
 
@@ -186,6 +186,13 @@ module _ (observer : Label) (tables : Tables) where
       (step_more observer tables P (extends_objects γ (length s.heap) (length t.heap))
       (jump_seen P l (with_error kind s) (with_error kind t) (record { exit = refl; to = refl; value = seen p refl (objects (pair_new γ.objects (length s.heap) (length t.heap))) }) (with_errors kind s t r v) v))
   thrown_both P kind {l} {m} s t (hidden h i) r v = jump_hidden P l m (error_jump l (length s.heap)) (error_jump m (length t.heap)) (with_error kind s) (with_error kind t) h i (with_errors kind s t r v) v
+
+  -- one cause that is seen: both errors are paired
+  pub thrown_at : {X : Type 0} (P : Pairing → X → X → Type 0) {γ : Pairing} (kind : ErrorKind) {l m : Label} (s t : State) → Sees observer l → l ≡ m → LowEqual observer tables γ s t → IsSeen observer s
+      → InStep observer tables P (with_objects γ (length s.heap) (length t.heap)) (throw_error kind l s) (throw_error kind m t)
+  unfolding throw_error
+  thrown_at P {γ} kind {l} s t p e r v = subst (λ x. InStep observer tables P (with_objects γ (length s.heap) (length t.heap)) (throw_error kind l s) (throw_error kind x t)) e
+      (jump_seen P l (with_error kind s) (with_error kind t) (record { exit = refl; to = refl; value = seen p refl (objects (pair_new γ.objects (length s.heap) (length t.heap))) }) (with_errors kind s t r v) v)
 
   pub lock_throw : {X : Type 0} (P : Pairing → X → X → Type 0) {β : Pairing} (kind : ErrorKind) {l m : Label} → Alike observer l m (Unit {0}) → Lockstep observer tables P β (throw_error kind l) (throw_error kind m)
   lock_throw P kind a = record { steps = λ γ e s t r v. thrown_both P kind s t a r v }

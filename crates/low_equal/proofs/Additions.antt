@@ -180,5 +180,5 @@ module _ (observer : Label) where
       → Sees observer p.structure → p.structure ≡ q.structure → p.extensible ≡ q.extensible → RowsAgree observer β p.rows q.rows → AreDistinct p.rows
       → ((o : ObjId) → p.proto ≡ Some o → o.0 < length h) → ((o : ObjId) → q.proto ≡ Some o → o.0 < length g) → HeapsAgree observer β h g
       → HeapsAgree observer (with_objects β (length h) (length g)) (h ++ p ∷ []) (g ++ q ∷ [])
-  level_new p q class inner links s e x rows d below beneath r = new_both observer p q (record { below = below; distinct = d }) (record { below = beneath; distinct = distinct_agree observer rows d })
+  level_new p q class inner links s e x rows d below beneath r = new_both observer p q (record { below = λ v. below; distinct = d }) (record { below = λ v. beneath; distinct = distinct_agree observer rows d })
       (record { class = class; inner = inner; links = links; shapes = seen_shape s e x rows }) r

@@ -1,5 +1,5 @@
 -- Heaps of which each label speaks of declared origins alone, and what acts and walks make of them.
-use Rattle.std.proofs.Common.{ℕ, zero, suc, Bool, true, false, ◌&&◌, cond, List, [], ◌∷◌, Option, Some, None, Ok, Err, slice_get, set}
+use Rattle.std.proofs.Common.{ℕ, zero, suc, Bool, true, false, ◌&&◌, cond, nat_eq, List, [], ◌∷◌, map, Option, Some, None, Ok, Err, slice_get, set}
 use Rattle.origin_labels.specs.Label.{Label, union, within}
 use Rattle.origin_labels.specs.Names.{same_name}
 use Rattle.flow_frames.specs.declared.faults.Rule.{Rule}
@@ -11,7 +11,7 @@ use Rattle.js_values.specs.declared.property.Body.TheVariants.{Data, Accessor}
 use Rattle.js_values.specs.declared.property.Marks.{Marks}
 use Rattle.js_values.specs.declared.property.Slot.{Slot}
 use Rattle.js_values.specs.Chains.{chain_within, beginning, onwards}
-use Rattle.js_values.specs.Objects.{Rows, Object, own, row_or_none, altered, number_of}
+use Rattle.js_values.specs.Objects.{Rows, Property, PlainObject, Object, own, row_or_none, altered, number_of}
 use Rattle.js_values.specs.Walks.{Found, found_at, find, object_chain}
 use Rattle.object_heap.specs.Arrays.{element_of, length_key, is_past}
 use Rattle.object_heap.specs.Acts.{Acted, under, on_slot, change, with_rows, lengthened, stretched, add_absent, put_back, on_object, act_on, write, raise_existence, add, remove, raise_structure}
@@ -21,6 +21,10 @@ use Rattle.prototype_walk.specs.Answers.{walk_of}
 use Rattle.prototype_walk.specs.Plans.{if_allowed, setter_plan, own_plan, inherited_plan, beyond_plan, plan_at, can_put}
 use Rattle.prototype_walk.specs.KeyLists.{existences, keys_after, keys}
 use Rattle.es_meaning.specs.Objects.{defined_over, defined, defined_all}
+use Rattle.es_meaning.specs.Functions.{elements_down, made_if}
+use Rattle.flow_meaning.specs.Erased.{made_rows, made_objects}
+use Rattle.flow_meaning.specs.Scopes.{Val}
+use Rattle.flow_meaning.specs.Tracked.{data_slot, arguments_object, linked_from, linked_beyond, linked}
 use Rattle.low_equal.proofs.DeclaredLabels.{Each, IfThere, each_push, each_at, Own, own_bottom, own_union}
 
 module _ (count : ℕ) where
@@ -72,6 +76,37 @@ module _ (count : ℕ) where
   own_defined_all [] slots rows q h = h
   own_defined_all (key ∷ keys) [] rows q h = h
   own_defined_all (key ∷ keys) (s ∷ slots) rows q h = own_defined_all keys slots (defined key s rows) q.1 (own_defined_over (own key rows) key s rows q.0 h)
+
+  -- ---- what is made in a context
+
+  -- properties
+  own_made_rows : (label : Label) (rows : Rows Property) → Own count label → OwnRows (made_rows label rows)
+  own_made_rows label [] q = tt
+  own_made_rows label (r ∷ rows) q = ((q, q), own_made_rows label rows q)
+
+  -- objects
+  pub own_made : (label : Label) (objects : List PlainObject) → Own count label → OwnHeap (made_objects label objects)
+  own_made label [] q = tt
+  own_made label (p ∷ objects) q = (record { link = q; structure = q; rows = own_made_rows label p.rows q }, own_made label objects q)
+
+  -- properties with values
+  pub own_slots : (label : Label) (vs : List Val) → Own count label → Each (λ v. Own count v.label) vs → Each OwnSlot (map (data_slot label) vs)
+  own_slots label [] q h = tt
+  own_slots label (v ∷ vs) q h = ((own_union count v.label label h.0 q, q), own_slots label vs q h.1)
+
+  -- the properties of an `arguments` object
+  own_elements : (rows : Rows (Slot Label)) (n : ℕ) (slots : List (Slot Label)) → OwnRows rows → Each OwnSlot slots → OwnRows (elements_down rows n slots)
+  own_elements rows n [] r h = r
+  own_elements rows n (s ∷ slots) r h = own_defined_over _ _ s (elements_down rows (suc n) slots) h.0 (own_elements rows (suc n) slots r h.1)
+
+  -- that object
+  pub own_arguments_object : (number place : ℕ) (args : List Val) (label : Label) → Own count label → Each (λ v. Own count v.label) args → OwnObject (arguments_object number place args label)
+  own_arguments_object number place args label q h = record { link = q; structure = q; rows = own_elements _ 0 _ ((q, q), tt) (own_slots label args q h) }
+
+  -- one that is made where something is so
+  pub own_made_if : (b : Bool) (p : Object Label) → OwnObject p → OwnHeap (made_if b p)
+  own_made_if true p h = (h, tt)
+  own_made_if false p h = tt
 
   -- ---- acts
 
@@ -167,6 +202,20 @@ module _ (count : ℕ) where
 
   pub own_chain : (heap : List (Object Label)) (o : ℕ) → OwnHeap heap → OwnChain (object_chain heap o)
   own_chain heap o h = own_chain_within heap (suc o) o h
+
+  -- the links of an object and its prototypes
+  own_linked_from : (proto : ℕ) (link : Label) (chain : List (ℕ × Object Label)) → Own count link → OwnChain chain → Own count (linked_from proto link chain).links
+  own_linked_from proto link [] q h = q
+  own_linked_from proto link (e ∷ chain) q h = by_case (nat_eq e.0 proto) (own_linked_from proto e.1.link chain h.0.link h.1)
+    where
+      by_case : (b : Bool) → Own count (linked_from proto e.1.link chain).links → Own count (cond b (record { is = true; links = link }) (linked_beyond link (linked_from proto e.1.link chain))).links
+      by_case true p = q
+      by_case false p = own_union count link _ q p
+
+  -- from the object on
+  pub own_linked : (proto : ℕ) (chain : List (ℕ × Object Label)) → OwnChain chain → Own count (linked proto chain).links
+  own_linked proto [] h = own_bottom count
+  own_linked proto (e ∷ chain) h = own_linked_from proto e.1.link chain h.0.link h.1
 
   -- what is found, and the walk to it
   pub record OwnFound (f : Found) : Type 0 where

@@ -22,6 +22,11 @@ module _ {X : Type 0} (P : X → Type 0) where
   each_push [] x h p = (p, tt)
   each_push (y ∷ xs) x h p = (h.0, each_push xs x h.1 p)
 
+  -- two lists
+  pub each_append : (xs ys : List X) → Each P xs → Each P ys → Each P (xs ++ ys)
+  each_append [] ys h k = k
+  each_append (x ∷ xs) ys h k = (h.0, each_append xs ys h.1 k)
+
   -- so many of them
   pub each_take : (n : ℕ) (xs : List X) → Each P xs → Each P (take n xs)
   each_take zero xs h = tt
@@ -108,3 +113,10 @@ module _ (count : ℕ) where
   own_raised [] depth label h q = tt
   own_raised (f ∷ frames) zero label h q = (own_union f.label label h.0 q, h.1)
   own_raised (f ∷ frames) (suc depth) label h q = (h.0, own_raised frames depth label h.1 q)
+
+  -- a frame catches no longer
+  pub own_quieted : (frames : List Frame) (depth : ℕ) → OwnFrames frames → OwnFrames (changed_at (λ f. record f { active = false }) frames depth)
+  unfolding changed_at
+  own_quieted [] depth h = tt
+  own_quieted (f ∷ frames) zero h = h
+  own_quieted (f ∷ frames) (suc depth) h = (h.0, own_quieted frames depth h.1)

@@ -17,7 +17,7 @@ use Rattle.es_meaning.specs.Outcomes.{Exit, throws, returns, leaves, Outcome, Go
 use Rattle.es_meaning.specs.Operations.{Ty, One, Res}
 use Rattle.es_meaning.specs.Operations.{Value as a_value}
 use Rattle.es_meaning.specs.Plain as plain
-use Rattle.es_meaning.specs.Plain.{Line, State, P, choose, leaves_it, ended_round}
+use Rattle.es_meaning.specs.Plain.{Line, State, P, choose, leaves_it, is_return, ended_round}
 use Rattle.flow_meaning.specs.Erased.{erased_heap, erased_records, unlabelled}
 use Rattle.flow_meaning.specs.Scopes as tracked
 use Rattle.flow_meaning.specs.Scopes.{Val, Halt, as_plain, stopped, L, guard, under, pushed_on, cut_to, innermost, raised_in, raise, catching, reached, jump_to, jump, Came, ended, caught, Left, popped, scope, given_by, depending, settled}
@@ -60,7 +60,7 @@ pub ends_extends : {X : Type 0} (halt : es.Halt) (s : State) → Extends {X = X}
 ends_extends halt s = record { rest = []; lines_are = sym (append-nil s.lines) }
 
 -- a front of a front is a front
-extends_more : {X : Type 0} (lines more rest : List Line) (outcome : Outcome es.Halt plain.Jump X State) → more ≡ lines ++ rest → Extends more outcome → Extends lines outcome
+pub extends_more : {X : Type 0} (lines more rest : List Line) (outcome : Outcome es.Halt plain.Jump X State) → more ≡ lines ++ rest → Extends more outcome → Extends lines outcome
 extends_more lines more rest outcome e x = record { rest = rest ++ x.rest; lines_are = x.lines_are ∙ ap (λ ls. ls ++ x.rest) e ∙ append_assoc lines rest x.rest }
 
 -- computations that follow each other keep the front of the lines
@@ -87,12 +87,6 @@ active calls = false
 active (rounds n) = false
 active (tries b) = b
 
--- what returns to the caller
-abbrev is_return : Exit → Bool
-is_return returns = true
-is_return throws = false
-is_return (leaves n) = false
-
 -- the mark is what the exit aims at
 abbrev pub is_aim : Exit → Mark → Bool
 is_aim j passes = false
@@ -115,12 +109,12 @@ first j [] = []
 first j (m ∷ w) = cond (catches j m) (m ∷ w) (first j w)
 
 -- whether the frames of the marks are active, the Root and then outermost first
-abbrev actives : List Mark → List Bool
+abbrev pub actives : List Mark → List Bool
 actives [] = false ∷ []
 actives (m ∷ w) = actives w ++ active m ∷ []
 
 -- whether frames are active
-abbrev activity : List Frame → List Bool
+abbrev pub activity : List Frame → List Bool
 activity frames = map (λ f. f.active) frames
 
 -- the frames are the Root and those of the marks
@@ -155,7 +149,7 @@ by_test false h k = k refl
 -- ---- depths and marks
 
 -- one more than the marks, which is the Root
-length_actives : (w : List Mark) → length (actives w) ≡ suc (length w)
+pub length_actives : (w : List Mark) → length (actives w) ≡ suc (length w)
 length_actives [] = refl
 length_actives (m ∷ w) = let h = length_actives w in let e = length-append (actives w) (active m ∷ []) in omega arith
 
@@ -173,7 +167,7 @@ aim_most j (m ∷ w) = by_case (is_aim j m) (aim_most j w)
     by_case false h = omega arith
 
 -- nor does it stop inside them
-first_most : (j : Exit) (w : List Mark) → length (first j w) ≤ length w
+pub first_most : (j : Exit) (w : List Mark) → length (first j w) ≤ length w
 first_most j [] = omega arith
 first_most j (m ∷ w) = by_case (catches j m) (first_most j w)
   where
@@ -267,7 +261,7 @@ cut_none : {w : List Mark} {frames : List Frame} (depth : ℕ) → length frames
 cut_none {w} {frames} depth le r = subst (Shaped w) (sym (take_all depth frames le)) r
 
 -- a frame is pushed
-pushed_shaped : (m : Mark) (k : Kind) (label : Label) {w : List Mark} {frames : List Frame} → is_try k ≡ active m → Shaped w frames → Shaped (m ∷ w) (frames ++ pushed k label ∷ [])
+pub pushed_shaped : (m : Mark) (k : Kind) (label : Label) {w : List Mark} {frames : List Frame} → is_try k ≡ active m → Shaped w frames → Shaped (m ∷ w) (frames ++ pushed k label ∷ [])
 pushed_shaped m k label {w} {frames} e r = record { shape = map_push (λ f. f.active) frames (pushed k label) ∙ ap₂ (λ bs a. bs ++ a ∷ []) r.shape e }
 
 -- labels are joined to that of a frame
@@ -278,7 +272,7 @@ raised_active (f ∷ frames) zero label = refl
 raised_active (f ∷ frames) (suc depth) label = ap (λ bs. f.active ∷ bs) (raised_active frames depth label)
 
 -- which changes no shape
-raised_shaped : (depth : ℕ) (label : Label) {w : List Mark} {frames : List Frame} → Shaped w frames → Shaped w (raised frames depth label)
+pub raised_shaped : (depth : ℕ) (label : Label) {w : List Mark} {frames : List Frame} → Shaped w frames → Shaped w (raised frames depth label)
 raised_shaped depth label {w} {frames} r = record { shape = raised_active frames depth label ∙ r.shape }
 
 -- throws aim at the Root
@@ -314,7 +308,7 @@ pub ret_lifts : (t : Ty) (w : List Mark) (a : Res Val t) (b : Res Value t) → e
 ret_lifts t w a b e = record { yields = λ s r. goes_to r e refl; extends = goes_extends b }
 
 -- computations that follow each other, at one outcome
-yields_bind : {t u : Ty} {w : List Mark} {o : Outcome Halt tracked.Jump (Res Val t) tracked.State} {p : Outcome es.Halt plain.Jump (Res Value t) State} (f : Res Val t → L (Res Val u)) (g : Res Value t → P (Res Value u))
+pub yields_bind : {t u : Ty} {w : List Mark} {o : Outcome Halt tracked.Jump (Res Val t) tracked.State} {p : Outcome es.Halt plain.Jump (Res Value t) State} (f : Res Val t → L (Res Val u)) (g : Res Value t → P (Res Value u))
     → Yields t w o p → ((a : Res Val t) → Lift u w (f a) (g (erased_result t a))) → ((a : Res Value t) (s : State) → Extends s.lines (g a s)) → Yields u w (and_then o f) (and_then p g)
 yields_bind f g (goes {a = a} {s = s} r) h k = (h a).yields s r
 yields_bind f g (jumps r e) h k = jumps r e
@@ -377,7 +371,7 @@ pub data Pops (t : Ty) (m : Mark) (w : List Mark) : Outcome Halt tracked.Jump (L
       → Pops t m w (Ends (stopped rule need have) s) p
 
 -- what a mark doesn't catch doesn't aim at it
-not_aimed : (j : Exit) (m : Mark) → catches j m ≡ false → is_aim j m ≡ false
+pub not_aimed : (j : Exit) (m : Mark) → catches j m ≡ false → is_aim j m ≡ false
 not_aimed j m e = by_case (is_aim j m) e
   where
     by_case : (b : Bool) → (b || active m) ≡ false → b ≡ false
@@ -385,7 +379,7 @@ not_aimed j m e = by_case (is_aim j m) e
     by_case false q = refl
 
 -- the frame is popped
-popped_pops : {t : Ty} {m : Mark} {w : List Mark} {o : Outcome Halt tracked.Jump (Res Val t) tracked.State} {p : Outcome es.Halt plain.Jump (Res Value t) State} → Yields t (m ∷ w) o p → Pops t m w (popped (suc (length w)) o) p
+pub popped_pops : {t : Ty} {m : Mark} {w : List Mark} {o : Outcome Halt tracked.Jump (Res Val t) tracked.State} {p : Outcome es.Halt plain.Jump (Res Value t) State} → Yields t (m ∷ w) o p → Pops t m w (popped (suc (length w)) o) p
 unfolding popped
 popped_pops (goes r) = went (cut_mark r)
 popped_pops {t} {m} {w} (jumps {j = j} {s = s} r e) = by_test (catches j.exit m) here beyond
@@ -405,13 +399,13 @@ popped_pops ends = halts
 popped_pops (stops broken x) = breaks broken x
 
 -- what is done in a frame of its own
-scope_pops : {t : Ty} {w : List Mark} (m : Mark) (k : Kind) (label : Label) → is_try k ≡ active m → (f : ℕ → L (Res Val t)) (g : P (Res Value t)) → Lift t (m ∷ w) (f (suc (length w))) g
+pub scope_pops : {t : Ty} {w : List Mark} (m : Mark) (k : Kind) (label : Label) → is_try k ≡ active m → (f : ℕ → L (Res Val t)) (g : P (Res Value t)) → Lift t (m ∷ w) (f (suc (length w))) g
     → (s : tracked.State) → Shaped w s.frames → Pops t m w (scope k label f s) (g (erased s))
 scope_pops {t} {w} m k label a f g h s r =
     subst (λ depth. Pops t m w (popped depth (f depth (pushed_on k label s))) (g (erased s))) (sym (length_shaped r)) (popped_pops (h.yields (pushed_on k label s) (pushed_shaped m k label a r)))
 
 -- a frame that no jump stops at: its end is the computation's
-passing_yields : {t : Ty} {m : Mark} {w : List Mark} {o : Outcome Halt tracked.Jump (Left (Res Val t)) tracked.State} {p : Outcome es.Halt plain.Jump (Res Value t) State} (f : Left (Res Val t) → Res Val t)
+pub passing_yields : {t : Ty} {m : Mark} {w : List Mark} {o : Outcome Halt tracked.Jump (Left (Res Val t)) tracked.State} {p : Outcome es.Halt plain.Jump (Res Value t) State} (f : Left (Res Val t) → Res Val t)
     → ((label : Label) (a : Res Val t) → erased_result t (f (record { label = label; how = ended a })) ≡ erased_result t a) → ((j : Exit) → catches j m ≡ true → ⊥) → Pops t m w o p → Yields t w (and_then o (λ c. ret (f c))) p
 passing_yields f same never (went {label = label} {a = a} r) = goes_to r (same label a) refl
 passing_yields f same never (stayed {j = j} c r) = absurd (never j.exit c)
@@ -425,7 +419,7 @@ settled_is One label a = refl
 settled_is a_value label a = refl
 
 -- no jump stops at a frame that neither is aimed at nor is active
-not_caught : false ≡ true → ⊥
+pub not_caught : false ≡ true → ⊥
 not_caught e = true≢false (sym e)
 
 -- a branch is one of two

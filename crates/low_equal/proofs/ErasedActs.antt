@@ -26,7 +26,7 @@ use Rattle.prototype_walk.specs.KeyLists.{Keys}
 use Rattle.js_ast.specs.declared.operators.UnaryOperator.{UnaryOperator}
 use Rattle.es_meaning.specs.Outcomes as es
 use Rattle.es_meaning.specs.Outcomes.{throws, Goes, Ends}
-use Rattle.es_meaning.specs.Operations.{Ty, One, Res, Direct, read, print, lbl, upgs, upge, Act, object_of, base_needed, object_needed, has_key}
+use Rattle.es_meaning.specs.Operations.{Ty, One, Res, Direct, read, print, lbl, upgs, upge, Act, object_of, base_needed, object_needed, has_key, refused_declaration}
 use Rattle.es_meaning.specs.Operations.{Value as a_value}
 use Rattle.es_meaning.specs.Operators.{an_object, is_object, unary_of}
 use Rattle.es_meaning.specs.Objects.{Plan, writes, adds, refuses, calls, made_by_script, own_in}
@@ -47,7 +47,7 @@ use Rattle.low_equal.proofs.ErasedHeaps.{length_erased, pushed_erased, object_er
 -- ---- records without labels
 
 -- the record with this number
-record_erased : (records : List (Record Val)) (i : ℕ) → slice_get (erased_records records) i ≡ option_map erased_record (slice_get records i)
+pub record_erased : (records : List (Record Val)) (i : ℕ) → slice_get (erased_records records) i ≡ option_map erased_record (slice_get records i)
 record_erased [] i = refl
 record_erased (r ∷ records) zero = refl
 record_erased (r ∷ records) (suc i) = record_erased records i
@@ -60,7 +60,7 @@ set_erased (q ∷ records) (suc i) r = ap (λ rs. erased_record q ∷ rs) (set_e
 
 -- ---- bindings without labels
 
-abbrev erased_binding : Binding Val → Binding Value
+abbrev pub erased_binding : Binding Val → Binding Value
 erased_binding b = record { name = b.name; mutable = b.mutable; value = b.value.value }
 
 -- the first binding of a name, or a later one
@@ -69,7 +69,7 @@ found_first true first o = refl
 found_first false first o = refl
 
 -- the binding of a name
-found_erased : (name : List ℕ) (bindings : Bindings Val) → found name (erased_bindings bindings) ≡ option_map erased_binding (found name bindings)
+pub found_erased : (name : List ℕ) (bindings : Bindings Val) → found name (erased_bindings bindings) ≡ option_map erased_binding (found name bindings)
 found_erased name [] = refl
 found_erased name (b ∷ bindings) = ap (λ o. cond (same_name b.name name) (Some (erased_binding b)) o) (found_erased name bindings) ∙ found_first (same_name b.name name) b (found name bindings)
 
@@ -79,7 +79,7 @@ rebound_first true xs ys = refl
 rebound_first false xs ys = refl
 
 -- bindings, of which one has another value
-rebound_erased : (name : List ℕ) (v : Val) (bindings : Bindings Val) → rebound name v.value (erased_bindings bindings) ≡ erased_bindings (rebound name v bindings)
+pub rebound_erased : (name : List ℕ) (v : Val) (bindings : Bindings Val) → rebound name v.value (erased_bindings bindings) ≡ erased_bindings (rebound name v bindings)
 rebound_erased name v [] = refl
 rebound_erased name v (b ∷ bindings) =
     ap (λ bs. cond (same_name b.name name) (erased_bindings (record b { value = v } ∷ bindings)) (erased_binding b ∷ bs)) (rebound_erased name v bindings)
@@ -167,7 +167,7 @@ throws_yields {t} {w} kind cause s r =
     (jump_yields cause (error_jump cause (length s.heap)) (with_error kind s) (sym (aim_throws w)) r))
 
 -- which prints nothing
-throws_extends : {X : Type 0} (kind : ErrorKind) (s : State) → Extends {X = X} s.lines (plain.throw_error kind s)
+pub throws_extends : {X : Type 0} (kind : ErrorKind) (s : State) → Extends {X = X} s.lines (plain.throw_error kind s)
 unfolding plain.throw_error
 throws_extends kind s = jumps_extends _ (record s { heap = s.heap ++ start.engine_error kind ∷ [] })
 
@@ -264,7 +264,7 @@ found_extends (Some f) s = held_extends f.1.body s
 found_extends None s = goes_extends _ s
 
 -- the value of a property of a value
-property_lifts : {w : List Mark} (label : Label) (v : Value) (key : List ℕ) → Lift a_value w (tracked.property_of label v key) (plain.property_of v key)
+pub property_lifts : {w : List Mark} (label : Label) (v : Value) (key : List ℕ) → Lift a_value w (tracked.property_of label v key) (plain.property_of v key)
 unfolding tracked.property_of plain.property_of
 property_lifts label (value.Primitive p) key = record { yields = λ s r. ends; extends = ends_extends _ }
 property_lifts {w} label (value.Object o) key = record {
@@ -526,6 +526,7 @@ has_lifts label key (value.Object o) = record {
 pub act_lifts : {w : List Mark} (f : Act) (vs : List Val) → Lift a_value w (tracked.act f vs) (plain.act f (map (λ v. v.value) vs))
 unfolding tracked.act plain.act
 act_lifts (object_of keys) vs = make_lifts keys vs
+act_lifts refused_declaration vs = record { yields = λ s r. throws_yields _ _ s r; extends = throws_extends _ }
 act_lifts {w} base_needed vs = subst (λ x. Lift a_value w (tracked.act base_needed vs) (plain.needed (is_coercible x) x)) (sym (argument_erased 0 vs)) (needed_lifts _ (argument 0 vs))
 act_lifts {w} object_needed vs = subst (λ x. Lift a_value w (tracked.act object_needed vs) (plain.needed (is_object x) x)) (sym (argument_erased 0 vs)) (needed_lifts _ (argument 0 vs))
 act_lifts {w} has_key vs =

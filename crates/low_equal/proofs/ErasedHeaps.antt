@@ -4,7 +4,7 @@ use Rattle.std.proofs.Common.{◌≡◌, ℕ, zero, suc, Bool, true, false, cond
 use Rattle.std.specs.Option.{option_map}
 use Rattle.std.proofs.lemmas.List.{set-get_or}
 use Rattle.std.proofs.lemmas.Option.{none-some, same_Some, get_or_from_slice_get}
-use Rattle.origin_labels.specs.Label.{Label, within}
+use Rattle.origin_labels.specs.Label.{Label, bottom, within}
 use Rattle.origin_labels.specs.Names.{same_name, has_name}
 use Rattle.flow_frames.specs.declared.faults.Rule.{Rule}
 use Rattle.flow_frames.specs.declared.faults.Rule.TheVariants.{W3, W4, W5, W7, W8}
@@ -18,7 +18,8 @@ use Rattle.js_values.specs.declared.ids.ObjId.{ObjId}
 use Rattle.js_values.specs.declared.inner.Class.{Class}
 use Rattle.js_values.specs.declared.inner.Class.TheVariants as class
 use Rattle.js_values.specs.Numerals.{index_of}
-use Rattle.js_values.specs.Objects.{Rows, Property, PlainInner, PlainObject, Object, number_of, own, row_or_none, altered, changed, with_row, keys_of}
+use Rattle.js_values.specs.declared.value.Value.{Value}
+use Rattle.js_values.specs.Objects.{Rows, Property, PlainInner, plain as plain_inner, script, native, bound, PlainObject, Object, number_of, own, row_or_none, altered, changed, with_row, keys_of}
 use Rattle.js_values.specs.Chains.{beginning, onwards, chain_within}
 use Rattle.js_values.specs.Walks.{plain_chain, object_chain, plain_found_at, plain_find, Found, found_at, find}
 use Rattle.js_ast.specs.Trees.{Statements}
@@ -31,11 +32,9 @@ use Rattle.prototype_walk.specs.Plans as walks
 use Rattle.prototype_walk.specs.KeyLists as lists
 use Rattle.es_meaning.specs.Objects as plain
 use Rattle.es_meaning.specs.Objects.{defined_over, defined_all, Plan, writes, adds, refuses, calls, is_index, is_element, replaced, with_object, with_value}
-use Rattle.es_meaning.specs.Declared.{declared_statements}
-use Rattle.es_meaning.specs.Start.{global_object, start_heap}
-use Rattle.es_meaning.specs.Plain.{data_property, unless_found, with_variable, with_variables, first_heap}
+use Rattle.es_meaning.specs.Plain.{data_property, first_heap}
 use Rattle.es_meaning.specs.Plain as meaning
-use Rattle.flow_meaning.specs.Erased.{erased_inner, erased_slot, erased_rows, erased_object, erased_heap, unlabelled_rows, unlabelled_inner, unlabelled_heap}
+use Rattle.flow_meaning.specs.Erased.{erased_values, erased_inner, erased_slot, erased_rows, erased_object, erased_heap, labelled_values, made_inner, made_rows, made_object, made_objects, unlabelled_heap}
 use Rattle.flow_meaning.specs.Scopes.{Val}
 use Rattle.flow_meaning.specs.Tracked as tracked
 use Rattle.flow_meaning.specs.Tracked.{data_slot}
@@ -224,7 +223,7 @@ raise_existence_does o key need label heap =
 
 -- ---- walks
 
-abbrev erased_chain : List (ℕ × Object Label) → List (ℕ × PlainObject)
+abbrev pub erased_chain : List (ℕ × Object Label) → List (ℕ × PlainObject)
 erased_chain [] = []
 erased_chain (e ∷ objects) = (e.0, erased_object e.1) ∷ erased_chain objects
 
@@ -257,7 +256,7 @@ within_erased heap (suc n) i =
     ∙ beginning_erased i (slice_get heap i) (chain_within proto_of heap n) (chain_within plain_proto_of (erased_heap heap) n) (within_erased heap n)
 
 -- all of them
-chain_erased : (heap : List (Object Label)) (o : ℕ) → plain_chain (erased_heap heap) o ≡ erased_chain (object_chain heap o)
+pub chain_erased : (heap : List (Object Label)) (o : ℕ) → plain_chain (erased_heap heap) o ≡ erased_chain (object_chain heap o)
 chain_erased heap o = within_erased heap (suc o) o
 
 -- what is found at an object, or behind it
@@ -368,7 +367,7 @@ defined_here : (x : Option (Slot Label)) (key : List ℕ) (s : Slot Label) (rows
 defined_here None key s rows = with_row_erased key s rows
 defined_here (Some t) key s rows = altered_erased key (λ x. Some s) (λ q. Some (erased_slot s)) (λ x. refl) rows
 
-defined_erased : (key : List ℕ) (s : Slot Label) (rows : Rows (Slot Label)) → erased_rows (plain.defined key s rows) ≡ plain.defined key (erased_slot s) (erased_rows rows)
+pub defined_erased : (key : List ℕ) (s : Slot Label) (rows : Rows (Slot Label)) → erased_rows (plain.defined key s rows) ≡ plain.defined key (erased_slot s) (erased_rows rows)
 defined_erased key s rows = defined_here (own key rows) key s rows ∙ ap (λ x. defined_over x key (erased_slot s) (erased_rows rows)) (sym (own_erased key rows))
 
 -- keys are given values in turn
@@ -385,50 +384,34 @@ literal_erased keys vs label = ap (plain.with_rows (meaning.literal_object [] []
 
 -- ---- the start
 
--- rows get labels and lose them
-rows_same : (rows : Rows Property) → erased_rows (unlabelled_rows rows) ≡ rows
-rows_same [] = refl
-rows_same (r ∷ rows) = ap (λ (rs : Rows Property). r ∷ rs) (rows_same rows)
+-- what is made in a context has no label of its own without labels
+values_made : (label : Label) (vs : List Value) → erased_values (labelled_values label vs) ≡ vs
+values_made label [] = refl
+values_made label (v ∷ vs) = ap (λ xs. v ∷ xs) (values_made label vs)
 
--- what an object that a run starts with is besides its properties is so without labels: it is neither a function of the script nor a bound one
-abbrev IsFirst : PlainInner → Type 0
-IsFirst inner = erased_inner (unlabelled_inner inner) ≡ inner
+inner_made : (label : Label) (inner : PlainInner) → erased_inner (made_inner label inner) ≡ inner
+inner_made label plain_inner = refl
+inner_made label (script number place) = refl
+inner_made label (native which) = refl
+inner_made label (bound target this args) = ap (bound target this) (values_made label args)
 
-data AreFirst : List PlainObject → Type 0 where
-  none_first : AreFirst []
-  one_first : {p : PlainObject} {heap : List PlainObject} → IsFirst p.inner → AreFirst heap → AreFirst (p ∷ heap)
+rows_made : (label : Label) (rows : Rows Property) → erased_rows (made_rows label rows) ≡ rows
+rows_made label [] = refl
+rows_made label (r ∷ rows) = ap (λ (rs : Rows Property). r ∷ rs) (rows_made label rows)
 
--- objects get labels and lose them
-heap_same : {heap : List PlainObject} → AreFirst heap → erased_heap (unlabelled_heap heap) ≡ heap
-heap_same none_first = refl
-heap_same (one_first {p = p} {heap = heap} e h) = ap₂ (λ q ps. q ∷ ps) (ap₂ (λ inner rows. record p { inner = inner; rows = rows }) e (rows_same p.rows)) (heap_same h)
+pub object_made : (label : Label) (p : PlainObject) → erased_object (made_object label p) ≡ p
+object_made label p = ap₂ (λ inner rows. record p { inner = inner; rows = rows }) (inner_made label p.inner) (rows_made label p.rows)
 
--- one of them has other properties
-first_put : {heap : List PlainObject} (i : ℕ) (p : PlainObject) (rows : Rows Property) → slice_get heap i ≡ Some p → AreFirst heap → AreFirst (set heap i (plain.with_rows p rows))
-first_put i p rows e none_first = none_first
-first_put zero p rows e (one_first {p = q} f h) = one_first (subst (λ (x : PlainObject). IsFirst x.inner) (same_Some q p e) f) h
-first_put (suc i) p rows e (one_first f h) = one_first f (first_put i p rows e h)
+pub objects_made : (label : Label) (objects : List PlainObject) → erased_heap (made_objects label objects) ≡ objects
+objects_made label [] = refl
+objects_made label (p ∷ objects) = ap₂ (λ q ps. q ∷ ps) (object_made label p) (objects_made label objects)
 
-first_with : (o : ℕ) (rows : PlainObject → Rows Property) {heap : List PlainObject} → AreFirst heap → AreFirst (with_object o (λ p. plain.with_rows p (rows p)) heap)
-first_with o rows {heap} h = there (slice_get heap o) refl
-  where
-    there : (x : Option PlainObject) → slice_get heap o ≡ x → AreFirst (replaced x o (λ p. plain.with_rows p (rows p)) heap)
-    there None e = h
-    there (Some p) e = first_put o p (rows p) e h
-
--- variables are added
-first_variable : (f : Option (ℕ × Property)) (name : List ℕ) {heap : List PlainObject} → AreFirst heap → AreFirst (unless_found f name heap)
-first_variable None name h = first_with global_object.0 _ h
-first_variable (Some f) name h = h
-
-first_variables : (names : List (List ℕ)) {heap : List PlainObject} → AreFirst heap → AreFirst (with_variables names heap)
-first_variables [] h = h
-first_variables (name ∷ names) h = first_variables names (first_variable _ name h)
+-- further objects
+pub appended_erased : (heap objects : List (Object Label)) → erased_heap (heap ++ objects) ≡ erased_heap heap ++ erased_heap objects
+appended_erased [] objects = refl
+appended_erased (p ∷ heap) objects = ap (λ ps. erased_object p ∷ ps) (appended_erased heap objects)
 
 -- the objects that a run starts with
-starts_first : AreFirst start_heap
-starts_first = one_first refl (one_first refl (one_first refl (one_first refl (one_first refl (one_first refl (one_first refl (one_first refl (one_first refl none_first))))))))
-
 -- with their labels, and without
 pub first_heap_erased : (program : Statements) → erased_heap (unlabelled_heap (first_heap program)) ≡ first_heap program
-first_heap_erased program = heap_same (first_variables (declared_statements program) starts_first)
+first_heap_erased program = objects_made bottom (first_heap program)

@@ -1,31 +1,37 @@
 -- Erasure: the operations with labels and those without are linked, and so are the runs of a script.
-use Rattle.std.proofs.Common.{◌≡◌, ℕ, suc, ◌≤◌, Bool, true, false, nat_eq, List, [], ◌∷◌, length, Option, refl, sym, ◌∙◌, ap, ap₂, subst, eqb-true, eq-eqb, arith}
-use Rattle.origin_labels.specs.Label.{bottom}
+use Rattle.std.proofs.Common.{◌≡◌, ℕ, suc, ◌≤◌, Bool, true, false, nat_eq, List, [], ◌∷◌, length, ◌++◌, ◌&&◌, cond, Option, Some, None, refl, sym, ◌∙◌, ap, ap₂, subst, eqb-true, eq-eqb, arith}
+use Rattle.std.specs.List.{list_any}
+use Rattle.std.specs.Option.{option_map}
+use Rattle.origin_labels.specs.Label.{bottom, label_of}
 use Rattle.flow_policy.specs.Policies.{Tables}
 use Rattle.flow_policy.specs.Inputs.{Given}
 use Rattle.flow_frames.specs.Kinds.{is_try}
 use Rattle.js_values.specs.declared.value.Value.{Value}
 use Rattle.js_values.specs.Objects.{PlainObject}
+use Rattle.js_values.specs.Records.{Record}
 use Rattle.js_ast.specs.Trees.{Statements}
+use Rattle.js_ast.specs.Functions.{FunctionCode, functions_of}
 use Rattle.es_meaning.specs.Outcomes as es
 use Rattle.es_meaning.specs.Outcomes.{Exit, returns, leaves, left, out_of_turns, Outcome, Goes, Jumps, Ends, ret, ◌>>=◌}
-use Rattle.es_meaning.specs.Environments.{Around, Env, with_around}
+use Rattle.es_meaning.specs.Environments.{Around, Env, with_around, with_place, called_env, Leaving, thrown, returned, left_by, same_mark, is_label, find_around, aimed}
+use Rattle.es_meaning.specs.Functions.{env_id, binds}
 use Rattle.es_meaning.specs.Operations.{Ty, One, Res, Ops}
 use Rattle.es_meaning.specs.Operations.{Value as a_value}
 use Rattle.es_meaning.specs.Operators.{is_object, truth, converts_beside, binary_of, not_built}
 use Rattle.es_meaning.specs.Evaluation.{program_step}
 use Rattle.es_meaning.specs.Plain as plain
-use Rattle.es_meaning.specs.Plain.{State, P, ended_round, outermost_env, plain_run}
+use Rattle.es_meaning.specs.Plain.{State, P, ended_round, may_declare, outermost_env, plain_run}
 use Rattle.es_meaning.proofs.Link.{Rel, Link, program_linked}
 use Rattle.flow_meaning.specs.Erased.{erased_heap, erased_records, unlabelled}
 use Rattle.flow_meaning.specs.Scopes as scopes
 use Rattle.flow_meaning.specs.Scopes.{Val, Halt, L, round_kind}
 use Rattle.flow_meaning.specs.Tracked as tracked
-use Rattle.flow_meaning.specs.Tracked.{tracked_run}
+use Rattle.flow_meaning.specs.Tracked.{CallBody, tracked_run}
 use Rattle.low_equal.specs.Erasure.{Erases, goes_on, IsErasing}
 use Rattle.low_equal.specs.Erasure as erasure
-use Rattle.low_equal.proofs.Erased.{erased_result, erased, lines_behind, Mark, passes, rounds, aim, Shaped, cond_true, cond_false, by_test, Yields, goes, jumps, ends, stops, Lift, ret_lifts, bind_lifts, fork_lifts, round_lifts, again_lifts}
+use Rattle.low_equal.proofs.Erased.{erased_result, erased, lines_behind, ends_extends, Mark, passes, calls, rounds, tries, aim, aim_throws, Shaped, cond_true, cond_false, by_test, Yields, goes, jumps, ends, stops, Lift, ret_lifts, bind_lifts, fork_lifts, round_lifts, again_lifts}
 use Rattle.low_equal.proofs.ErasedHeaps.{first_heap_erased}
+use Rattle.low_equal.proofs.ErasedCalls.{attempt_lifts, jumps_lifts, no_jump_lifts, raises_lifts, records_length, records_appended, PlainBody, Bodies, calls_lift, constructs_lift, function_lifts, instance_lifts}
 use Rattle.low_equal.proofs.ErasedActs.{erased_reference, resolved_erased, given_lifts, unary_lifts, unless_lifts, get_value_lifts, typeof_value_lifts, put_value_lifts, remove_lifts, spend_lifts, ends_lifts, values_are, act_lifts, keys_lifts, direct_lifts}
 
 -- a value, and what is left of it without its label
@@ -109,13 +115,42 @@ no_try : (turn : Bool) → is_try (round_kind turn) ≡ false
 no_try true = refl
 no_try false = refl
 
-module _ (tables : Tables) (inputs : Given) where
+-- ---- jumps aim where their handles say
+
+data Aims (w : List Mark) : Option (Exit × ℕ) → Option (Exit × Unit {0}) → Type 0 where
+  aims_nowhere : Aims w None None
+  aims_at : {exit : Exit} {to : ℕ} → to ≡ aim exit w → Aims w (Some (exit, to)) (Some (exit, tt))
+
+-- what a `break` or a `continue` ends, as an aim
+abbrev as_leaving : {H : Type 0} → Option (ℕ × H) → Option (Exit × H)
+as_leaving o = option_map (λ f. (leaves f.0, f.1)) o
+
+around_aims : (turn : Bool) (label : Option (List ℕ)) {w : List Mark} {os : List (Around ℕ)} {us : List (Around (Unit {0}))} → Handles w os us → Aims w (as_leaving (find_around turn label os)) (as_leaving (find_around turn label us))
+around_aims turn label no_handles = aims_nowhere
+around_aims turn label {w} (a_handle {labels = labels} {turn = mark} {to = to} {os = os} {us = us} e r) =
+    by_case (same_mark turn mark && list_any (λ l. is_label label l) labels) (around_aims turn label r) (length_handles r)
+  where
+    by_case : (b : Bool) → Aims w (as_leaving (find_around turn label os)) (as_leaving (find_around turn label us)) → length os ≡ length us
+        → Aims w (as_leaving (cond b (Some (length os, to)) (find_around turn label os))) (as_leaving (cond b (Some (length us, tt)) (find_around turn label us)))
+    by_case true h q = subst (λ n. Aims w (Some (leaves (length os), to)) (Some (leaves n, tt))) q (aims_at e)
+    by_case false h q = h
+
+all_aims : (leaving : Leaving) {w : List Mark} {e : Env ℕ} {d : Env (Unit {0})} → Reaches w e d → Aims w (aimed 0 leaving e) (aimed tt leaving d)
+all_aims thrown {w} r = aims_at (sym (aim_throws w))
+all_aims returned r = aims_at r.call
+all_aims (left_by turn label) r = around_aims turn label r.around
+
+aims_lift : {w : List Mark} {to : Option (Exit × ℕ)} {there : Option (Exit × Unit {0})} (v : Val) → Aims w to there → Lift One w (tracked.jumps_to to v) (plain.jumps_to there v.value)
+aims_lift v aims_nowhere = no_jump_lifts v
+aims_lift v (aims_at {exit = exit} {to = to} e) = jumps_lifts exit to v e
+
+module _ (tables : Tables) (inputs : Given) (functions : List FunctionCode) where
   -- both meanings
   abbrev A : Ops
-  A = tracked.labelled tables inputs
+  A = tracked.labelled tables inputs functions
 
   abbrev B : Ops
-  B = plain.plain tables inputs
+  B = plain.plain tables inputs functions
 
   -- a name is resolved
   resolve_lifts : (t : Ty) {w : List Mark} (i : ℕ) (x : List ℕ) (f : tracked.Reference → L (Res Val t)) (g : plain.Reference → P (Res Value t)) → ((n : tracked.Reference) (m : plain.Reference) → erased_reference n ≡ m → Lift t w (f n) (g m))
@@ -132,8 +167,40 @@ module _ (tables : Tables) (inputs : Given) where
       at_equal (λ n s. ended_round n (g (with_around turn labels tt d) s)) (length_handles r.around)
       (round_lifts (length e.around) (round_kind turn) (no_try turn) (λ depth. f (with_around turn labels depth e)) (g (with_around turn labels tt d)) (h _ _ _ (reaches_inside turn labels r)))
 
+  -- a directive
+  raised_lifts : {w : List Mark} (leaving : Leaving) (to : Option (Exit × ℕ)) (origins : Option (List ℕ)) → Lift One w (tracked.raised_by tables inputs leaving to origins) (plain.raised_by tables inputs origins)
+  unfolding tracked.raised_by plain.raised_by
+  raised_lifts leaving to None = record { yields = λ s r. ends; extends = λ s. ends_extends _ s }
+  raised_lifts leaving to (Some origins) = let l = raises_lifts leaving to (label_of origins) in record { yields = l.yields; extends = l.extends }
+
+  -- the base of a reference
+  base_is : (n : tracked.Reference) → (tracked.base_of n).value ≡ plain.base_of (erased_reference n)
+  base_is (tracked.of_name name place walk) = refl
+  base_is (tracked.of_property v key label) = refl
+
+  -- a name in a record of its own
+  declare_lifts : {w : List Mark} (name : List ℕ) (v : Val) {e : Env ℕ} {d : Env (Unit {0})} (f : Env ℕ → L (Unit {0})) (g : Env (Unit {0}) → P (Unit {0})) → Reaches w e d
+      → ((e' : Env ℕ) (d' : Env (Unit {0})) → Reaches w e' d' → Lift One w (f e') (g d')) → Lift One w (A.declare name v e f) (B.declare name v.value d g)
+  declare_lifts {w} name v {e} {d} f g r h = record {
+    yields = λ s q.
+        let here = length s.records in
+        let l = h (with_place here e) (with_place here d) (record { place = refl; call = r.call; around = r.around }) in
+        subst (λ n. Yields One w (f (with_place here e) (tracked.with_name e.place name v s)) (g (with_place n d) (plain_name n d.place (erased s)))) (sym (records_length s.records))
+        (subst (λ place. Yields One w (f (with_place here e) (tracked.with_name e.place name v s)) (g (with_place here d) (plain_name here place (erased s)))) r.place
+        (subst (λ (rs : List (Record Value)). Yields One w (f (with_place here e) (tracked.with_name e.place name v s)) (g (with_place here d) (record (erased s) { records = rs }))) (records_appended s.records _)
+        (l.yields (tracked.with_name e.place name v s) q)));
+    extends = λ s. (h (with_place (length s.records) e) (with_place (length s.records) d) (record { place = refl; call = r.call; around = r.around })).extends (plain_name 0 d.place s);
+  }
+    where
+      plain_name : ℕ → ℕ → State → State
+      plain_name n place s = record s { records = s.records ++ record { outer = Some (env_id place); bindings = binds true name v.value } ∷ [] }
+
+  -- a body in the record of a call
+  bodies : {w : List Mark} (f : CallBody) (g : PlainBody) → ((w' : List Mark) (ss : Statements) (e : Env ℕ) (d : Env (Unit {0})) → Reaches w' e d → Lift One w' (f ss e) (g ss d)) → Bodies w f g
+  bodies {w} f g h ss i = h (calls ∷ w) ss (called_env i (suc (length w))) (called_env i tt) (record { place = refl; call = refl; around = no_handles })
+
   -- the operations with labels and those without
-  pub erasing : Link (tracked.labelled tables inputs) (plain.plain tables inputs)
+  pub erasing : Link (tracked.labelled tables inputs functions) (plain.plain tables inputs functions)
   erasing = record {
     W = List Mark;
     Le = SameAims;
@@ -171,13 +238,22 @@ module _ (tables : Tables) (inputs : Given) where
     fork = λ t {w = w} {v = v} {m' = m'} {n' = n'} r h k. at_equal (λ x. B.fork t x m' n') r (fork_lifts t v (truth v.value) (h (passes ∷ w) (λ j. refl)) (k (passes ∷ w) (λ j. refl)));
     round = λ turn labels f g r h. round_link turn labels f g r (λ w. h w tt);
     again = λ {v = v} {m' = m'} {n' = n'} r h k. at_equal (λ x. B.again x m' n') r (again_lifts v (truth v.value) h k);
+    function = λ f {i = i} p. at_equal (B.function f) p (function_lifts functions f i);
+    jump = λ leaving {d = d} {v = v} r q. at_equal (λ x. B.jump leaving d x) q (aims_lift v (all_aims leaving r));
+    raise = λ leaving {e = e} names r. raised_lifts leaving (aimed 0 leaving e) (tracked.named_origins tables inputs names);
+    this_of = λ {n = n} r. base_is n ∙ ap B.this_of r;
+    instance = λ {v = v} {f = f} {f' = f'} m n r q h. at_equal (λ x. B.instance x f' n) r (at_equal (λ x. B.instance v.value x n) q (instance_lifts v f));
+    declare = λ {w = w} name {v = v} {d = d} f g r q h. at_equal (λ x. B.declare name x d g) r (declare_lifts name v f g q (h w (λ j. refl)));
+    call = λ {f = f} {this = b} {f' = f'} {this' = b'} {vs = vs} {us = us} m n r q rs h. at_equal (λ x. B.call x b' us n) r (at_equal (λ x. B.call f.value x us n) q (at_equal (λ xs. B.call f.value b.value xs n) (values_are rs) (calls_lift functions f b vs m n (bodies m n h))));
+    construct = λ {f = f} {vs = vs} {us = us} m n r rs h. at_equal (λ x. B.construct x us n) r (at_equal (λ xs. B.construct f.value xs n) (values_are rs) (constructs_lift functions f vs m n (bodies m n h)));
+    attempt = λ {w = w} handles finishes f g l h q. attempt_lifts handles finishes f g (l (tries true ∷ w) (λ j. refl)) (λ b v. h (tries b ∷ w) (λ j. refl) v v.value refl) (q (tries false ∷ w) (λ j. refl));
     keys = λ {w = w} {v = v} f g r h. at_equal (λ x. B.keys x g) r (keys_lifts v f g (h w (λ j. refl)));
   }
 
   -- a script's runs
-  program_lifts : (n : ℕ) (program : Statements) → Lift One [] (program_step (tracked.timed tables inputs) n program (outermost_env 0)) (program_step (plain.timed tables inputs) n program (outermost_env tt))
+  program_lifts : (n : ℕ) (may : Bool) (program : Statements) → Lift One [] (program_step (tracked.timed tables inputs functions) n may program (outermost_env 0)) (program_step (plain.timed tables inputs functions) n may program (outermost_env tt))
   unfolding erasing
-  program_lifts n program = program_linked (tracked.timed tables inputs) (plain.timed tables inputs) erasing spend_lifts (λ t w. ends_lifts out_of_turns) n program (record { place = refl; call = refl; around = no_handles })
+  program_lifts n may program = program_linked (tracked.timed tables inputs functions) (plain.timed tables inputs functions) erasing spend_lifts (λ t w. ends_lifts out_of_turns) n may program (record { place = refl; call = refl; around = no_handles })
 
 -- ---- the start
 
@@ -208,5 +284,5 @@ run_erased (stops {rule = rule} {need = need} {have = have} {p = p} broken x) = 
 pub is_erasing : IsErasing
 unfolding tracked_run plain_run
 is_erasing tables inputs program turns =
-    run_erased (subst (λ u. Yields One [] (program_step (tracked.timed tables inputs) turns program (outermost_env 0) (tracked.start tables inputs program turns)) (program_step (plain.timed tables inputs) turns program (outermost_env tt) u))
-    (start_erased tables inputs program turns) ((program_lifts tables inputs turns program).yields (tracked.start tables inputs program turns) (start_shaped tables inputs program turns)))
+    run_erased (subst (λ u. Yields One [] (program_step (tracked.timed tables inputs (functions_of program)) turns (may_declare program) program (outermost_env 0) (tracked.start tables inputs program turns)) (program_step (plain.timed tables inputs (functions_of program)) turns (may_declare program) program (outermost_env tt) u))
+    (start_erased tables inputs program turns) ((program_lifts tables inputs (functions_of program) turns (may_declare program) program).yields (tracked.start tables inputs program turns) (start_shaped tables inputs program turns)))

@@ -1,23 +1,24 @@
 -- Acts on an object of a heap: what no observer can tell of one run, and what two runs do alike.
-use Rattle.std.proofs.Common.{◌≡◌, ℕ, zero, suc, true, List, [], ◌∷◌, ◌++◌, length, set, Option, Some, None, slice_get, Ok, Err, ⊎_elim, refl, sym, ◌∙◌, ap, subst}
+use Rattle.std.proofs.Common.{◌≡◌, ℕ, zero, suc, true, List, [], ◌∷◌, ◌++◌, set, Option, Some, None, slice_get, Ok, Err, ⊎_elim, refl, sym, ◌∙◌, ap, subst}
 use Rattle.std.proofs.lemmas.Bool.{cases_eq}
 use Rattle.std.proofs.lemmas.Option.{none-some, same_Some}
 use Rattle.origin_labels.specs.Label.{Label}
 use Rattle.flow_frames.specs.declared.faults.FlowStop.{FlowStop}
 use Rattle.js_values.specs.Objects.{Object}
 use Rattle.object_heap.specs.Acts.{Acted, Act, act_on, on_object, put_back}
-use Rattle.low_equal.specs.LowEqual.{Pairing, ObjectsAgree, Both, AreDistinct, IsFormed, AreFormed, HeapsAgree}
+use Rattle.low_equal.specs.Observed.{Sees}
+use Rattle.low_equal.specs.LowEqual.{Pairing, ObjectsAgree, Both, AreDistinct, IsFormed, FormedAt, HeapsAgree}
 use Rattle.low_equal.proofs.Agreement.{two, both_by}
 use Rattle.low_equal.proofs.Heaps.{heap_sym, new_left}
 
 -- ---- a list with another element
 
-set_here : {A : Type 0} (xs : List A) (i : ℕ) (x y : A) → slice_get xs i ≡ Some y → slice_get (set xs i x) i ≡ Some x
+pub set_here : {A : Type 0} (xs : List A) (i : ℕ) (x y : A) → slice_get xs i ≡ Some y → slice_get (set xs i x) i ≡ Some x
 set_here [] i x y e = absurd (none-some _ e)
 set_here (z ∷ xs) zero x y e = refl
 set_here (z ∷ xs) (suc i) x y e = set_here xs i x y e
 
-set_other : {A : Type 0} (xs : List A) (i j : ℕ) (x : A) → (i ≡ j → ⊥) → slice_get (set xs i x) j ≡ slice_get xs j
+pub set_other : {A : Type 0} (xs : List A) (i j : ℕ) (x : A) → (i ≡ j → ⊥) → slice_get (set xs i x) j ≡ slice_get xs j
 set_other [] i j x n = refl
 set_other (z ∷ xs) zero zero x n = absurd (n refl)
 set_other (z ∷ xs) zero (suc j) x n = refl
@@ -30,15 +31,16 @@ set_other (z ∷ xs) (suc i) (suc j) x n = set_other xs i j x (λ e. n (ap suc e
 pub record StaysFormed (new old : Object Label) : Type 0 where
   pub distinct : AreDistinct old.rows → AreDistinct new.rows
   pub proto : new.proto ≡ old.proto
+  pub link : new.link ≡ old.link
 
-pub still_formed : {new old : Object Label} (o : ℕ) → StaysFormed new old → IsFormed o old → IsFormed o new
-still_formed o s w = record { below = λ q e. w.below q (sym s.proto ∙ e); distinct = s.distinct w.distinct }
+pub still_formed : {observer : Label} {new old : Object Label} (o : ℕ) → StaysFormed new old → IsFormed observer o old → IsFormed observer o new
+still_formed {observer} o s w = record { below = λ v q e. w.below (subst (Sees observer) s.link v) q (sym s.proto ∙ e); distinct = s.distinct w.distinct }
 
-formed_set : (h : List (Object Label)) (i : ℕ) (new old : Object Label) → slice_get h i ≡ Some old → StaysFormed new old → AreFormed h → AreFormed (set h i new)
-formed_set h i new old here s w o p e = ⊎_elim (λ q. same q) (λ q. w o p (sym (set_other h i o new q) ∙ e)) (cases_eq i o)
+formed_set : {observer : Label} (h : List (Object Label)) (i : ℕ) (new old : Object Label) → slice_get h i ≡ Some old → StaysFormed new old → (o : ℕ) → FormedAt observer h o → FormedAt observer (set h i new) o
+formed_set {observer} h i new old here s o w p e = ⊎_elim (λ q. same q) (λ q. w p (sym (set_other h i o new q) ∙ e)) (cases_eq i o)
   where
-    same : i ≡ o → IsFormed o p
-    same q = subst (IsFormed o) (same_Some new p (sym (set_here h i new old here) ∙ ap (slice_get (set h i new)) q ∙ e)) (subst (λ n. IsFormed n new) q (still_formed i s (w i old here)))
+    same : i ≡ o → IsFormed observer o p
+    same q = subst (IsFormed observer o) (same_Some new p (sym (set_here h i new old here) ∙ ap (slice_get (set h i new)) q ∙ e)) (still_formed o s (w old (ap (slice_get h) (sym q) ∙ here)))
 
 -- an act makes this object, or is stopped
 pub data Becomes (p : Object Label) : Acted (Object Label) → Type 0 where
@@ -78,16 +80,16 @@ module _ (observer : Label) where
   same_heap_trans a b = record { looks = λ β k r. b.looks β k (a.looks β k r) }
 
   -- a further object, with properties or without
-  pub same_new : (h : List (Object Label)) (p : Object Label) → IsFormed (length h) p → SameHeap h (h ++ p ∷ [])
-  same_new h p f = record { looks = λ β k r. new_left observer p f r }
+  pub same_new : (h : List (Object Label)) (p : Object Label) → SameHeap h (h ++ p ∷ [])
+  same_new h p = record { looks = λ β k r. new_left observer p r }
 
   pub stands_same : (p : Object Label) → StandsFor p p
-  stands_same p = record { agrees = λ β q d r. r; formed = record { distinct = λ d. d; proto = refl } }
+  stands_same p = record { agrees = λ β q d r. r; formed = record { distinct = λ d. d; proto = refl; link = refl } }
 
   pub stands_trans : {a b c : Object Label} → StandsFor a b → StandsFor b c → StandsFor a c
   stands_trans x y = record {
     agrees = λ β q d r. x.agrees β q (y.formed.distinct d) (y.agrees β q d r);
-    formed = record { distinct = λ d. x.formed.distinct (y.formed.distinct d); proto = x.formed.proto ∙ y.formed.proto };
+    formed = record { distinct = λ d. x.formed.distinct (y.formed.distinct d); proto = x.formed.proto ∙ y.formed.proto; link = x.formed.link ∙ y.formed.link };
   }
 
   set_left : {β : Pairing} {h g : List (Object Label)} (i : ℕ) (new old : Object Label) → slice_get h i ≡ Some old → StandsFor new old → HeapsAgree observer β h g → HeapsAgree observer β (set h i new) g
@@ -95,7 +97,7 @@ module _ (observer : Label) where
     starts = r.starts;
     paired = λ a b p. ⊎_elim (λ q. same a b p q) (λ q. other a b p q) (cases_eq i a);
     one_to_one = r.one_to_one;
-    left = formed_set h i new old here s.formed r.left;
+    left = λ a b p. formed_set h i new old here s.formed a (r.left a b p);
     right = r.right;
   }
     where
@@ -104,7 +106,7 @@ module _ (observer : Label) where
           let t = two (r.paired a b p) in
           let k : t.one ≡ old = same_Some t.one old (sym t.is_one ∙ ap (slice_get h) (sym q) ∙ here) in
           both_by (ObjectsAgree observer β) (ap (slice_get (set h i new)) (sym q) ∙ set_here h i new old here) t.is_other
-          (s.agrees β t.other (r.left i old here).distinct (subst (λ x. ObjectsAgree observer β x t.other) k t.related))
+          (s.agrees β t.other (r.left a b p old (ap (slice_get h) (sym q) ∙ here)).distinct (subst (λ x. ObjectsAgree observer β x t.other) k t.related))
 
       other : (a b : ℕ) → β.objects a b ≡ true → (i ≡ a → ⊥) → Both (ObjectsAgree observer β) (slice_get (set h i new) a) (slice_get g b)
       other a b p q = subst (λ x. Both (ObjectsAgree observer β) x (slice_get g b)) (sym (set_other h i a new q)) (r.paired a b p)
@@ -151,8 +153,8 @@ module _ (observer : Label) where
     starts = r.starts;
     paired = λ a b z. ⊎_elim (λ e. same a b z e) (λ e. different a b z e) (cases_eq i a);
     one_to_one = r.one_to_one;
-    left = formed_set h i p one is_one f r.left;
-    right = formed_set g j q other is_other k r.right;
+    left = λ a b z. formed_set h i p one is_one f a (r.left a b z);
+    right = λ a b z. formed_set g j q other is_other k b (r.right a b z);
   }
     where
       same : (a b : ℕ) → β.objects a b ≡ true → i ≡ a → Both (ObjectsAgree observer β) (slice_get (set h i p) a) (slice_get (set g j q) b)
@@ -178,4 +180,4 @@ module _ (observer : Label) where
       let x = a t.one t.is_one in
       let y = b t.other t.is_other in
       subst (λ z. ActsAfter β (on_object z h i act) (act_on j other g)) (sym t.is_one) (subst (λ z. ActsAfter β (put_back h i (act t.one)) (on_object z g j other)) (sym t.is_other)
-      (after_back h g i j (set_both i j (f t.one) (k t.other) t.one t.other pair t.is_one t.is_other (c t.one t.other t.is_one t.is_other (r.left i t.one t.is_one).distinct (r.right j t.other t.is_other).distinct t.related) x.formed y.formed r) x.becomes y.becomes))
+      (after_back h g i j (set_both i j (f t.one) (k t.other) t.one t.other pair t.is_one t.is_other (c t.one t.other t.is_one t.is_other (r.left i j pair t.one t.is_one).distinct (r.right i j pair t.other t.is_other).distinct t.related) x.formed y.formed r) x.becomes y.becomes))

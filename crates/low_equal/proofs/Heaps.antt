@@ -5,7 +5,7 @@ use Rattle.std.proofs.lemmas.Option.{same_Some}
 use Rattle.origin_labels.specs.Label.{Label}
 use Rattle.js_values.specs.Objects.{Object}
 use Rattle.es_meaning.specs.Start.{start_heap}
-use Rattle.low_equal.specs.LowEqual.{Pairing, IsOneToOne, Extends, ObjectsAgree, IsFormed, AreFormed, HeapsAgree}
+use Rattle.low_equal.specs.LowEqual.{Pairing, IsOneToOne, Extends, ObjectsAgree, IsFormed, FormedAt, HeapsAgree}
 use Rattle.low_equal.proofs.Agreement.{flipped, flipped_unique, objects_more, objects_sym, both_sym, two, both_by}
 
 -- ---- lists
@@ -79,29 +79,34 @@ module _ (observer : Label) where
     starts = λ o l. r.starts o l;
     paired = λ o q p. both_sym (λ a b x. objects_sym observer x) (r.paired q o p);
     one_to_one = flipped_unique r.one_to_one;
-    left = r.right;
-    right = r.left;
+    left = λ o q p. r.right q o p;
+    right = λ o q p. r.left q o p;
   }
 
   -- the start objects stand
   pub start_stands : {β : Pairing} {h g : List (Object Label)} → HeapsAgree observer β h g → (o : ℕ) → o < length start_heap → o < length h
   start_stands {h = h} r o l = let t = two (r.paired o o (r.starts o l)) in get_below h t.one o t.is_one
 
-  formed_more : (h : List (Object Label)) (p : Object Label) → AreFormed h → IsFormed (length h) p → AreFormed (h ++ p ∷ [])
-  formed_more h p f k o a e = ⊎_elim (λ x. f o a x) (λ x. subst (λ n. IsFormed n a) (sym x.0) (subst (IsFormed (length h)) x.1 k)) (get_cases h p a o e)
+  -- an object that stood is as well formed as it was
+  pub formed_more : (h : List (Object Label)) (p a : Object Label) (o : ℕ) → slice_get h o ≡ Some a → FormedAt observer h o → FormedAt observer (h ++ p ∷ []) o
+  formed_more h p a o here f b e = f b (here ∙ sym (get_old h p a o here) ∙ e)
+
+  -- and so is a new one
+  pub formed_new : (h : List (Object Label)) (p : Object Label) (o : ℕ) → o ≡ length h → IsFormed observer (length h) p → FormedAt observer (h ++ p ∷ []) o
+  formed_new h p o n k b e = subst (λ m. IsFormed observer m b) (sym n) (subst (IsFormed observer (length h)) (same_Some p b (sym (get_new h p) ∙ ap (slice_get (h ++ p ∷ [])) (sym n) ∙ e)) k)
 
   -- an object more on one side
-  pub new_left : {β : Pairing} {h g : List (Object Label)} (p : Object Label) → IsFormed (length h) p → HeapsAgree observer β h g → HeapsAgree observer β (h ++ p ∷ []) g
-  new_left {β} {h} {g} p k r = record {
+  pub new_left : {β : Pairing} {h g : List (Object Label)} (p : Object Label) → HeapsAgree observer β h g → HeapsAgree observer β (h ++ p ∷ []) g
+  new_left {β} {h} {g} p r = record {
     starts = r.starts;
     paired = λ o q x. let t = two (r.paired o q x) in both_by (ObjectsAgree observer β) (get_old h p t.one o t.is_one) t.is_other t.related;
     one_to_one = r.one_to_one;
-    left = formed_more h p r.left k;
+    left = λ o q x. let t = two (r.paired o q x) in formed_more h p t.one o t.is_one (r.left o q x);
     right = r.right;
   }
 
   -- a pair of objects more
-  pub new_both : {β : Pairing} {h g : List (Object Label)} (p q : Object Label) → IsFormed (length h) p → IsFormed (length g) q → ObjectsAgree observer β p q → HeapsAgree observer β h g
+  pub new_both : {β : Pairing} {h g : List (Object Label)} (p q : Object Label) → IsFormed observer (length h) p → IsFormed observer (length g) q → ObjectsAgree observer β p q → HeapsAgree observer β h g
       → HeapsAgree observer (with_objects β (length h) (length g)) (h ++ p ∷ []) (g ++ q ∷ [])
   new_both {β} {h} {g} p q k l a r = record {
     starts = λ o b. pair_old β.objects (length h) (length g) o o (r.starts o b);
@@ -110,8 +115,8 @@ module _ (observer : Label) where
         (λ e. let t = two (r.paired o n e) in both_by (ObjectsAgree observer γ) (get_old h p t.one o t.is_one) (get_old g q t.other n t.is_other) (objects_more observer more t.related))
         (pair_cases β.objects (length h) (length g) o n x);
     one_to_one = pair_unique β.objects (length h) (length g) r.one_to_one (λ i j x. let t = two (r.paired i j x) in let a = get_below h t.one i t.is_one in let b = get_below g t.other j t.is_other in (λ e. absurd (omega arith), λ e. absurd (omega arith)));
-    left = formed_more h p r.left k;
-    right = formed_more g q r.right l;
+    left = λ o n x. ⊎_elim (λ e. formed_new h p o e.0 k) (λ e. let t = two (r.paired o n e) in formed_more h p t.one o t.is_one (r.left o n e)) (pair_cases β.objects (length h) (length g) o n x);
+    right = λ o n x. ⊎_elim (λ e. formed_new g q n e.1 l) (λ e. let t = two (r.paired o n e) in formed_more g q t.other n t.is_other (r.right o n e)) (pair_cases β.objects (length h) (length g) o n x);
   }
     where
       γ : Pairing

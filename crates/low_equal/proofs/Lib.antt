@@ -2,21 +2,34 @@ mod Acts
 mod Additions
 pub mod Adding
 mod Agreement
+mod Calls
+mod CallsAgree
 mod Changes
 mod Channels
+mod Constructions
+mod DeclaredActs
+mod DeclaredCalls
 mod DeclaredHeaps
 mod DeclaredLabels
+mod DeclaredRecords
 mod DeclaredRuns
+mod DeclaredStates
 mod Deletions
 mod Directs
+mod Entries
 mod Erased
 mod ErasedActs
+mod ErasedCalls
 mod ErasedHeaps
 mod ErasedRuns
+mod FirstHeap
 mod HeapActs
 mod Heaps
+mod Instances
+mod Jumps
 mod Labels
 pub mod Lines
+mod Makes
 mod ObjectActs
 mod Observing
 mod Plans

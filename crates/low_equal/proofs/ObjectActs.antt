@@ -29,7 +29,7 @@ use Rattle.std.specs.Option.{is_some}
 use Rattle.js_number.specs.declared.primitive.Primitive.TheVariants as prims
 use Rattle.js_values.specs.Objects.{Rows}
 use Rattle.prototype_walk.specs.KeyLists.{Keys}
-use Rattle.es_meaning.specs.Operations.{Act, object_of, base_needed, object_needed, has_key}
+use Rattle.es_meaning.specs.Operations.{Act, object_of, base_needed, object_needed, has_key, refused_declaration}
 use Rattle.es_meaning.specs.Operators.{is_object}
 use Rattle.es_meaning.specs.Objects.{defined_over, defined_all}
 use Rattle.es_meaning.specs.Plain.{key_text, is_coercible, is_found}
@@ -131,7 +131,7 @@ module _ (observer : Label) (tables : Tables) where
   -- ---- literals
 
   -- keys stay distinct
-  distinct_over : (o : Option (Slot Label)) (key : List ℕ) (x : Slot Label) {rs : Rows (Slot Label)} → own key rs ≡ o → AreDistinct rs → AreDistinct (defined_over o key x rs)
+  pub distinct_over : (o : Option (Slot Label)) (key : List ℕ) (x : Slot Label) {rs : Rows (Slot Label)} → own key rs ≡ o → AreDistinct rs → AreDistinct (defined_over o key x rs)
   distinct_over None key x {rs} e d = distinct_with_row key x (own_absent key rs e) d
   distinct_over (Some y) key x e d = distinct_altered key (λ z. Some x) d
 
@@ -140,8 +140,8 @@ module _ (observer : Label) (tables : Tables) where
   distinct_all (k ∷ ks) [] d = d
   distinct_all (k ∷ ks) (x ∷ xs) {rs} d = distinct_all ks xs (distinct_over (own k rs) k x refl d)
 
-  literal_formed : (ks : List (List ℕ)) (vs : List Val) (l : Label) (n : ℕ) → 0 < n → IsFormed n (literal_object ks vs l)
-  literal_formed ks vs l n h = record { below = λ q e. subst (λ (o : ObjId). o.0 < n) (same_Some _ q e) h; distinct = distinct_all ks (map (data_slot l) vs) no_keys }
+  literal_formed : (ks : List (List ℕ)) (vs : List Val) (l : Label) (n : ℕ) → 0 < n → IsFormed observer n (literal_object ks vs l)
+  literal_formed ks vs l n h = record { below = λ v q e. subst (λ (o : ObjId). o.0 < n) (same_Some _ q e) h; distinct = distinct_all ks (map (data_slot l) vs) no_keys }
 
   -- the first object stands
   first_stands : {γ : Pairing} {h g : List (Object Label)} → HeapsAgree observer γ h g → 0 < length h
@@ -150,13 +150,13 @@ module _ (observer : Label) (tables : Tables) where
   conf_make : (ks : List (List ℕ)) (vs : List Val) → Confined observer tables (make_object ks vs)
   unfolding make_object
   conf_make ks vs = record {
-    still = λ s p. still_goes observer tables _ (record { looks = λ β u r. low_heap observer tables r (new_left observer (literal_object ks vs (context s.frames)) (literal_formed ks vs (context s.frames) (length s.heap) (first_stands r.heap)) r.heap) r.records; frames = refl }) refl refl;
+    still = λ s p. still_goes observer tables _ (record { looks = λ β u r. low_heap observer tables r (new_left observer (literal_object ks vs (context s.frames)) r.heap) r.records; frames = refl }) refl refl;
     fits = λ s. omega arith;
     adds = λ s. front_refl s.lines;
   }
 
   -- rows that agree are given properties that agree
-  rows_over : {γ : Pairing} {o u : Option (Slot Label)} (key : List ℕ) {x y : Slot Label} {rs qs : Rows (Slot Label)} → rows.OwnAgree observer γ o u → SlotsAgree observer γ x y → RowsAgree observer γ rs qs → RowsAgree observer γ (defined_over o key x rs) (defined_over u key y qs)
+  pub rows_over : {γ : Pairing} {o u : Option (Slot Label)} (key : List ℕ) {x y : Slot Label} {rs qs : Rows (Slot Label)} → rows.OwnAgree observer γ o u → SlotsAgree observer γ x y → RowsAgree observer γ rs qs → RowsAgree observer γ (defined_over o key x rs) (defined_over u key y qs)
   rows_over key rows.neither_names a r = with_row_both observer key a r
   rows_over key (rows.both_name z) a r = altered_both observer key _ _ (λ s t q. rows.both_name a) r
 
@@ -188,6 +188,7 @@ module _ (observer : Label) (tables : Tables) where
   conf_act (object_of ks) vs = conf_make ks vs
   conf_act base_needed vs = conf_needed _ _
   conf_act object_needed vs = conf_needed _ _
+  conf_act refused_declaration vs = conf_at observer tables (λ s. throw_error type_error bottom) (λ s. conf_throw observer tables {X = Val} type_error bottom)
   conf_act has_key vs = conf_has _ _ _
 
   pub argument_agree : {γ : Pairing} (n : ℕ) {vs us : List Val} → Rels (Agree observer γ) vs us → Agree observer γ (argument n vs) (argument n us)
@@ -200,6 +201,7 @@ module _ (observer : Label) (tables : Tables) where
   act_after (object_of ks) s t a r w = make_after ks s t a r w
   act_after base_needed s t a r w = needed_after _ _ s t (argument_agree 0 a) coercible_same r w
   act_after object_needed s t a r w = needed_after _ _ s t (argument_agree 0 a) object_same r w
+  act_after refused_declaration s t a r w = thrown_both observer tables (Agree observer) type_error s t (seen (sees_bottom observer) refl tt) r w
   act_after has_key s t a r w = has_after s t (argument_agree 0 a) (argument_agree 1 a) r w
 
   pub rels_more : {β γ : Pairing} {vs us : List Val} → Extends β γ → Rels (Agree observer β) vs us → Rels (Agree observer γ) vs us

@@ -8,25 +8,26 @@ use Rattle.flow_frames.specs.declared.kind.Kind.TheVariants as kind
 use Rattle.js_values.specs.declared.value.Value.{Value}
 use Rattle.js_values.specs.declared.value.Value.TheVariants as value
 use Rattle.es_meaning.specs.Outcomes.{ret, ◌>>=◌}
-use Rattle.es_meaning.specs.Environments.{Env, with_around}
-use Rattle.es_meaning.specs.Operations.{Ty, One, Res, Visit}
+use Rattle.es_meaning.specs.Environments.{Env, with_around, aimed}
+use Rattle.js_ast.specs.Functions.{FunctionCode}
+use Rattle.es_meaning.specs.Operations.{Ty, One, Res, Calling, directly, calls, constructs, Visit}
 use Rattle.es_meaning.specs.Operations.{Value as a_value}
 use Rattle.es_meaning.specs.Operators.{is_object, truth, converts_beside}
 use Rattle.js_ast.specs.Trees.{Statements}
 use Rattle.es_meaning.specs.Evaluation.{eval, program_step}
 use Rattle.es_meaning.specs.Plain.{choose}
 use Rattle.es_meaning.proofs.Link as link
-use Rattle.es_meaning.proofs.Link.{Rel, Rels, nils, conses, Visits, visits_of, Link, Linked, linked, ticking_linked, statements_linked}
+use Rattle.es_meaning.proofs.Link.{Rel, Rels, nils, conses, Visits, visits_of, Callings, both_direct, both_call, both_construct, Link, Linked, linked, ticking_linked, begun_linked}
 use Rattle.flow_meaning.specs.Erased.{unlabelled}
 use Rattle.flow_meaning.specs.Scopes.{Val, L, Came, Left, given_by, settled, fork, round_kind, round, again}
-use Rattle.flow_meaning.specs.Tracked.{Reference, resolved, key_list, with_list, labelled, timed}
+use Rattle.flow_meaning.specs.Tracked.{Reference, resolved, key_list, with_list, jumps_to, raised_by, named_origins, base_of, labelled, timed}
 use Rattle.low_equal.specs.Observed.{Sees}
 use Rattle.low_equal.specs.LowEqual.{Pairing, Extends, seen, hidden, SameValue, primitives, objects, Agree}
 use Rattle.low_equal.specs.Runs.{Confined, Lockstep}
 use Rattle.low_equal.specs.Laws.{EnvsAgree, VisitsAgree, Nothing, IsConfining, IsLockstep}
 use Rattle.low_equal.proofs.Labels.{hides_second, sees_bottom}
 use Rattle.low_equal.proofs.Agreement.{extends_refl, extends_trans, alike_map, agree_more, agree_joined, agree_seen, label_alike}
-use Rattle.low_equal.proofs.References.{ReferencesAgree, properties, references_more, resolved_agree, undefined_agree, conf_value, lock_value, conf_typeof, lock_typeof}
+use Rattle.low_equal.proofs.References.{ReferencesAgree, in_records, on_globals, nowheres, found_first, found_second, properties, references_more, resolved_agree, undefined_agree, conf_value, lock_value, conf_typeof, lock_typeof}
 use Rattle.low_equal.proofs.Puts.{conf_put, lock_put}
 use Rattle.low_equal.proofs.Deletions.{conf_remove, lock_remove}
 use Rattle.low_equal.proofs.ObjectActs.{key_same, conf_act, lock_act, conf_keys, lock_keys}
@@ -34,6 +35,12 @@ use Rattle.low_equal.proofs.Lines.{front_refl}
 use Rattle.low_equal.proofs.Steps.{CameAgree, both_ended, both_caught, LeftAgree, conf_ret, conf_ends, conf_bind, conf_scope, lock_ret, lock_bind, lock_scope, ends_first, ends_second}
 use Rattle.low_equal.proofs.Acts.{conf_jump, conf_raise, lock_raise, conf_tick, lock_tick, conf_given, conf_unary, lock_unary, lock_binary, conf_unless, lock_unless}
 use Rattle.low_equal.proofs.Directs.{conf_direct, lock_direct}
+use Rattle.low_equal.proofs.Entries.{conf_declare, lock_declare}
+use Rattle.low_equal.proofs.Makes.{conf_function, lock_function}
+use Rattle.low_equal.proofs.Calls.{Lists, ends, begins, conf_call, conf_construct}
+use Rattle.low_equal.proofs.CallsAgree.{lock_call, lock_construct}
+use Rattle.low_equal.proofs.Instances.{conf_instance, lock_instance}
+use Rattle.low_equal.proofs.Jumps.{aimed_same, conf_jumps, lock_jumps, conf_raised_by, lock_raised_by, conf_attempt, lock_attempt}
 
 -- the runs are in step, with these pairs; or each goes by itself
 pub data World : Type 0 where
@@ -233,9 +240,9 @@ module _ (observer : Label) (tables : Tables) where
             (h (Together γ) (le_along e (grows g)) (resolved s.records s.heap i x) (resolved u.records u.heap j x) (related a)).step.steps γ (extends_refl γ) s u l v;
       })
 
-  module _ (first second : Given) (agree : policy.Agree observer tables first second) where
+  module _ (functions : List FunctionCode) (first second : Given) (agree : policy.Agree observer tables first second) where
     -- the labelled meanings on two inputs
-    pub observed : Link (labelled tables first) (labelled tables second)
+    pub observed : Link (labelled tables first functions) (labelled tables second functions)
     observed = record {
       W = World;
       Le = Le;
@@ -275,13 +282,57 @@ module _ (observer : Label) (tables : Tables) where
       round = round_link;
       again = again_link;
       keys = keys_link;
+      function = λ {w = w} f {i = i} {j = j} r. lift w (conf_function observer tables functions f i) (conf_function observer tables functions f j) (λ β e. lock_function observer tables functions f i j (place_in e r));
+      jump = λ {w = w} leaving {e = e} {d = d} {v = v} {v' = u} r q. lift w (conf_jumps observer tables (aimed 0 leaving e) v) (conf_jumps observer tables (aimed 0 leaving d) u)
+          (λ β l. subst (λ o. Lockstep observer tables (Results One) β (jumps_to (aimed 0 leaving e) v) (jumps_to o u)) (aimed_same (env_in l r) leaving) (lock_jumps observer tables (aimed 0 leaving e) (value_in l q)));
+      raise = λ {w = w} leaving {e = e} {d = d} names r. lift w (conf_raised_by observer tables first leaving (aimed 0 leaving e) (named_origins tables first names)) (conf_raised_by observer tables second leaving (aimed 0 leaving d) (named_origins tables second names))
+          (λ β l. subst (λ o. Lockstep observer tables (Results One) β (raised_by tables first leaving (aimed 0 leaving e) (named_origins tables first names)) (raised_by tables second leaving o (named_origins tables second names))) (aimed_same (env_in l r) leaving)
+          (lock_raised_by observer tables first second leaving (aimed 0 leaving e) (named_origins tables first names)));
+      this_of = λ r. this_in r;
+      instance = λ {w = w} {v = v} {f = f} {v' = u} {f' = g} k k' r q h. lift w (conf_instance observer tables v f) (conf_instance observer tables u g) (λ β e. lock_instance observer tables (value_in e r) (value_in e q));
+      declare = λ {w = w} name {v = v} {v' = u} {e = e} {d = d} k k' r q h.
+          let c : (x : Env ℕ) → Confined observer tables (k x) = λ x. (h Apart parts x x any).left in
+          let c' : (x : Env ℕ) → Confined observer tables (k' x) = λ x. (h Apart parts x x any).right in
+          lift w (conf_declare observer tables name v e k c) (conf_declare observer tables name u d k' c') (λ β l. lock_declare observer tables name k k' (value_in l r) (env_in l q) (λ γ g x y a. (h (Together γ) (le_along l (grows g)) x y (related a)).step));
+      call = λ {w = w} {f = f} {this = this} {f' = g} {this' = that} {vs = vs} {us = us} k k' r q a h.
+          let c : (ss : Statements) (x : Env ℕ) → Confined observer tables (k ss x) = λ ss x. (h Apart ss x x any).left in
+          let c' : (ss : Statements) (x : Env ℕ) → Confined observer tables (k' ss x) = λ ss x. (h Apart ss x x any).right in
+          lift w (conf_call observer tables functions c f this vs) (conf_call observer tables functions c' g that us)
+          (λ β l. lock_call observer tables functions c c' (λ γ ss x y z. (h (Together γ) ss x y (related z)).step) (value_in l r) (value_in l q) (lists_in l a));
+      construct = λ {w = w} {f = f} {f' = g} {vs = vs} {us = us} k k' r a h.
+          let c : (ss : Statements) (x : Env ℕ) → Confined observer tables (k ss x) = λ ss x. (h Apart ss x x any).left in
+          let c' : (ss : Statements) (x : Env ℕ) → Confined observer tables (k' ss x) = λ ss x. (h Apart ss x x any).right in
+          lift w (conf_construct observer tables functions c f vs) (conf_construct observer tables functions c' g us) (λ β l. lock_construct observer tables functions c c' (λ γ ss x y z. (h (Together γ) ss x y (related z)).step) (value_in l r) (lists_in l a));
+      attempt = λ {w = w} handles finishes {m = m} {n = n} {m' = m'} {n' = n'} h h' a b c.
+          let ch : (v : Val) → Confined observer tables (h v) = λ v. (b Apart parts v v any).left in
+          let ch' : (v : Val) → Confined observer tables (h' v) = λ v. (b Apart parts v v any).right in
+          let x = a w (le_itself w) in
+          let y = c w (le_itself w) in
+          lift w (conf_attempt observer tables handles finishes x.left ch y.left) (conf_attempt observer tables handles finishes x.right ch' y.right)
+          (λ β l. lock_attempt observer tables handles finishes x.left x.right ch ch' y.left y.right (λ γ g. (a (Together γ) (le_along l (grows g))).step) (λ γ g v u z. (b (Together γ) (le_along l (grows g)) v u (related z)).step) (λ γ g. (c (Together γ) (le_along l (grows g))).step));
     }
       where
         place_of_env : {w : World} {e d : Env ℕ} → Related EnvsAgree w e d → Related PairedRecords w e.place d.place
         place_of_env (related r) = related r.place
         place_of_env any = any
 
-        property_in : {w : World} {v u v' u' : Val} → Related (Agree observer) w v v' → Related (Agree observer) w u u' → Related (ReferencesAgree observer) w ((labelled tables first).property v u) ((labelled tables second).property v' u')
+        this_of_both : {β : Pairing} {n m : Reference} → ReferencesAgree observer β n m → Agree observer β (base_of n) (base_of m)
+        this_of_both (in_records p) = undefined_agree observer tables
+        this_of_both (on_globals a) = undefined_agree observer tables
+        this_of_both (nowheres a) = undefined_agree observer tables
+        this_of_both (found_first a b) = undefined_agree observer tables
+        this_of_both (found_second a b) = undefined_agree observer tables
+        this_of_both (properties a b) = a
+
+        this_in : {w : World} {n m : Reference} → Related (ReferencesAgree observer) w n m → Related (Agree observer) w (base_of n) (base_of m)
+        this_in (related r) = related (this_of_both r)
+        this_in any = any
+
+        lists_in : {w : World} {β : Pairing} {vs us : List Val} → Le w (Together β) → Rels (Related (Agree observer) w) vs us → Lists observer β vs us
+        lists_in l nils = ends
+        lists_in l (conses r q) = begins (value_in l r) (lists_in l q)
+
+        property_in : {w : World} {v u v' u' : Val} → Related (Agree observer) w v v' → Related (Agree observer) w u u' → Related (ReferencesAgree observer) w ((labelled tables first functions).property v u) ((labelled tables second functions).property v' u')
         property_in (related r) (related q) = related (properties r (alike_map observer (key_same observer tables) q))
         property_in any any = any
 
@@ -289,23 +340,23 @@ module _ (observer : Label) (tables : Tables) where
         literal_in (Together β) v = related (seen (sees_bottom observer) refl primitives)
         literal_in Apart v = any
 
-    ticks : (w : World) → Lift One w (timed tables first).tick (timed tables second).tick
+    ticks : (w : World) → Lift One w (timed tables first functions).tick (timed tables second functions).tick
     ticks w = lift w (conf_tick observer tables) (conf_tick observer tables) (λ β e. lock_tick observer tables β)
 
-    out_of : (t : Ty) (w : World) → Lift t w ((timed tables first).ended t) ((timed tables second).ended t)
+    out_of : (t : Ty) (w : World) → Lift t w ((timed tables first functions).ended t) ((timed tables second functions).ended t)
     out_of t w = lift w (conf_ends observer tables _) (conf_ends observer tables _) (λ β e. record { steps = λ γ d s u r v. ends_first observer tables (Results t) r (front_refl u.lines) })
 
     -- where the depth of one is at its end
-    first_ended : {t : Ty} (w : World) {n : L (Res Val t)} → Confined observer tables n → Lift t w ((timed tables first).ended t) n
+    first_ended : {t : Ty} (w : World) {n : L (Res Val t)} → Confined observer tables n → Lift t w ((timed tables first functions).ended t) n
     first_ended {t} w {n} c = lift w (conf_ends observer tables _) c (λ β e. record { steps = λ γ d s u r v. ends_first observer tables (Results t) r (c.adds u) })
 
-    second_ended : {t : Ty} (w : World) {m : L (Res Val t)} → Confined observer tables m → Lift t w m ((timed tables second).ended t)
+    second_ended : {t : Ty} (w : World) {m : L (Res Val t)} → Confined observer tables m → Lift t w m ((timed tables second functions).ended t)
     second_ended {t} w {m} c = lift w c (conf_ends observer tables _) (λ β e. record { steps = λ γ d s u r v. ends_second observer tables (Results t) r (c.adds s) })
 
     -- the parts of a script, to one depth
-    pub evals : (n : ℕ) → Linked (labelled tables first) (labelled tables second) observed (eval (timed tables first) n) (eval (timed tables second) n)
+    pub evals : (n : ℕ) → Linked (labelled tables first functions) (labelled tables second functions) observed (eval (timed tables first functions) n) (eval (timed tables second functions) n)
     unfolding observed
-    evals n = linked (timed tables first) (timed tables second) observed ticks out_of n
+    evals n = linked (timed tables first functions) (timed tables second functions) observed ticks out_of n
 
 -- a turn of a `for in` over any value
 any_visit : {observer : Label} (v : Visit Val) → Visits (Related (Agree observer) Apart) v v
@@ -315,48 +366,50 @@ any_visit v = visits_of any
 same_input : (observer : Label) (tables : Tables) (inputs : Given) → policy.Agree observer tables inputs inputs
 same_input observer tables inputs i c at p = refl
 
-module _ (observer : Label) (tables : Tables) (first second : Given) (agree : policy.Agree observer tables first second) where
+module _ (observer : Label) (tables : Tables) (functions : List FunctionCode) (first second : Given) (agree : policy.Agree observer tables first second) where
   -- what a run does alone
-  abbrev alone : (inputs : Given) (n : ℕ) → Linked (labelled tables inputs) (labelled tables inputs) (observed observer tables inputs inputs (same_input observer tables inputs)) (eval (timed tables inputs) n) (eval (timed tables inputs) n)
-  alone inputs n = evals observer tables inputs inputs (same_input observer tables inputs) n
+  abbrev alone : (inputs : Given) (n : ℕ) → Linked (labelled tables inputs functions) (labelled tables inputs functions) (observed observer tables functions inputs inputs (same_input observer tables inputs)) (eval (timed tables inputs functions) n) (eval (timed tables inputs functions) n)
+  alone inputs n = evals observer tables functions inputs inputs (same_input observer tables inputs) n
 
   -- the parts of a script, to two depths
-  linked_at : (n m : ℕ) → Linked (labelled tables first) (labelled tables second) (observed observer tables first second agree) (eval (timed tables first) n) (eval (timed tables second) m)
+  linked_at : (n m : ℕ) → Linked (labelled tables first functions) (labelled tables second functions) (observed observer tables functions first second agree) (eval (timed tables first functions) n) (eval (timed tables second functions) m)
   unfolding eval observed
   linked_at zero m =
       let h = alone second m in
       record {
-        expr = λ e w i j p. first_ended observer tables first second agree w (h.expr e Apart j j any).right;
-        use_of = λ use_as e w i j p. first_ended observer tables first second agree w (h.use_of use_as e Apart j j any).right;
-        stmt = λ s w e d r. first_ended observer tables first second agree w (h.stmt s Apart d d any).right;
-        turn = λ round w e d r. first_ended observer tables first second agree w (h.turn round Apart d d any).right;
-        visit = λ w v u rs e d r. first_ended observer tables first second agree w (h.visit Apart u u (any_visit u) d d any).right;
+        expr = λ e w i j p. first_ended observer tables functions first second agree w (h.expr e Apart j j any).right;
+        use_of = λ use_as e w i j p. first_ended observer tables functions first second agree w (h.use_of use_as e Apart j j any).right;
+        named = λ ls s w e d r. first_ended observer tables functions first second agree w (h.named ls s Apart d d any).right;
+        stmt = λ s w e d r. first_ended observer tables functions first second agree w (h.stmt s Apart d d any).right;
+        turn = λ round w e d r. first_ended observer tables functions first second agree w (h.turn round Apart d d any).right;
+        visit = λ w v u rs e d r. first_ended observer tables functions first second agree w (h.visit Apart u u (any_visit u) d d any).right;
       }
   linked_at (suc n) zero =
       let h = alone first (suc n) in
       record {
-        expr = λ e w i j p. second_ended observer tables first second agree w (h.expr e Apart i i any).left;
-        use_of = λ use_as e w i j p. second_ended observer tables first second agree w (h.use_of use_as e Apart i i any).left;
-        stmt = λ s w e d r. second_ended observer tables first second agree w (h.stmt s Apart e e any).left;
-        turn = λ round w e d r. second_ended observer tables first second agree w (h.turn round Apart e e any).left;
-        visit = λ w v u rs e d r. second_ended observer tables first second agree w (h.visit Apart v v (any_visit v) e e any).left;
+        expr = λ e w i j p. second_ended observer tables functions first second agree w (h.expr e Apart i i any).left;
+        use_of = λ use_as e w i j p. second_ended observer tables functions first second agree w (h.use_of use_as e Apart i i any).left;
+        named = λ ls s w e d r. second_ended observer tables functions first second agree w (h.named ls s Apart e e any).left;
+        stmt = λ s w e d r. second_ended observer tables functions first second agree w (h.stmt s Apart e e any).left;
+        turn = λ round w e d r. second_ended observer tables functions first second agree w (h.turn round Apart e e any).left;
+        visit = λ w v u rs e d r. second_ended observer tables functions first second agree w (h.visit Apart v v (any_visit v) e e any).left;
       }
-  linked_at (suc n) (suc m) = ticking_linked (timed tables first) (timed tables second) (observed observer tables first second agree) (ticks observer tables first second agree) (eval (timed tables first) n) (eval (timed tables second) m) (linked_at n m)
+  linked_at (suc n) (suc m) = ticking_linked (timed tables first functions) (timed tables second functions) (observed observer tables functions first second agree) (ticks observer tables functions first second agree) (eval (timed tables first functions) n) (eval (timed tables second functions) m) (linked_at n m)
 
   -- two runs of a program
-  pub program_observed : (n m : ℕ) (ss : Statements) (β : Pairing) (e d : Env ℕ) → EnvsAgree β e d → Lockstep observer tables Nothing β (program_step (timed tables first) n ss e) (program_step (timed tables second) m ss d)
+  pub program_observed : (n m : ℕ) (may_declare : Bool) (ss : Statements) (β : Pairing) (e d : Env ℕ) → EnvsAgree β e d → Lockstep observer tables Nothing β (program_step (timed tables first functions) n may_declare ss e) (program_step (timed tables second functions) m may_declare ss d)
   unfolding observed program_step
-  program_observed n m ss β e d r = (statements_linked (labelled tables first) (labelled tables second) (observed observer tables first second agree) (eval (timed tables first) n) (eval (timed tables second) m) (linked_at n m) ss {w = Together β} {e = e} {d = d} (related r)).step
+  program_observed n m may_declare ss β e d r = (begun_linked (labelled tables first functions) (labelled tables second functions) (observed observer tables functions first second agree) (eval (timed tables first functions) n) (eval (timed tables second functions) m) (linked_at n m) may_declare ss {w = Together β} {e = e} {d = d} (related r)).step
 
 -- ---- confinement, of parts and of what is pending
 
 pub confinement : IsConfining
 unfolding observed
-confinement observer tables inputs n =
-    let h = alone observer tables inputs inputs (same_input observer tables inputs) inputs n in
-    let R = eval (timed tables inputs) n in
-    let K = observed observer tables inputs inputs (same_input observer tables inputs) in
-    let A = labelled tables inputs in
+confinement observer tables inputs functions n =
+    let h = alone observer tables functions inputs inputs (same_input observer tables inputs) inputs n in
+    let R = eval (timed tables inputs functions) n in
+    let K = observed observer tables functions inputs inputs (same_input observer tables inputs) in
+    let A = labelled tables inputs functions in
     record {
       expr = λ e i. (h.expr e Apart i i any).left;
       use_of = λ use_as e i. (h.use_of use_as e Apart i i any).left;
@@ -398,7 +451,7 @@ confinement observer tables inputs n =
       index_base = λ use_as e i b. (link.index_base_linked A A K R R h use_as e {w = Apart} {i = i} {j = i} {b = b} {b' = b} any any).left;
       member_base = λ use_as text i b. (link.member_base_linked A A K R R h use_as text {w = Apart} {i = i} {j = i} {b = b} {b' = b} any any).left;
       more_values = λ act vs ps i v. (link.more_values_linked A A K R R h act ps {w = Apart} {i = i} {j = i} {vs = vs} {us = vs} {v = v} {v' = v} any (any_list vs) any).left;
-      more_arguments = λ f vs es i v. (link.more_arguments_linked A A K R R h f es {w = Apart} {i = i} {j = i} {vs = vs} {us = vs} {v = v} {v' = v} any (any_list vs) any).left;
+      more_arguments = λ f vs es i v. (link.more_arguments_linked A A K R R h es {f = f} {g = f} {w = Apart} {i = i} {j = i} {vs = vs} {us = vs} {v = v} {v' = v} (any_calling f) any (any_list vs) any).left;
       more_variables = λ r ds i v. (link.more_variables_linked A A K R R h ds {w = Apart} {i = i} {j = i} {n = r} {n' = r} {v = v} {v' = v} any any any).left;
       turn_test = λ round e v. (link.turn_test_linked A A K R R h round {w = Apart} {e = e} {d = e} {v = v} {v' = v} any any).left;
       updated = λ round e v. (link.updated_linked A A K R R h round {w = Apart} {e = e} {d = e} v v any).left;
@@ -407,35 +460,55 @@ confinement observer tables inputs n =
       looped_value = λ round e v. (link.looped_value_linked A A K R R h round {w = Apart} {e = e} {d = e} v v any).left;
       visited = λ v e. (link.visited_linked A A K R R h {w = Apart} {v = v} {v' = v} {e = e} {d = e} (any_visit v) any).left;
       visit_body = λ s e v. (link.visit_body_linked A A K R R h s {w = Apart} {e = e} {d = e} v v any).left;
-      enumerated = λ target s e v. (link.enumerated_linked A A K R R h target s {w = Apart} {e = e} {d = e} {o = v} {o' = v} any any).left;
+      enumerated = λ labels target s e v. (link.enumerated_linked A A K R R h labels target s {w = Apart} {e = e} {d = e} {o = v} {o' = v} any any).left;
       choose_stmt = λ s e v. (link.choose_stmt_linked A A K R R h s {w = Apart} {e = e} {d = e} {v = v} {v' = v} any any).left;
       choose_stmts = λ s t e v. (link.choose_stmts_linked A A K R R h s t {w = Apart} {e = e} {d = e} {v = v} {v' = v} any any).left;
       statements = λ ss e. (link.statements_linked A A K R R h ss {w = Apart} {e = e} {d = e} any).left;
+      named = λ labels s e. (h.named labels s Apart e e any).left;
+      call_reference = λ r es i f. (link.call_reference_linked A A K R R h es {w = Apart} {i = i} {j = i} {n = r} {n' = r} {f = f} {f' = f} any any any).left;
+      call_value = λ es i f. (link.call_value_linked A A K R R h es {w = Apart} {i = i} {j = i} {f = f} {f' = f} any any).left;
+      construct_value = λ es i f. (link.construct_value_linked A A K R R h es {w = Apart} {i = i} {j = i} {f = f} {f' = f} any any).left;
+      instance_right = λ r i v. (link.instance_right_linked A A K R R h r {w = Apart} {i = i} {j = i} {v = v} {v' = v} any any).left;
+      instance_done = λ v f. (link.instance_done_linked A A K R R h {w = Apart} {v = v} {f = f} {v' = v} {f' = f} any any).left;
+      falls = λ cs e. (link.falls_linked A A K R R h cs {w = Apart} {e = e} {d = e} any).left;
+      case_compared = λ v ss all cs e u. (link.case_compared_linked A A K R R h ss cs {w = Apart} {e = e} {d = e} {v = v} {u = u} {v' = v} {u' = u} any (λ w l. link.cases_linked A A K R R h all cs {w = w} {e = e} {d = e} {v = v} {v' = v} (K.more_e l any) (K.more_v l any)) any any).left;
+      cases = λ v all cs e. (link.cases_linked A A K R R h all cs {w = Apart} {e = e} {d = e} {v = v} {v' = v} any any).left;
+      switched = λ labels cs e v. (link.switched_linked A A K R R h labels cs {w = Apart} {e = e} {d = e} {v = v} {v' = v} any any).left;
+      jump_with = λ leaving e v. (link.jump_with_linked A A K R R h leaving {w = Apart} {e = e} {d = e} {v = v} {v' = v} any any).left;
+      behind_expression = λ upgrade e v. (link.behind_expression_linked A A K R R h upgrade {w = Apart} {e = e} {d = e} any v v).left;
+      handled = λ ident b e v. (link.handled_linked A A K R R h ident b {w = Apart} {e = e} {d = e} {v = v} {v' = v} any any).left;
     }
   where
     any_list : (vs : List Val) → Rels (Related (Agree observer) Apart) vs vs
     any_list [] = nils
     any_list (v ∷ vs) = conses any (any_list vs)
 
+    any_calling : (f : Calling Val) → Callings (Related (Agree observer) Apart) f f
+    any_calling (directly f) = both_direct
+    any_calling (calls f this) = both_call any any
+    any_calling (constructs f) = both_construct any
+
 -- ---- lockstep, of parts
 
-same_visit : {observer : Label} {β : Pairing} {v u : Visit Val} → VisitsAgree observer β v u → record { target = v.target; body = v.body; object = u.object; key = v.key; others = v.others } ≡ u
+same_visit : {observer : Label} {β : Pairing} {v u : Visit Val} → VisitsAgree observer β v u → record { labels = v.labels; target = v.target; body = v.body; object = u.object; key = v.key; others = v.others } ≡ u
 same_visit {v = v} {u = u} a =
-    ap (λ t. record { target = t; body = v.body; object = u.object; key = v.key; others = v.others }) a.target
-    ∙ ap (λ b. record { target = u.target; body = b; object = u.object; key = v.key; others = v.others }) a.body
-    ∙ ap₂ (λ k o. record { target = u.target; body = u.body; object = u.object; key = k; others = o }) a.key a.others
+    ap (λ l. record { labels = l; target = v.target; body = v.body; object = u.object; key = v.key; others = v.others }) a.labels
+    ∙ ap (λ t. record { labels = u.labels; target = t; body = v.body; object = u.object; key = v.key; others = v.others }) a.target
+    ∙ ap (λ b. record { labels = u.labels; target = u.target; body = b; object = u.object; key = v.key; others = v.others }) a.body
+    ∙ ap₂ (λ k o. record { labels = u.labels; target = u.target; body = u.body; object = u.object; key = k; others = o }) a.key a.others
 
 visits_related : {observer : Label} {β : Pairing} {v u : Visit Val} → VisitsAgree observer β v u → Visits (Related (Agree observer) (Together β)) v u
 visits_related {observer} {β} {v} {u} a = subst (λ x. Visits (Related (Agree observer) (Together β)) v x) (same_visit a) (visits_of {a = v.object} {b = u.object} (related a.object))
 
 pub lockstep : IsLockstep
 unfolding observed
-lockstep observer tables first second n agree =
-    let h = linked_at observer tables first second agree n n in
+lockstep observer tables first second functions n agree =
+    let h = linked_at observer tables functions first second agree n n in
     record {
       expr = λ e β i j p. (h.expr e (Together β) i j (related p)).step;
       use_of = λ use_as e β i j p. (h.use_of use_as e (Together β) i j (related p)).step;
       stmt = λ s β e d r. (h.stmt s (Together β) e d (related r)).step;
+      named = λ labels s β e d r. (h.named labels s (Together β) e d (related r)).step;
       turn = λ round β e d r. (h.turn round (Together β) e d (related r)).step;
       visit = λ v u β rs e d r. (h.visit (Together β) v u (visits_related rs) e d (related r)).step;
     }

@@ -141,7 +141,7 @@ module _ (observer : Label) (tables : Tables) where
   conf_found place (Some f) = conf_at (λ s. held (union place f.1.label) f.1.body) (λ s. conf_held _ f.1.body)
   conf_found place None = conf_ret observer tables _
 
-  conf_property : (label : Label) (v : Value) (key : List ℕ) → Confined observer tables (property_of label v key)
+  pub conf_property : (label : Label) (v : Value) (key : List ℕ) → Confined observer tables (property_of label v key)
   unfolding property_of
   conf_property label (value.Primitive p) key = conf_ends observer tables _
   conf_property label (value.Object o) key = conf_at (λ s. found_at (union label (find key (object_chain s.heap o.0)).walk) (find key (object_chain s.heap o.0)).at) (λ s. conf_found _ _)
@@ -240,7 +240,7 @@ module _ (observer : Label) (tables : Tables) where
       by_walk (hidden c d) = values_apart r w (silent_found _ _ s (hides_second observer l (find key (object_chain s.heap o.0)).walk c)) (silent_found _ _ t (hides_second observer m (find key (object_chain t.heap q.0)).walk d))
       by_walk (seen c d f) = found_after key _ _ (sees_union observer l (find key (object_chain s.heap o.0)).walk a c) (ap₂ union e d) f r w
 
-  property_after : {γ : Pairing} {s t : State} (l m : Label) {v u : Value} (key : List ℕ) → Sees observer l → l ≡ m → SameValue γ v u → LowEqual observer tables γ s t → IsSeen observer s
+  pub property_after : {γ : Pairing} {s t : State} (l m : Label) {v u : Value} (key : List ℕ) → Sees observer l → l ≡ m → SameValue γ v u → LowEqual observer tables γ s t → IsSeen observer s
       → InStep observer tables (Agree observer) γ (property_of l v key s) (property_of m u key t)
   unfolding property_of
   property_after l m key a e primitives r w = both_end (Agree observer) r

@@ -5,9 +5,10 @@ use Rattle.flow_policy.specs.Policies.{Tables}
 use Rattle.flow_policy.specs.Inputs.{Given}
 use Rattle.flow_policy.specs.Observed as policy
 use Rattle.js_ast.specs.Trees.{Statements}
+use Rattle.js_ast.specs.Functions.{functions_of}
 use Rattle.es_meaning.specs.Outcomes.{Outcome, Goes, Jumps, Ends}
 use Rattle.es_meaning.specs.Evaluation.{program_step}
-use Rattle.es_meaning.specs.Plain.{outermost_env}
+use Rattle.es_meaning.specs.Plain.{may_declare, outermost_env}
 use Rattle.flow_meaning.specs.Scopes.{LabelledLine, Halt, State, Jump}
 use Rattle.flow_meaning.specs.Tracked.{timed, start, run_of, tracked_run}
 use Rattle.low_equal.specs.Observed.{Front, empty, longer, SameLines, seen_lines}
@@ -67,10 +68,11 @@ module _ (observer : Label) (tables : Tables) where
 
   -- the two runs, from their starts
   in_step : (first second : Given) → policy.Agree observer tables first second → (program : Statements) (turns others : ℕ)
-      → InStep observer tables Nothing at_start (program_step (timed tables first) turns program (outermost_env 0) (start tables first program turns)) (program_step (timed tables second) others program (outermost_env 0) (start tables second program others))
+      → InStep observer tables Nothing (at_start program) (program_step (timed tables first (functions_of program)) turns (may_declare program) program (outermost_env 0) (start tables first program turns))
+      (program_step (timed tables second (functions_of program)) others (may_declare program) program (outermost_env 0) (start tables second program others))
   in_step first second agree program turns others =
-      (program_observed observer tables first second agree turns others program at_start (outermost_env 0) (outermost_env 0) envs_start).steps at_start (extends_refl at_start)
-      (start tables first program turns) (start tables second program others) (starts_low observer tables first second program turns others) (start_seen observer tables first program turns)
+      (program_observed observer tables (functions_of program) first second agree turns others (may_declare program) program (at_start program) (outermost_env 0) (outermost_env 0) (envs_start program)).steps (at_start program) (extends_refl (at_start program))
+      (start tables first program turns) (start tables second program others) (starts_low observer program tables first second turns others) (start_seen observer program tables first turns)
 
 pub two_runs : IsIsolating
 unfolding tracked_run

@@ -11,7 +11,7 @@ use Rattle.std.specs.Option.{option_map}
 use Rattle.es_meaning.specs.Plain.{with_value, assigned_in, binding_at}
 use Rattle.flow_meaning.specs.Scopes.{Val}
 use Rattle.low_equal.specs.Observed.{Hides}
-use Rattle.low_equal.specs.LowEqual.{Pairing, seen, hidden, SameRecord, outermost, within, Agree, BindingsAgree, no_bindings, bindings, RecordsAgree, Both, both_stand, AreNested, ScopesAgree}
+use Rattle.low_equal.specs.LowEqual.{Pairing, seen, hidden, SameRecord, outermost, within, Agree, BindingsAgree, no_bindings, bindings, RecordsAgree, Both, both_stand, NestedAt, ScopesAgree}
 use Rattle.low_equal.proofs.Agreement.{flipped, flipped_unique, records_sym, both_sym, Two, two, both_by}
 use Rattle.low_equal.proofs.Heaps.{none_some}
 
@@ -46,8 +46,8 @@ module _ (observer : Label) where
   scopes_sym r = record {
     paired = λ i j p. both_sym (λ a b x. records_sym observer x) (r.paired j i p);
     one_to_one = flipped_unique r.one_to_one;
-    left = r.right;
-    right = r.left;
+    left = λ i j p. r.right j i p;
+    right = λ i j p. r.left j i p;
   }
 
   module _ (β : Pairing) where
@@ -89,7 +89,7 @@ module _ (observer : Label) where
       paired_agree n m i j h k p t more =
           subst (λ o. PlacesAgree β (first_with name (beginning i o (λ a. onwards (outside a) (chain_within outside rs n)))) (first_with name (chain_within outside qs (suc m) j))) (sym t.is_one)
           (subst (λ o. PlacesAgree β (first_with name (beginning i (Some t.one) (λ a. onwards (outside a) (chain_within outside rs n)))) (first_with name (beginning j o (λ a. onwards (outside a) (chain_within outside qs m))))) (sym t.is_other)
-          (has_agree p (found_agree name t.related.bindings) (outer_agree n m h k t.related.outer (λ x e. r.left i t.one t.is_one x e) (λ x e. r.right j t.other t.is_other x e) more)))
+          (has_agree p (found_agree name t.related.bindings) (outer_agree n m h k t.related.outer (λ x e. r.left i j p t.one t.is_one x e) (λ x e. r.right i j p t.other t.is_other x e) more)))
 
       -- from paired records on outwards, in so many steps as are enough
       round_agree : (n m i j : ℕ) → i < n → j < m → β.records i j ≡ true → PlacesAgree β (first_with name (chain_within outside rs n i)) (first_with name (chain_within outside qs m j))
@@ -127,10 +127,10 @@ module _ (observer : Label) where
 
     -- ---- records are replaced
 
-    nested_set : (rs : List (Record Val)) (i : ℕ) (a b : Record Val) → AreNested rs → slice_get rs i ≡ Some b → a.outer ≡ b.outer → AreNested (slice_set rs i a)
-    nested_set rs i a b f e o j x at w out = ⊎_elim
-        (λ q. subst (λ n. w.0 < n) q (f i b e w (sym o ∙ ap (λ (y : Record Val). y.outer) (same_Some a x (sym (set_same rs i a b e) ∙ ap (slice_get (slice_set rs i a)) q ∙ at)) ∙ out)))
-        (λ q. f j x (sym (set_other rs i j a q) ∙ at) w out) (cases_eq i j)
+    nested_set : (rs : List (Record Val)) (i : ℕ) (a b : Record Val) → slice_get rs i ≡ Some b → a.outer ≡ b.outer → (j : ℕ) → NestedAt rs j → NestedAt (slice_set rs i a) j
+    nested_set rs i a b e o j f x at w out = ⊎_elim
+        (λ q. f b (ap (slice_get rs) (sym q) ∙ e) w (sym o ∙ ap (λ (y : Record Val). y.outer) (same_Some a x (sym (set_same rs i a b e) ∙ ap (slice_get (slice_set rs i a)) q ∙ at)) ∙ out))
+        (λ q. f x (sym (set_other rs i j a q) ∙ at) w out) (cases_eq i j)
 
     -- on one side, by one that stands for all that the old one stood for
     pub set_left : {rs qs : List (Record Val)} (i : ℕ) (a b : Record Val) → ScopesAgree observer β rs qs → slice_get rs i ≡ Some b → a.outer ≡ b.outer
@@ -142,7 +142,7 @@ module _ (observer : Label) where
           both_by (RecordsAgree observer β) (ap (slice_get (slice_set rs i a)) (sym q) ∙ set_same rs i a b e) t.is_other (f t.other (subst (λ x. RecordsAgree observer β x t.other) is t.related)))
           (λ q. subst (λ x. Both (RecordsAgree observer β) x (slice_get qs k)) (sym (set_other rs i j a q)) (r.paired j k p)) (cases_eq i j);
       one_to_one = r.one_to_one;
-      left = nested_set rs i a b r.left e o;
+      left = λ j k p. nested_set rs i a b e o j (r.left j k p);
       right = r.right;
     }
 
@@ -159,8 +159,8 @@ module _ (observer : Label) where
               (λ e. subst (λ x. Both (RecordsAgree observer β) x (slice_get (slice_set qs j c) l)) (sym (set_other rs i k a e))
               (subst (λ x. Both (RecordsAgree observer β) (slice_get rs k) x) (sym (set_other qs j l c (λ d. e ((r.one_to_one i j k l p q).1 d)))) (r.paired k l q))) (cases_eq i k);
           one_to_one = r.one_to_one;
-          left = nested_set rs i a t.one r.left t.is_one g.1;
-          right = nested_set qs j c t.other r.right t.is_other g.2;
+          left = λ k l q. nested_set rs i a t.one t.is_one g.1 k (r.left k l q);
+          right = λ k l q. nested_set qs j c t.other t.is_other g.2 l (r.right k l q);
         }
 
     abbrev with_rebound : List ℕ → Val → Record Val → Record Val

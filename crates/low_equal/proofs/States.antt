@@ -41,6 +41,10 @@ module _ (observer : Label) (tables : Tables) where
       → LowEqual observer tables β (record s { records = rs }) (record t { records = qs })
   low_records r a = record { some = r.some; counts = r.counts; frames = r.frames; heap = r.heap; records = a; positions = r.positions; lines = r.lines }
 
+  pub low_more : {β γ : Pairing} {s t : State} {rs qs : List (Record Val)} → LowEqual observer tables β s t → HeapsAgree observer γ s.heap t.heap → ScopesAgree observer γ rs qs
+      → LowEqual observer tables γ (record s { records = rs }) (record t { records = qs })
+  low_more r a b = record { some = r.some; counts = r.counts; frames = r.frames; heap = a; records = b; positions = r.positions; lines = r.lines }
+
   pub low_positions : {β : Pairing} {s t : State} {ps qs : List ℕ} → LowEqual observer tables β s t → length ps ≡ length qs → PositionsAgree observer tables ps qs
       → LowEqual observer tables β (record s { positions = ps }) (record t { positions = qs })
   low_positions r n a = record { some = r.some; counts = n; frames = r.frames; heap = r.heap; records = r.records; positions = a; lines = r.lines }

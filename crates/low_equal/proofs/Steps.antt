@@ -94,7 +94,7 @@ module _ (observer : Label) (tables : Tables) where
   popped_state {X} d (Jumps j t) v = by_choice (λ o. state_of o ≡ cut_to d t) (nat_lt d (length t.frames)) refl refl
   popped_state d (Ends halt t) v = absurd v
 
-  popped_lines : {X : Type 0} (d : ℕ) (o : Outcome Halt Jump X State) → (state_of (popped d o)).lines ≡ (state_of o).lines
+  pub popped_lines : {X : Type 0} (d : ℕ) (o : Outcome Halt Jump X State) → (state_of (popped d o)).lines ≡ (state_of o).lines
   unfolding popped
   popped_lines d (Goes a t) = refl
   popped_lines d (Jumps j t) = by_choice (λ o. (state_of o).lines ≡ t.lines) (nat_lt d (length t.frames)) refl refl
@@ -165,7 +165,7 @@ module _ (observer : Label) (tables : Tables) where
   step_more P h (first_ends f) = first_ends f
   step_more P h (second_ends f) = second_ends f
 
-  shows : {β : Pairing} {s t : State} {X : Type 0} (o p : Outcome Halt Jump X State) → LowEqual observer tables β s t → Still observer tables s o → Still observer tables t p → SameLines observer tables (state_of o).lines (state_of p).lines
+  pub shows : {β : Pairing} {s t : State} {X : Type 0} (o p : Outcome Halt Jump X State) → LowEqual observer tables β s t → Still observer tables s o → Still observer tables t p → SameLines observer tables (state_of o).lines (state_of p).lines
   shows o p r a b = lines_trans observer tables (lines_sym observer tables a.lines) (lines_trans observer tables r.lines b.lines)
 
   both_apart : {X : Type 0} (P : Pairing → X → X → Type 0) {β γ : Pairing} {s t : State} → Extends β γ → LowEqual observer tables γ s t → IsHidden observer s → (o p : Outcome Halt Jump X State)
@@ -194,7 +194,7 @@ module _ (observer : Label) (tables : Tables) where
   ends_second P r f = second_ends (fronts_trans observer tables (lines_front observer tables (lines_sym observer tables r.lines)) (front_lines observer tables f))
 
   -- one after the other
-  then_after : {X Y : Type 0} (P : Pairing → X → X → Type 0) (Q : Pairing → Y → Y → Type 0) (f g : X → L Y) → ((a : X) → Confined observer tables (f a)) → ((a : X) → Confined observer tables (g a))
+  pub then_after : {X Y : Type 0} (P : Pairing → X → X → Type 0) (Q : Pairing → Y → Y → Type 0) (f g : X → L Y) → ((a : X) → Confined observer tables (f a)) → ((a : X) → Confined observer tables (g a))
       → {β : Pairing} {o p : Outcome Halt Jump X State} → InStep observer tables P β o p → ((γ : Pairing) → Extends β γ → (a b : X) → P γ a b → Lockstep observer tables Q γ (f a) (g b)) → InStep observer tables Q β (and_then o f) (and_then p g)
   then_after P Q f g cf cg (go {a = a} {b = b} {s = s} {t = t} γ e r v q) h = step_more Q e ((h γ e a b q).steps γ (extends_refl γ) s t r v)
   then_after P Q f g cf cg (jump γ e r v q) h = jump γ e r v q
@@ -215,11 +215,11 @@ module _ (observer : Label) (tables : Tables) where
   -- ---- a scope in two runs
 
   -- the same frame pushed
-  pushed_seen : {γ : Pairing} {s t : State} (k : Kind) (l : Label) → LowEqual observer tables γ s t → IsSeen observer s → LowEqual observer tables γ (pushed_on k l s) (pushed_on k l t)
+  pub pushed_seen : {γ : Pairing} {s t : State} (k : Kind) (l : Label) → LowEqual observer tables γ s t → IsSeen observer s → LowEqual observer tables γ (pushed_on k l s) (pushed_on k l t)
   pushed_seen {s = s} {t = t} k l r v = low_frames observer tables r (let e = length_pushed s.frames (pushed k l) in omega arith) (ap (λ (fs : List Frame). view observer (fs ++ pushed k l ∷ [])) (same_frames observer tables r v))
 
   -- hidden ones
-  pushed_hidden : {γ : Pairing} {s t : State} (k : Kind) (l m : Label) → Hides observer l → Hides observer m → LowEqual observer tables γ s t → IsSeen observer s → LowEqual observer tables γ (pushed_on k l s) (pushed_on k m t)
+  pub pushed_hidden : {γ : Pairing} {s t : State} (k : Kind) (l m : Label) → Hides observer l → Hides observer m → LowEqual observer tables γ s t → IsSeen observer s → LowEqual observer tables γ (pushed_on k l s) (pushed_on k m t)
   pushed_hidden {s = s} {t = t} k l m p q r v = low_frames observer tables r (let e = length_pushed s.frames (pushed k l) in omega arith)
       (views_pushed observer s.frames (pushed k l) (pushed k m) p q ∙ ap (λ (fs : List Frame). view observer (fs ++ pushed k m ∷ [])) (same_frames observer tables r v))
 
@@ -260,24 +260,39 @@ module _ (observer : Label) (tables : Tables) where
   live_fits n (Jumps j s) v f = f
   live_fits n (Ends halt s) v f = absurd v
 
-  popped_apart : {X : Type 0} (P : Pairing → X → X → Type 0) (d : ℕ) {β γ : Pairing} (o p : Outcome Halt Jump X State) → 0 < d → Extends β γ → LowEqual observer tables γ (state_of o) (state_of p) → IsHidden observer (state_of o)
-      → IsLive o → IsLive p → Fits (suc d) o → Fits (suc d) p → InStep observer tables (LeftAgree observer tables P) β (popped d o) (popped d p)
-  popped_apart {X} P d {β} {γ} o p n e r h a b f g = ⊎_elim (λ s. shown s) (λ s. still s) (sees_or_hides observer (context (take d (state_of o).frames)))
+  pub popped_apart : {X : Type 0} (R : Pairing → Left X → Left X → Type 0) → ((γ : Pairing) (c e : Left X) → Hides observer c.label → Hides observer e.label → R γ c e) → (d : ℕ) {β γ : Pairing} (o p : Outcome Halt Jump X State) → 0 < d → Extends β γ → LowEqual observer tables γ (state_of o) (state_of p) → IsHidden observer (state_of o)
+      → IsLive o → IsLive p → Fits (suc d) o → Fits (suc d) p → InStep observer tables R β (popped d o) (popped d p)
+  popped_apart {X} R hid d {β} {γ} o p n e r h a b f g = ⊎_elim (λ s. shown s) (λ s. still s) (sees_or_hides observer (context (take d (state_of o).frames)))
     where
       cut : LowEqual observer tables γ (cut_to d (state_of o)) (cut_to d (state_of p))
       cut = low_cut observer tables d n r
 
-      shown : Sees observer (context (take d (state_of o).frames)) → InStep observer tables (LeftAgree observer tables P) β (popped d o) (popped d p)
+      shown : Sees observer (context (take d (state_of o).frames)) → InStep observer tables R β (popped d o) (popped d p)
       shown s =
           let x = hidden_frame observer d (state_of o).frames (live_fits (suc d) o a f) h s in
           let y = hidden_frame observer d (state_of p).frames (live_fits (suc d) p b g) (low_hidden observer tables r h) (low_seen observer tables cut s) in
-          subst (λ z. InStep observer tables (LeftAgree observer tables P) β z (popped d p)) (sym (popped_back d o a x.0))
-          (subst (λ z. InStep observer tables (LeftAgree observer tables P) β (Goes (came_back d o a x.0) (cut_to d (state_of o))) z) (sym (popped_back d p b y.0))
-          (go γ e cut s (hidden (subst (Hides observer) (sym (came_label d o a x.0)) x.1) (subst (Hides observer) (sym (came_label d p b y.0)) y.1))))
+          subst (λ z. InStep observer tables R β z (popped d p)) (sym (popped_back d o a x.0))
+          (subst (λ z. InStep observer tables R β (Goes (came_back d o a x.0) (cut_to d (state_of o))) z) (sym (popped_back d p b y.0))
+          (go γ e cut s (hid γ _ _ (subst (Hides observer) (sym (came_label d o a x.0)) x.1) (subst (Hides observer) (sym (came_label d p b y.0)) y.1))))
 
-      still : Hides observer (context (take d (state_of o).frames)) → InStep observer tables (LeftAgree observer tables P) β (popped d o) (popped d p)
+      still : Hides observer (context (take d (state_of o).frames)) → InStep observer tables R β (popped d o) (popped d p)
       still s = apart γ e (subst (λ z. LowEqual observer tables γ z (state_of (popped d p))) (sym (popped_state d o a)) (subst (LowEqual observer tables γ (cut_to d (state_of o))) (sym (popped_state d p b)) cut))
           (subst (IsHidden observer) (sym (popped_state d o a)) s) (popped_live d o a) (popped_live d p b)
+
+  -- of scopes whose labels are hidden, all that is told of what they leave is that
+  live_popped : {X : Type 0} (R : Pairing → Left X → Left X → Type 0) → ((γ : Pairing) (c e : Left X) → Hides observer c.label → Hides observer e.label → R γ c e) → (d : ℕ) {γ : Pairing} {s t : State} (o p : Outcome Halt Jump X State) → 0 < d → LowEqual observer tables γ s t → IsHidden observer s
+      → IsLive o → IsLive p → Still observer tables s o → Still observer tables t p → Fits (suc d) o → Fits (suc d) p → InStep observer tables R γ (popped d o) (popped d p)
+  live_popped R hid d {γ} {s} {t} o p n r h l m a b f g = popped_apart R hid d o p n (extends_refl γ) (same_right observer tables (b.same m) γ (state_of o) ((a.same l).looks γ t r)) (same_hidden observer tables (a.same l) h) l m f g
+
+  pub hidden_popped : {X : Type 0} (R : Pairing → Left X → Left X → Type 0) → ((γ : Pairing) (c e : Left X) → Hides observer c.label → Hides observer e.label → R γ c e) → (d : ℕ) {γ : Pairing} {s t : State} (o p : Outcome Halt Jump X State) → 0 < d → LowEqual observer tables γ s t → IsHidden observer s
+      → Still observer tables s o → Still observer tables t p → Fits (suc d) o → Fits (suc d) p → InStep observer tables R γ (popped d o) (popped d p)
+  unfolding popped
+  hidden_popped R hid d (Goes x s) (Goes y t) n r h a b f g = live_popped R hid d (Goes x s) (Goes y t) n r h tt tt a b f g
+  hidden_popped R hid d (Goes x s) (Jumps k t) n r h a b f g = live_popped R hid d (Goes x s) (Jumps k t) n r h tt tt a b f g
+  hidden_popped R hid d (Jumps j s) (Goes y t) n r h a b f g = live_popped R hid d (Jumps j s) (Goes y t) n r h tt tt a b f g
+  hidden_popped R hid d (Jumps j s) (Jumps k t) n r h a b f g = live_popped R hid d (Jumps j s) (Jumps k t) n r h tt tt a b f g
+  hidden_popped R hid d (Ends x s) p n r h a b f g = first_ends (subst (FrontLines observer tables s.lines) (sym (popped_lines d p)) (lines_front observer tables (shows (Ends x s) p r a b)))
+  hidden_popped R hid d o (Ends x t) n r h a b f g = second_ends (subst (FrontLines observer tables t.lines) (sym (popped_lines d o)) (lines_front observer tables (lines_sym observer tables (shows o (Ends x t) r a b))))
 
   popped_jump : {X : Type 0} (P : Pairing → X → X → Type 0) (d : ℕ) {β γ : Pairing} {j k : Jump} (s t : State) → Extends β γ → LowEqual observer tables γ (cut_to d s) (cut_to d t) → IsSeen observer (cut_to d s) → JumpsAgree observer tables γ j k
       → (fs : List Frame) → s.frames ≡ fs → t.frames ≡ fs → Sees observer (meant_at fs d) → InStep observer tables (LeftAgree observer tables {X = X} P) β (popped d (Jumps j s)) (popped d (Jumps k t))
@@ -291,7 +306,7 @@ module _ (observer : Label) (tables : Tables) where
       by_flag true = go γ e r v (seen label_seen (ap (λ (gs : List Frame). meant_at gs d) (x ∙ sym y)) (both_caught q))
       by_flag false = jump γ e r v q
 
-  popped_after : {X : Type 0} (P : Pairing → X → X → Type 0) (d : ℕ) {β : Pairing} {o p : Outcome Halt Jump X State} → 0 < d → Fits (suc d) o → Fits (suc d) p → InStep observer tables P β o p → InStep observer tables (LeftAgree observer tables P) β (popped d o) (popped d p)
+  pub popped_after : {X : Type 0} (P : Pairing → X → X → Type 0) (d : ℕ) {β : Pairing} {o p : Outcome Halt Jump X State} → 0 < d → Fits (suc d) o → Fits (suc d) p → InStep observer tables P β o p → InStep observer tables (LeftAgree observer tables P) β (popped d o) (popped d p)
   unfolding popped
   popped_after P d n f g (go {a = a} {b = b} {s = s} {t = t} γ e r v q) =
       let is = same_frames observer tables r v in
@@ -299,7 +314,7 @@ module _ (observer : Label) (tables : Tables) where
   popped_after P d n f g (jump {s = s} {t = t} γ e r v q) =
       let is = same_frames observer tables r v in
       popped_jump P d s t e (low_cut observer tables d n r) (seen_take observer d s.frames v) q s.frames refl (sym is) (seen_meant observer d s.frames v)
-  popped_after P d n f g (apart {o = o} {p = p} γ e r v a b) = popped_apart P d o p n e r v a b f g
+  popped_after P d n f g (apart {o = o} {p = p} γ e r v a b) = popped_apart (LeftAgree observer tables P) (λ δ c i x y. hidden x y) d o p n e r v a b f g
   popped_after P d n f g (first_ends {s = s} {p = p} z) = first_ends (subst (FrontLines observer tables s.lines) (sym (popped_lines d p)) z)
   popped_after P d n f g (second_ends {t = t} {o = o} z) = second_ends (subst (FrontLines observer tables t.lines) (sym (popped_lines d o)) z)
 

@@ -5,7 +5,7 @@ use Rattle.origin_labels.specs.Label.{Label, bottom, union, within}
 use Rattle.flow_frames.specs.Frames.{Frame, context, inside}
 use Rattle.flow_frames.specs.Held.{meant_at}
 use Rattle.flow_frames.specs.Changes.{changed_at, raised}
-use Rattle.flow_frames.specs.Rules.{jump_need}
+use Rattle.flow_frames.specs.Rules.{jump_need, raise_need}
 use Rattle.flow_meaning.specs.Scopes.{innermost}
 use Rattle.low_equal.specs.Observed as observed
 use Rattle.low_equal.specs.Observed.{Sees, Hides, Mask, shown, veiled}
@@ -62,6 +62,24 @@ pub length_raised : (label : Label) (fs : List Frame) → length (last_raised la
 length_raised label [] = refl
 length_raised label (f ∷ []) = refl
 length_raised label (f ∷ g ∷ fs) = ap suc (length_raised label (g ∷ fs))
+
+-- a change of one frame keeps their number
+pub length_changed : {X : Type 0} (change : X → X) (xs : List X) (d : ℕ) → length (changed_at change xs d) ≡ length xs
+unfolding changed_at
+length_changed change [] d = refl
+length_changed change (x ∷ xs) zero = refl
+length_changed change (x ∷ xs) (suc d) = ap suc (length_changed change xs d)
+
+-- a frame that catches no longer
+abbrev pub calm : Frame → Frame
+calm f = record f { active = false }
+
+-- and the context is the same
+pub context_calm : (fs : List Frame) (d : ℕ) → context (changed_at calm fs d) ≡ context fs
+unfolding changed_at context
+context_calm [] d = refl
+context_calm (f ∷ fs) zero = refl
+context_calm (f ∷ fs) (suc d) = ap (λ l. union f.label l) (context_calm fs d)
 
 -- what is inside a deeper frame
 inside_suc : (f : Frame) (fs : List Frame) (d : ℕ) → inside (f ∷ fs) (suc d) ≡ inside fs d
@@ -213,6 +231,29 @@ module _ (observer : Label) where
   take_stays (suc d) (f ∷ fs) cause p w = ⊎_elim
       (λ q. view_seen f (take (suc d) fs) q ∙ ap (λ (ms : List Mask). shown f ∷ ms) (take_stays d fs cause (hidden_tail f fs p q) (ap (λ l. within (union l cause) (meant_at fs d)) (sym (inside_suc f fs d)) ∙ w)) ∙ sym (view_seen f fs q))
       (λ q. view_hidden f (take (suc d) fs) q ∙ sym (view_hidden f fs q)) (sees_or_hides observer f.label)
+
+  -- ---- raises and changes of one frame
+
+  -- a raise that rule W10 allows in a hidden context can't be told
+  pub raise_stays : (d : ℕ) (l : Label) (fs : List Frame) → Hides observer (context fs) → within (raise_need fs d) (meant_at fs d) ≡ true → view (raised fs d l) ≡ view fs
+  unfolding changed_at
+  raise_stays d l [] p w = refl
+  raise_stays zero l (f ∷ fs) p w = ⊎_elim
+      (λ q. absurd (not_both observer (context fs) (sees_within observer (context fs) f.label w q) (hidden_tail f fs p q)))
+      (λ q. view_hidden (record f { label = union f.label l }) fs (hides_first observer f.label l q) ∙ sym (view_hidden f fs q)) (sees_or_hides observer f.label)
+  raise_stays (suc d) l (f ∷ fs) p w = ⊎_elim
+      (λ q. view_seen f (raised fs d l) q ∙ ap (λ (ms : List Mask). shown f ∷ ms) (raise_stays d l fs (hidden_tail f fs p q) (ap (λ x. within x (meant_at fs d)) (sym (inside_suc f fs d)) ∙ w)) ∙ sym (view_seen f fs q))
+      (λ q. view_hidden f (raised fs d l) q ∙ sym (view_hidden f fs q)) (sees_or_hides observer f.label)
+
+  -- that the innermost frame of a hidden context catches no longer can't be told either
+  pub calm_stays : (d : ℕ) (fs : List Frame) → length fs ≤ suc d → Hides observer (context fs) → view (changed_at calm fs d) ≡ view fs
+  unfolding changed_at
+  calm_stays d [] h p = refl
+  calm_stays zero (f ∷ []) h p = let q = hidden_head f [] p sees_none in view_hidden (calm f) [] q ∙ sym (view_hidden f [] q)
+  calm_stays zero (f ∷ g ∷ fs) h p = absurd (omega arith)
+  calm_stays (suc d) (f ∷ fs) h p = ⊎_elim
+      (λ q. view_seen f (changed_at calm fs d) q ∙ ap (λ (ms : List Mask). shown f ∷ ms) (calm_stays d fs (omega arith) (hidden_tail f fs p q)) ∙ sym (view_seen f fs q))
+      (λ q. view_hidden f (changed_at calm fs d) q ∙ sym (view_hidden f fs q)) (sees_or_hides observer f.label)
 
   -- ---- raises of the innermost frame
 

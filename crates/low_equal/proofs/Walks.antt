@@ -1,6 +1,5 @@
 -- Objects and their prototypes in two runs: what is found, what a read gives, which keys there are.
 use Rattle.std.proofs.Common.{◌≡◌, ℕ, zero, suc, ◌<◌, Bool, true, false, cond, List, [], ◌∷◌, ◌++◌, ◌&&◌, not, Option, Some, None, is_some, slice_get, refl, sym, ap, ap₂, subst, arith}
-use Rattle.std.proofs.lemmas.Option.{none-some, same_Some}
 use Rattle.origin_labels.specs.Label.{Label, bottom, union, sees}
 use Rattle.origin_labels.specs.Names.{has_name}
 use Rattle.js_number.specs.declared.primitive.Primitive.TheVariants.{Undefined}
@@ -11,27 +10,18 @@ use Rattle.js_values.specs.declared.property.Marks.{Marks}
 use Rattle.js_values.specs.declared.property.Body.{Body}
 use Rattle.js_values.specs.declared.property.Body.TheVariants.{Data, Accessor}
 use Rattle.js_values.specs.declared.property.Slot.{Slot}
-use Rattle.js_values.specs.Chains.{onwards, LeadBack}
+use Rattle.js_values.specs.Chains.{onwards, beginning, chain_within}
 use Rattle.js_values.specs.Objects.{Rows, Object, number_of, own, keys_of}
 use Rattle.js_values.specs.Walks.{object_chain, Found, found_at, find}
-use Rattle.js_values.proofs.ChainLaws.{chain_step}
 use Rattle.object_heap.specs.Formed.{own_in}
 use Rattle.prototype_walk.specs.KeyLists.{fresh_keys, existences, Keys, keys_after, keys}
 use Rattle.flow_meaning.specs.Scopes.{Val, joined}
 use Rattle.low_equal.specs.Observed.{Sees, Hides}
-use Rattle.low_equal.specs.LowEqual.{Pairing, AreFormed, AreDistinct, Alike, seen, hidden, SameValue, primitives, objects, SameObject, neither, both, Agree, BodiesAgree, data_bodies, accessors, RowsAgree, no_rows, row, seen_rows, ShapesAgree, seen_shape, hidden_shape, ObjectsAgree, HeapsAgree}
+use Rattle.low_equal.specs.LowEqual.{Pairing, AreDistinct, Alike, seen, hidden, SameValue, primitives, objects, SameObject, neither, both, Agree, BodiesAgree, data_bodies, accessors, RowsAgree, no_rows, row, seen_rows, ShapesAgree, seen_shape, hidden_shape, ObjectsAgree, HeapsAgree}
 use Rattle.low_equal.proofs.Labels.{hides_first, hides_second, sees_bottom}
 use Rattle.low_equal.proofs.Agreement.{alike_map, alike_join, two}
 use Rattle.low_equal.proofs.Rows.{OwnAgree, neither_names, both_name, own_agree, seen_slot, own_seen}
 use Rattle.low_equal.proofs.HeapActs.{objects_agree}
-
--- prototypes lead back
-leads_back : (h : List (Object Label)) → AreFormed h → LeadBack (λ p. number_of p.proto) h
-leads_back h w i j p here leads = go p.proto refl leads
-  where
-    go : (o : Option ObjId) → p.proto ≡ o → number_of o ≡ Some j → j < i
-    go None e l = absurd (none-some _ l)
-    go (Some q) e l = subst (λ n. n < i) (same_Some q.0 j l) ((w i p here).below q e)
 
 -- the label of the test whether an object itself has a key
 abbrev pub own_walk : Label → Option (Slot Label) → Label
@@ -133,32 +123,42 @@ module _ (observer : Label) where
         hidden_link : {i j : ℕ} {p q : Object Label} {c d : List (ℕ × Object Label)} → ArePaired i j p q → Hides observer p.link → Hides observer q.link → ChainsAgree ((i, p) ∷ c) ((j, q) ∷ d)
         seen_link : {i j : ℕ} {p q : Object Label} {c d : List (ℕ × Object Label)} → ArePaired i j p q → Sees observer p.link → p.link ≡ q.link → ChainsAgree c d → ChainsAgree ((i, p) ∷ c) ((j, q) ∷ d)
 
-      onwards_agree : {o u : Option ObjId} → SameObject β o u → ((a b : ObjId) → o ≡ Some a → β.objects a.0 b.0 ≡ true → ChainsAgree (object_chain h a.0) (object_chain g b.0))
-          → ChainsAgree (onwards (number_of o) (object_chain h)) (onwards (number_of u) (object_chain g))
-      onwards_agree neither k = no_objects
-      onwards_agree (both e) k = k _ _ refl e
+      -- an object's prototype, as far as is walked in each
+      abbrev behind_left : ℕ → ℕ → List (ℕ × Object Label)
+      behind_left n i = chain_within (λ p. number_of p.proto) h n i
 
-      chain_agrees : {i j : ℕ} {p q : Object Label} → ArePaired i j p q → ((a b : ObjId) → p.proto ≡ Some a → β.objects a.0 b.0 ≡ true → ChainsAgree (object_chain h a.0) (object_chain g b.0))
-          → ChainsAgree ((i, p) ∷ onwards (number_of p.proto) (object_chain h)) ((j, q) ∷ onwards (number_of q.proto) (object_chain g))
-      chain_agrees {i} {j} {p} {q} t k = by_link t.agree.links
+      abbrev behind_right : ℕ → ℕ → List (ℕ × Object Label)
+      behind_right m j = chain_within (λ p. number_of p.proto) g m j
+
+      onwards_agree : (n m : ℕ) {o u : Option ObjId} → SameObject β o u → ((a b : ObjId) → o ≡ Some a → u ≡ Some b → β.objects a.0 b.0 ≡ true → ChainsAgree (behind_left n a.0) (behind_right m b.0))
+          → ChainsAgree (onwards (number_of o) (behind_left n)) (onwards (number_of u) (behind_right m))
+      onwards_agree n m neither k = no_objects
+      onwards_agree n m (both e) k = k _ _ refl refl e
+
+      chain_agrees : (n m : ℕ) {i j : ℕ} {p q : Object Label} → ArePaired i j p q → (Sees observer p.link → Sees observer q.link → (a b : ObjId) → p.proto ≡ Some a → q.proto ≡ Some b → β.objects a.0 b.0 ≡ true → ChainsAgree (behind_left n a.0) (behind_right m b.0))
+          → ChainsAgree ((i, p) ∷ onwards (number_of p.proto) (behind_left n)) ((j, q) ∷ onwards (number_of q.proto) (behind_right m))
+      chain_agrees n m {i} {j} {p} {q} t k = by_link t.agree.links
         where
-          by_link : Alike observer p.link q.link (SameObject β p.proto q.proto) → ChainsAgree ((i, p) ∷ onwards (number_of p.proto) (object_chain h)) ((j, q) ∷ onwards (number_of q.proto) (object_chain g))
-          by_link (seen s e x) = seen_link t s e (onwards_agree x k)
+          by_link : Alike observer p.link q.link (SameObject β p.proto q.proto) → ChainsAgree ((i, p) ∷ onwards (number_of p.proto) (behind_left n)) ((j, q) ∷ onwards (number_of q.proto) (behind_right m))
+          by_link (seen s e x) = seen_link t s e (onwards_agree n m x (k s (subst (Sees observer) e s)))
           by_link (hidden s e) = hidden_link t s e
 
-      chains_below : HeapsAgree observer β h g → (n i j : ℕ) → i < n → β.objects i j ≡ true → ChainsAgree (object_chain h i) (object_chain g j)
-      chains_below r zero i j lt e = absurd (omega arith)
-      chains_below r (suc n) i j lt e =
+      -- as many steps as are enough for each
+      chains_below : HeapsAgree observer β h g → (n m i j : ℕ) → i < n → j < m → β.objects i j ≡ true → ChainsAgree (behind_left n i) (behind_right m j)
+      chains_below r zero m i j lt k e = absurd (omega arith)
+      chains_below r (suc n) zero i j lt k e = absurd (omega arith)
+      chains_below r (suc n) (suc m) i j lt k e =
           let t = two (r.paired i j e) in
-          let w = r.left i t.one t.is_one in
-          subst (λ c. ChainsAgree c (object_chain g j)) (sym (chain_step (λ p. number_of p.proto) h (leads_back h r.left) i t.one t.is_one))
-          (subst (λ c. ChainsAgree ((i, t.one) ∷ onwards (number_of t.one.proto) (object_chain h)) c) (sym (chain_step (λ p. number_of p.proto) g (leads_back g r.right) j t.other t.is_other))
-          (chain_agrees (record { pair = e; here = t.is_one; there = t.is_other; distinct = w.distinct; others = (r.right j t.other t.is_other).distinct; agree = t.related })
-          (λ a b leads p. let below = w.below a leads in chains_below r n a.0 b.0 (omega arith) p)))
+          let w = r.left i j e t.one t.is_one in
+          let v = r.right i j e t.other t.is_other in
+          subst (λ x. ChainsAgree (beginning i x (λ p. onwards (number_of p.proto) (behind_left n))) (behind_right (suc m) j)) (sym t.is_one)
+          (subst (λ x. ChainsAgree ((i, t.one) ∷ onwards (number_of t.one.proto) (behind_left n)) (beginning j x (λ p. onwards (number_of p.proto) (behind_right m)))) (sym t.is_other)
+          (chain_agrees n m (record { pair = e; here = t.is_one; there = t.is_other; distinct = w.distinct; others = v.distinct; agree = t.related })
+          (λ x y a b leads there p. let below = w.below x a leads in let under = v.below y b there in chains_below r n m a.0 b.0 (omega arith) (omega arith) p)))
 
       -- the chains of paired objects
       pub chains_agree : HeapsAgree observer β h g → {i j : ℕ} → β.objects i j ≡ true → ChainsAgree (object_chain h i) (object_chain g j)
-      chains_agree r {i} {j} e = chains_below r (suc i) i j (omega arith) e
+      chains_agree r {i} {j} e = chains_below r (suc i) (suc j) i j (omega arith) (omega arith) e
 
       -- ---- find
 
@@ -261,7 +261,7 @@ module _ (observer : Label) where
     -- whether an object itself has the key, and what it names there
     pub level_own : {i j : ℕ} (key : List ℕ) (p q : Object Label) → β.objects i j ≡ true → slice_get h i ≡ Some p → slice_get g j ≡ Some q
         → Alike observer (own_walk p.structure (own key p.rows)) (own_walk q.structure (own key q.rows)) (OwnSame β (own key p.rows) (own key q.rows))
-    level_own {i} {j} key p q e a b = own_test_case β (own_case β key (r.left i p a).distinct (r.right j q b).distinct (objects_agree observer r e a b).shapes)
+    level_own {i} {j} key p q e a b = own_test_case β (own_case β key (r.left i j e p a).distinct (r.right i j e q b).distinct (objects_agree observer r e a b).shapes)
 
     -- the keys that `for in` takes
     pub level_keys : {i j : ℕ} → β.objects i j ≡ true → KeysAgree (keys (object_chain h i)) (keys (object_chain g j))

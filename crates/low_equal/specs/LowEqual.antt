@@ -117,7 +117,7 @@ module _ (observer : Label) (β : Pairing) where
 pub data Both {A : Type 0} (P : A → A → Type 0) : Option A → Option A → Type 0 where
   both_stand : {a b : A} → P a b → Both P (Some a) (Some b)
 
--- ---- well-formed states: a prototype's number is below its object's, and the record outside below the one inside it; no key of an object stands twice
+-- ---- what is well formed: a prototype's number is below its object's, and the record outside below the one inside it; no key of an object stands twice
 
 pub data IsAbsent {S : Type 0} (key : List ℕ) : Rows S → Type 0 where
   nowhere : IsAbsent key []
@@ -127,15 +127,16 @@ pub data AreDistinct {S : Type 0} : Rows S → Type 0 where
   no_keys : AreDistinct []
   one_more : {key : List ℕ} {s : S} {rows : Rows S} → IsAbsent key rows → AreDistinct rows → AreDistinct ((key, s) ∷ rows)
 
-pub record IsFormed (o : ℕ) (p : Object Label) : Type 0 where
-  pub below : (q : ObjId) → p.proto ≡ Some q → q.0 < o
+pub record IsFormed (observer : Label) (o : ℕ) (p : Object Label) : Type 0 where
+  -- where the observer sees which it is
+  pub below : Sees observer p.link → (q : ObjId) → p.proto ≡ Some q → q.0 < o
   pub distinct : AreDistinct p.rows
 
-abbrev pub AreFormed : List (Object Label) → Type 0
-AreFormed heap = (o : ℕ) (p : Object Label) → slice_get heap o ≡ Some p → IsFormed o p
+abbrev pub FormedAt : Label → List (Object Label) → ℕ → Type 0
+FormedAt observer heap o = (p : Object Label) → slice_get heap o ≡ Some p → IsFormed observer o p
 
-abbrev pub AreNested : List (Record Val) → Type 0
-AreNested records = (i : ℕ) (r : Record Val) → slice_get records i ≡ Some r → (e : EnvId) → r.outer ≡ Some e → e.0 < i
+abbrev pub NestedAt : List (Record Val) → ℕ → Type 0
+NestedAt records i = (r : Record Val) → slice_get records i ≡ Some r → (e : EnvId) → r.outer ≡ Some e → e.0 < i
 
 -- ---- states
 
@@ -144,14 +145,15 @@ pub record HeapsAgree (observer : Label) (β : Pairing) (h g : List (Object Labe
   pub starts : (o : ℕ) → o < length start_heap → β.objects o o ≡ true
   pub paired : (o q : ℕ) → β.objects o q ≡ true → Both (ObjectsAgree observer β) (slice_get h o) (slice_get g q)
   pub one_to_one : IsOneToOne β.objects
-  pub left : AreFormed h
-  pub right : AreFormed g
+  -- paired objects are well formed. Of the others nothing is asked: one that is made where the context is hidden may be anything
+  pub left : (o q : ℕ) → β.objects o q ≡ true → FormedAt observer h o
+  pub right : (o q : ℕ) → β.objects o q ≡ true → FormedAt observer g q
 
 pub record ScopesAgree (observer : Label) (β : Pairing) (rs qs : List (Record Val)) : Type 0 where
   pub paired : (i j : ℕ) → β.records i j ≡ true → Both (RecordsAgree observer β) (slice_get rs i) (slice_get qs j)
   pub one_to_one : IsOneToOne β.records
-  pub left : AreNested rs
-  pub right : AreNested qs
+  pub left : (i j : ℕ) → β.records i j ≡ true → NestedAt rs i
+  pub right : (i j : ℕ) → β.records i j ≡ true → NestedAt qs j
 
 -- each input channel that the observer sees has the same position
 abbrev pub PositionsAgree : Label → Tables → List ℕ → List ℕ → Type 0

@@ -1,4 +1,5 @@
 ghost use Rattle.flow_policy.specs.Inputs.{IsGivenTo};
+ghost use Rattle.js_ast.specs.IsMarked.{IsMarked};
 
 use crate::programs::parsed;
 use flow_io::MemorySink;
@@ -89,7 +90,8 @@ fn writes(
     end: End,
     bytes: &str,
 ) -> bool
-    requires { IsGivenTo policy.now inputs.now }
+    requires marked { IsMarked program.now }
+    requires given { IsGivenTo policy.now inputs.now }
 {
     let _formed = policy.origins();
     let mut sink = MemorySink::new(alloc);

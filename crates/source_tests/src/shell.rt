@@ -295,6 +295,47 @@ const SCRIPTS: &[Run] = &[
     ),
 ];
 
+// Scripts with functions, exceptions and jumps.
+const FUNCTIONS: &[Run] = &[
+    (
+        "function f(a, b) { return a + b; } print(\"pub\", f(1, 2));",
+        "",
+        "pub 3\n! done\n",
+        Status::Done,
+    ),
+    (
+        "function F() { this.x = 1; } F.prototype.y = 2; var o = new F(); print(\"pub\", o.x + o.y); print(\"pub\", o instanceof F);",
+        "",
+        "pub 3\npub true\n! done\n",
+        Status::Done,
+    ),
+    (
+        "var r = \"\"; try { throw 1; } catch (e) { r += e; } finally { r += \"f\"; } print(\"pub\", r);",
+        "",
+        "pub 1f\n! done\n",
+        Status::Done,
+    ),
+    (
+        "if (read(\"pin\")) throw 1;",
+        "pin 1\n",
+        "! stopped W9 need A have -\n",
+        Status::Stopped,
+    ),
+    (
+        "switch (2) { case 1: print(\"pub\", 1); case 2: print(\"pub\", 2); case 3: print(\"pub\", 3); break; default: print(\"pub\", 0); }",
+        "",
+        "pub 2\npub 3\n! done\n",
+        Status::Done,
+    ),
+    (
+        "a: for (var i = 0; i < 3; i++) { for (;;) { if (i == 1) break a; continue a; } } print(\"pub\", i);",
+        "",
+        "pub 1\n! done\n",
+        Status::Done,
+    ),
+    ("throw \"x\";", "", "! threw string x\n", Status::Threw),
+];
+
 // A source, and its report.
 type Report = (&'static str, &'static str);
 
@@ -341,38 +382,19 @@ const REFUSED: &[Report] = &[
 // Programs with a node that can't be run so far, and the report of a run.
 const UNBUILT: &[Report] = &[
     ("print", "! source Unbuilt at 1:1\n"),
-    ("Print(\"pub\", \"hi\");", "! source Unbuilt at 1:1\n"),
-    ("'print'(\"pub\", \"hi\");", "! source Unbuilt at 1:1\n"),
     ("print[\"pub\", \"hi\"];", "! source Unbuilt at 1:1\n"),
     ("print.x(\"pub\", \"hi\");", "! source Unbuilt at 1:1\n"),
-    (
-        "print(\"pub\", write(\"a\"));",
-        "! source Unbuilt at 1:14\n",
-    ),
     ("print(\"pub\", [1]);", "! source Unbuilt at 1:14\n"),
-    (
-        "print(\"pub\", 1 instanceof 2);",
-        "! source Unbuilt at 1:14\n",
-    ),
     ("var x = 1, read;", "! source Unbuilt at 1:12\n"),
-    ("while (1) break;", "! source Unbuilt at 1:11\n"),
-    ("throw 1;", "! source Unbuilt at 1:1\n"),
-    ("try { } finally { }", "! source Unbuilt at 1:1\n"),
-    ("function f() {}", "! source Unbuilt at 1:1\n"),
     ("({ get a() {} });", "! source Unbuilt at 1:2\n"),
-    ("for (var k in 1) break;", "! source Unbuilt at 1:18\n"),
-    ("switch (1) {}", "! source Unbuilt at 1:1\n"),
-    ("a: ;", "! source Unbuilt at 1:1\n"),
     ("x.y = [];", "! source Unbuilt at 1:7\n"),
-    ("x = y.z();", "! source Unbuilt at 1:5\n"),
-    ("this.f();", "! source Unbuilt at 1:1\n"),
-    ("new x;", "! source Unbuilt at 1:1\n"),
     ("delete [];", "! source Unbuilt at 1:8\n"),
+    ("function f() { return lbl; }", "! source Unbuilt at 1:23\n"),
     (
         "print(\"pub\", \"a\");\nx.y[[]];",
         "! source Unbuilt at 2:5\n",
     ),
-    ("if (1) ; else {\n  x(1);\n}", "! source Unbuilt at 2:3\n"),
+    ("if (1) ; else {\n  x([]);\n}", "! source Unbuilt at 2:5\n"),
 ];
 
 // A policy, and what a run of the empty script under it writes.
@@ -470,6 +492,7 @@ fn always_out_of_memory(rt: HostRuntime) {
 #[test]
 fn scripts(rt: HostRuntime) {
     all_run(&rt, rt.alloc(), SCRIPTS);
+    all_run(&rt, rt.alloc(), FUNCTIONS);
     all_run(&rt, rt.alloc(), SPELLINGS);
 }
 

@@ -43,6 +43,41 @@ const BUILT_OBJECTS: &[Row] = &[
     ("a = b.print; a = { read: b.lbl }", None),
 ];
 
+const BUILT_FUNCTIONS: &[Row] = &[
+    ("f(1); o.f(); a[0](); a.b.c(d); -f(); a + b().c", None),
+    (
+        "x = function () { }; x = function f(a, b) { return f; }",
+        None,
+    ),
+    ("new A; x = new A(1); new (a.b)(c); new new A()()", None),
+    (
+        "a + (b instanceof c); if ((o instanceof o)) ; delete f()",
+        None,
+    ),
+    ("function f() { } function g(a) { return a }", None),
+    (
+        "while (a) break; while (a) { continue } a: b; c: for (;;) { d: { break c } }",
+        None,
+    ),
+    (
+        "throw b; switch (a) { } switch (a) { case b: c; default: d }",
+        None,
+    ),
+    (
+        "try { } catch (e) { } try { } finally { } try { } catch (e) { } finally { }",
+        None,
+    ),
+    ("'flow exc -'; print: while (a) continue print;", None),
+    (
+        "x = { a: b, c: new D }; a.b[c()].d; ++a[f()]; for (a(); b(); c()) ;",
+        None,
+    ),
+    (
+        "(function () { return this.read(print('pub', arguments[0])) })()",
+        None,
+    ),
+];
+
 const NAMES_AND_CALLS: &[Row] = &[
     ("read", Some(0)),
     ("x + lbl", Some(4)),
@@ -52,68 +87,71 @@ const NAMES_AND_CALLS: &[Row] = &[
     ("var read = 1", Some(4)),
     ("var a, b = lbl, c = []", Some(11)),
     ("for (var i, upgs;;) ;", Some(12)),
-    ("f(1)", Some(0)),
-    ("(read)('h')", Some(0)),
-    ("(upgs)('a')", Some(0)),
+    ("f(upge)", Some(2)),
+    ("(read)('h')", Some(1)),
+    ("(upgs)('a')", Some(1)),
     ("upgs('a', upge)", Some(10)),
     ("lbl(1, 'a', [])", Some(12)),
     ("var x = { a: upgs };", Some(13)),
     ("a; lbl.a", Some(3)),
+    ("lbl.a()", Some(0)),
+    ("new read", Some(4)),
+    ("new print('pub')", Some(4)),
     ("a[print]", Some(2)),
     ("delete upge", Some(7)),
     ("print in a", Some(0)),
-    ("var o = {};\no.f();", Some(12)),
-    ("a[0]()", Some(0)),
-    ("a.b.c(d)", Some(0)),
+    ("a instanceof lbl", Some(13)),
+    ("x = function print() { }", Some(13)),
+    ("function upgs() { }", Some(9)),
+    ("function f(a, lbl) { }", Some(14)),
+    ("(function () { return read })", Some(22)),
+    ("try { } catch (print) { }", Some(15)),
 ];
 
 const EXPRESSIONS: &[Row] = &[
     ("1 + []", Some(4)),
     ("x = []", Some(4)),
     ("var o = {}, p = [1];", Some(16)),
-    ("x = function () { }", Some(4)),
-    ("a + b().c", Some(4)),
-    ("new A", Some(0)),
-    ("x = new A(1)", Some(4)),
-    ("a + (b instanceof c)", Some(5)),
-    ("var o = {}; if ((o instanceof o)) ;", Some(17)),
     ("a ? b : []", Some(8)),
     ("a; /* b */ []", Some(11)),
-    ("-f()", Some(1)),
+    ("f([])", Some(2)),
+    ("f(a)([])", Some(5)),
+    ("([]).a()", Some(1)),
+    ("new A([])", Some(6)),
+    ("new ([])", Some(5)),
+    ("a instanceof []", Some(13)),
+    ("x = function () { [] }", Some(18)),
 ];
 
 const OBJECTS: &[Row] = &[
     ("var o = { get x() { return 1; } };", Some(8)),
     ("x = { a: [], b: c }", Some(9)),
-    ("x = { a: b, c: new D }", Some(15)),
     ("x = { a: [], get b() { } }", Some(4)),
     ("x = { set a(b) { }, c: [] }", Some(4)),
     ("x = { a: 1, 'b': { set c(d) { } }, 2: [] }", Some(17)),
     ("a; [].b", Some(3)),
     ("[][a]", Some(0)),
     ("a[[]]", Some(2)),
-    ("a.b[c()].d", Some(4)),
     ("a[b[[]]][[]]", Some(4)),
     ("a.b = []", Some(6)),
-    ("a[f()] = []", Some(2)),
-    ("a; delete f()", Some(10)),
+    ("a[f()] = []", Some(9)),
     ("delete a[[]]", Some(9)),
     ("[] in a", Some(0)),
     ("a in []", Some(5)),
-    ("++a[f()]", Some(4)),
 ];
 
 const STATEMENTS: &[Row] = &[
-    ("function f() { }", Some(0)),
-    ("a; return", Some(3)),
-    ("while (a) break;", Some(10)),
-    ("while (a) { continue }", Some(12)),
-    ("a: b", Some(0)),
-    ("a; throw b", Some(3)),
-    ("switch (a) { }", Some(0)),
-    ("a;\ntry { } catch (e) { }", Some(3)),
-    ("try { } finally { }", Some(0)),
-    ("try { } catch (e) { } finally { }", Some(0)),
+    ("function f() { [] }", Some(15)),
+    ("a; return []", Some(10)),
+    ("throw []", Some(6)),
+    ("a: b: []", Some(6)),
+    ("switch ([]) { }", Some(8)),
+    ("switch (a) { case []: b }", Some(18)),
+    ("switch (a) { default: [] }", Some(22)),
+    ("try { [] } catch (e) { }", Some(6)),
+    ("try { } catch (e) { [] }", Some(20)),
+    ("try { } finally { [] }", Some(18)),
+    ("try { } catch (e) { } finally { [] }", Some(32)),
 ];
 
 const IN_STATEMENTS: &[Row] = &[
@@ -121,13 +159,11 @@ const IN_STATEMENTS: &[Row] = &[
     ("if (a) ; else []", Some(14)),
     ("do []; while (f())", Some(3)),
     ("do ; while ([])", Some(12)),
-    ("while (new A) ;", Some(7)),
-    ("for (a(); b();) ;", Some(5)),
-    ("for (; a(); b()) []", Some(7)),
-    ("for (;; a()) []", Some(8)),
+    ("for (; a(); b()) []", Some(17)),
+    ("for (;; a()) []", Some(13)),
     ("for (;;) []", Some(9)),
     ("{ { [] } }", Some(4)),
-    ("a; 'flow exc -'; []", Some(3)),
+    ("a; 'flow exc -'; []", Some(17)),
 ];
 
 const IN_ENUMERATIONS: &[Row] = &[
@@ -135,7 +171,6 @@ const IN_ENUMERATIONS: &[Row] = &[
     ("for (print in a) ;", Some(5)),
     ("for (var read in a) ;", Some(9)),
     ("for (a in []) break;", Some(10)),
-    ("for (var a in b) break;", Some(17)),
     ("for (a.b in c) { d; [] }", Some(20)),
 ];
 
@@ -157,6 +192,7 @@ fn sources_that_run(rt: HostRuntime) {
     let alloc = rt.alloc();
     all_unbuilt(&rt, alloc, BUILT);
     all_unbuilt(&rt, alloc, BUILT_OBJECTS);
+    all_unbuilt(&rt, alloc, BUILT_FUNCTIONS);
 }
 
 #[test]

@@ -28,20 +28,20 @@ module _ {S T : Type 0} (made : S → T → Type 0) (meaning : S → T → Label
       → Acts made meaning store (λ reading. read_value reading) (λ reading. direct tables inputs (direct_of f) (map (read_value reading) args)) world_old world_new answer
       → Settles middle new answer result
       → Calls made meaning store tables inputs f old new world_old world_new result
-  called world_old world_new answer acts settles reading e told turns is =
+  called world_old world_new answer acts settles functions reading e told turns is =
       let s = state_of reading world_old told turns in
       let plan = λ (vs : List (Labelled T)). as_plan Value (direct tables inputs (direct_of f) (map (read_value reading) vs) s) in
-      moves_as tables inputs reading new world_new e told turns (behind tables inputs reading middle.tasks e (plan args)) (behind tables inputs reading old.tasks e (plan old.loose)) result
-      (ap₂ (λ ts vs. behind tables inputs reading ts e (plan vs)) stay lent)
-      (settles tables inputs reading world_new e told turns (direct tables inputs (direct_of f) (map (read_value reading) args) s) (acts.says reading is told turns))
+      moves_as tables inputs functions reading new world_new e told turns (behind tables inputs functions reading middle.tasks e (plan args)) (behind tables inputs functions reading old.tasks e (plan old.loose)) result
+      (ap₂ (λ ts vs. behind tables inputs functions reading ts e (plan vs)) stay lent)
+      (settles tables inputs functions reading world_new e told turns (direct tables inputs (direct_of f) (map (read_value reading) args) s) (acts.says reading is told turns))
 
   pub called_printed : (world : World T) (answer : Result (Came (Printed T) T) (FlowFault T))
       → Prints made meaning store tables (λ reading. direct tables inputs (direct_of f) (map (read_value reading) args)) world answer
       → SettlesPrinted middle new answer result
       → Calls made meaning store tables inputs f old new world world result
-  called_printed world answer prints settles reading e told turns is =
+  called_printed world answer prints settles functions reading e told turns is =
       let s = state_of reading world told turns in
       let plan = λ (vs : List (Labelled T)). as_plan Value (direct tables inputs (direct_of f) (map (read_value reading) vs) s) in
-      moves_as tables inputs reading new world e told turns (behind tables inputs reading middle.tasks e (plan args)) (behind tables inputs reading old.tasks e (plan old.loose)) result
-      (ap₂ (λ ts vs. behind tables inputs reading ts e (plan vs)) stay lent)
-      (settles tables inputs reading world e told turns (direct tables inputs (direct_of f) (map (read_value reading) args) s) (prints.says reading is told turns))
+      moves_as tables inputs functions reading new world e told turns (behind tables inputs functions reading middle.tasks e (plan args)) (behind tables inputs functions reading old.tasks e (plan old.loose)) result
+      (ap₂ (λ ts vs. behind tables inputs functions reading ts e (plan vs)) stay lent)
+      (settles tables inputs functions reading world e told turns (direct tables inputs (direct_of f) (map (read_value reading) args) s) (prints.says reading is told turns))

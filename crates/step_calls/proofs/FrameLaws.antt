@@ -118,7 +118,7 @@ module _ (tables : Tables) (inputs : Given) where
 -- ---- what comes next
 
 still : {T : Type 0} (frames : List (Held T)) (next : Next) → StandsAt (length frames) frames next
-still frames moves.Throws = omega arith
+still frames (moves.Jumps j) = omega arith
 still frames _ = refl
 
 -- frames that nothing was done to

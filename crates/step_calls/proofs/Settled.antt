@@ -4,6 +4,7 @@ use Rattle.std.specs.Result.{IsErrAnd}
 use Rattle.origin_labels.specs.Label.{Label}
 use Rattle.flow_policy.specs.Policies.{Tables}
 use Rattle.flow_policy.specs.Inputs.{Given}
+use Rattle.js_ast.specs.Functions.{FunctionCode}
 use Rattle.flow_frames.specs.declared.faults.FlowFault.{FlowFault}
 use Rattle.flow_frames.specs.declared.faults.FlowFault.TheVariants as fault
 use Rattle.es_meaning.specs.Environments.{Env}
@@ -25,19 +26,19 @@ use Rattle.step_calls.specs.Calling.{Moves, Rests, Settles, SettlesPrinted, IsPr
 
 module _ {T : Type 0} where
   -- another plan that is equal
-  pub moves_as : (tables : Tables) (inputs : Given) (reading : T → Label) (stack : Kept T) (w : World T) (e : Env ℕ) (told : List LabelledLine) (turns : ℕ) (plan other : Plan) (result : Result (Next × Option (Printed T)) (FlowFault T)) → plan ≡ other
-      → Moves tables inputs reading stack w e told turns plan result → Moves tables inputs reading stack w e told turns other result
-  moves_as tables inputs reading stack w e told turns plan other result same moves = subst (λ p. Moves tables inputs reading stack w e told turns p result) same moves
+  pub moves_as : (tables : Tables) (inputs : Given) (functions : List FunctionCode) (reading : T → Label) (stack : Kept T) (w : World T) (e : Env ℕ) (told : List LabelledLine) (turns : ℕ) (plan other : Plan) (result : Result (Next × Option (Printed T)) (FlowFault T)) → plan ≡ other
+      → Moves tables inputs functions reading stack w e told turns plan result → Moves tables inputs functions reading stack w e told turns other result
+  moves_as tables inputs functions reading stack w e told turns plan other result same moves = subst (λ p. Moves tables inputs functions reading stack w e told turns p result) same moves
 
   settled_fault : (old : Kept T) (f : FlowFault T) → Settles old old (Err f) (Err f)
-  settled_fault old (fault.Stop stop) tables inputs reading w e told turns outcome says =
-      sym (behind_end tables inputs reading old.tasks e (stopped stop.rule (reading stop.need) (reading stop.have)) (state_of reading w told turns)) ∙ ap (λ o. behind tables inputs reading old.tasks e (as_plan Value o)) (sym says)
-  settled_fault old fault.OutOfMemory tables inputs reading w e told turns outcome says = tt
+  settled_fault old (fault.Stop stop) tables inputs functions reading w e told turns outcome says =
+      sym (behind_end tables inputs functions reading old.tasks e (stopped stop.rule (reading stop.need) (reading stop.have)) (state_of reading w told turns)) ∙ ap (λ o. behind tables inputs functions reading old.tasks e (as_plan Value o)) (sym says)
+  settled_fault old fault.OutOfMemory tables inputs functions reading w e told turns outcome says = tt
 
   printed_fault : (old : Kept T) (f : FlowFault T) → SettlesPrinted old old (Err f) (Err f)
-  printed_fault old (fault.Stop stop) tables inputs reading w e told turns outcome says =
-      sym (behind_end tables inputs reading old.tasks e (stopped stop.rule (reading stop.need) (reading stop.have)) (state_of reading w told turns)) ∙ ap (λ o. behind tables inputs reading old.tasks e (as_plan Value o)) (sym says)
-  printed_fault old fault.OutOfMemory tables inputs reading w e told turns outcome says = tt
+  printed_fault old (fault.Stop stop) tables inputs functions reading w e told turns outcome says =
+      sym (behind_end tables inputs functions reading old.tasks e (stopped stop.rule (reading stop.need) (reading stop.have)) (state_of reading w told turns)) ∙ ap (λ o. behind tables inputs functions reading old.tasks e (as_plan Value o)) (sym says)
+  printed_fault old fault.OutOfMemory tables inputs functions reading w e told turns outcome says = tt
 
   -- a `?` hands on the fault
   pub settled_passes : (old : Kept T) (f : FlowFault T) (result : Result (Next × Option (Printed T)) (FlowFault T)) → IsErrAnd result (λ e. e ≡ f) → Settles old old (Err f) result

@@ -14,7 +14,7 @@ use js_number::Primitive;
 use js_values::{Labelled, Value};
 use origin_labels::Labels;
 use step_channels::Printed;
-use step_work::{Next, Stack};
+use step_work::{Jump, Next, Stack};
 use step_world::Came;
 
 /// What comes behind an act: its value, or what it threw, lies uppermost.
@@ -40,7 +40,7 @@ pub(crate) fn settle<'p, L: Labels>(
         }
         Came::Throws(value) => {
             stack.lay(value)?;
-            Ok((Next::Throws, None))
+            Ok((Next::Jumps(Jump::Throws), None))
         }
         Came::Leaves(why) => Ok((Next::Leave(why), None)),
     }
@@ -71,7 +71,7 @@ pub(crate) fn settle_printed<'p, L: Labels>(
         }
         Came::Throws(value) => {
             stack.lay(value)?;
-            Ok((Next::Throws, None))
+            Ok((Next::Jumps(Jump::Throws), None))
         }
         Came::Leaves(why) => Ok((Next::Leave(why), None)),
     }

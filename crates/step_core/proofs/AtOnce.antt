@@ -6,6 +6,7 @@ use Rattle.origin_labels.specs.Label.{Label, IsLabel}
 use Rattle.origin_labels.specs.Stores.{IsKept}
 use Rattle.flow_policy.specs.Policies.{Tables}
 use Rattle.flow_policy.specs.Inputs.{Given}
+use Rattle.js_ast.specs.Functions.{FunctionCode}
 use Rattle.js_ast.specs.declared.trees.Expr.{Expr}
 use Rattle.js_ast.specs.declared.trees.Stmt.{Stmt}
 use Rattle.js_ast.specs.Views.{view_expr, view_stmt}
@@ -32,40 +33,40 @@ use Rattle.step_core.specs.declared.machine.Machine.{Machine}
 use Rattle.flow_text.specs.declared.memory.OutOfMemory.{OutOfMemory}
 use Rattle.step_core.specs.declared.steps.Step.{Step}
 use Rattle.step_core.specs.declared.steps.Step.TheVariants as step
-use Rattle.step_core.specs.Outlook.{ahead, here, outlook}
-use Rattle.step_core.specs.Standing.{Standing}
+use Rattle.step_core.specs.Outlook.{ahead, outlook}
+use Rattle.step_work.specs.Going.{here}
+use Rattle.step_work.specs.Standing.{Standing}
 use Rattle.step_core.specs.Stepping.{Stepped}
 use Rattle.step_core.proofs.Performed.{perform_behind}
 use Rattle.step_core.proofs.Parts.{later_values}
 use Rattle.step_core.proofs.Stood.{standing_rests, standing_whole}
-use Rattle.step_core.proofs.Taking.{env_place}
 
-module _ {T : Type 0} (tables : Tables) (inputs : Given) (reading : T → Label) (told : List LabelledLine) (m : Machine T) (new : World T) (left : ℕ) where
+module _ {T : Type 0} (tables : Tables) (inputs : Given) (functions : List FunctionCode) (reading : T → Label) (told : List LabelledLine) (m : Machine T) (at : ℕ) (place : (env_above m.stack.tasks here).place ≡ at) (new : World T) (left : ℕ) where
   -- its value is handed on, with so many turns left
   handed_on : (x : Bor Expr) (stack : Kept T) (v : Labelled T) → m.stack.loose ≡ [] → stack.tasks ≡ m.stack.tasks → stack.loose ≡ m.stack.loose ++ v ∷ []
-      → meaning tables inputs (an_expr (view_expr x.now) 0) (state_of reading m.world told m.turns) ≡ Goes (read_value reading v) (state_of reading new told left)
-      → outlook tables inputs reading m (next.Expr x) told ≡ outlook tables inputs reading (record { world = new; stack = stack; turns = left }) next.Value told
+      → meaning tables inputs functions (an_expr (view_expr x.now) at) (state_of reading m.world told m.turns) ≡ Goes (read_value reading v) (state_of reading new told left)
+      → outlook tables inputs functions reading m (next.Expr x) told ≡ outlook tables inputs functions reading (record { world = new; stack = stack; turns = left }) next.Value told
   unfolding and_go
   handed_on x stack v none tasks laid comes =
-      let M = meaning tables inputs in
+      let M = meaning tables inputs functions in
       let s = state_of reading m.world told m.turns in
-      let rest : Completion → State → _ = λ c t. perform M (behind tables inputs reading m.stack.tasks here (Give c t)) in
-      perform_behind tables inputs reading M m.stack.tasks here (Ask (an_expr (view_expr x.now) (env_above m.stack.tasks here).place) s Give)
+      let rest : Completion → State → _ = λ c t. perform M (behind tables inputs functions reading m.stack.tasks here (Give c t)) in
+      perform_behind tables inputs functions reading M m.stack.tasks here (Ask (an_expr (view_expr x.now) (env_above m.stack.tasks here).place) s Give)
       ∙ ap (λ o. and_go o rest) (perform_asked M (an_expr (view_expr x.now) (env_above m.stack.tasks here).place) s)
-      ∙ ap (λ i. and_go (M (an_expr (view_expr x.now) i) s) rest) (env_place m.stack.tasks here)
+      ∙ ap (λ i. and_go (M (an_expr (view_expr x.now) i) s) rest) place
       ∙ ap (λ o. and_go o rest) comes
-      ∙ ap (λ ts. perform M (behind tables inputs reading ts here (Give (gave (read_value reading v)) (state_of reading new told left)))) (sym tasks)
-      ∙ ap (λ vs. perform M (behind tables inputs reading stack.tasks here (Give (gave (first_or_undefined (map (read_value reading) vs))) (state_of reading new told left)))) (sym (laid ∙ ap (λ vs. vs ++ v ∷ []) none))
+      ∙ ap (λ ts. perform M (behind tables inputs functions reading ts here (Give (gave (read_value reading v)) (state_of reading new told left)))) (sym tasks)
+      ∙ ap (λ vs. perform M (behind tables inputs functions reading stack.tasks here (Give (gave (first_or_undefined (map (read_value reading) vs))) (state_of reading new told left)))) (sym (laid ∙ ap (λ vs. vs ++ v ∷ []) none))
 
   -- a statement came to its end, with so many turns left
-  finished_on : (x : Bor Stmt) → meaning tables inputs (a_stmt (view_stmt x.now) (env_above m.stack.tasks here)) (state_of reading m.world told m.turns) ≡ Goes (unlabelled undefined) (state_of reading new told left)
-      → outlook tables inputs reading m (next.Stmt x) told ≡ outlook tables inputs reading (record { world = new; stack = m.stack; turns = left }) next.Done told
+  finished_on : (x : Bor Stmt) → meaning tables inputs functions (a_stmt (view_stmt x.now) (env_above m.stack.tasks here)) (state_of reading m.world told m.turns) ≡ Goes (unlabelled undefined) (state_of reading new told left)
+      → outlook tables inputs functions reading m (next.Stmt x) told ≡ outlook tables inputs functions reading (record { world = new; stack = m.stack; turns = left }) next.Done told
   unfolding and_go
   finished_on x comes =
-      let M = meaning tables inputs in
+      let M = meaning tables inputs functions in
       let s = state_of reading m.world told m.turns in
-      let rest : Completion → State → _ = λ c t. perform M (behind tables inputs reading m.stack.tasks here (Give c t)) in
-      perform_behind tables inputs reading M m.stack.tasks here (Ask (a_stmt (view_stmt x.now) (env_above m.stack.tasks here)) s Give)
+      let rest : Completion → State → _ = λ c t. perform M (behind tables inputs functions reading m.stack.tasks here (Give c t)) in
+      perform_behind tables inputs functions reading M m.stack.tasks here (Ask (a_stmt (view_stmt x.now) (env_above m.stack.tasks here)) s Give)
       ∙ ap (λ o. and_go o rest) (perform_asked M (a_stmt (view_stmt x.now) (env_above m.stack.tasks here)) s)
       ∙ ap (λ o. and_go o rest) comes
 
@@ -82,11 +83,11 @@ module _ {S T : Type 0} (made : S → T → Type 0) (meaning_of : S → T → La
   }
 
   -- a step that hands its value on
-  pub evaluated_steps : (tables : Tables) (inputs : Given) (m : Machine T) (x : Bor Expr) (stack : Kept T) (v : Labelled T) (left : ℕ) → Standing made meaning_of earlier m.stack m.world 0 (scopes_of m.stack.tasks) (next.Expr x)
-      → stack.tasks ≡ m.stack.tasks → stack.loose ≡ m.stack.loose ++ v ∷ [] → Evaluates made meaning_of later (view_expr x.now) 0 m.world m.turns v left
-      → Stepped made meaning_of later tables inputs (λ reading. outlook tables inputs reading m (next.Expr x)) (ahead m (next.Expr x)) (record { world = m.world; stack = stack; turns = left }) (step.Goes next.Value)
-  evaluated_steps tables inputs m x stack v left stands tasks laid evaluates = record {
-    comes = λ reading told read. handed_on tables inputs reading told m m.world left x stack v (nil_from_length m.stack.loose stands.values) tasks laid (evaluates.comes tables inputs reading told read);
+  pub evaluated_steps : (tables : Tables) (inputs : Given) (functions : List FunctionCode) (m : Machine T) (at : ℕ) (place : (env_above m.stack.tasks here).place ≡ at) (x : Bor Expr) (stack : Kept T) (v : Labelled T) (left : ℕ) → Standing made meaning_of earlier m.stack m.world 0 (scopes_of m.stack.tasks) (next.Expr x)
+      → stack.tasks ≡ m.stack.tasks → stack.loose ≡ m.stack.loose ++ v ∷ [] → Evaluates made meaning_of later (view_expr x.now) at m.world m.turns v left
+      → Stepped made meaning_of later tables inputs functions (λ reading. outlook tables inputs functions reading m (next.Expr x)) (ahead m (next.Expr x)) (record { world = m.world; stack = stack; turns = left }) (step.Goes next.Value)
+  evaluated_steps tables inputs functions m at place x stack v left stands tasks laid evaluates = record {
+    comes = λ reading told read. handed_on tables inputs functions reading told m at place m.world left x stack v (nil_from_length m.stack.loose stands.values) tasks laid (evaluates.comes tables inputs functions reading told read);
     standing = standing_rests made meaning_of room firm earlier later kept m.stack stack m.world m.world next.Value
         (standing_whole made meaning_of earlier m.stack m.world (scopes_of m.stack.tasks) (next.Expr x) (λ frames scopes whole. whole) stands) (rests_laid (made later) m.stack stack v next.Value stands.values tasks laid refl evaluates.labelled)
         refl (Belongs-later made meaning_of room firm earlier later kept rising m.world stands.belongs) (Grows-refl m.world);
@@ -96,11 +97,11 @@ module _ {S T : Type 0} (made : S → T → Type 0) (meaning_of : S → T → La
   }
 
   -- a step that hands on what was assigned
-  pub assigned_steps : (tables : Tables) (inputs : Given) (m : Machine T) (new : World T) (x : Bor Expr) (stack : Kept T) (v : Labelled T) (left : ℕ) → Standing made meaning_of earlier m.stack m.world 0 (scopes_of m.stack.tasks) (next.Expr x)
-      → stack.tasks ≡ m.stack.tasks → stack.loose ≡ m.stack.loose ++ v ∷ [] → Gives made meaning_of later (view_expr x.now) 0 m.world new m.turns v left → Rebinds made meaning_of later m.world new
-      → Stepped made meaning_of later tables inputs (λ reading. outlook tables inputs reading m (next.Expr x)) (ahead m (next.Expr x)) (record { world = new; stack = stack; turns = left }) (step.Goes next.Value)
-  assigned_steps tables inputs m new x stack v left stands tasks laid gives rebinds = record {
-    comes = λ reading told read. handed_on tables inputs reading told m new left x stack v (nil_from_length m.stack.loose stands.values) tasks laid (gives.comes tables inputs reading told read);
+  pub assigned_steps : (tables : Tables) (inputs : Given) (functions : List FunctionCode) (m : Machine T) (at : ℕ) (place : (env_above m.stack.tasks here).place ≡ at) (new : World T) (x : Bor Expr) (stack : Kept T) (v : Labelled T) (left : ℕ) → Standing made meaning_of earlier m.stack m.world 0 (scopes_of m.stack.tasks) (next.Expr x)
+      → stack.tasks ≡ m.stack.tasks → stack.loose ≡ m.stack.loose ++ v ∷ [] → Gives made meaning_of later (view_expr x.now) at m.world new m.turns v left → Rebinds made meaning_of later m.world new
+      → Stepped made meaning_of later tables inputs functions (λ reading. outlook tables inputs functions reading m (next.Expr x)) (ahead m (next.Expr x)) (record { world = new; stack = stack; turns = left }) (step.Goes next.Value)
+  assigned_steps tables inputs functions m at place new x stack v left stands tasks laid gives rebinds = record {
+    comes = λ reading told read. handed_on tables inputs functions reading told m at place new left x stack v (nil_from_length m.stack.loose stands.values) tasks laid (gives.comes tables inputs functions reading told read);
     standing = standing_rests made meaning_of room firm earlier later kept m.stack stack m.world new next.Value
         (standing_whole made meaning_of earlier m.stack m.world (scopes_of m.stack.tasks) (next.Expr x) (λ frames scopes whole. whole) stands) (rests_laid (made later) m.stack stack v next.Value stands.values tasks laid refl gives.labelled)
         (ap (λ f. length f.frames) rebinds.frames) rebinds.belongs rebinds.grows;
@@ -110,11 +111,11 @@ module _ {S T : Type 0} (made : S → T → Type 0) (meaning_of : S → T → La
   }
 
   -- a step by which a statement comes to its end
-  pub finished_steps : (tables : Tables) (inputs : Given) (m : Machine T) (new : World T) (x : Bor Stmt) (left : ℕ) → Standing made meaning_of earlier m.stack m.world 0 (scopes_of m.stack.tasks) (next.Stmt x)
-      → Finishes made meaning_of later (view_stmt x.now) 0 m.world new m.turns left → Rebinds made meaning_of later m.world new
-      → Stepped made meaning_of later tables inputs (λ reading. outlook tables inputs reading m (next.Stmt x)) (ahead m (next.Stmt x)) (record { world = new; stack = m.stack; turns = left }) (step.Goes next.Done)
-  finished_steps tables inputs m new x left stands finishes rebinds = record {
-    comes = λ reading told read. finished_on tables inputs reading told m new left x (finishes.comes tables inputs (env_above m.stack.tasks here) reading told (env_place m.stack.tasks here) read);
+  pub finished_steps : (tables : Tables) (inputs : Given) (functions : List FunctionCode) (m : Machine T) (at : ℕ) (place : (env_above m.stack.tasks here).place ≡ at) (new : World T) (x : Bor Stmt) (left : ℕ) → Standing made meaning_of earlier m.stack m.world 0 (scopes_of m.stack.tasks) (next.Stmt x)
+      → Finishes made meaning_of later (view_stmt x.now) at m.world new m.turns left → Rebinds made meaning_of later m.world new
+      → Stepped made meaning_of later tables inputs functions (λ reading. outlook tables inputs functions reading m (next.Stmt x)) (ahead m (next.Stmt x)) (record { world = new; stack = m.stack; turns = left }) (step.Goes next.Done)
+  finished_steps tables inputs functions m at place new x left stands finishes rebinds = record {
+    comes = λ reading told read. finished_on tables inputs functions reading told m at place new left x (finishes.comes tables inputs functions (env_above m.stack.tasks here) reading told place read);
     standing = standing_rests made meaning_of room firm earlier later kept m.stack m.stack m.world new next.Done
         (standing_whole made meaning_of earlier m.stack m.world (scopes_of m.stack.tasks) (next.Stmt x) (λ frames scopes whole. whole) stands) (rests_same (made later) m.stack next.Done stands.values refl)
         (ap (λ f. length f.frames) rebinds.frames) rebinds.belongs rebinds.grows;
@@ -128,11 +129,11 @@ module _ {S T : Type 0} (made : S → T → Type 0) (meaning_of : S → T → La
   stands_unchanged stack world same pending count move is stands = subst (λ w. Standing made meaning_of later stack w count pending move) (sym is) (stands_later stack world pending count move stands)
 
 -- the machine is the same where its world is
-pub unchanged_steps : {S T : Type 0} (made : S → T → Type 0) (meaning_of : S → T → Label) (store : S) (tables : Tables) (inputs : Given) (m new : Machine T) (same : World T) (move : Next) (result : Result (Step T) OutOfMemory) → same ≡ m.world
-    → IfOk result (Stepped made meaning_of store tables inputs (λ reading. outlook tables inputs reading (record { world = same; stack = m.stack; turns = m.turns }) move) (ahead (record { world = same; stack = m.stack; turns = m.turns }) move) new)
-    → IfOk result (Stepped made meaning_of store tables inputs (λ reading. outlook tables inputs reading m move) (ahead m move) new)
-unchanged_steps made meaning_of store tables inputs m new same move result is stepped =
-    subst (λ w. IfOk result (Stepped made meaning_of store tables inputs (λ reading. outlook tables inputs reading (record { world = w; stack = m.stack; turns = m.turns }) move) (ahead (record { world = w; stack = m.stack; turns = m.turns }) move) new)) is stepped
+pub unchanged_steps : {S T : Type 0} (made : S → T → Type 0) (meaning_of : S → T → Label) (store : S) (tables : Tables) (inputs : Given) (functions : List FunctionCode) (m new : Machine T) (same : World T) (move : Next) (result : Result (Step T) OutOfMemory) → same ≡ m.world
+    → IfOk result (Stepped made meaning_of store tables inputs functions (λ reading. outlook tables inputs functions reading (record { world = same; stack = m.stack; turns = m.turns }) move) (ahead (record { world = same; stack = m.stack; turns = m.turns }) move) new)
+    → IfOk result (Stepped made meaning_of store tables inputs functions (λ reading. outlook tables inputs functions reading m move) (ahead m move) new)
+unchanged_steps made meaning_of store tables inputs functions m new same move result is stepped =
+    subst (λ w. IfOk result (Stepped made meaning_of store tables inputs functions (λ reading. outlook tables inputs functions reading (record { world = w; stack = m.stack; turns = m.turns }) move) (ahead (record { world = w; stack = m.stack; turns = m.turns }) move) new)) is stepped
 
 pub unchanged_grows : {T : Type 0} (world same new : World T) → same ≡ world → Grows same new → Grows world new
 unchanged_grows world same new is grows = subst (λ w. Grows w new) is grows

@@ -5,6 +5,9 @@ use Rattle.origin_labels.specs.Label.{Label, bottom}
 use Rattle.origin_labels.specs.Stores.{IsKept}
 use Rattle.flow_policy.specs.Policies.{Tables}
 use Rattle.flow_policy.specs.Inputs.{Given}
+use Rattle.js_ast.specs.Functions.{FunctionCode}
+use Rattle.js_ast.specs.Trees.{Clauses, no_clauses, case, default}
+use Rattle.js_ast.specs.Views.{view_clauses}
 use Rattle.flow_frames.specs.declared.faults.FlowFault.{FlowFault}
 use Rattle.flow_frames.specs.Held.{Held}
 use Rattle.js_values.specs.declared.value.Labelled.{Labelled}
@@ -13,23 +16,22 @@ use Rattle.js_values.proofs.ReadingLaws.{IsReading-earlier}
 use Rattle.es_meaning.specs.Environments.{Env}
 use Rattle.es_meaning.specs.Plain.{undefined}
 use Rattle.flow_meaning.specs.Scopes.{Val, State}
-use Rattle.flow_meaning.specs.Planned.{gave, end_branch, end_round}
+use Rattle.flow_meaning.specs.Planned.{gave, end_branch, end_round, end_call, end_construction, end_block, end_handler, end_last}
 use Rattle.step_world.specs.declared.world.World.{World}
 use Rattle.step_world.specs.Worlds.{state_of}
 use Rattle.step_work.specs.declared.work.Work.{Work}
 use Rattle.step_work.specs.declared.work.Work.TheVariants as work
 use Rattle.step_work.specs.declared.work.Next.{Next}
 use Rattle.step_work.specs.Kept.{Kept}
-use Rattle.step_work.specs.Pending.{owns, env_above, after, behind, first_or_undefined}
+use Rattle.step_work.specs.Pending.{owns, env_above, after, behind, fallen, first_or_undefined}
 use Rattle.step_work.specs.Resuming.{coming, with_frames, Resumes, ResumesDone, ResumesBehind, ResumesDoneBehind, ResumesIn, ResumesDoneIn}
-use Rattle.step_moves.specs.Moving as moving
-use Rattle.step_moves.specs.Moving.{Moves}
+use Rattle.step_work.specs.Moving as moving
+use Rattle.step_work.specs.Moving.{Moves}
 use Rattle.step_moves.proofs.Settled.{moves_as}
-use Rattle.step_core.specs.Outlook.{here}
-use Rattle.step_core.specs.Going.{Resumes as ResumesHere}
-use Rattle.step_core.specs.Standing.{awaits}
-use Rattle.step_core.specs.Continuing.{acts, scoped, continued, GoesAlone, GoesIn, GoesActing}
-use Rattle.step_core.proofs.Taking.{env_place}
+use Rattle.step_work.specs.Going.{here}
+use Rattle.step_work.specs.Going.{Resumes as ResumesHere}
+use Rattle.step_work.specs.Standing.{awaits}
+use Rattle.step_core.specs.Continuing.{acts, scoped, leads, raises, continued, GoesAlone, GoesIn, GoesActing}
 
 pub one_value : {X : Type 0} (xs : List X) → length xs ≡ 1 → (x : X) × (xs ≡ x ∷ [])
 one_value [] size = absurd (omega (arith, size))
@@ -42,28 +44,42 @@ one_above n xs size =
     let one = one_value (drop n xs) (omega (arith, size, length-drop n xs)) in
     (one.0, length-take-le n xs (omega (arith, size)), sym (take-append-drop n xs) ∙ ap (λ ys. take n xs ++ ys) one.1)
 
-module _ {T : Type 0} (tables : Tables) (inputs : Given) (reading : T → Label) where
+module _ {T : Type 0} (tables : Tables) (inputs : Given) (functions : List FunctionCode) (reading : T → Label) where
   -- what lies loose, in two parts
   pub parted : (w : Work) (below above loose : List (Labelled T)) (e : Env ℕ) (s : State) → length below ≡ owns w → loose ≡ below ++ above
-      → continued tables inputs reading w loose e s ≡ after tables inputs w (map (read_value reading) below) e (gave (first_or_undefined (map (read_value reading) above))) s
+      → continued tables inputs functions reading w loose e s ≡ after tables inputs functions w (map (read_value reading) below) e (gave (first_or_undefined (map (read_value reading) above))) s
   parted w below above loose e s size is =
-      ap₂ (λ vs us. after tables inputs w (map (read_value reading) vs) e (gave (first_or_undefined (map (read_value reading) us))) s) (ap (take (owns w)) is ∙ take_at below above (owns w) size) (ap (drop (owns w)) is ∙ drop_at below above (owns w) size)
+      ap₂ (λ vs us. after tables inputs functions w (map (read_value reading) vs) e (gave (first_or_undefined (map (read_value reading) us))) s) (ap (take (owns w)) is ∙ take_at below above (owns w) size) (ap (drop (owns w)) is ∙ drop_at below above (owns w) size)
 
-  -- work that waits for the end of a part doesn't look at a value
-  unseen : (w : Work) (vs : List Val) (e : Env ℕ) (v u : Val) (s : State) → awaits w ≡ 0 → after tables inputs w vs e (gave v) s ≡ after tables inputs w vs e (gave u) s
-  unfolding end_branch end_round
+  -- the statements of a clause don't look at a value
+  unseen_fall : (i : ℕ) (cs : Clauses) (e : Env ℕ) (v u : Val) (s : State) → fallen tables inputs functions i cs e (gave v) s ≡ fallen tables inputs functions i cs e (gave u) s
+  unseen_fall i no_clauses e v u s = refl
+  unseen_fall i (case c ss cs) e v u s = refl
+  unseen_fall i (default ss cs) e v u s = refl
+
+  -- nor does any work that waits for the end of a part
+  unseen : (w : Work) (vs : List Val) (e : Env ℕ) (v u : Val) (s : State) → awaits w ≡ 0 → after tables inputs functions w vs e (gave v) s ≡ after tables inputs functions w vs e (gave u) s
+  unfolding end_branch end_round end_call end_construction end_block end_handler end_last
   unseen (work.Statements ss) vs e v u s none = refl
   unseen (work.Declared r) vs e v u s none = refl
   unseen (work.Turned r) vs e v u s none = refl
   unseen (work.Visited x count) vs e v u s none = refl
   unseen (work.EndBranch false depth) vs e v u s none = refl
   unseen (work.EndBranch true depth) vs e v u s none = absurd (omega (arith, none))
-  unseen (work.EndRound turn depth) vs e v u s none = refl
+  unseen (work.Falls cs i) vs e v u s none = unseen_fall i (view_clauses cs.now) e v u s
+  unseen (work.EndRound turn depth of) vs e v u s none = refl
+  unseen (work.EndLabel depth text) vs e v u s none = refl
+  unseen (work.EndCall own depth) vs e v u s none = refl
+  unseen (work.EndNew own depth) vs e v u s none = refl
+  unseen (work.EndBlock b depth) vs e v u s none = refl
+  unseen (work.EndHandler b own depth) vs e v u s none = refl
+  unseen (work.EndLast waiting) vs e v u s none = refl
+  unseen (work.EndTry depth) vs e v u s none = refl
   unseen _ vs e v u s none = absurd (omega (arith, none))
 
   -- so one may be forgotten
   pub forgotten : (w : Work) (loose below : List (Labelled T)) (e : Env ℕ) (s : State) → awaits w ≡ 0 → length loose ≡ owns w + 1 → below ≡ take (length loose - 1) loose
-      → continued tables inputs reading w below e s ≡ continued tables inputs reading w loose e s
+      → continued tables inputs functions reading w below e s ≡ continued tables inputs functions reading w loose e s
   forgotten w loose below e s none size is =
       let place : length loose - 1 ≡ owns w = omega (arith, size) in
       let front : below ≡ take (owns w) loose = is ∙ ap (λ n. take n loose) place in
@@ -73,70 +89,80 @@ module _ {T : Type 0} (tables : Tables) (inputs : Given) (reading : T → Label)
 
   -- and undefined without an origin stands for the end of a part
   pub supplied : (w : Work) (loose more : List (Labelled T)) (label : T) (e : Env ℕ) (s : State) → length loose ≡ owns w → reading label ≡ bottom → more ≡ loose ++ record { value = undefined; label = label } ∷ []
-      → continued tables inputs reading w more e s ≡ continued tables inputs reading w loose e s
+      → continued tables inputs functions reading w more e s ≡ continued tables inputs functions reading w loose e s
   supplied w loose more label e s size none is =
       parted w loose (record { value = undefined; label = label } ∷ []) more e s size is
-      ∙ ap (λ l. after tables inputs w (map (read_value reading) loose) e (gave (record { value = undefined; label = l })) s) none
+      ∙ ap (λ l. after tables inputs functions w (map (read_value reading) loose) e (gave (record { value = undefined; label = l })) s) none
       ∙ sym (parted w loose [] loose e s size (sym (append-nil loose)))
 
 module _ {T : Type 0} (w : Work) (old new : Kept T) (move : Next) where
   abbrev GoesOn : Type 0
-  GoesOn = (tables : Tables) (inputs : Given) (reading : T → Label) (e : Env ℕ) (s : State) → coming tables inputs reading new move e s ≡ behind tables inputs reading old.tasks e (continued tables inputs reading w old.loose (env_above old.tasks e) s)
+  GoesOn = (tables : Tables) (inputs : Given) (functions : List FunctionCode) (reading : T → Label) (e : Env ℕ) (s : State) → coming tables inputs functions reading new move e s ≡ behind tables inputs functions reading old.tasks e (continued tables inputs functions reading w old.loose (env_above old.tasks e) s)
 
   goes_value : owns w ≡ 0 → length old.loose ≡ 1 → Resumes w old new move → GoesOn
-  goes_value none size goes tables inputs reading e s =
+  goes_value none size goes tables inputs functions reading e s =
       let one = one_value old.loose size in
-      goes tables inputs reading e s one.0 one.1 ∙ ap (λ p. behind tables inputs reading old.tasks e p) (sym (parted tables inputs reading w [] (one.0 ∷ []) old.loose (env_above old.tasks e) s (sym none) one.1))
+      goes tables inputs functions reading e s one.0 one.1 ∙ ap (λ p. behind tables inputs functions reading old.tasks e p) (sym (parted tables inputs functions reading w [] (one.0 ∷ []) old.loose (env_above old.tasks e) s (sym none) one.1))
 
   goes_end : owns w ≡ 0 → length old.loose ≡ 0 → ResumesDone w old new move → GoesOn
-  goes_end none size goes tables inputs reading e s =
+  goes_end none size goes tables inputs functions reading e s =
       let is = nil_from_length old.loose size in
-      goes tables inputs reading e s is ∙ ap (λ p. behind tables inputs reading old.tasks e p) (sym (parted tables inputs reading w [] [] old.loose (env_above old.tasks e) s (sym none) is))
+      goes tables inputs functions reading e s is ∙ ap (λ p. behind tables inputs functions reading old.tasks e p) (sym (parted tables inputs functions reading w [] [] old.loose (env_above old.tasks e) s (sym none) is))
 
   goes_behind : length old.loose ≡ owns w + 1 → ResumesBehind w old new move → GoesOn
-  goes_behind size goes tables inputs reading e s =
+  goes_behind size goes tables inputs functions reading e s =
       let below = take (owns w) old.loose in
       let split = one_above (owns w) old.loose size in
-      goes tables inputs reading e s below split.0 split.2 ∙ ap (λ p. behind tables inputs reading old.tasks e p) (sym (parted tables inputs reading w below (split.0 ∷ []) old.loose (env_above old.tasks e) s split.1 split.2))
+      goes tables inputs functions reading e s below split.0 split.2 ∙ ap (λ p. behind tables inputs functions reading old.tasks e p) (sym (parted tables inputs functions reading w below (split.0 ∷ []) old.loose (env_above old.tasks e) s split.1 split.2))
 
   goes_done_behind : length old.loose ≡ owns w → ResumesDoneBehind w old new move → GoesOn
-  goes_done_behind size goes tables inputs reading e s =
-      goes tables inputs reading e s ∙ ap (λ p. behind tables inputs reading old.tasks e p) (sym (parted tables inputs reading w old.loose [] old.loose (env_above old.tasks e) s size (sym (append-nil old.loose))))
+  goes_done_behind size goes tables inputs functions reading e s =
+      goes tables inputs functions reading e s ∙ ap (λ p. behind tables inputs functions reading old.tasks e p) (sym (parted tables inputs functions reading w old.loose [] old.loose (env_above old.tasks e) s size (sym (append-nil old.loose))))
 
 -- work that needs the stack alone
-pub goes_alone : {T : Type 0} → (w : Work) (old new : Kept T) (move : Next) → acts w ≡ false → scoped w ≡ false → length old.loose ≡ owns w + awaits w → GoesAlone w old new move → GoesOn w old new move
-goes_alone (work.BinaryDone o) old new move idle never size goes = absurd cc
-goes_alone (work.AssignTo n) old new move idle never size goes = absurd cc
-goes_alone (work.CompoundDone o n) old new move idle never size goes = absurd cc
-goes_alone (work.Variable n ds) old new move idle never size goes = absurd cc
-goes_alone (work.MemberBase how text) old new move idle never size goes = absurd cc
-goes_alone (work.IndexKey how) old new move idle never size goes = absurd cc
-goes_alone (work.EndBranch gives depth) old new move idle never size goes = absurd cc
-goes_alone (work.EndRound turn depth) old new move idle never size goes = absurd cc
-goes_alone (work.Argument f count rest) old new move idle never size goes = goes_behind (work.Argument f count rest) old new move size goes
-goes_alone (work.Property ps count) old new move idle never size goes = goes_behind (work.Property ps count) old new move size goes
-goes_alone (work.IndexBase how x) old new move idle never size goes = goes_behind (work.IndexBase how x) old new move size goes
-goes_alone (work.Visited x count) old new move idle never size goes = goes_done_behind (work.Visited x count) old new move (omega (arith, size)) goes
-goes_alone (work.Statements ss) old new move idle never size goes = goes_end (work.Statements ss) old new move refl size goes
-goes_alone (work.Declared r) old new move idle never size goes = goes_end (work.Declared r) old new move refl size goes
-goes_alone (work.Turned r) old new move idle never size goes = goes_end (work.Turned r) old new move refl size goes
-goes_alone w old new move idle never size goes = goes_value w old new move refl size goes
+pub goes_alone : {T : Type 0} → (w : Work) (old new : Kept T) (move : Next) → acts w ≡ false → scoped w ≡ false → leads w ≡ false → raises w ≡ false → length old.loose ≡ owns w + awaits w → GoesAlone w old new move → GoesOn w old new move
+goes_alone (work.BinaryDone o) old new move idle never led raised size goes = absurd cc
+goes_alone (work.AssignTo n) old new move idle never led raised size goes = absurd cc
+goes_alone (work.CompoundDone o n) old new move idle never led raised size goes = absurd cc
+goes_alone (work.Variable n ds) old new move idle never led raised size goes = absurd cc
+goes_alone (work.MemberBase how text) old new move idle never led raised size goes = absurd cc
+goes_alone (work.IndexKey how) old new move idle never led raised size goes = absurd cc
+goes_alone (work.EndBranch gives depth) old new move idle never led raised size goes = absurd cc
+goes_alone (work.EndRound turn depth of) old new move idle never led raised size goes = absurd cc
+goes_alone (work.EndLabel depth text) old new move idle never led raised size goes = absurd cc
+goes_alone (work.EndTry depth) old new move idle never led raised size goes = absurd cc
+goes_alone work.InstanceDone old new move idle never led raised size goes = absurd cc
+goes_alone (work.Compared cs i) old new move idle never led raised size goes = absurd cc
+goes_alone (work.EndNew own depth) old new move idle never led raised size goes = absurd cc
+goes_alone (work.EndLast waiting) old new move idle never led raised size goes = absurd cc
+goes_alone (work.Falls cs i) old new move idle never led raised size goes = absurd cc
+goes_alone (work.EndCall own depth) old new move idle never led raised size goes = absurd cc
+goes_alone (work.EndBlock b depth) old new move idle never led raised size goes = absurd cc
+goes_alone (work.EndHandler b own depth) old new move idle never led raised size goes = absurd cc
+goes_alone (work.Argument f count rest) old new move idle never led raised size goes = goes_behind (work.Argument f count rest) old new move size goes
+goes_alone (work.Property ps count) old new move idle never led raised size goes = goes_behind (work.Property ps count) old new move size goes
+goes_alone (work.IndexBase how x) old new move idle never led raised size goes = goes_behind (work.IndexBase how x) old new move size goes
+goes_alone (work.Visited x count) old new move idle never led raised size goes = goes_done_behind (work.Visited x count) old new move (omega (arith, size)) goes
+goes_alone (work.Statements ss) old new move idle never led raised size goes = goes_end (work.Statements ss) old new move refl size goes
+goes_alone (work.Declared r) old new move idle never led raised size goes = goes_end (work.Declared r) old new move refl size goes
+goes_alone (work.Turned r) old new move idle never led raised size goes = goes_end (work.Turned r) old new move refl size goes
+goes_alone w old new move idle never led raised size goes = goes_value w old new move refl size goes
 
 module _ {S T : Type 0} (made : S → T → Type 0) (meaning : S → T → Label) (store : S) where
   module _ (w : Work) (old new : Kept T) (frames_old frames_new : List (Held T)) (move : Next) where
     abbrev GoesOnIn : Type 0
-    GoesOnIn = (tables : Tables) (inputs : Given) (reading : T → Label) (e : Env ℕ) (s : State) → IsReading made meaning store reading
-        → coming tables inputs reading new move e (with_frames reading frames_new s) ≡ behind tables inputs reading old.tasks e (continued tables inputs reading w old.loose (env_above old.tasks e) (with_frames reading frames_old s))
+    GoesOnIn = (tables : Tables) (inputs : Given) (functions : List FunctionCode) (reading : T → Label) (e : Env ℕ) (s : State) → IsReading made meaning store reading
+        → coming tables inputs functions reading new move e (with_frames reading frames_new s) ≡ behind tables inputs functions reading old.tasks e (continued tables inputs functions reading w old.loose (env_above old.tasks e) (with_frames reading frames_old s))
 
     goes_value_in : owns w ≡ 0 → length old.loose ≡ 1 → ResumesIn made meaning store w old new frames_old frames_new move → GoesOnIn
-    goes_value_in none size goes tables inputs reading e s read =
+    goes_value_in none size goes tables inputs functions reading e s read =
         let one = one_value old.loose size in
-        goes tables inputs reading e s one.0 read one.1 ∙ ap (λ p. behind tables inputs reading old.tasks e p) (sym (parted tables inputs reading w [] (one.0 ∷ []) old.loose (env_above old.tasks e) (with_frames reading frames_old s) (sym none) one.1))
+        goes tables inputs functions reading e s one.0 read one.1 ∙ ap (λ p. behind tables inputs functions reading old.tasks e p) (sym (parted tables inputs functions reading w [] (one.0 ∷ []) old.loose (env_above old.tasks e) (with_frames reading frames_old s) (sym none) one.1))
 
     goes_end_in : owns w ≡ 0 → length old.loose ≡ 0 → ResumesDoneIn made meaning store w old new frames_old frames_new move → GoesOnIn
-    goes_end_in none size goes tables inputs reading e s read =
+    goes_end_in none size goes tables inputs functions reading e s read =
         let is = nil_from_length old.loose size in
-        goes tables inputs reading e s read is ∙ ap (λ p. behind tables inputs reading old.tasks e p) (sym (parted tables inputs reading w [] [] old.loose (env_above old.tasks e) (with_frames reading frames_old s) (sym none) is))
+        goes tables inputs functions reading e s read is ∙ ap (λ p. behind tables inputs functions reading old.tasks e p) (sym (parted tables inputs functions reading w [] [] old.loose (env_above old.tasks e) (with_frames reading frames_old s) (sym none) is))
 
   -- work in frames
   pub goes_in : (w : Work) (old new : Kept T) (frames_old frames_new : List (Held T)) (move : Next) → scoped w ≡ true → length old.loose ≡ owns w + awaits w
@@ -150,57 +176,59 @@ module _ {S T : Type 0} (made : S → T → Type 0) (meaning : S → T → Label
   goes_in (work.Enumerated x) old new frames_old frames_new move yes_scoped size goes = goes_value_in (work.Enumerated x) old new frames_old frames_new move refl size goes
   goes_in (work.EndBranch true depth) old new frames_old frames_new move yes_scoped size goes = goes_value_in (work.EndBranch true depth) old new frames_old frames_new move refl size goes
   goes_in (work.EndBranch false depth) old new frames_old frames_new move yes_scoped size goes = goes_end_in (work.EndBranch false depth) old new frames_old frames_new move refl size goes
-  goes_in (work.EndRound turn depth) old new frames_old frames_new move yes_scoped size goes = goes_end_in (work.EndRound turn depth) old new frames_old frames_new move refl size goes
+  goes_in (work.EndRound turn depth of) old new frames_old frames_new move yes_scoped size goes = goes_end_in (work.EndRound turn depth of) old new frames_old frames_new move refl size goes
+  goes_in (work.EndLabel depth text) old new frames_old frames_new move yes_scoped size goes = goes_end_in (work.EndLabel depth text) old new frames_old frames_new move refl size goes
+  goes_in (work.EndTry depth) old new frames_old frames_new move yes_scoped size goes = goes_end_in (work.EndTry depth) old new frames_old frames_new move refl size goes
   goes_in _ old new frames_old frames_new move yes_scoped size goes = absurd cc
 
   -- ---- work that acts on the run's state
 
   module _ (w : Work) (old new : Kept T) (world_old world_new : World T) (result : Result Next (FlowFault T)) where
     abbrev GoesOnActing : Type 0
-    GoesOnActing = (tables : Tables) (inputs : Given) (reading : T → Label) (told : _) (turns : ℕ) → IsReading made meaning store reading
-        → Moves tables inputs reading new here (state_of reading world_new told turns) (behind tables inputs reading old.tasks here (continued tables inputs reading w old.loose (env_above old.tasks here) (state_of reading world_old told turns))) result
+    GoesOnActing = (tables : Tables) (inputs : Given) (functions : List FunctionCode) (reading : T → Label) (told : _) (turns : ℕ) → IsReading made meaning store reading
+        → Moves tables inputs functions reading new here (state_of reading world_new told turns) (behind tables inputs functions reading old.tasks here (continued tables inputs functions reading w old.loose (env_above old.tasks here) (state_of reading world_old told turns))) result
 
-    acts_as : (tables : Tables) (inputs : Given) (reading : T → Label) (told : _) (turns : ℕ) (below above : List (Labelled T)) → length below ≡ owns w → old.loose ≡ below ++ above
-        → Moves tables inputs reading new here (state_of reading world_new told turns) (behind tables inputs reading old.tasks here (after tables inputs w (map (read_value reading) below) (env_above old.tasks here) (gave (first_or_undefined (map (read_value reading) above))) (state_of reading world_old told turns))) result
-        → Moves tables inputs reading new here (state_of reading world_new told turns) (behind tables inputs reading old.tasks here (continued tables inputs reading w old.loose (env_above old.tasks here) (state_of reading world_old told turns))) result
-    acts_as tables inputs reading told turns below above size is moves =
+    acts_as : (tables : Tables) (inputs : Given) (functions : List FunctionCode) (reading : T → Label) (told : _) (turns : ℕ) (below above : List (Labelled T)) → length below ≡ owns w → old.loose ≡ below ++ above
+        → Moves tables inputs functions reading new here (state_of reading world_new told turns) (behind tables inputs functions reading old.tasks here (after tables inputs functions w (map (read_value reading) below) (env_above old.tasks here) (gave (first_or_undefined (map (read_value reading) above))) (state_of reading world_old told turns))) result
+        → Moves tables inputs functions reading new here (state_of reading world_new told turns) (behind tables inputs functions reading old.tasks here (continued tables inputs functions reading w old.loose (env_above old.tasks here) (state_of reading world_old told turns))) result
+    acts_as tables inputs functions reading told turns below above size is moves =
         let s = state_of reading world_old told turns in
         let f = env_above old.tasks here in
-        moves_as tables inputs reading new here (state_of reading world_new told turns) (behind tables inputs reading old.tasks here (after tables inputs w (map (read_value reading) below) f (gave (first_or_undefined (map (read_value reading) above))) s)) (behind tables inputs reading old.tasks here (continued tables inputs reading w old.loose f s)) result
-        (ap (λ p. behind tables inputs reading old.tasks here p) (sym (parted tables inputs reading w below above old.loose f s size is)))
+        moves_as tables inputs functions reading new here (state_of reading world_new told turns) (behind tables inputs functions reading old.tasks here (after tables inputs functions w (map (read_value reading) below) f (gave (first_or_undefined (map (read_value reading) above))) s)) (behind tables inputs functions reading old.tasks here (continued tables inputs functions reading w old.loose f s)) result
+        (ap (λ p. behind tables inputs functions reading old.tasks here p) (sym (parted tables inputs functions reading w below above old.loose f s size is)))
         moves
 
     acts_behind : length old.loose ≡ owns w + 1 → moving.Resumes made meaning store w old new world_old world_new result → GoesOnActing
-    acts_behind size goes tables inputs reading told turns read =
+    acts_behind size goes tables inputs functions reading told turns read =
         let below = take (owns w) old.loose in
         let split = one_above (owns w) old.loose size in
-        acts_as tables inputs reading told turns below (split.0 ∷ []) split.1 split.2 (goes tables inputs reading here told turns below split.0 read split.2)
+        acts_as tables inputs functions reading told turns below (split.0 ∷ []) split.1 split.2 (goes tables inputs functions reading here told turns below split.0 read split.2)
 
-    acts_at : length old.loose ≡ owns w + 1 → moving.ResumesAt made meaning store 0 w old new world_old world_new result → GoesOnActing
-    acts_at size goes tables inputs reading told turns read =
+    acts_at : length old.loose ≡ owns w + 1 → moving.ResumesAt made meaning store (env_above old.tasks here).place w old new world_old world_new result → GoesOnActing
+    acts_at size goes tables inputs functions reading told turns read =
         let below = take (owns w) old.loose in
         let split = one_above (owns w) old.loose size in
-        acts_as tables inputs reading told turns below (split.0 ∷ []) split.1 split.2 (goes tables inputs reading here told turns below split.0 read (env_place old.tasks here) split.2)
+        acts_as tables inputs functions reading told turns below (split.0 ∷ []) split.1 split.2 (goes tables inputs functions reading here told turns below split.0 read refl split.2)
 
   pub goes_acting : (w : Work) (old new : Kept T) (world_old world_new : World T) (result : Result Next (FlowFault T)) → acts w ≡ true → length old.loose ≡ owns w + awaits w
-      → GoesActing made meaning store 0 w old new world_old world_new result → GoesOnActing w old new world_old world_new result
+      → GoesActing made meaning store w old new world_old world_new result → GoesOnActing w old new world_old world_new result
   goes_acting (work.Unary o) old new world_old world_new result acting size goes = acts_behind (work.Unary o) old new world_old world_new result size goes
   goes_acting (work.BinaryDone o) old new world_old world_new result acting size goes = acts_behind (work.BinaryDone o) old new world_old world_new result size goes
   goes_acting (work.AssignTo n) old new world_old world_new result acting size goes = acts_behind (work.AssignTo n) old new world_old world_new result size goes
   goes_acting (work.CompoundDone o n) old new world_old world_new result acting size goes = acts_behind (work.CompoundDone o n) old new world_old world_new result size goes
   goes_acting (work.MemberBase how text) old new world_old world_new result acting size goes = acts_behind (work.MemberBase how text) old new world_old world_new result size goes
   goes_acting (work.IndexKey how) old new world_old world_new result acting size goes = acts_behind (work.IndexKey how) old new world_old world_new result size goes
+  goes_acting work.InstanceDone old new world_old world_new result acting size goes = acts_behind work.InstanceDone old new world_old world_new result size goes
   goes_acting (work.Variable n ds) old new world_old world_new result acting size goes = acts_at (work.Variable n ds) old new world_old world_new result size goes
   goes_acting _ old new world_old world_new result acting size goes = absurd cc
 
   -- behind a call that only changed what lies loose, and that in a way that the work doesn't see
   pub resumes_prepared : (room : S → ℕ) (firm : S → Bool) (before : S) (w : Work) (old middle new : Kept T) (world_old world_new : World T) (result : Result Next (FlowFault T)) → IsKept made meaning room firm before store → middle.tasks ≡ old.tasks
-      → ((tables : Tables) (inputs : Given) (reading : T → Label) (e : Env ℕ) (s : State) → IsReading made meaning before reading → continued tables inputs reading w middle.loose e s ≡ continued tables inputs reading w old.loose e s)
-      → ((tables : Tables) (inputs : Given) → ResumesHere made meaning store tables inputs w middle new world_old world_new result)
-      → (tables : Tables) (inputs : Given) → ResumesHere made meaning store tables inputs w old new world_old world_new result
-  resumes_prepared room firm before w old middle new world_old world_new result kept tasks same resumes tables inputs reading told turns read =
+      → ((tables : Tables) (inputs : Given) (functions : List FunctionCode) (reading : T → Label) (e : Env ℕ) (s : State) → IsReading made meaning before reading → continued tables inputs functions reading w middle.loose e s ≡ continued tables inputs functions reading w old.loose e s)
+      → (tables : Tables) (inputs : Given) (functions : List FunctionCode) → ResumesHere made meaning store tables inputs functions w middle new world_old world_new result → ResumesHere made meaning store tables inputs functions w old new world_old world_new result
+  resumes_prepared room firm before w old middle new world_old world_new result kept tasks same tables inputs functions resumes reading told turns read =
       let s = state_of reading world_old told turns in
-      moves_as tables inputs reading new here (state_of reading world_new told turns) (behind tables inputs reading middle.tasks here (continued tables inputs reading w middle.loose (env_above middle.tasks here) s)) (behind tables inputs reading old.tasks here (continued tables inputs reading w old.loose (env_above old.tasks here) s)) result
-      (ap (λ ts. behind tables inputs reading ts here (continued tables inputs reading w middle.loose (env_above ts here) s)) tasks
-      ∙ ap (λ p. behind tables inputs reading old.tasks here p) (same tables inputs reading (env_above old.tasks here) s (IsReading-earlier made meaning room firm before store reading kept read)))
-      (resumes tables inputs reading told turns read)
+      moves_as tables inputs functions reading new here (state_of reading world_new told turns) (behind tables inputs functions reading middle.tasks here (continued tables inputs functions reading w middle.loose (env_above middle.tasks here) s)) (behind tables inputs functions reading old.tasks here (continued tables inputs functions reading w old.loose (env_above old.tasks here) s)) result
+      (ap (λ ts. behind tables inputs functions reading ts here (continued tables inputs functions reading w middle.loose (env_above ts here) s)) tasks
+      ∙ ap (λ p. behind tables inputs functions reading old.tasks here p) (same tables inputs functions reading (env_above old.tasks here) s (IsReading-earlier made meaning room firm before store reading kept read)))
+      (resumes reading told turns read)

@@ -5,7 +5,7 @@ use Rattle.flow_frames.specs.Held.{Held}
 use Rattle.step_work.specs.declared.work.Next.{Next}
 use Rattle.step_work.specs.declared.work.Next.TheVariants as next
 use Rattle.step_work.specs.Resuming.{StandsAt}
-use Rattle.step_core.specs.Standing.{depths, Framed}
+use Rattle.step_work.specs.Standing.{depths, Framed}
 
 one_more : (pending : List ℕ) (depth : ℕ) → length (pending ++ depth ∷ []) ≡ suc (length pending)
 one_more pending depth = omega (arith, length-append pending (depth ∷ []))
@@ -27,12 +27,12 @@ inner_depth pending depth are = let is = (last_depths pending depth are).1 in om
 pub last_depth : (pending : List ℕ) (depth frames : ℕ) → pending ++ depth ∷ [] ≡ depths (length (pending ++ depth ∷ [])) → frames ≡ suc (length (pending ++ depth ∷ [])) → frames ≡ depth + 1
 last_depth pending depth frames are size = let is = (last_depths pending depth are).1 in let more = one_more pending depth in omega (arith, is, more, size)
 
--- where no throw has left a frame
+-- where no jump has left a frame
 pub framed : (move : Next) (frames scopes : ℕ) → frames ≡ suc scopes → Framed move frames scopes
-framed next.Throws frames scopes size = omega (arith, size)
+framed (next.Jumps j) frames scopes size = omega (arith, size)
 framed _ frames scopes size = size
 
--- as many frames stand as at a depth, or fewer, if a throw goes on
+-- as many frames stand as at a depth, or fewer, if a jump goes on
 pub framed_at : {T : Type 0} (depth : ℕ) (frames : List (Held T)) (move : Next) (scopes : ℕ) → depth ≡ suc scopes → StandsAt depth frames move → Framed move (length frames) scopes
-framed_at depth frames next.Throws scopes deep stands = omega (arith, deep, stands)
+framed_at depth frames (next.Jumps j) scopes deep stands = omega (arith, deep, stands)
 framed_at depth frames _ scopes deep stands = stands ∙ deep

@@ -11,3 +11,4 @@ pub mod StepLaws
 pub mod StartLaws
 pub mod CallLaws
 pub mod AtOnce
+pub mod Refused

@@ -16,21 +16,29 @@ use Rattle.step_work.specs.declared.work.Next.TheVariants as next
 use Rattle.step_work.specs.Kept.{Kept, scope_of, scopes_of, kept_operands, operands_of, without_top}
 use Rattle.step_work.specs.Pending.{values_of}
 use Rattle.step_work.specs.Resuming.{Keeps, Opened, Closed}
-use Rattle.step_moves.specs.Moving.{Rests, Stands}
-use Rattle.step_core.specs.Standing.{Standing, depths, Framed}
-use Rattle.step_core.specs.Continuing.{acts, scoped, used_of, LeavesIn, StillIn, MadeIn}
+use Rattle.step_work.specs.Moving.{Rests, Stands}
+use Rattle.step_work.specs.Standing.{Standing, depths, Framed}
+use Rattle.step_core.specs.Continuing.{acts, scoped, leads, used_of, LeavesIn, StillIn, MadeIn}
 use Rattle.step_core.proofs.Depths.{depths_more, depths_outside, inner_depth, last_depth, framed}
 use Rattle.step_core.proofs.Parts.{behind_all, front_all, later_values}
 use Rattle.step_core.proofs.Stood.{framed_behind}
 
-unscoped : (w : Work) → scoped w ≡ false → scope_of w ≡ []
-unscoped (work.EndBranch gives depth) never = absurd cc
-unscoped (work.EndRound turn depth) never = absurd cc
-unscoped _ never = refl
+unscoped : (w : Work) → scoped w ≡ false → leads w ≡ false → scope_of w ≡ []
+unscoped (work.EndBranch gives depth) never led = absurd cc
+unscoped (work.EndRound turn depth of) never led = absurd cc
+unscoped (work.EndLabel depth text) never led = absurd cc
+unscoped (work.EndTry depth) never led = absurd cc
+unscoped (work.EndCall own depth) never led = absurd cc
+unscoped (work.EndNew own depth) never led = absurd cc
+unscoped _ never led = refl
 
 acting_unscoped : (w : Work) → acts w ≡ true → scope_of w ≡ []
 acting_unscoped (work.EndBranch gives depth) acting = absurd cc
-acting_unscoped (work.EndRound turn depth) acting = absurd cc
+acting_unscoped (work.EndRound turn depth of) acting = absurd cc
+acting_unscoped (work.EndLabel depth text) acting = absurd cc
+acting_unscoped (work.EndTry depth) acting = absurd cc
+acting_unscoped (work.EndCall own depth) acting = absurd cc
+acting_unscoped (work.EndNew own depth) acting = absurd cc
 acting_unscoped _ acting = refl
 
 module _ {T : Type 0} (P : T → Type 0) (stack : Kept T) where
@@ -54,6 +62,7 @@ module _ {T : Type 0} (P : T → Type 0) (stack : Kept T) where
   used_all (work.Argument f count rest) all = all
   used_all (work.Property ps count) all = all
   used_all (work.IndexBase how x) all = all
+  used_all (work.InstanceRight r) all = all
   used_all (work.Visited x count) all = all
   used_all (work.Statements ss) all = all
   used_all (work.Declared r) all = all
@@ -65,6 +74,7 @@ used_tasks (work.BinaryRight o r) stack = refl
 used_tasks (work.Argument f count rest) stack = refl
 used_tasks (work.Property ps count) stack = refl
 used_tasks (work.IndexBase how x) stack = refl
+used_tasks (work.InstanceRight r) stack = refl
 used_tasks (work.Visited x count) stack = refl
 used_tasks (work.Statements ss) stack = refl
 used_tasks (work.Declared r) stack = refl
@@ -154,8 +164,8 @@ module _ {S T : Type 0} (made : S → T → Type 0) (meaning : S → T → Label
             }
 
       -- behind work that needs the stack alone
-      pub stands_alone : scoped w ≡ false → length world_new.frames.frames ≡ length world_old.frames.frames → Keeps (used_of w old) new move → Standing made meaning store new world_new (values_of move) (scopes_of new.tasks) move
-      stands_alone never still keeps = stands_still (unscoped w never) still keeps
+      pub stands_alone : scoped w ≡ false → leads w ≡ false → length world_new.frames.frames ≡ length world_old.frames.frames → Keeps (used_of w old) new move → Standing made meaning store new world_new (values_of move) (scopes_of new.tasks) move
+      stands_alone never led still keeps = stands_still (unscoped w never led) still keeps
 
     -- behind work that acts on the run's state
     pub stands_acting : (w : Work) (old new : Kept T) (world_old world_new : World T) (count : ℕ) (result : Result Next (FlowFault T)) → acts w ≡ true
@@ -178,5 +188,7 @@ module _ {S T : Type 0} (made : S → T → Type 0) (meaning : S → T → Label
     stands_in (work.Tested r) old new world_old world_new count move in_frames stands belongs records leaves still labels = stands_still (work.Tested r) old new world_old world_new count move stands belongs records refl still leaves
     stands_in (work.EndBranch true depth) old new world_old world_new count move in_frames stands belongs records leaves still labels = stands_closed (work.EndBranch true depth) old new world_old world_new count move stands belongs records depth refl labels leaves
     stands_in (work.EndBranch false depth) old new world_old world_new count move in_frames stands belongs records leaves still labels = stands_closed (work.EndBranch false depth) old new world_old world_new count move stands belongs records depth refl (none_have new.loose labels) leaves
-    stands_in (work.EndRound turn depth) old new world_old world_new count move in_frames stands belongs records leaves still labels = stands_closed (work.EndRound turn depth) old new world_old world_new count move stands belongs records depth refl (none_have new.loose labels) leaves
+    stands_in (work.EndRound turn depth of) old new world_old world_new count move in_frames stands belongs records leaves still labels = stands_closed (work.EndRound turn depth of) old new world_old world_new count move stands belongs records depth refl (none_have new.loose labels) leaves
+    stands_in (work.EndLabel depth text) old new world_old world_new count move in_frames stands belongs records leaves still labels = stands_closed (work.EndLabel depth text) old new world_old world_new count move stands belongs records depth refl (none_have new.loose labels) leaves
+    stands_in (work.EndTry depth) old new world_old world_new count move in_frames stands belongs records leaves still labels = stands_closed (work.EndTry depth) old new world_old world_new count move stands belongs records depth refl (none_have new.loose labels) leaves
     stands_in _ old new world_old world_new count move in_frames stands belongs records leaves still labels = absurd cc

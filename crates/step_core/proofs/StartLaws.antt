@@ -1,9 +1,10 @@
 -- A machine in front of a program.
-use Rattle.std.proofs.Common.{refl, sym, ap, subst, ◌∙◌, ◌≡◌, suc, [], length, arith}
+use Rattle.std.proofs.Common.{ℕ, Bool, true, false, not, refl, sym, ap, subst, ◌∙◌, ◌≡◌, suc, [], length, arith, List}
 use Rattle.std.specs.List.{All}
 use Rattle.origin_labels.specs.Label.{Label}
 use Rattle.flow_policy.specs.Policies.{Tables}
 use Rattle.flow_policy.specs.Inputs.{Given}
+use Rattle.js_ast.specs.Functions.{FunctionCode}
 use Rattle.js_ast.specs.Trees.{Statements}
 use Rattle.js_values.specs.Readings.{HasValue}
 use Rattle.es_meaning.specs.Evaluation.{statements}
@@ -15,18 +16,39 @@ use Rattle.step_work.specs.declared.work.Next.{Next}
 use Rattle.step_work.specs.Kept.{Kept, scopes_of, operands_of}
 use Rattle.step_work.specs.Pending.{behind, env_above, values_of}
 use Rattle.step_work.specs.Resuming.{Begins, Keeps, coming}
-use Rattle.step_core.specs.Outlook.{here}
-use Rattle.step_core.specs.Standing.{Standing, depths}
+use Rattle.step_work.specs.Going.{here}
+use Rattle.step_work.specs.Standing.{Standing, depths}
 use Rattle.step_core.proofs.Depths.{framed}
+use Rattle.std.proofs.Common.{ap₂, ◌≤◌, ◌<◌, ◌∷◌}
+use Rattle.std.proofs.lemmas.List.Elements.{All-cons}
+use Rattle.origin_labels.specs.Label.{bottom}
+use Rattle.js_ast.specs.Functions.{functions_of}
+use Rattle.js_values.specs.declared.value.Labelled.{Labelled}
+use Rattle.es_meaning.specs.Evaluation.{begun}
+use Rattle.es_meaning.specs.Outcomes.{Jumps}
+use Rattle.es_meaning.specs.Plain.{may_declare}
+use Rattle.es_meaning.specs.Start.{type_error}
+use Rattle.flow_meaning.specs.Laws.{performed_run}
+use Rattle.flow_meaning.specs.Planned.{perform, meaning}
+use Rattle.flow_meaning.specs.Scopes.{Val}
+use Rattle.flow_meaning.specs.Tracked.{start, throw_error, tracked_run}
+use Rattle.step_work.specs.declared.work.Jump.TheVariants as jump
+use Rattle.step_work.specs.declared.work.Next.TheVariants as next
+use Rattle.step_world.specs.Acts.{thrown}
+use Rattle.step_core.proofs.Refused.{one_frame}
+use Rattle.step_core.proofs.StepLaws.{begun_refused, starts}
+use Rattle.std.proofs.lemmas.List.{length-map}
+use Rattle.step_world.specs.Worlds.{state_of}
+use Rattle.flow_frames.specs.Held.{seen_frame}
 
 module _ {T : Type 0} (old new : Kept T) (move : Next) (empty : old ≡ record { tasks = []; loose = [] }) where
   -- without work the program's statements come first
-  pub begun_alone : (tables : Tables) (inputs : Given) (reading : T → Label) (program : Statements) (s : State) → Begins (λ tables inputs e. statements (planned tables inputs) (asking tables inputs) program e) old new move
-      → coming tables inputs reading new move here s ≡ statements (planned tables inputs) (asking tables inputs) program here s
+  pub begun_alone : (tables : Tables) (inputs : Given) (functions : List FunctionCode) (reading : T → Label) (program : Statements) (s : State) → Begins (λ tables inputs functions e. statements (planned tables inputs functions) (asking tables inputs functions) program e) old new move
+      → coming tables inputs functions reading new move here s ≡ statements (planned tables inputs functions) (asking tables inputs functions) program here s
   unfolding behind env_above
-  begun_alone tables inputs reading program s begins =
-      begins tables inputs reading here s (ap (λ k. k.loose) empty)
-      ∙ ap (λ ts. behind tables inputs reading ts here (statements (planned tables inputs) (asking tables inputs) program (env_above ts here) s)) (ap (λ k. k.tasks) empty)
+  begun_alone tables inputs functions reading program s begins =
+      begins tables inputs functions reading here s (ap (λ k. k.loose) empty)
+      ∙ ap (λ ts. behind tables inputs functions reading ts here (statements (planned tables inputs functions) (asking tables inputs functions) program (env_above ts here) s)) (ap (λ k. k.tasks) empty)
 
   -- and the machine stands
   pub standing_begun : {S : Type 0} (made : S → T → Type 0) (meaning_of : S → T → Label) (store : S) (world : World T) → Keeps old new move → Belongs made meaning_of store world → length world.frames.frames ≡ 1 → length world.records ≡ 1
@@ -41,3 +63,39 @@ module _ {T : Type 0} (old new : Kept T) (move : Next) (empty : old ≡ record {
         frames = framed move (length world.frames.frames) (length (scopes_of new.tasks)) (alone ∙ ap (λ ds. suc (length ds)) (sym none));
         records = omega (arith, one);
       }
+
+-- ---- where a function may not be declared
+
+module _ {T : Type 0} (stack : Kept T) (value : Labelled T) (nothing : stack.tasks ≡ []) (alone : stack.loose ≡ value ∷ []) where
+  -- the throw that lies there comes to the run
+  pub refused_starts : (tables : Tables) (inputs : Given) (reading : T → Label) (program : Statements) (s first : State) (turns : ℕ) → may_declare program ≡ false → throw_error {X = Val} type_error bottom first ≡ Jumps (thrown reading value) s → first ≡ start tables inputs program turns
+      → performed_run (perform (meaning tables inputs (functions_of program)) (coming tables inputs (functions_of program) reading stack (next.Jumps jump.Throws) here s)) ≡ tracked_run tables inputs program turns
+  unfolding behind env_above
+  refused_starts tables inputs reading program s first turns declares throws is =
+      starts tables inputs reading program stack (next.Jumps jump.Throws) s first turns
+      (ap₂ (λ ts vs. coming tables inputs (functions_of program) reading (record { tasks = ts; loose = vs }) (next.Jumps jump.Throws) here s) nothing alone
+      ∙ begun_refused tables inputs reading program first s (thrown reading value) declares throws) is
+
+  -- and the machine stands
+  pub standing_refused : {S : Type 0} (made : S → T → Type 0) (meaning_of : S → T → Label) (store : S) (world : World T) → made store value.label → Belongs made meaning_of store world → length world.frames.frames ≡ 1 → 0 < length world.records
+      → Standing made meaning_of store stack world 1 (scopes_of stack.tasks) (next.Jumps jump.Throws)
+  standing_refused made meaning_of store world has belongs one_frame some_record =
+      let none : scopes_of stack.tasks ≡ [] = ap scopes_of nothing in
+      record {
+        belongs = belongs;
+        operands = subst (All (HasValue (made store))) (sym (ap₂ (λ ts vs. operands_of (record { tasks = ts; loose = vs })) nothing alone)) (All-cons (HasValue (made store)) value [] has (λ k d lt. absurd (omega (arith, lt))));
+        values = ap length alone;
+        scopes = subst (λ ds. ds ≡ depths (length ds)) (sym none) refl;
+        frames = omega (arith, one_frame);
+        records = some_record;
+      }
+
+-- it left no frame but the Root
+pub refused_alone : {T : Type 0} (tables : Tables) (inputs : Given) (program : Statements) (turns : ℕ) (reading : T → Label) (old new : World T) (v : Labelled T) → throw_error {X = Val} type_error bottom (state_of reading old [] turns) ≡ Jumps (thrown reading v) (state_of reading new [] turns) → state_of reading old [] turns ≡ start tables inputs program turns
+    → length new.frames.frames ≡ 1
+refused_alone tables inputs program turns reading old new v throws is =
+    sym (length-map new.frames.frames (seen_frame reading)) ∙ one_frame tables inputs program turns (thrown reading v) (state_of reading new [] turns) (ap (throw_error type_error bottom) (sym is) ∙ throws)
+
+pub not_false : (b : Bool) → not b ≡ false → b ≡ true
+not_false true is = refl
+not_false false is = absurd (cc is)

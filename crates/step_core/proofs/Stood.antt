@@ -15,28 +15,29 @@ use Rattle.step_world.specs.declared.world.World.{World}
 use Rattle.step_world.specs.Worlds.{Belongs, Grows}
 use Rattle.step_world.proofs.ActLaws.{Grows-refl}
 use Rattle.step_work.specs.declared.work.Work.{Work}
+use Rattle.step_work.specs.declared.work.Jump.{Jump}
 use Rattle.step_work.specs.declared.work.Next.{Next}
 use Rattle.step_work.specs.declared.work.Next.TheVariants as next
 use Rattle.step_work.specs.Kept.{Kept, scope_of, scopes_of, kept_operands, operands_of}
 use Rattle.step_work.specs.Pending.{owns, values_of}
 use Rattle.step_work.specs.Resuming.{Keeps, Opened, Passed, LeavesAt}
-use Rattle.step_moves.specs.Moving.{Rests, Stands}
-use Rattle.step_core.specs.Standing.{Standing, Framed, depths}
+use Rattle.step_work.specs.Moving.{Rests, Stands}
+use Rattle.step_work.specs.Standing.{Standing, Framed, depths}
 use Rattle.step_core.proofs.Depths.{depths_more, depths_outside, framed, framed_at, last_depth}
 use Rattle.step_core.proofs.Parts.{behind_all, front_all, later_values}
 
 -- ---- frames
 
 pub framed_behind : {T : Type 0} (old new : World T) (move : Next) (scopes : ℕ) → length old.frames.frames ≡ suc scopes → Stands old new move → Framed move (length new.frames.frames) scopes
-framed_behind old new next.Throws scopes all stands = omega (arith, all, stands)
+framed_behind old new (next.Jumps j) scopes all stands = omega (arith, all, stands)
 framed_behind old new _ scopes all stands = stands ∙ all
 
 stands_same : {T : Type 0} (w : World T) (move : Next) → Stands w w move
-stands_same w next.Throws = omega arith
+stands_same w (next.Jumps j) = omega arith
 stands_same w _ = refl
 
 module _ {S T : Type 0} (made : S → T → Type 0) (meaning : S → T → Label) where
-  -- before any move that is no throw the same holds
+  -- before any move that is no jump the same holds
   pub standing_whole : {count : ℕ} (store : S) (stack : Kept T) (world : World T) (pending : List ℕ) (move : Next) → ((frames scopes : ℕ) → Framed move frames scopes → frames ≡ suc scopes) → Standing made meaning store stack world count pending move → Standing made meaning store stack world count pending next.Done
   standing_whole store stack world pending move whole stands = record {
     belongs = stands.belongs;
@@ -114,12 +115,12 @@ module _ {S T : Type 0} (made : S → T → Type 0) (meaning : S → T → Label
   standing_stays room firm store old new world move stands rests =
       standing_rests room firm store store (IsKept-refl made meaning room firm store) old new world world move stands rests (stands_same world move) stands.belongs (Grows-refl world)
 
-  -- ---- what is thrown
+  -- ---- jumps
 
   -- it passes work without a frame
-  pub standing_passed : (store : S) (old new : Kept T) (world : World T) (w : Work) (move : Next) → Standing made meaning store old world (owns w + 1) (scopes_of old.tasks ++ scope_of w) next.Throws → scope_of w ≡ [] → Passed old new move
+  pub standing_passed : (j : Jump) (store : S) (old new : Kept T) (world : World T) (w : Work) (move : Next) → Standing made meaning store old world (owns w + 1) (scopes_of old.tasks ++ scope_of w) (next.Jumps j) → scope_of w ≡ [] → Passed j old new move
       → Standing made meaning store new world (values_of move) (scopes_of new.tasks) move
-  standing_passed store old new world w move stands none passed =
+  standing_passed j store old new world w move stands none passed =
       let same : scopes_of old.tasks ++ scope_of w ≡ scopes_of new.tasks = ap (λ ds. scopes_of old.tasks ++ ds) none ∙ append-nil (scopes_of old.tasks) ∙ ap scopes_of (sym passed.tasks) in
       let below = front_all (HasValue (made store)) (kept_operands old.tasks) old.loose stands.operands in
       let above = All-drop (HasValue (made store)) (length old.loose - 1) old.loose (behind_all (HasValue (made store)) (kept_operands old.tasks) old.loose stands.operands) in
@@ -128,11 +129,11 @@ module _ {S T : Type 0} (made : S → T → Type 0) (meaning : S → T → Label
         operands = subst (All (HasValue (made store))) (sym passed.operands) (All-append (HasValue (made store)) (kept_operands old.tasks) (drop (length old.loose - 1) old.loose) below above);
         values = passed.values;
         scopes = subst (λ ds. ds ≡ depths (length ds)) same stands.scopes;
-        frames = subst (λ m. Framed m (length world.frames.frames) (length (scopes_of new.tasks))) (sym passed.throws) (subst (λ ds. length world.frames.frames ≤ suc (length ds)) same stands.frames);
+        frames = subst (λ m. Framed m (length world.frames.frames) (length (scopes_of new.tasks))) (sym passed.jumps) (subst (λ ds. length world.frames.frames ≤ suc (length ds)) same stands.frames);
         records = stands.records;
       }
 
-  module _ (store : S) (old : Kept T) (world : World T) (depth : ℕ) (stands : Standing made meaning store old world 1 (scopes_of old.tasks ++ depth ∷ []) next.Throws) where
+  module _ (j : Jump) (store : S) (old : Kept T) (world : World T) (depth : ℕ) (stands : Standing made meaning store old world 1 (scopes_of old.tasks ++ depth ∷ []) (next.Jumps j)) where
     -- the scope that was taken is the innermost one
     pub depth_taken : depth ≡ suc (length (scopes_of old.tasks))
     depth_taken =

@@ -4,6 +4,7 @@ use Rattle.std.specs.List.{All}
 use Rattle.origin_labels.specs.Label.{Label}
 use Rattle.flow_policy.specs.Policies.{Tables}
 use Rattle.flow_policy.specs.Inputs.{Given}
+use Rattle.js_ast.specs.Functions.{FunctionCode}
 use Rattle.flow_frames.specs.declared.faults.FlowFault.{FlowFault}
 use Rattle.flow_frames.specs.Held.{Held}
 use Rattle.js_values.specs.declared.value.Labelled.{Labelled}
@@ -16,9 +17,10 @@ use Rattle.step_work.specs.declared.work.Work.{Work}
 use Rattle.step_work.specs.declared.work.Work.TheVariants as work
 use Rattle.step_work.specs.declared.work.Next.{Next}
 use Rattle.step_work.specs.Kept.{Kept, without_top}
-use Rattle.step_work.specs.Pending.{owns, after, first_or_undefined}
+use Rattle.step_work.specs.Pending.{owns, env_above, after, first_or_undefined}
+use Rattle.step_work.specs.Going.{here}
 use Rattle.step_work.specs.Resuming.{Resumes, ResumesDone, ResumesBehind, ResumesDoneBehind, ResumesIn, ResumesDoneIn, Keeps, Opened, Closed}
-use Rattle.step_moves.specs.Moving as moving
+use Rattle.step_work.specs.Moving as moving
 
 -- the work that acts on the run's state
 abbrev pub acts : Work → Bool
@@ -29,6 +31,7 @@ acts (work.CompoundDone o n) = true
 acts (work.Variable n ds) = true
 acts (work.MemberBase how text) = true
 acts (work.IndexKey how) = true
+acts work.InstanceDone = true
 acts _ = false
 
 -- the work that enters, raises or leaves a frame
@@ -41,13 +44,36 @@ scoped (work.ChooseStmts s t) = true
 scoped (work.Tested r) = true
 scoped (work.Enumerated x) = true
 scoped (work.EndBranch gives depth) = true
-scoped (work.EndRound turn depth) = true
+scoped (work.EndRound turn depth of) = true
+scoped (work.EndLabel depth text) = true
+scoped (work.EndTry depth) = true
 scoped _ = false
+
+-- the work of jumps, calls, `switch` and `try`
+abbrev pub leads : Work → Bool
+leads work.Throw = true
+leads work.Return = true
+leads (work.Callee es) = true
+leads (work.Constructor es) = true
+leads (work.Switched of cs) = true
+leads (work.Compared cs i) = true
+leads (work.Falls cs i) = true
+leads (work.EndCall own depth) = true
+leads (work.EndNew own depth) = true
+leads (work.EndBlock s depth) = true
+leads (work.EndHandler s own depth) = true
+leads (work.EndLast waiting) = true
+leads _ = false
+
+-- a directive, which asks the policy
+abbrev pub raises : Work → Bool
+raises (work.Raise e) = true
+raises _ = false
 
 module _ {T : Type 0} where
   -- what work does with what lies loose: its operands undermost, and above them a value, or none at the end of a part
-  abbrev pub continued : Tables → Given → (T → Label) → Work → List (Labelled T) → Env ℕ → State → Plan
-  continued tables inputs reading w loose e s = after tables inputs w (map (read_value reading) (take (owns w) loose)) e (gave (first_or_undefined (map (read_value reading) (drop (owns w) loose)))) s
+  abbrev pub continued : Tables → Given → List FunctionCode → (T → Label) → Work → List (Labelled T) → Env ℕ → State → Plan
+  continued tables inputs functions reading w loose e s = after tables inputs functions w (map (read_value reading) (take (owns w) loose)) e (gave (first_or_undefined (map (read_value reading) (drop (owns w) loose)))) s
 
   -- ---- work that needs the stack alone
 
@@ -67,6 +93,7 @@ module _ {T : Type 0} where
   used_of (work.Argument f count rest) stack = stack
   used_of (work.Property ps count) stack = stack
   used_of (work.IndexBase how x) stack = stack
+  used_of (work.InstanceRight r) stack = stack
   used_of (work.Visited x count) stack = stack
   used_of (work.Statements ss) stack = stack
   used_of (work.Declared r) stack = stack
@@ -77,14 +104,18 @@ module _ {T : Type 0} where
 
   abbrev pub GoesIn : {S : Type 0} → (S → T → Type 0) → (S → T → Label) → S → Work → Kept T → Kept T → List (Held T) → List (Held T) → Next → Type 0
   GoesIn made meaning store (work.EndBranch false depth) = ResumesDoneIn made meaning store (work.EndBranch false depth)
-  GoesIn made meaning store (work.EndRound turn depth) = ResumesDoneIn made meaning store (work.EndRound turn depth)
+  GoesIn made meaning store (work.EndRound turn depth of) = ResumesDoneIn made meaning store (work.EndRound turn depth of)
+  GoesIn made meaning store (work.EndLabel depth text) = ResumesDoneIn made meaning store (work.EndLabel depth text)
+  GoesIn made meaning store (work.EndTry depth) = ResumesDoneIn made meaning store (work.EndTry depth)
   GoesIn made meaning store w = ResumesIn made meaning store w
 
   -- a frame is opened or closed, or the last one is raised
   abbrev pub LeavesIn : Work → Kept T → Kept T → List (Held T) → List (Held T) → Next → Type 0
   LeavesIn (work.Tested r) old new frames_old frames_new = Keeps (without_top old) new
   LeavesIn (work.EndBranch gives depth) old new frames_old frames_new = Closed old new frames_old frames_new
-  LeavesIn (work.EndRound turn depth) old new frames_old frames_new = Closed old new frames_old frames_new
+  LeavesIn (work.EndRound turn depth of) old new frames_old frames_new = Closed old new frames_old frames_new
+  LeavesIn (work.EndLabel depth text) old new frames_old frames_new = Closed old new frames_old frames_new
+  LeavesIn (work.EndTry depth) old new frames_old frames_new = Closed old new frames_old frames_new
   LeavesIn _ old new frames_old frames_new = Opened old new frames_old frames_new
 
   abbrev pub StillIn : Work → List (Held T) → List (Held T) → Type 0
@@ -95,11 +126,13 @@ module _ {T : Type 0} where
   abbrev pub MadeIn : (T → Type 0) → Work → List (Labelled T) → Type 0
   MadeIn made (work.EndBranch true depth) loose = All (HasValue made) loose
   MadeIn made (work.EndBranch false depth) loose = loose ≡ []
-  MadeIn made (work.EndRound turn depth) loose = loose ≡ []
+  MadeIn made (work.EndRound turn depth of) loose = loose ≡ []
+  MadeIn made (work.EndLabel depth text) loose = loose ≡ []
+  MadeIn made (work.EndTry depth) loose = loose ≡ []
   MadeIn made _ loose = Unit {0}
 
-  -- ---- work that acts on the run's state, in this record
+  -- ---- work that acts on the run's state, at this place
 
-  abbrev pub GoesActing : {S : Type 0} → (S → T → Type 0) → (S → T → Label) → S → ℕ → Work → Kept T → Kept T → World T → World T → Result Next (FlowFault T) → Type 0
-  GoesActing made meaning store place (work.Variable n ds) = moving.ResumesAt made meaning store place (work.Variable n ds)
-  GoesActing made meaning store place w = moving.Resumes made meaning store w
+  abbrev pub GoesActing : {S : Type 0} → (S → T → Type 0) → (S → T → Label) → S → Work → Kept T → Kept T → World T → World T → Result Next (FlowFault T) → Type 0
+  GoesActing made meaning store (work.Variable n ds) old new = moving.ResumesAt made meaning store (env_above old.tasks here).place (work.Variable n ds) old new
+  GoesActing made meaning store w old new = moving.Resumes made meaning store w old new

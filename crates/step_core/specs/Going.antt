@@ -1,64 +1,34 @@
--- What it means that a call goes on as a machine's plan says.
-use Rattle.std.specs.Prelude.{◌<◌, ◌+◌, ℕ, List, map, take, drop, Option, Some, None, Result}
+-- The part that a machine enters.
+use Rattle.std.specs.Prelude.{ℕ, List, [], Option, Some, None, Result}
 use Rattle.origin_labels.specs.Label.{Label}
 use Rattle.flow_policy.specs.Policies.{Tables}
 use Rattle.flow_policy.specs.Inputs.{Given}
+use Rattle.js_ast.specs.Functions.{FunctionCode}
 use Rattle.flow_frames.specs.declared.faults.FlowFault.{FlowFault}
 use Rattle.js_ast.specs.Views.{view_expr, view_stmt}
-use Rattle.js_values.specs.declared.value.Labelled.{Labelled}
-use Rattle.js_values.specs.Readings.{IsReading, read_value}
 use Rattle.es_meaning.specs.Environments.{Env}
-use Rattle.flow_meaning.specs.Scopes.{LabelledLine, Val}
-use Rattle.flow_meaning.specs.Planned.{Part, an_expr, a_use, a_stmt, a_turn, a_visit, Plan, Completion, gave, jumped, plan}
+use Rattle.flow_meaning.specs.Scopes.{Val}
+use Rattle.flow_meaning.specs.Planned.{Part, an_expr, a_use, a_stmt, a_named, a_turn, a_visit, plan}
 use Rattle.step_world.specs.declared.world.World.{World}
-use Rattle.step_world.specs.Acts.{thrown}
 use Rattle.step_world.specs.Worlds.{state_of}
-use Rattle.step_work.specs.declared.work.Work.{Work}
 use Rattle.step_work.specs.declared.work.Next.{Next}
 use Rattle.step_work.specs.declared.work.Next.TheVariants as next
 use Rattle.step_work.specs.Kept.{Kept}
-use Rattle.step_work.specs.Loads.{load, lift}
-use Rattle.step_work.specs.Pending.{owns, env_above, after, behind, first_or_undefined, visit_of}
-use Rattle.step_work.specs.Resuming.{coming}
-use Rattle.step_work.specs.Shapes.{use_of, round_of}
-use Rattle.step_moves.specs.Moving.{Moves}
-use Rattle.step_core.specs.Outlook.{here}
+use Rattle.step_work.specs.Pending.{behind, visit_of}
+use Rattle.step_work.specs.Shapes.{behind_labels, passed_labels, use_of, round_of}
+use Rattle.step_work.specs.Going.{ComesTo, here}
 
 -- the part that a next move enters, with the values that no work keeps, if it does: that costs a turn
 abbrev pub part_in : List Val → Env ℕ → Next → Option Part
 part_in vs e (next.Expr x) = Some (an_expr (view_expr x.now) e.place)
 part_in vs e (next.Use how x) = Some (a_use (use_of how vs) (view_expr x.now) e.place)
 part_in vs e (next.Stmt x) = Some (a_stmt (view_stmt x.now) e)
+part_in vs e (next.Named x n) = Some (a_named (passed_labels n [] (view_stmt x.now)) (behind_labels n (view_stmt x.now)) e)
 part_in vs e (next.Turn r) = Some (a_turn (round_of r) e)
 part_in vs e (next.Visit x count) = Some (a_visit (visit_of x count vs) e)
 part_in vs e _ = None
 
-module _ {S T : Type 0} (made : S → T → Type 0) (meaning : S → T → Label) (store : S) (tables : Tables) (inputs : Given) where
-  -- a call comes to a plan that is made of the state before it, in each reading that agrees with the store, whatever was printed and however many turns are left
-  abbrev pub ComesTo : ((T → Label) → List LabelledLine → ℕ → Plan) → Kept T → World T → Result Next (FlowFault T) → Type 0
-  ComesTo p stack world result = (reading : T → Label) (told : List LabelledLine) (turns : ℕ) → IsReading made meaning store reading
-      → Moves tables inputs reading stack here (state_of reading world told turns) (p reading told turns) result
-
-  -- it goes on as the next move says
-  abbrev pub Begins : Kept T → Kept T → World T → World T → Next → Result Next (FlowFault T) → Type 0
-  Begins old new world_old world_new move = ComesTo (λ reading told turns. coming tables inputs reading old move here (state_of reading world_old told turns)) new world_new
-
+module _ {S T : Type 0} (made : S → T → Type 0) (meaning : S → T → Label) (store : S) (tables : Tables) (inputs : Given) (functions : List FunctionCode) where
   -- a part was entered, by a reading: what waits comes behind its plan
   abbrev pub Enters : Kept T → Kept T → World T → World T → ((T → Label) → Part) → Result Next (FlowFault T) → Type 0
-  Enters old new world_old world_new part = ComesTo (λ reading told turns. behind tables inputs reading old.tasks here (plan tables inputs (part reading) (state_of reading world_old told turns))) new world_new
-
-  -- what work does with a completion that was taken from the others, with the operands that lie undermost
-  abbrev pub Continues : ((T → Label) → Completion) → Work → Kept T → Kept T → World T → World T → Result Next (FlowFault T) → Type 0
-  Continues completion w old new world_old world_new = ComesTo (λ reading told turns. behind tables inputs reading old.tasks here (after tables inputs w (map (read_value reading) (take (owns w) old.loose)) (env_above old.tasks here) (completion reading) (state_of reading world_old told turns))) new world_new
-
-  -- with what lies above the operands: a value, or the end of a part
-  abbrev pub Resumes : Work → Kept T → Kept T → World T → World T → Result Next (FlowFault T) → Type 0
-  Resumes w old = Continues (λ reading. gave (first_or_undefined (map (read_value reading) (drop (owns w) old.loose)))) w old
-
-  -- with what is thrown, which lies there
-  abbrev pub Passes : Work → Labelled T → Kept T → Kept T → World T → World T → Result Next (FlowFault T) → Type 0
-  Passes w value = Continues (λ reading. jumped (thrown reading value)) w
-
--- less is to be done before a further part is entered
-abbrev pub Lowers : {T : Type 0} → Kept T → Next → Kept T → Next → Type 0
-Lowers old move new next = load new.tasks + lift next < load old.tasks + lift move
+  Enters old new world_old world_new part = ComesTo made meaning store tables inputs functions (λ reading told turns. behind tables inputs functions reading old.tasks here (plan tables inputs functions (part reading) (state_of reading world_old told turns))) new world_new

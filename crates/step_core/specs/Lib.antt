@@ -1,5 +1,4 @@
 pub mod Outlook
-pub mod Standing
 pub mod Going
 pub mod Continuing
 pub mod Stepping

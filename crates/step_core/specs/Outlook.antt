@@ -3,11 +3,10 @@ use Rattle.std.specs.Prelude.{◌≡◌, ◌+◌, ◌*◌, ℕ, List, [], ◌∷
 use Rattle.origin_labels.specs.Label.{Label}
 use Rattle.flow_policy.specs.Policies.{Tables}
 use Rattle.flow_policy.specs.Inputs.{Given}
+use Rattle.js_ast.specs.Functions.{FunctionCode}
 use Rattle.flow_frames.specs.declared.faults.FlowStop.{FlowStop}
 use Rattle.js_values.specs.Readings.{read_heap}
-use Rattle.es_meaning.specs.Environments.{Env}
 use Rattle.es_meaning.specs.Outcomes.{Ending, done, threw, halted, left, out_of_turns}
-use Rattle.es_meaning.specs.Plain.{outermost_env}
 use Rattle.es_meaning.specs.Start.{shown}
 use Rattle.flow_meaning.specs.Erased.{erased_heap}
 use Rattle.flow_meaning.specs.Scopes.{Halt, as_plain, stopped, LabelledLine}
@@ -19,6 +18,7 @@ use Rattle.step_channels.specs.declared.printing.Printed.{Printed}
 use Rattle.step_channels.specs.Answers.{line_of}
 use Rattle.step_work.specs.declared.work.Next.{Next}
 use Rattle.step_work.specs.Loads.{load, lift}
+use Rattle.step_work.specs.Going.{here}
 use Rattle.step_work.specs.Resuming.{coming}
 use Rattle.step_core.specs.declared.machine.Machine.{Machine}
 use Rattle.step_core.specs.declared.steps.Step.{Step}
@@ -26,23 +26,11 @@ use Rattle.step_core.specs.declared.steps.Step.TheVariants as step
 use Rattle.step_core.specs.declared.steps.Ending as code
 use Rattle.step_core.specs.declared.steps.Ending.TheVariants as ending
 
--- the outermost code, in which no jump reaches anything round it
-abbrev pub here : Env ℕ
-here = outermost_env 0
-
 -- how much a machine does before its run ends: each part that it enters costs a turn, and the work of less than seven steps
 abbrev pub ahead : {T : Type 0} → Machine T → Next → ℕ
 ahead m next = 7 * m.turns + load m.stack.tasks + lift next
 
-module _ {T : Type 0} (tables : Tables) (inputs : Given) (reading : T → Label) where
-  -- the plan of what is done next and of the work that waits, where these lines were printed
-  abbrev pub plan_of : Machine T → Next → List LabelledLine → Plan
-  plan_of m next told = coming tables inputs reading m.stack next here (state_of reading m.world told m.turns)
-
-  -- what it comes to
-  abbrev pub outlook : Machine T → Next → List LabelledLine → Ran
-  outlook m next told = perform (meaning tables inputs) (plan_of m next told)
-
+module _ {T : Type 0} (reading : T → Label) where
   -- how a run ended
   abbrev pub ending_of : Machine T → code.Ending T → Ending Halt
   ending_of m ending.Done = done
@@ -51,11 +39,20 @@ module _ {T : Type 0} (tables : Tables) (inputs : Given) (reading : T → Label)
   ending_of m (ending.Left why) = halted (as_plain (left (leaving_name why)))
   ending_of m ending.OutOfTurns = halted (as_plain out_of_turns)
 
+module _ {T : Type 0} (tables : Tables) (inputs : Given) (functions : List FunctionCode) (reading : T → Label) where
+  -- the plan of what is done next and of the work that waits, where these lines were printed
+  abbrev pub plan_of : Machine T → Next → List LabelledLine → Plan
+  plan_of m next told = coming tables inputs functions reading m.stack next here (state_of reading m.world told m.turns)
+
+  -- what it comes to
+  abbrev pub outlook : Machine T → Next → List LabelledLine → Ran
+  outlook m next told = perform (meaning tables inputs functions) (plan_of m next told)
+
   -- a step comes to the same: it goes on, it goes on behind a line that it printed, or the run ended so
   abbrev pub Comes : Machine T → List LabelledLine → Ran → Step T → Type 0
   Comes m told ran (step.Goes next) = ran ≡ outlook m next told
   Comes m told ran (step.Line p next) = ran ≡ outlook m next (told ++ line_of tables reading p.value ∷ [])
-  Comes m told ran (step.Ends e) = performed_run ran ≡ record { lines = told; ending = ending_of m e }
+  Comes m told ran (step.Ends e) = performed_run ran ≡ record { lines = told; ending = ending_of reading m e }
 
 -- facts for a step that goes on, for one that prints, and for one at which a rule stops the run
 abbrev pub IfGoes : {T : Type 0} → (Next → Type 0) → Step T → Type 0

@@ -4,6 +4,7 @@ use Rattle.origin_labels.specs.Label.{Label}
 use Rattle.flow_text.specs.declared.memory.OutOfMemory.{OutOfMemory}
 use Rattle.flow_policy.specs.Policies.{Tables}
 use Rattle.flow_policy.specs.Inputs.{Given}
+use Rattle.js_ast.specs.Functions.{FunctionCode}
 use Rattle.flow_frames.specs.declared.faults.FlowFault.{FlowFault}
 use Rattle.flow_frames.specs.declared.faults.FlowFault.TheVariants as fault
 use Rattle.js_values.specs.Readings.{IsReading, read_value}
@@ -22,13 +23,14 @@ use Rattle.step_core.specs.declared.machine.Machine.{Machine}
 use Rattle.step_core.specs.declared.steps.Step.{Step}
 use Rattle.step_core.specs.declared.steps.Step.TheVariants as step
 use Rattle.step_core.specs.declared.steps.Ending.TheVariants as ending
-use Rattle.step_core.specs.Outlook.{Comes, IfGoes, IfLine, IfStopped, ahead, here}
-use Rattle.step_core.specs.Standing.{Standing}
+use Rattle.step_core.specs.Outlook.{Comes, IfGoes, IfLine, IfStopped, ahead}
+use Rattle.step_work.specs.Going.{here}
+use Rattle.step_work.specs.Standing.{Standing}
 
-module _ {S T : Type 0} (made : S → T → Type 0) (meaning_of : S → T → Label) (store : S) (tables : Tables) (inputs : Given) where
+module _ {S T : Type 0} (made : S → T → Type 0) (meaning_of : S → T → Label) (store : S) (tables : Tables) (inputs : Given) (functions : List FunctionCode) where
   -- a step comes to what a run comes to, leaves a machine that stands, and less is to be done than so much
   pub record Stepped (ran : (T → Label) → List LabelledLine → Ran) (most : ℕ) (new : Machine T) (s : Step T) : Type 0 where
-    pub comes : (reading : T → Label) (told : List LabelledLine) → IsReading made meaning_of store reading → Comes tables inputs reading new told (ran reading told) s
+    pub comes : (reading : T → Label) (told : List LabelledLine) → IsReading made meaning_of store reading → Comes tables inputs functions reading new told (ran reading told) s
     pub standing : IfGoes (λ n. Standing made meaning_of store new.stack new.world (values_of n) (scopes_of new.stack.tasks) n) s
     pub lowers : IfGoes (λ n. ahead new n < most) s
     pub printed : IfLine (IsPrinted (made store) (length tables.outputs)) s
@@ -45,10 +47,10 @@ abbrev pub Prints : {T : Type 0} → Printed T → Next → Step T → Type 0
 Prints line move (step.Line p next) = (p.value ≡ line) × (next ≡ move)
 Prints line move _ = ⊥
 
-module _ {T : Type 0} (tables : Tables) (inputs : Given) (reading : T → Label) where
+module _ {T : Type 0} (tables : Tables) (inputs : Given) (functions : List FunctionCode) (reading : T → Label) where
   -- what a run comes to whose next work was taken and goes on with a completion
   abbrev pub outlook_after : Machine T → Work → Completion → List LabelledLine → Ran
-  outlook_after m w c told = perform (meaning tables inputs) (behind tables inputs reading m.stack.tasks here (after tables inputs w (map (read_value reading) (take (owns w) m.stack.loose)) (env_above m.stack.tasks here) c (state_of reading m.world told m.turns)))
+  outlook_after m w c told = perform (meaning tables inputs functions) (behind tables inputs functions reading m.stack.tasks here (after tables inputs functions w (map (read_value reading) (take (owns w) m.stack.loose)) (env_above m.stack.tasks here) c (state_of reading m.world told m.turns)))
 
   -- with what lies above its operands
   abbrev pub completion_above : Machine T → Work → Completion
@@ -64,6 +66,35 @@ abbrev pub enters_part : Next → Bool
 enters_part (next.Expr x) = true
 enters_part (next.Use how x) = true
 enters_part (next.Stmt x) = true
+enters_part (next.Named x n) = true
 enters_part (next.Turn r) = true
 enters_part (next.Visit x count) = true
 enters_part _ = false
+
+-- the moves that neither enter a part nor hand a completion on to work, call nothing and leave nothing
+abbrev pub begins_work : Next → Bool
+begins_work next.Null = true
+begins_work (next.Bool b) = true
+begins_work (next.Number n) = true
+begins_work (next.Text t) = true
+begins_work (next.Name t) = true
+begins_work next.This = true
+begins_work (next.Object ps count) = true
+begins_work (next.GiveVariable x) = true
+begins_work (next.Keys x) = true
+begins_work (next.Visits x count) = true
+begins_work (next.Variables ds) = true
+begins_work (next.Loop r) = true
+begins_work (next.DoLoop r) = true
+begins_work (next.Break turn label) = true
+begins_work next.Return = true
+begins_work (next.Labelled text x) = true
+begins_work (next.Try x) = true
+begins_work _ = false
+
+-- the moves that ask the table of functions
+abbrev pub calls_function : Next → Bool
+calls_function (next.Call count) = true
+calls_function (next.Construct count) = true
+calls_function (next.Function f) = true
+calls_function _ = false

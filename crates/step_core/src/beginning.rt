@@ -11,39 +11,117 @@ ghost use Rattle.flow_meaning.specs.Tracked.{tracked_run};
 ghost use Rattle.step_work.specs.Kept.{scopes_of};
 ghost use Rattle.step_work.specs.Pending.{values_of};
 ghost use Rattle.step_core.specs.Outlook.{outlook};
-ghost use Rattle.step_core.specs.Standing.{Standing};
+ghost use Rattle.step_work.specs.Standing.{Standing};
+ghost use Rattle.std.specs.Prelude.{ℕ, false};
+ghost use Rattle.origin_labels.specs.Label.{bottom};
+ghost use Rattle.js_ast.specs.Functions.{functions_of};
+ghost use Rattle.es_meaning.specs.Outcomes.{Jumps};
+ghost use Rattle.es_meaning.specs.Plain.{may_declare};
+ghost use Rattle.es_meaning.specs.Start.{type_error};
+ghost use Rattle.flow_meaning.specs.Scopes.{Val};
+ghost use Rattle.flow_meaning.specs.Tracked.{start, throw_error};
+ghost use Rattle.function_table.specs.Tables.{table};
+ghost use Rattle.step_world.specs.Acts.{thrown};
+ghost use Rattle.step_world.specs.Worlds.{Belongs, Grows, state_of};
 
 use crate::machine::Machine;
+use flow_frames::FlowFault;
 use flow_policy::Policy;
 use flow_text::OutOfMemory;
+use function_table::Functions;
 use js_ast::Program;
+use js_values::Labelled;
 use origin_labels::Labels;
 use std::alloc::Global;
+use step_names::{ErrorKind, throw_error};
 use step_start::start;
-use step_work::{Next, Stack, begin_statements};
+use step_work::{Jump, Next, Stack, begin_statements};
+use step_world::{Came, World};
 
-/// A machine in front of a program, and what it does first.
+/// A machine in front of a program, and what it does first: the program's statements, or where a function may not be declared, the throw of a TypeError.
 pub fn begin<'p, L: Labels>(
     alloc: Global,
     labels: &mut L,
     program: &'p Program,
+    functions: &Functions<'_>,
     policy: &Policy,
     turns: u64,
 ) -> Result<(Machine<'p, L::Label>, Next<'p>), OutOfMemory>
-    ensures starts { IfOk result (λ b. (inputs : Given) (reading : L.Label → Label) → IsReading L.made L.meaning labels.new reading → performed_run (outlook policy.now inputs reading b.0 b.1 []) ≡ tracked_run policy.now inputs (view_program program.entry.now) turns) }
+    requires functions { table functions.now ≡ functions_of (view_program program.now) }
+    ensures starts { IfOk result (λ b. (inputs : Given) (reading : L.Label → Label) → IsReading L.made L.meaning labels.new reading → performed_run (outlook policy.now inputs (table functions.now) reading b.0 b.1 []) ≡ tracked_run policy.now inputs (view_program program.entry.now) turns) }
     ensures standing { IfOk result (λ b. Standing L.made L.meaning labels.new b.0.stack b.0.world (values_of b.1) (scopes_of b.0.stack.tasks) b.1) }
     ensures positions { IfOk result (λ b. length b.0.world.positions.items ≡ length policy.now.inputs) }
     ensures kept { IsKept L.made L.meaning L.room L.firm labels.old labels.new }
 {
-    let world = start(alloc, labels, program, policy)?;
+    let started = start(alloc, labels, program, functions, policy)?;
+    if !started.may_declare {
+        let world = started.world;
+        return refuse(alloc, labels, program, functions, policy, world, turns);
+    }
     let mut stack = Stack::new(alloc);
     let next = begin_statements(&mut stack, program.body.items())?;
-    Ok((
-        Machine {
-            world,
-            stack,
-            turns,
-        },
-        next,
-    ))
+    let machine = Machine {
+        world: started.world,
+        stack,
+        turns,
+    };
+    Ok((machine, next))
+}
+
+/// The throw where a function may not be declared. Nothing decided it, so no flow rule stops it.
+fn refuse<'p, L: Labels>(
+    alloc: Global,
+    labels: &mut L,
+    _program: &'p Program,
+    _functions: &Functions<'_>,
+    _policy: &Policy,
+    world: World<L::Label>,
+    turns: u64,
+) -> Result<(Machine<'p, L::Label>, Next<'p>), OutOfMemory>
+    requires functions { table _functions.now ≡ functions_of (view_program _program.now) }
+    requires starts { (inputs : Given) (reading : L.Label → Label) → IsReading L.made L.meaning labels.old reading → (turns : ℕ) → state_of reading world [] turns ≡ start _policy.now inputs (view_program _program.now) turns }
+    requires refused { may_declare (view_program _program.now) ≡ false }
+    requires belongs { Belongs L.made L.meaning labels.old world }
+    requires records { length world.records ≡ 1 }
+    requires positions { length world.positions.items ≡ length _policy.now.inputs }
+    ensures starts { IfOk result (λ b. (inputs : Given) (reading : L.Label → Label) → IsReading L.made L.meaning labels.new reading → performed_run (outlook _policy.now inputs (table _functions.now) reading b.0 b.1 []) ≡ tracked_run _policy.now inputs (view_program _program.entry.now) turns) }
+    ensures standing { IfOk result (λ b. Standing L.made L.meaning labels.new b.0.stack b.0.world (values_of b.1) (scopes_of b.0.stack.tasks) b.1) }
+    ensures positions { IfOk result (λ b. length b.0.world.positions.items ≡ length _policy.now.inputs) }
+    ensures kept { IsKept L.made L.meaning L.room L.firm labels.old labels.new }
+{
+    let mut world = world;
+    let value = thrown(labels, &mut world)?;
+    let mut stack = Stack::new(alloc);
+    stack.lay(value)?;
+    let machine = Machine {
+        world,
+        stack,
+        turns,
+    };
+    Ok((machine, Next::Jumps(Jump::Throws)))
+}
+
+/// The TypeError that is thrown. Want of memory alone is handed on: a throw can't go on, and nothing stops one that nothing decided.
+fn thrown<L: Labels>(
+    labels: &mut L,
+    world: &mut World<L::Label>,
+) -> Result<Labelled<L::Label>, OutOfMemory>
+    requires belongs { Belongs L.made L.meaning labels.old world.old }
+    ensures throws { IfOk result (λ v. (reading : L.Label → Label) → IsReading L.made L.meaning labels.new reading → (turns : ℕ) → throw_error {X = Val} type_error bottom (state_of reading world.old [] turns) ≡ Jumps (thrown reading v) (state_of reading world.new [] turns)) }
+    ensures made { IfOk result (λ v. L.made labels.new v.label) }
+    ensures belongs { Belongs L.made L.meaning labels.new world.new }
+    ensures grows { Grows world.old world.new }
+    ensures kept { IsKept L.made L.meaning L.room L.firm labels.old labels.new }
+{
+    let none = labels.bottom();
+    let answer: Result<Came<Labelled<L::Label>, L::Label>, FlowFault<L::Label>> = throw_error(
+        labels,
+        world,
+        ErrorKind::TypeError,
+        none,
+    );
+    match answer {
+        Ok(Came::Throws(value)) => Ok(value),
+        _ => Err(OutOfMemory),
+    }
 }

@@ -1,42 +1,67 @@
 //! Parts that a machine enters, and moves that enter none.
 
-ghost use Rattle.std.specs.Prelude.{◌≡◌, ◌+◌, true, map, Some, IfErr, IfOk};
+ghost use Rattle.std.specs.Option.{option_map};
+ghost use Rattle.es_meaning.specs.Evaluation.{text_of_label};
+ghost use Rattle.js_ast.specs.Views.{view_name};
+ghost use Rattle.std.specs.Prelude.{◌≡◌, ◌<◌, ◌+◌, length, true, map, Some, IfErr, IfOk, List};
 ghost use Rattle.origin_labels.specs.Label.{Label};
 ghost use Rattle.origin_labels.specs.Stores.{IsKept};
 ghost use Rattle.flow_frames.specs.Stops.{IfStop};
 ghost use Rattle.flow_policy.specs.Policies.{Tables};
 ghost use Rattle.flow_policy.specs.Inputs.{Given};
+ghost use Rattle.js_ast.specs.Functions.{FunctionCode};
 ghost use Rattle.js_values.specs.Readings.{read_value};
 ghost use Rattle.flow_meaning.specs.Planned.{Part};
 ghost use Rattle.step_world.specs.Worlds.{Grows};
+ghost use Rattle.function_table.specs.Tables.{table};
 ghost use Rattle.step_work.specs.Stops.{HasStop};
 ghost use Rattle.step_work.specs.declared.work.Next.TheVariants as next;
 ghost use Rattle.step_work.specs.Kept.{scopes_of};
 ghost use Rattle.step_work.specs.Loads.{Adds};
 ghost use Rattle.step_work.specs.Pending.{env_above, owns_use, values_of};
-ghost use Rattle.step_core.specs.Going.{Begins, Enters, Lowers, part_in};
-ghost use Rattle.step_core.specs.Outlook.{here};
-ghost use Rattle.step_core.specs.Standing.{Standing, begins_work};
+ghost use Rattle.step_work.specs.Going.{Begins, Lowers};
+ghost use Rattle.step_core.specs.Going.{Enters, part_in};
+ghost use Rattle.step_work.specs.Going.{here};
+ghost use Rattle.step_work.specs.Standing.{Standing};
+ghost use Rattle.step_core.specs.Stepping.{begins_work, calls_function};
 
 use flow_frames::FlowFault;
-use flow_text::Text;
+use flow_text::{OutOfMemory, Text};
+use function_table::Functions;
 use js_ast::{Declarations, Expr, Ident, PropertyList, Stmt};
 use js_number::Int;
 use js_values::EnvId;
 use origin_labels::Labels;
 use std::alloc::Global;
+use step_calling::{call, construct, function};
+use step_jumps::{leave_by, return_nothing};
 use step_moves::{
     begin_use, boolean, declare, give_variable, null, number, object, read_name, text, this,
 };
+use step_switches::begin_labelled;
+use step_tries::{begin_try, is_try};
 use step_visits::{next_visit, take_keys};
 use step_work::{
-    Enumeration, Next, Round, Stack, Use, begin_do_loop, begin_expression, begin_loop,
+    Enumeration, Next, Round, Stack, Use, begin_do_loop, begin_expression, begin_loop, begin_named,
     begin_statement, begin_turn, begin_visit,
 };
 use step_world::World;
 
-// the record of the outermost code
-pub(crate) const OUTERMOST: EnvId = EnvId(0);
+/// The record in which what comes next is evaluated. That it is there isn't known here, and is looked at.
+pub(crate) fn present<'p, T: Copy>(
+    world: &World<T>,
+    stack: &Stack<'p, T>,
+) -> Result<EnvId, OutOfMemory>
+    ensures there { IfOk result (λ e. e.0 < length world.now.records) }
+    ensures place { IfOk result (λ e. (env_above stack.now.tasks here).place ≡ e.0) }
+{
+    let place = stack.place();
+    if place.0 < world.records.len() {
+        Ok(place)
+    } else {
+        Err(OutOfMemory)
+    }
+}
 
 /// A part of the script is entered, for which a turn was spent. A move that enters none stays as it is.
 pub(crate) fn enter<'p, L: Labels>(
@@ -47,7 +72,7 @@ pub(crate) fn enter<'p, L: Labels>(
     next: Next<'p>,
 ) -> Result<Next<'p>, FlowFault<L::Label>>
     requires standing { Standing L.made L.meaning labels.old stack.old world.old (values_of next) (scopes_of stack.old.tasks) next }
-    ensures enters { (tables : Tables) (inputs : Given) (part : (L.Label → Label) → Part) → ((reading : L.Label → Label) → part_in (map (read_value reading) stack.old.loose) (env_above stack.old.tasks here) next.entry ≡ Some (part reading)) → Enters L.made L.meaning labels.new tables inputs stack.old stack.new world.old world.new part result }
+    ensures enters { (tables : Tables) (inputs : Given) (functions : List FunctionCode) (part : (L.Label → Label) → Part) → ((reading : L.Label → Label) → part_in (map (read_value reading) stack.old.loose) (env_above stack.old.tasks here) next.entry ≡ Some (part reading)) → Enters L.made L.meaning labels.new tables inputs functions stack.old stack.new world.old world.new part result }
     ensures standing { IfOk result (λ n. Standing L.made L.meaning labels.new stack.new world.new (values_of n) (scopes_of stack.new.tasks) n) }
     ensures adds { IfOk result (Adds 6 stack.old stack.new) }
     ensures stopped { IfErr result (IfStop (HasStop (L.made labels.new))) }
@@ -58,6 +83,7 @@ pub(crate) fn enter<'p, L: Labels>(
         Next::Expr(e) => enter_expression(labels, world, stack, e),
         Next::Use(how, target) => enter_use(alloc, labels, world, stack, how, target),
         Next::Stmt(s) => enter_statement(labels, world, stack, s),
+        Next::Named(of, passed) => enter_named(labels, world, stack, of, passed),
         Next::Turn(round) => enter_turn(labels, world, stack, round),
         Next::Visit(enumeration, count) => enter_visit(labels, world, stack, enumeration, count),
         other => Ok(other),
@@ -72,7 +98,7 @@ fn enter_expression<'p, L: Labels>(
     e: &'p Expr,
 ) -> Result<Next<'p>, FlowFault<L::Label>>
     requires standing { Standing L.made L.meaning _labels.now stack.old _world.now 0 (scopes_of stack.old.tasks) (next.Expr e) }
-    ensures enters { (tables : Tables) (inputs : Given) (part : (L.Label → Label) → Part) → ((reading : L.Label → Label) → part_in (map (read_value reading) stack.old.loose) (env_above stack.old.tasks here) (next.Expr e.entry) ≡ Some (part reading)) → Enters L.made L.meaning _labels.now tables inputs stack.old stack.new _world.now _world.now part result }
+    ensures enters { (tables : Tables) (inputs : Given) (functions : List FunctionCode) (part : (L.Label → Label) → Part) → ((reading : L.Label → Label) → part_in (map (read_value reading) stack.old.loose) (env_above stack.old.tasks here) (next.Expr e.entry) ≡ Some (part reading)) → Enters L.made L.meaning _labels.now tables inputs functions stack.old stack.new _world.now _world.now part result }
     ensures standing { IfOk result (λ n. Standing L.made L.meaning _labels.now stack.new _world.now (values_of n) (scopes_of stack.new.tasks) n) }
     ensures adds { IfOk result (Adds 6 stack.old stack.new) }
     ensures stopped { IfErr result (IfStop (HasStop (L.made _labels.now))) }
@@ -91,14 +117,15 @@ fn enter_use<'p, L: Labels>(
     target: &'p Expr,
 ) -> Result<Next<'p>, FlowFault<L::Label>>
     requires standing { Standing L.made L.meaning labels.old stack.old world.old (owns_use how) (scopes_of stack.old.tasks) (next.Use how target) }
-    ensures enters { (tables : Tables) (inputs : Given) (part : (L.Label → Label) → Part) → ((reading : L.Label → Label) → part_in (map (read_value reading) stack.old.loose) (env_above stack.old.tasks here) (next.Use how.entry target.entry) ≡ Some (part reading)) → Enters L.made L.meaning labels.new tables inputs stack.old stack.new world.old world.new part result }
+    ensures enters { (tables : Tables) (inputs : Given) (functions : List FunctionCode) (part : (L.Label → Label) → Part) → ((reading : L.Label → Label) → part_in (map (read_value reading) stack.old.loose) (env_above stack.old.tasks here) (next.Use how.entry target.entry) ≡ Some (part reading)) → Enters L.made L.meaning labels.new tables inputs functions stack.old stack.new world.old world.new part result }
     ensures standing { IfOk result (λ n. Standing L.made L.meaning labels.new stack.new world.new (values_of n) (scopes_of stack.new.tasks) n) }
     ensures adds { IfOk result (Adds 6 stack.old stack.new) }
     ensures stopped { IfErr result (IfStop (HasStop (L.made labels.new))) }
     ensures grows { Grows world.old world.new }
     ensures kept { IsKept L.made L.meaning L.room L.firm labels.old labels.new }
 {
-    begin_use(alloc, labels, world, stack, OUTERMOST, how, target)
+    let place = present(world, stack)?;
+    begin_use(alloc, labels, world, stack, place, how, target)
 }
 
 /// A statement is entered.
@@ -109,12 +136,30 @@ fn enter_statement<'p, L: Labels>(
     s: &'p Stmt,
 ) -> Result<Next<'p>, FlowFault<L::Label>>
     requires standing { Standing L.made L.meaning _labels.now stack.old _world.now 0 (scopes_of stack.old.tasks) (next.Stmt s) }
-    ensures enters { (tables : Tables) (inputs : Given) (part : (L.Label → Label) → Part) → ((reading : L.Label → Label) → part_in (map (read_value reading) stack.old.loose) (env_above stack.old.tasks here) (next.Stmt s.entry) ≡ Some (part reading)) → Enters L.made L.meaning _labels.now tables inputs stack.old stack.new _world.now _world.now part result }
+    ensures enters { (tables : Tables) (inputs : Given) (functions : List FunctionCode) (part : (L.Label → Label) → Part) → ((reading : L.Label → Label) → part_in (map (read_value reading) stack.old.loose) (env_above stack.old.tasks here) (next.Stmt s.entry) ≡ Some (part reading)) → Enters L.made L.meaning _labels.now tables inputs functions stack.old stack.new _world.now _world.now part result }
     ensures standing { IfOk result (λ n. Standing L.made L.meaning _labels.now stack.new _world.now (values_of n) (scopes_of stack.new.tasks) n) }
     ensures adds { IfOk result (Adds 6 stack.old stack.new) }
     ensures stopped { IfErr result (IfStop (HasStop (L.made _labels.now))) }
 {
     let next = begin_statement(stack, s)?;
+    Ok(next)
+}
+
+/// A loop, a `switch` or a labelled statement is entered that stands behind labels.
+fn enter_named<'p, L: Labels>(
+    _labels: &L,
+    _world: &World<L::Label>,
+    stack: &mut Stack<'p, L::Label>,
+    of: &'p Stmt,
+    passed: u32,
+) -> Result<Next<'p>, FlowFault<L::Label>>
+    requires standing { Standing L.made L.meaning _labels.now stack.old _world.now 0 (scopes_of stack.old.tasks) (next.Named of passed) }
+    ensures enters { (tables : Tables) (inputs : Given) (functions : List FunctionCode) (part : (L.Label → Label) → Part) → ((reading : L.Label → Label) → part_in (map (read_value reading) stack.old.loose) (env_above stack.old.tasks here) (next.Named of.entry passed) ≡ Some (part reading)) → Enters L.made L.meaning _labels.now tables inputs functions stack.old stack.new _world.now _world.now part result }
+    ensures standing { IfOk result (λ n. Standing L.made L.meaning _labels.now stack.new _world.now (values_of n) (scopes_of stack.new.tasks) n) }
+    ensures adds { IfOk result (Adds 6 stack.old stack.new) }
+    ensures stopped { IfErr result (IfStop (HasStop (L.made _labels.now))) }
+{
+    let next = begin_named(stack, of, passed)?;
     Ok(next)
 }
 
@@ -126,7 +171,7 @@ fn enter_turn<'p, L: Labels>(
     round: Round<'p>,
 ) -> Result<Next<'p>, FlowFault<L::Label>>
     requires standing { Standing L.made L.meaning labels.old stack.old world.old 0 (scopes_of stack.old.tasks) (next.Turn round) }
-    ensures enters { (tables : Tables) (inputs : Given) (part : (L.Label → Label) → Part) → ((reading : L.Label → Label) → part_in (map (read_value reading) stack.old.loose) (env_above stack.old.tasks here) (next.Turn round.entry) ≡ Some (part reading)) → Enters L.made L.meaning labels.new tables inputs stack.old stack.new world.old world.new part result }
+    ensures enters { (tables : Tables) (inputs : Given) (functions : List FunctionCode) (part : (L.Label → Label) → Part) → ((reading : L.Label → Label) → part_in (map (read_value reading) stack.old.loose) (env_above stack.old.tasks here) (next.Turn round.entry) ≡ Some (part reading)) → Enters L.made L.meaning labels.new tables inputs functions stack.old stack.new world.old world.new part result }
     ensures standing { IfOk result (λ n. Standing L.made L.meaning labels.new stack.new world.new (values_of n) (scopes_of stack.new.tasks) n) }
     ensures adds { IfOk result (Adds 6 stack.old stack.new) }
     ensures stopped { IfErr result (IfStop (HasStop (L.made labels.new))) }
@@ -147,7 +192,7 @@ fn enter_visit<'p, L: Labels>(
     count: u32,
 ) -> Result<Next<'p>, FlowFault<L::Label>>
     requires standing { Standing L.made L.meaning labels.old stack.old world.old (count + 2) (scopes_of stack.old.tasks) (next.Visit enumeration count) }
-    ensures enters { (tables : Tables) (inputs : Given) (part : (L.Label → Label) → Part) → ((reading : L.Label → Label) → part_in (map (read_value reading) stack.old.loose) (env_above stack.old.tasks here) (next.Visit enumeration.entry count) ≡ Some (part reading)) → Enters L.made L.meaning labels.new tables inputs stack.old stack.new world.old world.new part result }
+    ensures enters { (tables : Tables) (inputs : Given) (functions : List FunctionCode) (part : (L.Label → Label) → Part) → ((reading : L.Label → Label) → part_in (map (read_value reading) stack.old.loose) (env_above stack.old.tasks here) (next.Visit enumeration.entry count) ≡ Some (part reading)) → Enters L.made L.meaning labels.new tables inputs functions stack.old stack.new world.old world.new part result }
     ensures standing { IfOk result (λ n. Standing L.made L.meaning labels.new stack.new world.new (values_of n) (scopes_of stack.new.tasks) n) }
     ensures adds { IfOk result (Adds 6 stack.old stack.new) }
     ensures stopped { IfErr result (IfStop (HasStop (L.made labels.new))) }
@@ -159,7 +204,7 @@ fn enter_visit<'p, L: Labels>(
     Ok(next)
 }
 
-/// A value that stands in the script, a name, an object of a literal, variables, a loop or the keys of a `for in`: what a machine does next without entering a part. Any other move stays as it is.
+/// A value that stands in the script, a name, an object of a literal, variables, a loop, the keys of a `for in`, a jump, a labelled statement or a `try` statement: what a machine does next without entering a part. Any other move stays as it is.
 pub(crate) fn begin_move<'p, L: Labels>(
     alloc: Global,
     labels: &mut L,
@@ -168,7 +213,7 @@ pub(crate) fn begin_move<'p, L: Labels>(
     next: Next<'p>,
 ) -> Result<Next<'p>, FlowFault<L::Label>>
     requires standing { Standing L.made L.meaning labels.old stack.old world.old (values_of next) (scopes_of stack.old.tasks) next }
-    ensures begins { (tables : Tables) (inputs : Given) → Begins L.made L.meaning labels.new tables inputs stack.old stack.new world.old world.new next.entry result }
+    ensures begins { (tables : Tables) (inputs : Given) (functions : List FunctionCode) → Begins L.made L.meaning labels.new tables inputs functions stack.old stack.new world.old world.new next.entry result }
     ensures standing { IfOk result (λ n. Standing L.made L.meaning labels.new stack.new world.new (values_of n) (scopes_of stack.new.tasks) n) }
     ensures lowers { begins_work next.entry ≡ true → IfOk result (λ n. Lowers stack.old next.entry stack.new n) }
     ensures stopped { IfErr result (IfStop (HasStop (L.made labels.new))) }
@@ -191,6 +236,10 @@ pub(crate) fn begin_move<'p, L: Labels>(
         Next::Variables(list) => begin_variables(labels, world, stack, list),
         Next::Loop(round) => begin_loop_of(labels, world, stack, round),
         Next::DoLoop(round) => begin_do_loop_of(labels, world, stack, round),
+        Next::Break(turn, label) => begin_leaving(labels, world, stack, turn, label),
+        Next::Return => begin_return(labels, world, stack),
+        Next::Labelled(text, s) => begin_label(labels, world, stack, text, s),
+        Next::Try(s) => begin_try_of(labels, world, stack, s),
         other => Ok(other),
     }
 }
@@ -202,7 +251,7 @@ fn begin_null<'p, L: Labels>(
     stack: &mut Stack<'p, L::Label>,
 ) -> Result<Next<'p>, FlowFault<L::Label>>
     requires standing { Standing L.made L.meaning labels.now stack.old _world.now 0 (scopes_of stack.old.tasks) next.Null }
-    ensures begins { (tables : Tables) (inputs : Given) → Begins L.made L.meaning labels.now tables inputs stack.old stack.new _world.now _world.now next.Null result }
+    ensures begins { (tables : Tables) (inputs : Given) (functions : List FunctionCode) → Begins L.made L.meaning labels.now tables inputs functions stack.old stack.new _world.now _world.now next.Null result }
     ensures standing { IfOk result (λ n. Standing L.made L.meaning labels.now stack.new _world.now (values_of n) (scopes_of stack.new.tasks) n) }
     ensures lowers { IfOk result (Lowers stack.old next.Null stack.new) }
     ensures stopped { IfErr result (IfStop (HasStop (L.made labels.now))) }
@@ -219,7 +268,7 @@ fn begin_boolean<'p, L: Labels>(
     b: bool,
 ) -> Result<Next<'p>, FlowFault<L::Label>>
     requires standing { Standing L.made L.meaning labels.now stack.old _world.now 0 (scopes_of stack.old.tasks) (next.Bool b) }
-    ensures begins { (tables : Tables) (inputs : Given) → Begins L.made L.meaning labels.now tables inputs stack.old stack.new _world.now _world.now (next.Bool b) result }
+    ensures begins { (tables : Tables) (inputs : Given) (functions : List FunctionCode) → Begins L.made L.meaning labels.now tables inputs functions stack.old stack.new _world.now _world.now (next.Bool b) result }
     ensures standing { IfOk result (λ n. Standing L.made L.meaning labels.now stack.new _world.now (values_of n) (scopes_of stack.new.tasks) n) }
     ensures lowers { IfOk result (Lowers stack.old (next.Bool b) stack.new) }
     ensures stopped { IfErr result (IfStop (HasStop (L.made labels.now))) }
@@ -236,7 +285,7 @@ fn begin_number<'p, L: Labels>(
     n: &'p Int,
 ) -> Result<Next<'p>, FlowFault<L::Label>>
     requires standing { Standing L.made L.meaning labels.now stack.old _world.now 0 (scopes_of stack.old.tasks) (next.Number n) }
-    ensures begins { (tables : Tables) (inputs : Given) → Begins L.made L.meaning labels.now tables inputs stack.old stack.new _world.now _world.now (next.Number n.entry) result }
+    ensures begins { (tables : Tables) (inputs : Given) (functions : List FunctionCode) → Begins L.made L.meaning labels.now tables inputs functions stack.old stack.new _world.now _world.now (next.Number n.entry) result }
     ensures standing { IfOk result (λ n. Standing L.made L.meaning labels.now stack.new _world.now (values_of n) (scopes_of stack.new.tasks) n) }
     ensures lowers { IfOk result (Lowers stack.old (next.Number n.entry) stack.new) }
     ensures stopped { IfErr result (IfStop (HasStop (L.made labels.now))) }
@@ -254,7 +303,7 @@ fn begin_text<'p, L: Labels>(
     units: &'p Text,
 ) -> Result<Next<'p>, FlowFault<L::Label>>
     requires standing { Standing L.made L.meaning labels.now stack.old _world.now 0 (scopes_of stack.old.tasks) (next.Text units) }
-    ensures begins { (tables : Tables) (inputs : Given) → Begins L.made L.meaning labels.now tables inputs stack.old stack.new _world.now _world.now (next.Text units.entry) result }
+    ensures begins { (tables : Tables) (inputs : Given) (functions : List FunctionCode) → Begins L.made L.meaning labels.now tables inputs functions stack.old stack.new _world.now _world.now (next.Text units.entry) result }
     ensures standing { IfOk result (λ n. Standing L.made L.meaning labels.now stack.new _world.now (values_of n) (scopes_of stack.new.tasks) n) }
     ensures lowers { IfOk result (Lowers stack.old (next.Text units.entry) stack.new) }
     ensures stopped { IfErr result (IfStop (HasStop (L.made labels.now))) }
@@ -272,14 +321,15 @@ fn begin_name<'p, L: Labels>(
     name: &'p Text,
 ) -> Result<Next<'p>, FlowFault<L::Label>>
     requires standing { Standing L.made L.meaning labels.old stack.old world.old 0 (scopes_of stack.old.tasks) (next.Name name) }
-    ensures begins { (tables : Tables) (inputs : Given) → Begins L.made L.meaning labels.new tables inputs stack.old stack.new world.old world.new (next.Name name.entry) result }
+    ensures begins { (tables : Tables) (inputs : Given) (functions : List FunctionCode) → Begins L.made L.meaning labels.new tables inputs functions stack.old stack.new world.old world.new (next.Name name.entry) result }
     ensures standing { IfOk result (λ n. Standing L.made L.meaning labels.new stack.new world.new (values_of n) (scopes_of stack.new.tasks) n) }
     ensures lowers { IfOk result (Lowers stack.old (next.Name name.entry) stack.new) }
     ensures stopped { IfErr result (IfStop (HasStop (L.made labels.new))) }
     ensures grows { Grows world.old world.new }
     ensures kept { IsKept L.made L.meaning L.room L.firm labels.old labels.new }
 {
-    read_name(alloc, labels, world, stack, OUTERMOST, name)
+    let place = present(world, stack)?;
+    read_name(alloc, labels, world, stack, place, name)
 }
 
 /// The value of `this`.
@@ -290,14 +340,15 @@ fn begin_this<'p, L: Labels>(
     stack: &mut Stack<'p, L::Label>,
 ) -> Result<Next<'p>, FlowFault<L::Label>>
     requires standing { Standing L.made L.meaning labels.old stack.old world.old 0 (scopes_of stack.old.tasks) next.This }
-    ensures begins { (tables : Tables) (inputs : Given) → Begins L.made L.meaning labels.new tables inputs stack.old stack.new world.old world.new next.This result }
+    ensures begins { (tables : Tables) (inputs : Given) (functions : List FunctionCode) → Begins L.made L.meaning labels.new tables inputs functions stack.old stack.new world.old world.new next.This result }
     ensures standing { IfOk result (λ n. Standing L.made L.meaning labels.new stack.new world.new (values_of n) (scopes_of stack.new.tasks) n) }
     ensures lowers { IfOk result (Lowers stack.old next.This stack.new) }
     ensures stopped { IfErr result (IfStop (HasStop (L.made labels.new))) }
     ensures grows { Grows world.old world.new }
     ensures kept { IsKept L.made L.meaning L.room L.firm labels.old labels.new }
 {
-    this(alloc, labels, world, stack, OUTERMOST)
+    let place = present(world, stack)?;
+    this(alloc, labels, world, stack, place)
 }
 
 /// An object of a literal.
@@ -310,7 +361,7 @@ fn begin_object<'p, L: Labels>(
     count: u32,
 ) -> Result<Next<'p>, FlowFault<L::Label>>
     requires standing { Standing L.made L.meaning labels.old stack.old world.old count (scopes_of stack.old.tasks) (next.Object list count) }
-    ensures begins { (tables : Tables) (inputs : Given) → Begins L.made L.meaning labels.new tables inputs stack.old stack.new world.old world.new (next.Object list.entry count) result }
+    ensures begins { (tables : Tables) (inputs : Given) (functions : List FunctionCode) → Begins L.made L.meaning labels.new tables inputs functions stack.old stack.new world.old world.new (next.Object list.entry count) result }
     ensures standing { IfOk result (λ n. Standing L.made L.meaning labels.new stack.new world.new (values_of n) (scopes_of stack.new.tasks) n) }
     ensures lowers { IfOk result (Lowers stack.old (next.Object list.entry count) stack.new) }
     ensures stopped { IfErr result (IfStop (HasStop (L.made labels.new))) }
@@ -329,14 +380,15 @@ fn begin_giving<'p, L: Labels>(
     variable: &'p Ident,
 ) -> Result<Next<'p>, FlowFault<L::Label>>
     requires standing { Standing L.made L.meaning labels.old stack.old world.old 1 (scopes_of stack.old.tasks) (next.GiveVariable variable) }
-    ensures begins { (tables : Tables) (inputs : Given) → Begins L.made L.meaning labels.new tables inputs stack.old stack.new world.old world.new (next.GiveVariable variable.entry) result }
+    ensures begins { (tables : Tables) (inputs : Given) (functions : List FunctionCode) → Begins L.made L.meaning labels.new tables inputs functions stack.old stack.new world.old world.new (next.GiveVariable variable.entry) result }
     ensures standing { IfOk result (λ n. Standing L.made L.meaning labels.new stack.new world.new (values_of n) (scopes_of stack.new.tasks) n) }
     ensures lowers { IfOk result (Lowers stack.old (next.GiveVariable variable.entry) stack.new) }
     ensures stopped { IfErr result (IfStop (HasStop (L.made labels.new))) }
     ensures grows { Grows world.old world.new }
     ensures kept { IsKept L.made L.meaning L.room L.firm labels.old labels.new }
 {
-    give_variable(alloc, labels, world, stack, OUTERMOST, variable)
+    let place = present(world, stack)?;
+    give_variable(alloc, labels, world, stack, place, variable)
 }
 
 /// The keys of a value.
@@ -348,7 +400,7 @@ fn begin_keys<'p, L: Labels>(
     enumeration: Enumeration<'p>,
 ) -> Result<Next<'p>, FlowFault<L::Label>>
     requires standing { Standing L.made L.meaning labels.old stack.old world.old 1 (scopes_of stack.old.tasks) (next.Keys enumeration) }
-    ensures begins { (tables : Tables) (inputs : Given) → Begins L.made L.meaning labels.new tables inputs stack.old stack.new world.old world.new (next.Keys enumeration.entry) result }
+    ensures begins { (tables : Tables) (inputs : Given) (functions : List FunctionCode) → Begins L.made L.meaning labels.new tables inputs functions stack.old stack.new world.old world.new (next.Keys enumeration.entry) result }
     ensures standing { IfOk result (λ n. Standing L.made L.meaning labels.new stack.new world.new (values_of n) (scopes_of stack.new.tasks) n) }
     ensures lowers { IfOk result (Lowers stack.old (next.Keys enumeration.entry) stack.new) }
     ensures stopped { IfErr result (IfStop (HasStop (L.made labels.new))) }
@@ -368,7 +420,7 @@ fn begin_visits<'p, L: Labels>(
     count: u32,
 ) -> Result<Next<'p>, FlowFault<L::Label>>
     requires standing { Standing L.made L.meaning labels.old stack.old world.old (count + 1) (scopes_of stack.old.tasks) (next.Visits enumeration count) }
-    ensures begins { (tables : Tables) (inputs : Given) → Begins L.made L.meaning labels.new tables inputs stack.old stack.new world.old world.new (next.Visits enumeration.entry count) result }
+    ensures begins { (tables : Tables) (inputs : Given) (functions : List FunctionCode) → Begins L.made L.meaning labels.new tables inputs functions stack.old stack.new world.old world.new (next.Visits enumeration.entry count) result }
     ensures standing { IfOk result (λ n. Standing L.made L.meaning labels.new stack.new world.new (values_of n) (scopes_of stack.new.tasks) n) }
     ensures lowers { IfOk result (Lowers stack.old (next.Visits enumeration.entry count) stack.new) }
     ensures stopped { IfErr result (IfStop (HasStop (L.made labels.new))) }
@@ -386,13 +438,14 @@ fn begin_variables<'p, L: Labels>(
     list: &'p Declarations,
 ) -> Result<Next<'p>, FlowFault<L::Label>>
     requires standing { Standing L.made L.meaning labels.old stack.old world.now 0 (scopes_of stack.old.tasks) (next.Variables list) }
-    ensures begins { (tables : Tables) (inputs : Given) → Begins L.made L.meaning labels.new tables inputs stack.old stack.new world.now world.now (next.Variables list.entry) result }
+    ensures begins { (tables : Tables) (inputs : Given) (functions : List FunctionCode) → Begins L.made L.meaning labels.new tables inputs functions stack.old stack.new world.now world.now (next.Variables list.entry) result }
     ensures standing { IfOk result (λ n. Standing L.made L.meaning labels.new stack.new world.now (values_of n) (scopes_of stack.new.tasks) n) }
     ensures lowers { IfOk result (Lowers stack.old (next.Variables list.entry) stack.new) }
     ensures stopped { IfErr result (IfStop (HasStop (L.made labels.new))) }
     ensures kept { IsKept L.made L.meaning L.room L.firm labels.old labels.new }
 {
-    declare(labels, world, stack, OUTERMOST, list)
+    let place = present(world, stack)?;
+    declare(labels, world, stack, place, list)
 }
 
 /// A loop begins with its condition.
@@ -403,7 +456,7 @@ fn begin_loop_of<'p, L: Labels>(
     round: Round<'p>,
 ) -> Result<Next<'p>, FlowFault<L::Label>>
     requires standing { Standing L.made L.meaning labels.old stack.old world.old 0 (scopes_of stack.old.tasks) (next.Loop round) }
-    ensures begins { (tables : Tables) (inputs : Given) → Begins L.made L.meaning labels.new tables inputs stack.old stack.new world.old world.new (next.Loop round.entry) result }
+    ensures begins { (tables : Tables) (inputs : Given) (functions : List FunctionCode) → Begins L.made L.meaning labels.new tables inputs functions stack.old stack.new world.old world.new (next.Loop round.entry) result }
     ensures standing { IfOk result (λ n. Standing L.made L.meaning labels.new stack.new world.new (values_of n) (scopes_of stack.new.tasks) n) }
     ensures lowers { IfOk result (Lowers stack.old (next.Loop round.entry) stack.new) }
     ensures stopped { IfErr result (IfStop (HasStop (L.made labels.new))) }
@@ -423,7 +476,7 @@ fn begin_do_loop_of<'p, L: Labels>(
     round: Round<'p>,
 ) -> Result<Next<'p>, FlowFault<L::Label>>
     requires standing { Standing L.made L.meaning labels.old stack.old world.old 0 (scopes_of stack.old.tasks) (next.DoLoop round) }
-    ensures begins { (tables : Tables) (inputs : Given) → Begins L.made L.meaning labels.new tables inputs stack.old stack.new world.old world.new (next.DoLoop round.entry) result }
+    ensures begins { (tables : Tables) (inputs : Given) (functions : List FunctionCode) → Begins L.made L.meaning labels.new tables inputs functions stack.old stack.new world.old world.new (next.DoLoop round.entry) result }
     ensures standing { IfOk result (λ n. Standing L.made L.meaning labels.new stack.new world.new (values_of n) (scopes_of stack.new.tasks) n) }
     ensures lowers { IfOk result (Lowers stack.old (next.DoLoop round.entry) stack.new) }
     ensures stopped { IfErr result (IfStop (HasStop (L.made labels.new))) }
@@ -433,4 +486,121 @@ fn begin_do_loop_of<'p, L: Labels>(
     let next = begin_do_loop(labels, &mut world.frames, stack, round)?;
     let _depth = world.frames.len();
     Ok(next)
+}
+
+/// A loop or a statement is left, or a turn of it.
+fn begin_leaving<'p, L: Labels>(
+    labels: &mut L,
+    world: &mut World<L::Label>,
+    stack: &mut Stack<'p, L::Label>,
+    turn: bool,
+    label: &'p Option<Ident>,
+) -> Result<Next<'p>, FlowFault<L::Label>>
+    requires standing { Standing L.made L.meaning labels.old stack.old world.old 0 (scopes_of stack.old.tasks) (next.Break turn label) }
+    ensures begins { (tables : Tables) (inputs : Given) (functions : List FunctionCode) → Begins L.made L.meaning labels.new tables inputs functions stack.old stack.new world.old world.new (next.Break turn label.entry) result }
+    ensures standing { IfOk result (λ n. Standing L.made L.meaning labels.new stack.new world.new (values_of n) (scopes_of stack.new.tasks) n) }
+    ensures lowers { IfOk result (Lowers stack.old (next.Break turn label.entry) stack.new) }
+    ensures stopped { IfErr result (IfStop (HasStop (L.made labels.new))) }
+    ensures grows { Grows world.old world.new }
+    ensures kept { IsKept L.made L.meaning L.room L.firm labels.old labels.new }
+{
+    let aim = stack.reached(turn, units_of(label));
+    leave_by(labels, world, stack, turn, label, aim)
+}
+
+/// The units of a label, or none.
+fn units_of(label: &Option<Ident>) -> Option<&[u16]>
+    ensures { option_map (λ text. text.now) result ≡ text_of_label (view_name label.now) }
+{
+    match label {
+        Some(ident) => Some(ident.text.units()),
+        None => None,
+    }
+}
+
+/// A function is left without a value.
+fn begin_return<'p, L: Labels>(
+    labels: &mut L,
+    world: &mut World<L::Label>,
+    stack: &mut Stack<'p, L::Label>,
+) -> Result<Next<'p>, FlowFault<L::Label>>
+    requires standing { Standing L.made L.meaning labels.old stack.old world.old 0 (scopes_of stack.old.tasks) next.Return }
+    ensures begins { (tables : Tables) (inputs : Given) (functions : List FunctionCode) → Begins L.made L.meaning labels.new tables inputs functions stack.old stack.new world.old world.new next.Return result }
+    ensures standing { IfOk result (λ n. Standing L.made L.meaning labels.new stack.new world.new (values_of n) (scopes_of stack.new.tasks) n) }
+    ensures lowers { IfOk result (Lowers stack.old next.Return stack.new) }
+    ensures stopped { IfErr result (IfStop (HasStop (L.made labels.new))) }
+    ensures grows { Grows world.old world.new }
+    ensures kept { IsKept L.made L.meaning L.room L.firm labels.old labels.new }
+{
+    let to = stack.call();
+    return_nothing(labels, world, stack, to)
+}
+
+/// A labelled statement, which is no loop and no `switch`.
+fn begin_label<'p, L: Labels>(
+    labels: &mut L,
+    world: &mut World<L::Label>,
+    stack: &mut Stack<'p, L::Label>,
+    text: &'p Text,
+    s: &'p Stmt,
+) -> Result<Next<'p>, FlowFault<L::Label>>
+    requires standing { Standing L.made L.meaning labels.old stack.old world.old 0 (scopes_of stack.old.tasks) (next.Labelled text s) }
+    ensures begins { (tables : Tables) (inputs : Given) (functions : List FunctionCode) → Begins L.made L.meaning labels.new tables inputs functions stack.old stack.new world.old world.new (next.Labelled text.entry s.entry) result }
+    ensures standing { IfOk result (λ n. Standing L.made L.meaning labels.new stack.new world.new (values_of n) (scopes_of stack.new.tasks) n) }
+    ensures lowers { IfOk result (Lowers stack.old (next.Labelled text.entry s.entry) stack.new) }
+    ensures stopped { IfErr result (IfStop (HasStop (L.made labels.new))) }
+    ensures grows { Grows world.old world.new }
+    ensures kept { IsKept L.made L.meaning L.room L.firm labels.old labels.new }
+{
+    begin_labelled(labels, world, stack, text, s)
+}
+
+/// A `try` statement.
+fn begin_try_of<'p, L: Labels>(
+    labels: &mut L,
+    world: &mut World<L::Label>,
+    stack: &mut Stack<'p, L::Label>,
+    s: &'p Stmt,
+) -> Result<Next<'p>, FlowFault<L::Label>>
+    requires standing { Standing L.made L.meaning labels.old stack.old world.old 0 (scopes_of stack.old.tasks) (next.Try s) }
+    ensures begins { (tables : Tables) (inputs : Given) (functions : List FunctionCode) → Begins L.made L.meaning labels.new tables inputs functions stack.old stack.new world.old world.new (next.Try s.entry) result }
+    ensures standing { IfOk result (λ n. Standing L.made L.meaning labels.new stack.new world.new (values_of n) (scopes_of stack.new.tasks) n) }
+    ensures lowers { IfOk result (Lowers stack.old (next.Try s.entry) stack.new) }
+    ensures stopped { IfErr result (IfStop (HasStop (L.made labels.new))) }
+    ensures grows { Grows world.old world.new }
+    ensures kept { IsKept L.made L.meaning L.room L.firm labels.old labels.new }
+{
+    // a machine comes here from a `try` statement alone, which isn't known here
+    if !is_try(s) {
+        return Err(FlowFault::OutOfMemory);
+    }
+    begin_try(labels, world, stack, s)
+}
+
+/// A value is called, makes an object, or is made of a function of the script. Any other move stays as it is.
+pub(crate) fn begin_calling<'p, L: Labels>(
+    alloc: Global,
+    labels: &mut L,
+    world: &mut World<L::Label>,
+    functions: &Functions<'p>,
+    stack: &mut Stack<'p, L::Label>,
+    next: Next<'p>,
+) -> Result<Next<'p>, FlowFault<L::Label>>
+    requires standing { Standing L.made L.meaning labels.old stack.old world.old (values_of next) (scopes_of stack.old.tasks) next }
+    ensures begins { (tables : Tables) (inputs : Given) → Begins L.made L.meaning labels.new tables inputs (table functions.now) stack.old stack.new world.old world.new next.entry result }
+    ensures standing { IfOk result (λ n. Standing L.made L.meaning labels.new stack.new world.new (values_of n) (scopes_of stack.new.tasks) n) }
+    ensures lowers { calls_function next.entry ≡ true → IfOk result (λ n. Lowers stack.old next.entry stack.new n) }
+    ensures stopped { IfErr result (IfStop (HasStop (L.made labels.new))) }
+    ensures grows { Grows world.old world.new }
+    ensures kept { IsKept L.made L.meaning L.room L.firm labels.old labels.new }
+{
+    match next {
+        Next::Call(count) => call(alloc, labels, world, functions, stack, count),
+        Next::Construct(count) => construct(alloc, labels, world, functions, stack, count),
+        Next::Function(f) => {
+            let place = present(world, stack)?;
+            function(alloc, labels, world, functions, stack, place, f)
+        }
+        other => Ok(other),
+    }
 }

@@ -1,40 +1,61 @@
-//! Work that what is thrown passes, and the ends of scopes that it reaches.
+//! Work that a jump passes, and the ends of scopes that it reaches.
 
-ghost use Rattle.std.specs.Prelude.{◌≡◌, ◌+◌, ◌++◌, [], ◌∷◌, Ok, IfOk, drop};
+ghost use Rattle.std.specs.Prelude.{◌≡◌, ◌+◌, ◌++◌, [], ◌∷◌, ℕ, Bool, Ok, false, true, IfErr, IfOk, drop, List};
+ghost use Rattle.std.specs.Borrow.{Bor};
+ghost use Rattle.origin_labels.specs.Label.{Label};
+ghost use Rattle.origin_labels.specs.Stores.{IsKept};
+ghost use Rattle.flow_frames.specs.Stops.{IfStop};
 ghost use Rattle.flow_policy.specs.Policies.{Tables};
 ghost use Rattle.flow_policy.specs.Inputs.{Given};
+ghost use Rattle.js_ast.specs.Functions.{FunctionCode};
+ghost use Rattle.js_ast.specs.declared.trees.Stmt.{Stmt};
 ghost use Rattle.js_values.specs.declared.value.Labelled.{Labelled};
 ghost use Rattle.step_world.specs.Worlds.{Grows};
 ghost use Rattle.step_work.specs.declared.work.Work.TheVariants as work;
 ghost use Rattle.step_work.specs.declared.work.Next.TheVariants as next;
-ghost use Rattle.step_work.specs.Kept.{scope_of, scopes_of};
+ghost use Rattle.step_work.specs.Going.{Passes};
+ghost use Rattle.step_work.specs.Kept.{may_stay, scope_of, scopes_of};
 ghost use Rattle.step_work.specs.Loads.{Adds, weight};
 ghost use Rattle.step_work.specs.Pending.{owns, values_of};
-ghost use Rattle.step_core.specs.Going.{Passes};
-ghost use Rattle.step_core.specs.Standing.{Standing};
+ghost use Rattle.step_work.specs.Standing.{Standing};
+ghost use Rattle.step_work.specs.Stops.{HasStop};
 
-use flow_text::OutOfMemory;
+use crate::entering::present;
+use flow_frames::FlowFault;
+use js_ast::Stmt;
 use origin_labels::Labels;
-use step_work::{Next, Stack, Work, pass, pass_branch, pass_round};
+use std::alloc::Global;
+use step_tries::{pass_block, pass_call, pass_construction, pass_handler};
+use step_work::{Jump, Next, Stack, Work, pass, pass_branch, pass_round};
 use step_world::World;
 
-/// What is thrown, which lies above the operands of work that was taken, passes it, or comes to the end of the scope that it was to reach.
+/// A jump, whose value lies above the operands of work that was taken, passes it, or comes to the end of the scope that it was to reach.
 pub(crate) fn pass_work<'p, L: Labels>(
-    labels: &L,
+    alloc: Global,
+    labels: &mut L,
     world: &mut World<L::Label>,
     stack: &mut Stack<'p, L::Label>,
+    jump: Jump,
     work: Work<'p>,
-) -> Result<Next<'p>, OutOfMemory>
-    requires standing { Standing L.made L.meaning labels.now stack.old world.old (owns work + 1) (scopes_of stack.old.tasks ++ scope_of work) next.Throws }
-    ensures passes { IfOk result (λ move. (tables : Tables) (inputs : Given) (value : Labelled L.Label) → drop (owns work.entry) stack.old.loose ≡ value ∷ [] → Passes L.made L.meaning labels.now tables inputs work.entry value stack.old stack.new world.old world.new (Ok move)) }
-    ensures standing { IfOk result (λ move. Standing L.made L.meaning labels.now stack.new world.new (values_of move) (scopes_of stack.new.tasks) move) }
+) -> Result<Next<'p>, FlowFault<L::Label>>
+    requires standing { Standing L.made L.meaning labels.old stack.old world.old (owns work + 1) (scopes_of stack.old.tasks ++ scope_of work) (next.Jumps jump) }
+    ensures passes { (tables : Tables) (inputs : Given) (functions : List FunctionCode) (value : Labelled L.Label) → drop (owns work.entry) stack.old.loose ≡ value ∷ [] → Passes L.made L.meaning labels.new tables inputs functions jump work.entry value stack.old stack.new world.old world.new result }
+    ensures standing { IfOk result (λ move. Standing L.made L.meaning labels.new stack.new world.new (values_of move) (scopes_of stack.new.tasks) move) }
     ensures adds { IfOk result (Adds (weight work.entry) stack.old stack.new) }
+    ensures stopped { IfErr result (IfStop (HasStop (L.made labels.new))) }
     ensures grows { Grows world.old world.new }
+    ensures kept { IsKept L.made L.meaning L.room L.firm labels.old labels.new }
 {
     match work {
-        Work::EndBranch(gives, depth) => end_by_throw(labels, world, stack, gives, depth),
-        Work::EndRound(turn, depth) => Ok(end_round_by_throw(labels, world, stack, turn, depth)),
-        other => pass_by(labels, world, stack, other),
+        Work::EndBranch(gives, depth) => end_branch_by(labels, world, stack, jump, gives, depth),
+        Work::EndRound(_, depth, _) | Work::EndLabel(depth, _) | Work::EndTry(depth) => {
+            Ok(end_round_by(labels, world, stack, jump, depth))
+        }
+        Work::EndBlock(s, depth) => end_block_by(alloc, labels, world, stack, jump, s, depth),
+        Work::EndHandler(s, own, depth) => pass_handler(labels, world, stack, jump, s, own, depth),
+        Work::EndCall(own, depth) => pass_call(labels, world, stack, jump, own, depth),
+        Work::EndNew(own, depth) => pass_construction(labels, world, stack, jump, own, depth),
+        other => pass_by(labels, world, stack, jump, other),
     }
 }
 
@@ -43,52 +64,81 @@ fn pass_by<'p, L: Labels>(
     _labels: &L,
     _world: &World<L::Label>,
     stack: &mut Stack<'p, L::Label>,
+    jump: Jump,
     work: Work<'p>,
-) -> Result<Next<'p>, OutOfMemory>
-    requires standing { Standing L.made L.meaning _labels.now stack.old _world.now (owns work + 1) (scopes_of stack.old.tasks ++ scope_of work) next.Throws }
+) -> Result<Next<'p>, FlowFault<L::Label>>
+    requires standing { Standing L.made L.meaning _labels.now stack.old _world.now (owns work + 1) (scopes_of stack.old.tasks ++ scope_of work) (next.Jumps jump) }
     requires scope { scope_of work ≡ [] }
-    ensures passes { IfOk result (λ move. (tables : Tables) (inputs : Given) (value : Labelled L.Label) → drop (owns work.entry) stack.old.loose ≡ value ∷ [] → Passes L.made L.meaning _labels.now tables inputs work.entry value stack.old stack.new _world.now _world.now (Ok move)) }
+    requires passes { may_stay work ≡ false }
+    ensures passes { (tables : Tables) (inputs : Given) (functions : List FunctionCode) (value : Labelled L.Label) → drop (owns work.entry) stack.old.loose ≡ value ∷ [] → Passes L.made L.meaning _labels.now tables inputs functions jump work.entry value stack.old stack.new _world.now _world.now result }
     ensures standing { IfOk result (λ move. Standing L.made L.meaning _labels.now stack.new _world.now (values_of move) (scopes_of stack.new.tasks) move) }
     ensures adds { IfOk result (Adds (weight work.entry) stack.old stack.new) }
+    ensures stopped { IfErr result (IfStop (HasStop (L.made _labels.now))) }
 {
-    let next = pass(stack, work)?;
+    let next = pass(stack, jump, work)?;
     Ok(next)
 }
 
 /// It comes to the end of a branch.
-fn end_by_throw<'p, L: Labels>(
+fn end_branch_by<'p, L: Labels>(
     labels: &L,
     world: &mut World<L::Label>,
     stack: &mut Stack<'p, L::Label>,
+    jump: Jump,
     gives: bool,
     depth: usize,
-) -> Result<Next<'p>, OutOfMemory>
-    requires standing { Standing L.made L.meaning labels.now stack.old world.old 1 (scopes_of stack.old.tasks ++ depth ∷ []) next.Throws }
-    ensures passes { IfOk result (λ move. (tables : Tables) (inputs : Given) (value : Labelled L.Label) → stack.old.loose ≡ value ∷ [] → Passes L.made L.meaning labels.now tables inputs (work.EndBranch gives depth) value stack.old stack.new world.old world.new (Ok move)) }
+) -> Result<Next<'p>, FlowFault<L::Label>>
+    requires standing { Standing L.made L.meaning labels.now stack.old world.old 1 (scopes_of stack.old.tasks ++ depth ∷ []) (next.Jumps jump) }
+    ensures passes { (tables : Tables) (inputs : Given) (functions : List FunctionCode) (value : Labelled L.Label) → stack.old.loose ≡ value ∷ [] → Passes L.made L.meaning labels.now tables inputs functions jump (work.EndBranch gives depth) value stack.old stack.new world.old world.new result }
     ensures standing { IfOk result (λ move. Standing L.made L.meaning labels.now stack.new world.new (values_of move) (scopes_of stack.new.tasks) move) }
     ensures adds { IfOk result (Adds 1 stack.old stack.new) }
+    ensures stopped { IfErr result (IfStop (HasStop (L.made labels.now))) }
     ensures grows { Grows world.old world.new }
 {
-    let next = pass_branch(labels, &mut world.frames, stack, gives, depth)?;
+    let next = pass_branch(labels, &mut world.frames, stack, jump, gives, depth)?;
     let _depth = world.frames.len();
     Ok(next)
 }
 
-/// It comes to the end of a loop or of a turn.
-fn end_round_by_throw<'p, L: Labels>(
+/// It comes to the end of a loop, of a turn, of a `switch`, of a labelled statement or of a `try` statement.
+fn end_round_by<'p, L: Labels>(
     labels: &L,
     world: &mut World<L::Label>,
     stack: &mut Stack<'p, L::Label>,
-    turn: bool,
+    jump: Jump,
     depth: usize,
 ) -> Next<'p>
-    requires standing { Standing L.made L.meaning labels.now stack.old world.old 1 (scopes_of stack.old.tasks ++ depth ∷ []) next.Throws }
-    ensures passes { (tables : Tables) (inputs : Given) (value : Labelled L.Label) → stack.old.loose ≡ value ∷ [] → Passes L.made L.meaning labels.now tables inputs (work.EndRound turn depth) value stack.old stack.new world.old world.new (Ok result) }
+    requires standing { Standing L.made L.meaning labels.now stack.old world.old 1 (scopes_of stack.old.tasks ++ depth ∷ []) (next.Jumps jump) }
+    ensures round { (tables : Tables) (inputs : Given) (functions : List FunctionCode) (value : Labelled L.Label) → stack.old.loose ≡ value ∷ [] → (turn : Bool) (of : Bor Stmt) → Passes L.made L.meaning labels.now tables inputs functions jump (work.EndRound turn depth of) value stack.old stack.new world.old world.new (Ok result) }
+    ensures label { (tables : Tables) (inputs : Given) (functions : List FunctionCode) (value : Labelled L.Label) → stack.old.loose ≡ value ∷ [] → (text : Bor (List ℕ)) → Passes L.made L.meaning labels.now tables inputs functions jump (work.EndLabel depth text) value stack.old stack.new world.old world.new (Ok result) }
+    ensures tried { (tables : Tables) (inputs : Given) (functions : List FunctionCode) (value : Labelled L.Label) → stack.old.loose ≡ value ∷ [] → Passes L.made L.meaning labels.now tables inputs functions jump (work.EndTry depth) value stack.old stack.new world.old world.new (Ok result) }
     ensures standing { Standing L.made L.meaning labels.now stack.new world.new (values_of result) (scopes_of stack.new.tasks) result }
     ensures adds { Adds 1 stack.old stack.new result }
     ensures grows { Grows world.old world.new }
 {
-    let next = pass_round(labels, &mut world.frames, stack, turn, depth);
+    let next = pass_round(labels, &mut world.frames, stack, jump, depth);
     let _depth = world.frames.len();
     next
+}
+
+/// It comes to the end of the block of a `try` statement.
+fn end_block_by<'p, L: Labels>(
+    alloc: Global,
+    labels: &mut L,
+    world: &mut World<L::Label>,
+    stack: &mut Stack<'p, L::Label>,
+    jump: Jump,
+    s: &'p Stmt,
+    depth: usize,
+) -> Result<Next<'p>, FlowFault<L::Label>>
+    requires standing { Standing L.made L.meaning labels.old stack.old world.old 1 (scopes_of stack.old.tasks) (next.Jumps jump) }
+    ensures passes { (tables : Tables) (inputs : Given) (functions : List FunctionCode) (value : Labelled L.Label) → stack.old.loose ≡ value ∷ [] → Passes L.made L.meaning labels.new tables inputs functions jump (work.EndBlock s.entry depth) value stack.old stack.new world.old world.new result }
+    ensures standing { IfOk result (λ move. Standing L.made L.meaning labels.new stack.new world.new (values_of move) (scopes_of stack.new.tasks) move) }
+    ensures adds { IfOk result (Adds 3 stack.old stack.new) }
+    ensures stopped { IfErr result (IfStop (HasStop (L.made labels.new))) }
+    ensures grows { Grows world.old world.new }
+    ensures kept { IsKept L.made L.meaning L.room L.firm labels.old labels.new }
+{
+    let place = present(world, stack)?;
+    pass_block(alloc, labels, world, stack, place, jump, s, depth)
 }

@@ -1,6 +1,10 @@
 //! Work that goes on with what it waited for.
 
-ghost use Rattle.std.specs.Prelude.{◌≡◌, ◌+◌, ◌++◌, ◌<◌, [], ◌∷◌, Bool, true, false, length, IfErr, IfOk, OnOk, ℕ};
+ghost use Rattle.std.specs.Option.{option_map};
+ghost use Rattle.es_meaning.specs.Directives.{Upgrade, upgrade_of};
+ghost use Rattle.js_ast.specs.Views.{view_expr};
+ghost use Rattle.step_work.specs.declared.work.Work.TheVariants as work;
+ghost use Rattle.std.specs.Prelude.{◌≡◌, ◌≤◌, Some, ◌+◌, ◌++◌, ◌<◌, [], ◌∷◌, Bool, true, false, length, IfErr, IfOk, OnOk, ℕ, List};
 ghost use Rattle.std.specs.List.{All};
 ghost use Rattle.origin_labels.specs.Label.{Label};
 ghost use Rattle.origin_labels.specs.Stores.{IsKept};
@@ -8,34 +12,43 @@ ghost use Rattle.flow_frames.specs.Held.{Belong};
 ghost use Rattle.flow_frames.specs.Stops.{IfStop};
 ghost use Rattle.flow_policy.specs.Policies.{Tables};
 ghost use Rattle.flow_policy.specs.Inputs.{Given};
+ghost use Rattle.js_ast.specs.Functions.{FunctionCode};
 ghost use Rattle.js_values.specs.Readings.{HasValue, IsReading};
-ghost use Rattle.es_meaning.specs.Environments.{Env};
+ghost use Rattle.es_meaning.specs.Environments.{Env, aimed};
 ghost use Rattle.flow_meaning.specs.Scopes.{State};
 ghost use Rattle.step_world.specs.Worlds.{Belongs, Grows};
 ghost use Rattle.step_work.specs.declared.work.Next.TheVariants as next;
 ghost use Rattle.step_work.specs.Kept.{operands_of, scope_of, scopes_of};
 ghost use Rattle.step_work.specs.Loads.{Adds, weight};
-ghost use Rattle.step_work.specs.Pending.{owns, values_of};
+ghost use Rattle.step_work.specs.Pending.{env_above, owns, values_of};
 ghost use Rattle.step_work.specs.Resuming.{Keeps};
 ghost use Rattle.step_work.specs.Stops.{HasStop};
-ghost use Rattle.step_moves.specs.Moving.{Rests, Stands};
-ghost use Rattle.step_core.specs.Continuing.{GoesActing, GoesAlone, GoesIn, LeavesIn, MadeIn, StillIn, acts, continued, scoped, used_of};
-ghost use Rattle.step_core.specs.Going.{Resumes};
-ghost use Rattle.step_core.specs.Standing.{Standing, awaits, given};
+ghost use Rattle.step_work.specs.Moving.{Rests, Stands};
+ghost use Rattle.step_core.specs.Continuing.{GoesActing, GoesAlone, GoesIn, LeavesIn, MadeIn, StillIn, acts, continued, leads, raises, scoped, used_of};
+ghost use Rattle.step_work.specs.Going.{Resumes, here};
+ghost use Rattle.step_work.specs.Standing.{Standing, awaits, given};
 
-use crate::entering::OUTERMOST;
+use crate::entering::present;
 use flow_frames::{FlowFault, Frames};
+use flow_policy::Policy;
 use flow_text::OutOfMemory;
+use js_ast::Expr;
 use js_number::Primitive;
 use js_values::{Labelled, Value};
 use origin_labels::Labels;
 use std::alloc::Global;
-use step_moves::{assigned, binary_done, compound_done, index_key, member, more_variables, unary};
+use step_calling::{callee, constructor};
+use step_jumps::{Spoken, directive_of, raise_by, return_value, throw_value};
+use step_moves::{
+    assigned, binary_done, compound_done, index_key, instance_done, member, more_variables, unary,
+};
+use step_switches::{compared, falls, switched};
+use step_tries::{end_block, end_call, end_construction, end_handler, end_last};
 use step_work::{
     Next, Stack, Work, and_right, begin_enumeration, binary_right, choose_expr, choose_stmt,
     choose_stmts, comma_right, declared, discard, end_branch, end_branch_value, end_round,
-    index_base, looped, more_arguments, more_properties, more_statements, or_right, tested, turned,
-    updated, visit_body, visited,
+    index_base, instance_right, looped, more_arguments, more_properties, more_statements, or_right,
+    tested, turned, updated, visit_body, visited,
 };
 use step_world::World;
 
@@ -48,8 +61,9 @@ pub(crate) fn resume<'p, L: Labels>(
     work: Work<'p>,
     gave: bool,
 ) -> Result<Next<'p>, FlowFault<L::Label>>
+    requires obeys { raises work ≡ false }
     requires standing { Standing L.made L.meaning labels.old stack.old world.old (owns work + given gave) (scopes_of stack.old.tasks ++ scope_of work) next.Value }
-    ensures resumes { (tables : Tables) (inputs : Given) → Resumes L.made L.meaning labels.new tables inputs work.entry stack.old stack.new world.old world.new result }
+    ensures resumes { (tables : Tables) (inputs : Given) (functions : List FunctionCode) → Resumes L.made L.meaning labels.new tables inputs functions work.entry stack.old stack.new world.old world.new result }
     ensures standing { IfOk result (λ move. Standing L.made L.meaning labels.new stack.new world.new (values_of move) (scopes_of stack.new.tasks) move) }
     ensures adds { IfOk result (Adds (weight work.entry) stack.old stack.new) }
     ensures stopped { IfErr result (IfStop (HasStop (L.made labels.new))) }
@@ -70,7 +84,7 @@ fn prepare<'p, L: Labels>(
     requires loose { length stack.old.loose ≡ owns work + given gave }
     ensures tasks { stack.new.tasks ≡ stack.old.tasks }
     ensures loose { OnOk result (length stack.new.loose ≡ owns work.entry + awaits work.entry) }
-    ensures same { OnOk result ((tables : Tables) (inputs : Given) (reading : L.Label → Label) (e : Env ℕ) (s : State) → IsReading L.made L.meaning labels.now reading → continued tables inputs reading work.entry stack.new.loose e s ≡ continued tables inputs reading work.entry stack.old.loose e s) }
+    ensures same { OnOk result ((tables : Tables) (inputs : Given) (functions : List FunctionCode) (reading : L.Label → Label) (e : Env ℕ) (s : State) → IsReading L.made L.meaning labels.now reading → continued tables inputs functions reading work.entry stack.new.loose e s ≡ continued tables inputs functions reading work.entry stack.old.loose e s) }
     ensures made { OnOk result (All (HasValue (L.made labels.now)) (operands_of stack.old) → All (HasValue (L.made labels.now)) (operands_of stack.new)) }
 {
     if waits_for_a_value(work) {
@@ -99,7 +113,15 @@ fn waits_for_a_value(work: Work<'_>) -> bool
         | Work::Declared(_)
         | Work::Turned(_)
         | Work::Visited(_, _)
-        | Work::EndRound(_, _) => false,
+        | Work::Falls(_, _)
+        | Work::EndRound(_, _, _)
+        | Work::EndLabel(_, _)
+        | Work::EndCall(_, _)
+        | Work::EndNew(_, _)
+        | Work::EndBlock(_, _)
+        | Work::EndHandler(_, _, _)
+        | Work::EndLast(_)
+        | Work::EndTry(_) => false,
         Work::EndBranch(gives, _) => gives,
         _ => true,
     }
@@ -113,8 +135,9 @@ fn go_on<'p, L: Labels>(
     stack: &mut Stack<'p, L::Label>,
     work: Work<'p>,
 ) -> Result<Next<'p>, FlowFault<L::Label>>
+    requires obeys { raises work ≡ false }
     requires standing { Standing L.made L.meaning labels.old stack.old world.old (owns work + awaits work) (scopes_of stack.old.tasks ++ scope_of work) next.Value }
-    ensures resumes { (tables : Tables) (inputs : Given) → Resumes L.made L.meaning labels.new tables inputs work.entry stack.old stack.new world.old world.new result }
+    ensures resumes { (tables : Tables) (inputs : Given) (functions : List FunctionCode) → Resumes L.made L.meaning labels.new tables inputs functions work.entry stack.old stack.new world.old world.new result }
     ensures standing { IfOk result (λ move. Standing L.made L.meaning labels.new stack.new world.new (values_of move) (scopes_of stack.new.tasks) move) }
     ensures adds { IfOk result (Adds (weight work.entry) stack.old stack.new) }
     ensures stopped { IfErr result (IfStop (HasStop (L.made labels.new))) }
@@ -127,6 +150,8 @@ fn go_on<'p, L: Labels>(
         let next = go_on_in_frames(labels, &mut world.frames, stack, work)?;
         let _depth = world.frames.len();
         Ok(next)
+    } else if leads(work) {
+        lead_on(alloc, labels, world, stack, work)
     } else {
         let next = go_on_alone(stack, work)?;
         Ok(next)
@@ -146,6 +171,7 @@ fn acts(work: Work<'_>) -> bool
             | Work::Variable(_, _)
             | Work::MemberBase(_, _)
             | Work::IndexKey(_)
+            | Work::InstanceDone
     )
 }
 
@@ -163,7 +189,30 @@ fn scoped(work: Work<'_>) -> bool
             | Work::Tested(_)
             | Work::Enumerated(_)
             | Work::EndBranch(_, _)
-            | Work::EndRound(_, _)
+            | Work::EndRound(_, _, _)
+            | Work::EndLabel(_, _)
+            | Work::EndTry(_)
+    )
+}
+
+/// Is that of a jump, a call, a `switch` or a `try` statement.
+fn leads(work: Work<'_>) -> bool
+    ensures { result ≡ leads work.entry }
+{
+    matches!(
+        work,
+        Work::Throw
+            | Work::Return
+            | Work::Callee(_)
+            | Work::Constructor(_)
+            | Work::Switched(_, _)
+            | Work::Compared(_, _)
+            | Work::Falls(_, _)
+            | Work::EndCall(_, _)
+            | Work::EndNew(_, _)
+            | Work::EndBlock(_, _)
+            | Work::EndHandler(_, _, _)
+            | Work::EndLast(_)
     )
 }
 
@@ -174,6 +223,8 @@ fn go_on_alone<'p, T: Copy>(
 ) -> Result<Next<'p>, OutOfMemory>
     requires acts { acts work ≡ false }
     requires scoped { scoped work ≡ false }
+    requires leads { leads work ≡ false }
+    requires obeys { raises work ≡ false }
     requires loose { length stack.old.loose ≡ owns work + awaits work }
     ensures goes_on { IfOk result (GoesAlone work.entry stack.old stack.new) }
     ensures keeps { IfOk result (Keeps (used_of work.entry stack.old) stack.new) }
@@ -181,6 +232,7 @@ fn go_on_alone<'p, T: Copy>(
 {
     match work {
         Work::BinaryRight(operator, right) => binary_right(stack, operator, right),
+        Work::InstanceRight(right) => instance_right(stack, right),
         Work::CommaRight(right) => Ok(comma_right(stack, right)),
         Work::Argument(function, count, rest) => more_arguments(stack, function, count, rest),
         Work::Property(list, count) => more_properties(stack, list, count),
@@ -228,7 +280,9 @@ fn go_on_in_frames<'p, L: Labels>(
         Work::Enumerated(enumeration) => begin_enumeration(labels, frames, stack, enumeration),
         Work::EndBranch(true, depth) => end_branch_value(labels, frames, stack, depth),
         Work::EndBranch(false, depth) => Ok(end_branch(labels, frames, stack, depth)),
-        Work::EndRound(turn, depth) => Ok(end_round(labels, frames, stack, turn, depth)),
+        Work::EndRound(_, depth, _) => Ok(end_round(labels, frames, stack, depth)),
+        Work::EndLabel(depth, _) => Ok(end_round(labels, frames, stack, depth)),
+        Work::EndTry(depth) => Ok(end_round(labels, frames, stack, depth)),
         _ => unreachable!(),
     }
 }
@@ -246,7 +300,7 @@ fn act<'p, L: Labels>(
     requires made { All (HasValue (L.made labels.old)) stack.old.loose }
     requires records { 0 < length world.old.records }
     requires belongs { Belongs L.made L.meaning labels.old world.old }
-    ensures goes_on { GoesActing L.made L.meaning labels.new 0 work.entry stack.old stack.new world.old world.new result }
+    ensures goes_on { GoesActing L.made L.meaning labels.new work.entry stack.old stack.new world.old world.new result }
     ensures rests { IfOk result (Rests (L.made labels.new) stack.old stack.new) }
     ensures stands { IfOk result (Stands world.old world.new) }
     ensures adds { IfOk result (Adds (weight work.entry) stack.old stack.new) }
@@ -263,10 +317,88 @@ fn act<'p, L: Labels>(
             compound_done(alloc, labels, world, stack, operator, target)
         }
         Work::Variable(target, rest) => {
-            more_variables(alloc, labels, world, stack, OUTERMOST, target, rest)
+            let place = present(world, stack)?;
+            more_variables(alloc, labels, world, stack, place, target, rest)
         }
         Work::MemberBase(how, name) => member(alloc, labels, world, stack, how, name),
         Work::IndexKey(how) => index_key(alloc, labels, world, stack, how),
+        Work::InstanceDone => instance_done(alloc, labels, world, stack),
         _ => unreachable!(),
+    }
+}
+
+/// Work of a jump, a call, a `switch` or a `try` statement.
+fn lead_on<'p, L: Labels>(
+    alloc: Global,
+    labels: &mut L,
+    world: &mut World<L::Label>,
+    stack: &mut Stack<'p, L::Label>,
+    work: Work<'p>,
+) -> Result<Next<'p>, FlowFault<L::Label>>
+    requires leads { leads work ≡ true }
+    requires standing { Standing L.made L.meaning labels.old stack.old world.old (owns work + awaits work) (scopes_of stack.old.tasks ++ scope_of work) next.Value }
+    ensures resumes { (tables : Tables) (inputs : Given) (functions : List FunctionCode) → Resumes L.made L.meaning labels.new tables inputs functions work.entry stack.old stack.new world.old world.new result }
+    ensures standing { IfOk result (λ move. Standing L.made L.meaning labels.new stack.new world.new (values_of move) (scopes_of stack.new.tasks) move) }
+    ensures adds { IfOk result (Adds (weight work.entry) stack.old stack.new) }
+    ensures stopped { IfErr result (IfStop (HasStop (L.made labels.new))) }
+    ensures grows { Grows world.old world.new }
+    ensures kept { IsKept L.made L.meaning L.room L.firm labels.old labels.new }
+{
+    match work {
+        Work::Throw => throw_value(labels, world, stack),
+        Work::Return => {
+            let to = stack.call();
+            return_value(labels, world, stack, to)
+        }
+        Work::Callee(args) => callee(labels, world, stack, args),
+        Work::Constructor(args) => constructor(labels, world, stack, args),
+        Work::Switched(of, clauses) => switched(labels, world, stack, of, clauses),
+        Work::Compared(clauses, number) => compared(labels, world, stack, clauses, number),
+        Work::Falls(clauses, number) => falls(labels, world, stack, clauses, number),
+        Work::EndCall(own, depth) => end_call(labels, world, stack, own, depth),
+        Work::EndNew(own, depth) => end_construction(labels, world, stack, own, depth),
+        Work::EndBlock(s, depth) => end_block(labels, world, stack, s, depth),
+        Work::EndHandler(s, own, depth) => end_handler(labels, world, stack, s, own, depth),
+        Work::EndLast(waiting) => end_last(labels, world, stack, waiting),
+        _ => unreachable!(),
+    }
+}
+
+/// A directive is obeyed behind its expression, of which the value is of no use.
+pub(crate) fn raise_on<'p, L: Labels>(
+    alloc: Global,
+    labels: &mut L,
+    policy: &Policy,
+    world: &mut World<L::Label>,
+    stack: &mut Stack<'p, L::Label>,
+    e: &'p Expr,
+    gave: bool,
+) -> Result<Next<'p>, FlowFault<L::Label>>
+    requires standing { Standing L.made L.meaning labels.old stack.old world.old (given gave) (scopes_of stack.old.tasks) next.Value }
+    requires room { length policy.now.origins ≤ L.room labels.old }
+    ensures resumes { (inputs : Given) (functions : List FunctionCode) → Resumes L.made L.meaning labels.new policy.now inputs functions (work.Raise e.entry) stack.old stack.new world.old world.new result }
+    ensures standing { IfOk result (λ move. Standing L.made L.meaning labels.new stack.new world.new (values_of move) (scopes_of stack.new.tasks) move) }
+    ensures adds { IfOk result (Adds 1 stack.old stack.new) }
+    ensures stopped { IfErr result (IfStop (HasStop (L.made labels.new))) }
+    ensures grows { Grows world.old world.new }
+    ensures kept { IsKept L.made L.meaning L.room L.firm labels.old labels.new }
+{
+    prepare(labels, stack, Work::Raise(e), gave)?;
+    let to = aim_of(stack, e);
+    raise_by(alloc, labels, world, stack, policy, e, to)
+}
+
+/// The depth of the frame to which the jump goes of which a directive speaks.
+fn aim_of<'p, T: Copy>(stack: &Stack<'p, T>, e: &Expr) -> Option<usize>
+    ensures { (upgrade : Upgrade) → upgrade_of (view_expr e.now) ≡ Some upgrade → result ≡ option_map (λ f. f.1) (aimed 0 upgrade.leaving (env_above stack.now.tasks here)) }
+{
+    let directive = directive_of(e)?;
+    match directive.leaving {
+        Spoken::Thrown => Some(0),
+        Spoken::Returned => Some(stack.call()),
+        Spoken::Left(turn, label) => {
+            let (_, depth) = stack.reached(turn, label)?;
+            Some(depth)
+        }
     }
 }

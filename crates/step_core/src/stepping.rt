@@ -1,40 +1,46 @@
 //! One step of a machine.
 
-ghost use Rattle.std.specs.Prelude.{◌≡◌, ◌≤◌, ◌<◌, ◌+◌, ◌++◌, ◌∷◌, [], ℕ, Bool, true, List, IfOk, drop, length};
+ghost use Rattle.std.specs.Prelude.{◌≡◌, ◌≤◌, ◌<◌, ◌+◌, ◌++◌, ◌∷◌, [], ℕ, Bool, true, false, List, IfOk, drop, length};
 ghost use Rattle.origin_labels.specs.Label.{Label};
 ghost use Rattle.origin_labels.specs.Stores.{IsKept};
 ghost use Rattle.flow_policy.specs.Policies.{Tables};
 ghost use Rattle.flow_policy.specs.Inputs.{Given, IsGivenTo};
+ghost use Rattle.js_ast.specs.Functions.{FunctionCode};
 ghost use Rattle.js_values.specs.declared.value.Labelled.{Labelled};
-ghost use Rattle.js_values.specs.Readings.{IsReading};
+ghost use Rattle.js_values.specs.Readings.{IsReading, read_value};
 ghost use Rattle.flow_meaning.specs.Planned.{jumped};
 ghost use Rattle.flow_meaning.specs.Scopes.{LabelledLine};
 ghost use Rattle.step_calls.specs.Calling.{IsPrinted};
+ghost use Rattle.function_table.specs.Tables.{table};
 ghost use Rattle.step_work.specs.Stops.{HasStop};
-ghost use Rattle.step_world.specs.Acts.{thrown};
+ghost use Rattle.step_work.specs.Shapes.{jump_of};
 ghost use Rattle.step_world.specs.Worlds.{Grows};
 ghost use Rattle.step_work.specs.declared.work.Next.TheVariants as next;
+ghost use Rattle.step_work.specs.declared.work.Work.TheVariants as work;
+ghost use Rattle.step_core.specs.Continuing.{raises};
 ghost use Rattle.step_work.specs.Kept.{scope_of, scopes_of};
 ghost use Rattle.step_work.specs.Loads.{load, weight};
 ghost use Rattle.step_work.specs.Pending.{owns, values_of};
 ghost use Rattle.step_core.specs.Outlook.{Comes, IfGoes, IfLine, IfStopped, ahead, outlook};
-ghost use Rattle.step_core.specs.Standing.{Standing, begins_work, given};
+ghost use Rattle.step_work.specs.Standing.{Standing, given};
+ghost use Rattle.step_core.specs.Stepping.{begins_work, calls_function};
 ghost use Rattle.step_core.specs.Stepping.{Stepped, handed, completion_above, enters_part, outlook_after};
 
-use crate::entering::{OUTERMOST, begin_move, enter};
+use crate::entering::{begin_calling, begin_move, enter, present};
 use crate::machine::Machine;
 use crate::passing::pass_work;
-use crate::resuming::resume;
+use crate::resuming::{raise_on, resume};
 use crate::steps::{Ending, Step, line_step, step_of};
 use flow_frames::FlowFault;
 use flow_policy::{Inputs, Policy};
 use flow_text::OutOfMemory;
+use function_table::Functions;
 use js_ast::{Expr, ExprKind, Stmt};
 use origin_labels::Labels;
 use std::alloc::Global;
 use step_calls::call;
 use step_numbers::{assign, evaluate, finish};
-use step_work::{Direct, Next, Work};
+use step_work::{Direct, Jump, Next, Work};
 
 /// Does what is next. Want of memory ends the run, whatever is left of the machine.
 pub fn step<'p, L: Labels>(
@@ -42,6 +48,7 @@ pub fn step<'p, L: Labels>(
     labels: &mut L,
     policy: &Policy,
     inputs: &Inputs,
+    functions: &Functions<'p>,
     machine: &mut Machine<'p, L::Label>,
     next: Next<'p>,
 ) -> Result<Step<'p, L::Label>, OutOfMemory>
@@ -49,7 +56,7 @@ pub fn step<'p, L: Labels>(
     requires room { length policy.now.origins ≤ L.room labels.old }
     requires given { IsGivenTo policy.now inputs.now }
     requires positions { length machine.old.world.positions.items ≡ length policy.now.inputs }
-    ensures comes { IfOk result (λ s. (reading : L.Label → Label) (told : List LabelledLine) → IsReading L.made L.meaning labels.new reading → Comes policy.now inputs.now reading machine.new told (outlook policy.now inputs.now reading machine.old next.entry told) s) }
+    ensures comes { IfOk result (λ s. (reading : L.Label → Label) (told : List LabelledLine) → IsReading L.made L.meaning labels.new reading → Comes policy.now inputs.now (table functions.now) reading machine.new told (outlook policy.now inputs.now (table functions.now) reading machine.old next.entry told) s) }
     ensures standing { IfOk result (IfGoes (λ n. Standing L.made L.meaning labels.new machine.new.stack machine.new.world (values_of n) (scopes_of machine.new.stack.tasks) n)) }
     ensures lowers { IfOk result (IfGoes (λ n. ahead machine.new n < ahead machine.old next.entry)) }
     ensures printed { IfOk result (IfLine (IsPrinted (L.made labels.new) (length policy.now.outputs))) }
@@ -57,7 +64,7 @@ pub fn step<'p, L: Labels>(
     ensures positions { length machine.new.world.positions.items ≡ length policy.now.inputs }
     ensures kept { IsKept L.made L.meaning L.room L.firm labels.old labels.new }
 {
-    stepped(alloc, labels, policy, inputs, machine, next)
+    stepped(alloc, labels, policy, inputs, functions, machine, next)
 }
 
 // The same, as one record.
@@ -66,6 +73,7 @@ fn stepped<'p, L: Labels>(
     labels: &mut L,
     policy: &Policy,
     inputs: &Inputs,
+    functions: &Functions<'p>,
     machine: &mut Machine<'p, L::Label>,
     next: Next<'p>,
 ) -> Result<Step<'p, L::Label>, OutOfMemory>
@@ -73,21 +81,24 @@ fn stepped<'p, L: Labels>(
     requires room { length policy.now.origins ≤ L.room labels.old }
     requires given { IsGivenTo policy.now inputs.now }
     requires positions { length machine.old.world.positions.items ≡ length policy.now.inputs }
-    ensures stepped { IfOk result (Stepped L.made L.meaning labels.new policy.now inputs.now (λ reading. outlook policy.now inputs.now reading machine.old next.entry) (ahead machine.old next.entry) machine.new) }
+    ensures stepped { IfOk result (Stepped L.made L.meaning labels.new policy.now inputs.now (table functions.now) (λ reading. outlook policy.now inputs.now (table functions.now) reading machine.old next.entry) (ahead machine.old next.entry) machine.new) }
     ensures grows { Grows machine.old.world machine.new.world }
     ensures kept { IsKept L.made L.meaning L.room L.firm labels.old labels.new }
 {
     match next {
         Next::Leave(why) => Ok(Step::Ends(Ending::Left(why))),
-        Next::Value => go_on(alloc, labels, machine, true),
-        Next::Done => go_on(alloc, labels, machine, false),
-        Next::Throws => throw_on(labels, machine),
+        Next::Value => go_on(alloc, labels, policy, machine, true),
+        Next::Done => go_on(alloc, labels, policy, machine, false),
+        Next::Jumps(jump) => jump_on(alloc, labels, machine, jump),
         Next::Direct(function, count) => {
             call_function(alloc, labels, policy, inputs, machine, function, count)
         }
+        Next::Call(_) | Next::Construct(_) | Next::Function(_) => {
+            begin_call(alloc, labels, functions, machine, next)
+        }
         Next::Expr(e) => begin_expr(alloc, labels, machine, e),
         Next::Stmt(s) => begin_stmt(alloc, labels, machine, s),
-        Next::Use(_, _) | Next::Turn(_) | Next::Visit(_, _) => {
+        Next::Use(_, _) | Next::Named(_, _) | Next::Turn(_) | Next::Visit(_, _) => {
             enter_part(alloc, labels, machine, next)
         }
         Next::Null
@@ -102,7 +113,11 @@ fn stepped<'p, L: Labels>(
         | Next::Visits(_, _)
         | Next::Variables(_)
         | Next::Loop(_)
-        | Next::DoLoop(_) => begin_work(alloc, labels, machine, next),
+        | Next::DoLoop(_)
+        | Next::Break(_, _)
+        | Next::Return
+        | Next::Labelled(_, _)
+        | Next::Try(_) => begin_work(alloc, labels, machine, next),
     }
 }
 
@@ -110,18 +125,62 @@ fn stepped<'p, L: Labels>(
 fn go_on<'p, L: Labels>(
     alloc: Global,
     labels: &mut L,
+    policy: &Policy,
     machine: &mut Machine<'p, L::Label>,
     gave: bool,
 ) -> Result<Step<'p, L::Label>, OutOfMemory>
     requires standing { Standing L.made L.meaning labels.old machine.old.stack machine.old.world (given gave) (scopes_of machine.old.stack.tasks) (handed gave) }
-    ensures stepped { (tables : Tables) (inputs : Given) → IfOk result (Stepped L.made L.meaning labels.new tables inputs (λ reading. outlook tables inputs reading machine.old (handed gave)) (ahead machine.old (handed gave)) machine.new) }
+    requires room { length policy.now.origins ≤ L.room labels.old }
+    ensures stepped { (inputs : Given) (functions : List FunctionCode) → IfOk result (Stepped L.made L.meaning labels.new policy.now inputs functions (λ reading. outlook policy.now inputs functions reading machine.old (handed gave)) (ahead machine.old (handed gave)) machine.new) }
     ensures grows { Grows machine.old.world machine.new.world }
     ensures kept { IsKept L.made L.meaning L.room L.firm labels.old labels.new }
 {
     match machine.stack.next_work() {
         None => Ok(Step::Ends(Ending::Done)),
-        Some(work) => resumed(alloc, labels, machine, work, gave),
+        Some(work) => proceed(alloc, labels, policy, machine, work, gave),
     }
+}
+
+// Work that was taken goes on, or is a directive.
+fn proceed<'p, L: Labels>(
+    alloc: Global,
+    labels: &mut L,
+    policy: &Policy,
+    machine: &mut Machine<'p, L::Label>,
+    work: Work<'p>,
+    gave: bool,
+) -> Result<Step<'p, L::Label>, OutOfMemory>
+    requires standing { Standing L.made L.meaning labels.old machine.old.stack machine.old.world (owns work + given gave) (scopes_of machine.old.stack.tasks ++ scope_of work) next.Value }
+    requires room { length policy.now.origins ≤ L.room labels.old }
+    ensures stepped { (inputs : Given) (functions : List FunctionCode) → IfOk result (Stepped L.made L.meaning labels.new policy.now inputs functions (λ reading. outlook_after policy.now inputs functions reading machine.old work.entry (completion_above policy.now inputs functions reading machine.old work.entry)) (ahead machine.old next.Value + weight work.entry) machine.new) }
+    ensures grows { Grows machine.old.world machine.new.world }
+    ensures kept { IsKept L.made L.meaning L.room L.firm labels.old labels.new }
+{
+    match work {
+        Work::Raise(e) => raised(alloc, labels, policy, machine, e, gave),
+        other => resumed(alloc, labels, machine, other, gave),
+    }
+}
+
+// A directive is obeyed.
+fn raised<'p, L: Labels>(
+    alloc: Global,
+    labels: &mut L,
+    policy: &Policy,
+    machine: &mut Machine<'p, L::Label>,
+    e: &'p Expr,
+    gave: bool,
+) -> Result<Step<'p, L::Label>, OutOfMemory>
+    requires standing { Standing L.made L.meaning labels.old machine.old.stack machine.old.world (given gave) (scopes_of machine.old.stack.tasks) next.Value }
+    requires room { length policy.now.origins ≤ L.room labels.old }
+    ensures stepped { (inputs : Given) (functions : List FunctionCode) → IfOk result (Stepped L.made L.meaning labels.new policy.now inputs functions (λ reading. outlook_after policy.now inputs functions reading machine.old (work.Raise e.entry) (completion_above policy.now inputs functions reading machine.old (work.Raise e.entry))) (ahead machine.old next.Value + 1) machine.new) }
+    ensures grows { Grows machine.old.world machine.new.world }
+    ensures kept { IsKept L.made L.meaning L.room L.firm labels.old labels.new }
+{
+    let world = &mut machine.world;
+    let stack = &mut machine.stack;
+    let moved = raise_on(alloc, labels, policy, world, stack, e, gave);
+    step_of(moved)
 }
 
 // Work that was taken goes on.
@@ -132,51 +191,58 @@ fn resumed<'p, L: Labels>(
     work: Work<'p>,
     gave: bool,
 ) -> Result<Step<'p, L::Label>, OutOfMemory>
+    requires obeys { raises work ≡ false }
     requires standing { Standing L.made L.meaning labels.old machine.old.stack machine.old.world (owns work + given gave) (scopes_of machine.old.stack.tasks ++ scope_of work) next.Value }
-    ensures stepped { (tables : Tables) (inputs : Given) → IfOk result (Stepped L.made L.meaning labels.new tables inputs (λ reading. outlook_after tables inputs reading machine.old work.entry (completion_above tables inputs reading machine.old work.entry)) (ahead machine.old next.Value + weight work.entry) machine.new) }
+    ensures stepped { (tables : Tables) (inputs : Given) (functions : List FunctionCode) → IfOk result (Stepped L.made L.meaning labels.new tables inputs functions (λ reading. outlook_after tables inputs functions reading machine.old work.entry (completion_above tables inputs functions reading machine.old work.entry)) (ahead machine.old next.Value + weight work.entry) machine.new) }
     ensures grows { Grows machine.old.world machine.new.world }
     ensures kept { IsKept L.made L.meaning L.room L.firm labels.old labels.new }
 {
-    let moved = resume(
-        alloc,
-        labels,
-        &mut machine.world,
-        &mut machine.stack,
-        work,
-        gave,
-    );
+    let world = &mut machine.world;
+    let stack = &mut machine.stack;
+    let moved = resume(alloc, labels, world, stack, work, gave);
     step_of(moved)
 }
 
-// What is thrown passes the work that waits next, or leaves the script where none waits.
-fn throw_on<'p, L: Labels>(
+// A jump passes the work that waits next, or leaves the script where none waits.
+fn jump_on<'p, L: Labels>(
+    alloc: Global,
     labels: &mut L,
     machine: &mut Machine<'p, L::Label>,
+    jump: Jump,
 ) -> Result<Step<'p, L::Label>, OutOfMemory>
-    requires standing { Standing L.made L.meaning labels.old machine.old.stack machine.old.world 1 (scopes_of machine.old.stack.tasks) next.Throws }
-    ensures stepped { (tables : Tables) (inputs : Given) → IfOk result (Stepped L.made L.meaning labels.new tables inputs (λ reading. outlook tables inputs reading machine.old next.Throws) (ahead machine.old next.Throws) machine.new) }
+    requires standing { Standing L.made L.meaning labels.old machine.old.stack machine.old.world 1 (scopes_of machine.old.stack.tasks) (next.Jumps jump) }
+    ensures stepped { (tables : Tables) (inputs : Given) (functions : List FunctionCode) → IfOk result (Stepped L.made L.meaning labels.new tables inputs functions (λ reading. outlook tables inputs functions reading machine.old (next.Jumps jump)) (ahead machine.old (next.Jumps jump)) machine.new) }
     ensures grows { Grows machine.old.world machine.new.world }
     ensures kept { IsKept L.made L.meaning L.room L.firm labels.old labels.new }
 {
     match machine.stack.next_work() {
         None => Ok(Step::Ends(Ending::Threw(machine.stack.pop()))),
-        Some(work) => passed(labels, machine, work),
+        Some(work) => passed(alloc, labels, machine, jump, work),
     }
 }
 
-// What is thrown passes work that was taken.
+// A jump passes work that was taken.
 fn passed<'p, L: Labels>(
+    alloc: Global,
     labels: &mut L,
     machine: &mut Machine<'p, L::Label>,
+    jump: Jump,
     work: Work<'p>,
 ) -> Result<Step<'p, L::Label>, OutOfMemory>
-    requires standing { Standing L.made L.meaning labels.old machine.old.stack machine.old.world (owns work + 1) (scopes_of machine.old.stack.tasks ++ scope_of work) next.Throws }
-    ensures stepped { (tables : Tables) (inputs : Given) (value : Labelled L.Label) → drop (owns work.entry) machine.old.stack.loose ≡ value ∷ [] → IfOk result (Stepped L.made L.meaning labels.new tables inputs (λ reading. outlook_after tables inputs reading machine.old work.entry (jumped (thrown reading value))) (ahead machine.old next.Throws + weight work.entry) machine.new) }
+    requires standing { Standing L.made L.meaning labels.old machine.old.stack machine.old.world (owns work + 1) (scopes_of machine.old.stack.tasks ++ scope_of work) (next.Jumps jump) }
+    ensures stepped { (tables : Tables) (inputs : Given) (functions : List FunctionCode) (value : Labelled L.Label) → drop (owns work.entry) machine.old.stack.loose ≡ value ∷ [] → IfOk result (Stepped L.made L.meaning labels.new tables inputs functions (λ reading. outlook_after tables inputs functions reading machine.old work.entry (jumped (jump_of jump (read_value reading value)))) (ahead machine.old (next.Jumps jump) + weight work.entry) machine.new) }
     ensures grows { Grows machine.old.world machine.new.world }
     ensures kept { IsKept L.made L.meaning L.room L.firm labels.old labels.new }
 {
-    let next = pass_work(labels, &mut machine.world, &mut machine.stack, work)?;
-    Ok(Step::Goes(next))
+    let moved = pass_work(
+        alloc,
+        labels,
+        &mut machine.world,
+        &mut machine.stack,
+        jump,
+        work,
+    );
+    step_of(moved)
 }
 
 // An expression is evaluated at once, or entered.
@@ -187,7 +253,7 @@ fn begin_expr<'p, L: Labels>(
     e: &'p Expr,
 ) -> Result<Step<'p, L::Label>, OutOfMemory>
     requires standing { Standing L.made L.meaning labels.old machine.old.stack machine.old.world 0 (scopes_of machine.old.stack.tasks) (next.Expr e) }
-    ensures stepped { (tables : Tables) (inputs : Given) → IfOk result (Stepped L.made L.meaning labels.new tables inputs (λ reading. outlook tables inputs reading machine.old (next.Expr e.entry)) (ahead machine.old (next.Expr e.entry)) machine.new) }
+    ensures stepped { (tables : Tables) (inputs : Given) (functions : List FunctionCode) → IfOk result (Stepped L.made L.meaning labels.new tables inputs functions (λ reading. outlook tables inputs functions reading machine.old (next.Expr e.entry)) (ahead machine.old (next.Expr e.entry)) machine.new) }
     ensures grows { Grows machine.old.world machine.new.world }
     ensures kept { IsKept L.made L.meaning L.room L.firm labels.old labels.new }
 {
@@ -207,11 +273,12 @@ fn begin_value<'p, L: Labels>(
     e: &'p Expr,
 ) -> Result<Step<'p, L::Label>, OutOfMemory>
     requires standing { Standing L.made L.meaning labels.old machine.old.stack machine.old.world 0 (scopes_of machine.old.stack.tasks) (next.Expr e) }
-    ensures stepped { (tables : Tables) (inputs : Given) → IfOk result (Stepped L.made L.meaning labels.new tables inputs (λ reading. outlook tables inputs reading machine.old (next.Expr e.entry)) (ahead machine.old (next.Expr e.entry)) machine.new) }
+    ensures stepped { (tables : Tables) (inputs : Given) (functions : List FunctionCode) → IfOk result (Stepped L.made L.meaning labels.new tables inputs functions (λ reading. outlook tables inputs functions reading machine.old (next.Expr e.entry)) (ahead machine.old (next.Expr e.entry)) machine.new) }
     ensures grows { Grows machine.old.world machine.new.world }
     ensures kept { IsKept L.made L.meaning L.room L.firm labels.old labels.new }
 {
-    let Some(found) = evaluate(labels, &machine.world, OUTERMOST, machine.turns, e) else {
+    let place = present(&machine.world, &machine.stack)?;
+    let Some(found) = evaluate(labels, &machine.world, place, machine.turns, e) else {
         return enter_part(alloc, labels, machine, Next::Expr(e));
     };
     machine.turns = found.turns;
@@ -227,11 +294,12 @@ fn begin_assignment<'p, L: Labels>(
     e: &'p Expr,
 ) -> Result<Step<'p, L::Label>, OutOfMemory>
     requires standing { Standing L.made L.meaning labels.old machine.old.stack machine.old.world 0 (scopes_of machine.old.stack.tasks) (next.Expr e) }
-    ensures stepped { (tables : Tables) (inputs : Given) → IfOk result (Stepped L.made L.meaning labels.new tables inputs (λ reading. outlook tables inputs reading machine.old (next.Expr e.entry)) (ahead machine.old (next.Expr e.entry)) machine.new) }
+    ensures stepped { (tables : Tables) (inputs : Given) (functions : List FunctionCode) → IfOk result (Stepped L.made L.meaning labels.new tables inputs functions (λ reading. outlook tables inputs functions reading machine.old (next.Expr e.entry)) (ahead machine.old (next.Expr e.entry)) machine.new) }
     ensures grows { Grows machine.old.world machine.new.world }
     ensures kept { IsKept L.made L.meaning L.room L.firm labels.old labels.new }
 {
-    let Some(found) = assign(labels, &mut machine.world, OUTERMOST, machine.turns, e) else {
+    let place = present(&machine.world, &machine.stack)?;
+    let Some(found) = assign(labels, &mut machine.world, place, machine.turns, e) else {
         return enter_part(alloc, labels, machine, Next::Expr(e));
     };
     machine.turns = found.turns;
@@ -247,11 +315,12 @@ fn begin_stmt<'p, L: Labels>(
     s: &'p Stmt,
 ) -> Result<Step<'p, L::Label>, OutOfMemory>
     requires standing { Standing L.made L.meaning labels.old machine.old.stack machine.old.world 0 (scopes_of machine.old.stack.tasks) (next.Stmt s) }
-    ensures stepped { (tables : Tables) (inputs : Given) → IfOk result (Stepped L.made L.meaning labels.new tables inputs (λ reading. outlook tables inputs reading machine.old (next.Stmt s.entry)) (ahead machine.old (next.Stmt s.entry)) machine.new) }
+    ensures stepped { (tables : Tables) (inputs : Given) (functions : List FunctionCode) → IfOk result (Stepped L.made L.meaning labels.new tables inputs functions (λ reading. outlook tables inputs functions reading machine.old (next.Stmt s.entry)) (ahead machine.old (next.Stmt s.entry)) machine.new) }
     ensures grows { Grows machine.old.world machine.new.world }
     ensures kept { IsKept L.made L.meaning L.room L.firm labels.old labels.new }
 {
-    let Some(left) = finish(labels, &mut machine.world, OUTERMOST, machine.turns, s) else {
+    let place = present(&machine.world, &machine.stack)?;
+    let Some(left) = finish(labels, &mut machine.world, place, machine.turns, s) else {
         return enter_part(alloc, labels, machine, Next::Stmt(s));
     };
     machine.turns = left;
@@ -267,7 +336,7 @@ fn enter_part<'p, L: Labels>(
 ) -> Result<Step<'p, L::Label>, OutOfMemory>
     requires enters { enters_part next ≡ true }
     requires standing { Standing L.made L.meaning labels.old machine.old.stack machine.old.world (values_of next) (scopes_of machine.old.stack.tasks) next }
-    ensures stepped { (tables : Tables) (inputs : Given) → IfOk result (Stepped L.made L.meaning labels.new tables inputs (λ reading. outlook tables inputs reading machine.old next.entry) (ahead machine.old next.entry) machine.new) }
+    ensures stepped { (tables : Tables) (inputs : Given) (functions : List FunctionCode) → IfOk result (Stepped L.made L.meaning labels.new tables inputs functions (λ reading. outlook tables inputs functions reading machine.old next.entry) (ahead machine.old next.entry) machine.new) }
     ensures grows { Grows machine.old.world machine.new.world }
     ensures kept { IsKept L.made L.meaning L.room L.firm labels.old labels.new }
 {
@@ -288,11 +357,36 @@ fn begin_work<'p, L: Labels>(
 ) -> Result<Step<'p, L::Label>, OutOfMemory>
     requires begins { begins_work next ≡ true }
     requires standing { Standing L.made L.meaning labels.old machine.old.stack machine.old.world (values_of next) (scopes_of machine.old.stack.tasks) next }
-    ensures stepped { (tables : Tables) (inputs : Given) → IfOk result (Stepped L.made L.meaning labels.new tables inputs (λ reading. outlook tables inputs reading machine.old next.entry) (ahead machine.old next.entry) machine.new) }
+    ensures stepped { (tables : Tables) (inputs : Given) (functions : List FunctionCode) → IfOk result (Stepped L.made L.meaning labels.new tables inputs functions (λ reading. outlook tables inputs functions reading machine.old next.entry) (ahead machine.old next.entry) machine.new) }
     ensures grows { Grows machine.old.world machine.new.world }
     ensures kept { IsKept L.made L.meaning L.room L.firm labels.old labels.new }
 {
     let moved = begin_move(alloc, labels, &mut machine.world, &mut machine.stack, next);
+    step_of(moved)
+}
+
+// A value is called, makes an object, or is made of a function of the script.
+fn begin_call<'p, L: Labels>(
+    alloc: Global,
+    labels: &mut L,
+    functions: &Functions<'p>,
+    machine: &mut Machine<'p, L::Label>,
+    next: Next<'p>,
+) -> Result<Step<'p, L::Label>, OutOfMemory>
+    requires calls { calls_function next ≡ true }
+    requires standing { Standing L.made L.meaning labels.old machine.old.stack machine.old.world (values_of next) (scopes_of machine.old.stack.tasks) next }
+    ensures stepped { (tables : Tables) (inputs : Given) → IfOk result (Stepped L.made L.meaning labels.new tables inputs (table functions.now) (λ reading. outlook tables inputs (table functions.now) reading machine.old next.entry) (ahead machine.old next.entry) machine.new) }
+    ensures grows { Grows machine.old.world machine.new.world }
+    ensures kept { IsKept L.made L.meaning L.room L.firm labels.old labels.new }
+{
+    let moved = begin_calling(
+        alloc,
+        labels,
+        &mut machine.world,
+        functions,
+        &mut machine.stack,
+        next,
+    );
     step_of(moved)
 }
 
@@ -310,7 +404,7 @@ fn call_function<'p, L: Labels>(
     requires room { length policy.now.origins ≤ L.room labels.old }
     requires given { IsGivenTo policy.now inputs.now }
     requires positions { length machine.old.world.positions.items ≡ length policy.now.inputs }
-    ensures stepped { IfOk result (Stepped L.made L.meaning labels.new policy.now inputs.now (λ reading. outlook policy.now inputs.now reading machine.old (next.Direct function count)) (ahead machine.old (next.Direct function count)) machine.new) }
+    ensures stepped { (functions : List FunctionCode) → IfOk result (Stepped L.made L.meaning labels.new policy.now inputs.now functions (λ reading. outlook policy.now inputs.now functions reading machine.old (next.Direct function count)) (ahead machine.old (next.Direct function count)) machine.new) }
     ensures grows { Grows machine.old.world machine.new.world }
     ensures kept { IsKept L.made L.meaning L.room L.firm labels.old labels.new }
 {

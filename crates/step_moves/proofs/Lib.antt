@@ -4,6 +4,7 @@ pub mod Settled
 pub mod Parted
 pub mod Resumed
 pub mod Begun
+pub mod CalledLaws
 pub mod Kept
 pub mod Rows
 pub mod VariableLaws

@@ -7,6 +7,7 @@ use Rattle.origin_labels.specs.Label.{Label}
 use Rattle.origin_labels.specs.Stores.{IsKept}
 use Rattle.flow_policy.specs.Policies.{Tables}
 use Rattle.flow_policy.specs.Inputs.{Given}
+use Rattle.js_ast.specs.Functions.{FunctionCode}
 use Rattle.flow_frames.specs.declared.faults.FlowFault.{FlowFault}
 use Rattle.flow_frames.specs.declared.faults.FlowFault.TheVariants as fault
 use Rattle.js_values.specs.declared.value.Labelled.{Labelled}
@@ -32,7 +33,8 @@ use Rattle.step_work.specs.Resuming.{coming}
 use Rattle.step_work.proofs.Handed.{behind_end}
 use Rattle.step_moves.specs.declared.settling.Went.{Went}
 use Rattle.step_moves.specs.declared.settling.Went.TheVariants as went
-use Rattle.step_moves.specs.Moving.{Moves, Parts, Rests, Stands, BeginsAt, BeginsWith, Planning, following}
+use Rattle.step_work.specs.Moving.{Moves, Rests, Stands, BeginsAt, BeginsWith, Planning, following}
+use Rattle.step_moves.specs.Moving.{Parts}
 use Rattle.step_moves.proofs.Loose.{only}
 use Rattle.step_moves.proofs.Settled.{moves_as}
 
@@ -58,12 +60,12 @@ cleared_alone old new tasks none = ap₂ stack_of tasks none
 
 -- as many frames as before, and then what another call leaves of them
 stands_level : {T : Type 0} (old middle new : World T) → length middle.frames.frames ≡ length old.frames.frames → (move : Next) → Stands middle new move → Stands old new move
-stands_level old middle new same next.Throws stands = subst (λ n. length new.frames.frames ≤ n) same stands
+stands_level old middle new same (next.Jumps j) stands = subst (λ n. length new.frames.frames ≤ n) same stands
 stands_level old middle new same move stands = stands ∙ same
 
 -- a world that no call changes has as many frames as before
 stands_same : {T : Type 0} (world : World T) (move : Next) → Stands world world move
-stands_same world next.Throws = omega arith
+stands_same world (next.Jumps j) = omega arith
 stands_same world move = refl
 
 pub stands_unchanged : {T : Type 0} (world : World T) (result : Result Next (FlowFault T)) → IfOk result (Stands world world)
@@ -129,85 +131,85 @@ module _ {X T : Type 0} where
   stands_off world_old world_new old new (Ok (came.Leaves why)) move stands parts = subst (Stands world_old world_new) (sym parts.0) stands
   stands_off world_old world_new old new (Err f) move stands parts = absurd parts
 
-  module _ {Y : Type 0} (read : X → Y) (tables : Tables) (inputs : Given) (reading : T → Label) (e : Env ℕ) (s : State) (outcome : Outcome Halt Jump Y State) (k : Y → State → Plan) where
+  module _ {Y : Type 0} (read : X → Y) (tables : Tables) (inputs : Given) (functions : List FunctionCode) (reading : T → Label) (e : Env ℕ) (s : State) (outcome : Outcome Halt Jump Y State) (k : Y → State → Plan) where
     -- what follows is passed
     pub moves_off : (old new : Kept T) (answer : Result (Came X T) (FlowFault T)) (move : Next) → Says read reading outcome s answer → Parts old new answer (Ok (went.Off move))
-        → coming tables inputs reading new move e s ≡ behind tables inputs reading old.tasks e (following outcome k)
+        → coming tables inputs functions reading new move e s ≡ behind tables inputs functions reading old.tasks e (following outcome k)
     moves_off old new (Ok (came.Goes x)) move says parts = absurd parts
     moves_off old new (Ok (came.Throws v)) move says parts =
-        ap (λ (n : Kept T). coming tables inputs reading n move e s) parts.1
-        ∙ ap (λ m. coming tables inputs reading (record { tasks = old.tasks; loose = v ∷ [] }) m e s) parts.0
-        ∙ ap (λ (o : Outcome Halt Jump Y State). behind tables inputs reading old.tasks e (following o k)) (sym says)
+        ap (λ (n : Kept T). coming tables inputs functions reading n move e s) parts.1
+        ∙ ap (λ m. coming tables inputs functions reading (record { tasks = old.tasks; loose = v ∷ [] }) m e s) parts.0
+        ∙ ap (λ (o : Outcome Halt Jump Y State). behind tables inputs functions reading old.tasks e (following o k)) (sym says)
     moves_off old new (Ok (came.Leaves why)) move says parts =
-        ap (λ (n : Kept T). coming tables inputs reading n move e s) parts.1
-        ∙ ap (λ m. coming tables inputs reading (record { tasks = old.tasks; loose = [] }) m e s) parts.0
-        ∙ ap (λ (o : Outcome Halt Jump Y State). behind tables inputs reading old.tasks e (following o k)) (sym says)
+        ap (λ (n : Kept T). coming tables inputs functions reading n move e s) parts.1
+        ∙ ap (λ m. coming tables inputs functions reading (record { tasks = old.tasks; loose = [] }) m e s) parts.0
+        ∙ ap (λ (o : Outcome Halt Jump Y State). behind tables inputs functions reading old.tasks e (following o k)) (sym says)
     moves_off old new (Err f) move says parts = absurd parts
 
-    moves_fault : (old new : Kept T) (f : FlowFault T) → Says read reading outcome s (Err f) → Moves tables inputs reading new e s (behind tables inputs reading old.tasks e (following outcome k)) (Err f)
+    moves_fault : (old new : Kept T) (f : FlowFault T) → Says read reading outcome s (Err f) → Moves tables inputs functions reading new e s (behind tables inputs functions reading old.tasks e (following outcome k)) (Err f)
     moves_fault old new (fault.Stop stop) says =
-        sym (behind_end tables inputs reading old.tasks e (stopped stop.rule (reading stop.need) (reading stop.have)) s) ∙ ap (λ (o : Outcome Halt Jump Y State). behind tables inputs reading old.tasks e (following o k)) (sym says)
+        sym (behind_end tables inputs functions reading old.tasks e (stopped stop.rule (reading stop.need) (reading stop.have)) s) ∙ ap (λ (o : Outcome Halt Jump Y State). behind tables inputs functions reading old.tasks e (following o k)) (sym says)
     moves_fault old new fault.OutOfMemory says = tt
 
-    moves_failed : (old between new : Kept T) (answer : Result (Came X T) (FlowFault T)) (g : FlowFault T) → Says read reading outcome s answer → Parts old between answer (Err g) → Moves tables inputs reading new e s (behind tables inputs reading old.tasks e (following outcome k)) (Err g)
-    moves_failed old between new (Ok answer) g says parts = subst (λ (h : FlowFault T). Moves tables inputs reading new e s (behind tables inputs reading old.tasks e (following outcome k)) (Err h)) (sym parts) tt
-    moves_failed old between new (Err f) g says parts = subst (λ (h : FlowFault T). Moves tables inputs reading new e s (behind tables inputs reading old.tasks e (following outcome k)) (Err h)) (sym parts) (moves_fault old new f says)
+    moves_failed : (old between new : Kept T) (answer : Result (Came X T) (FlowFault T)) (g : FlowFault T) → Says read reading outcome s answer → Parts old between answer (Err g) → Moves tables inputs functions reading new e s (behind tables inputs functions reading old.tasks e (following outcome k)) (Err g)
+    moves_failed old between new (Ok answer) g says parts = subst (λ (h : FlowFault T). Moves tables inputs functions reading new e s (behind tables inputs functions reading old.tasks e (following outcome k)) (Err h)) (sym parts) tt
+    moves_failed old between new (Err f) g says parts = subst (λ (h : FlowFault T). Moves tables inputs functions reading new e s (behind tables inputs functions reading old.tasks e (following outcome k)) (Err h)) (sym parts) (moves_fault old new f says)
 
     -- a `?` hands on the fault
     pub moves_err : (old between new : Kept T) (answer : Result (Came X T) (FlowFault T)) (g : FlowFault T) (result : Result Next (FlowFault T)) → Says read reading outcome s answer → Parts old between answer (Err g) → IsErrAnd result (λ h. h ≡ g)
-        → Moves tables inputs reading new e s (behind tables inputs reading old.tasks e (following outcome k)) result
+        → Moves tables inputs functions reading new e s (behind tables inputs functions reading old.tasks e (following outcome k)) result
     moves_err old between new answer g (Ok x) says parts is = absurd is
-    moves_err old between new answer g (Err h) says parts is = subst (λ (i : FlowFault T). Moves tables inputs reading new e s (behind tables inputs reading old.tasks e (following outcome k)) (Err i)) (sym is) (moves_failed old between new answer g says parts)
+    moves_err old between new answer g (Err h) says parts is = subst (λ (i : FlowFault T). Moves tables inputs functions reading new e s (behind tables inputs functions reading old.tasks e (following outcome k)) (Err i)) (sym is) (moves_failed old between new answer g says parts)
 
 -- ---- calls: a plan is an act and what follows it
 
-module _ {S T X Y : Type 0} (made : S → T → Type 0) (meaning : S → T → Label) (store : S) (read : (T → Label) → X → Y) (plan : Planning T) (act : Tables → Given → (T → Label) → L Y) (k : Tables → Given → (T → Label) → Env ℕ → Y → State → Plan)
-    (same : (tables : Tables) (inputs : Given) (reading : T → Label) (f : Env ℕ) (s : State) → plan tables inputs reading f s ≡ following (act tables inputs reading s) (k tables inputs reading f)) (old : Kept T) (world_old world_new : World T) where
+module _ {S T X Y : Type 0} (made : S → T → Type 0) (meaning : S → T → Label) (store : S) (read : (T → Label) → X → Y) (plan : Planning T) (act : Tables → Given → List FunctionCode → (T → Label) → L Y) (k : Tables → Given → List FunctionCode → (T → Label) → Env ℕ → Y → State → Plan)
+    (same : (tables : Tables) (inputs : Given) (functions : List FunctionCode) (reading : T → Label) (f : Env ℕ) (s : State) → plan tables inputs functions reading f s ≡ following (act tables inputs functions reading s) (k tables inputs functions reading f)) (old : Kept T) (world_old world_new : World T) where
   -- it goes on, and a call in a later store does the rest
   pub begun_on_at : (place : ℕ) (room : S → ℕ) (firm : S → Bool) (later : S) → IsKept made meaning room firm store later → (middle between new : Kept T) (world_last : World T) (answer : Result (Came X T) (FlowFault T)) (x : X) (result : Result Next (FlowFault T)) → middle.tasks ≡ old.tasks
-      → ((tables : Tables) (inputs : Given) → Acts made meaning store read (act tables inputs) world_old world_new answer) → Parts middle between answer (Ok (went.On x))
-      → BeginsAt made meaning later place (λ tables inputs reading f. k tables inputs reading f (read reading x)) between new world_new world_last result
+      → ((tables : Tables) (inputs : Given) (functions : List FunctionCode) → Acts made meaning store read (act tables inputs functions) world_old world_new answer) → Parts middle between answer (Ok (went.On x))
+      → BeginsAt made meaning later place (λ tables inputs functions reading f. k tables inputs functions reading f (read reading x)) between new world_new world_last result
       → BeginsAt made meaning later place plan old new world_old world_last result
-  begun_on_at place room firm later kept middle between new world_last answer x result tasks acts parts begins tables inputs reading e told turns is at =
+  begun_on_at place room firm later kept middle between new world_last answer x result tasks acts parts begins tables inputs functions reading e told turns is at =
       let s = state_of reading world_old told turns in
       let t = state_of reading world_new told turns in
       let earlier = IsReading-earlier made meaning room firm store later reading kept is in
       let part = part_on middle between answer x parts in
       let same_tasks : between.tasks ≡ old.tasks = ap (λ (m : Kept T). m.tasks) part.1 ∙ tasks in
-      let says : act tables inputs reading s ≡ Goes (read reading x) t = subst (λ a. Says (read reading) reading (act tables inputs reading s) t a) part.0 ((acts tables inputs).says reading earlier told turns) in
-      moves_as tables inputs reading new e (state_of reading world_last told turns) (behind tables inputs reading between.tasks e (k tables inputs reading (env_above between.tasks e) (read reading x) t)) (behind tables inputs reading old.tasks e (plan tables inputs reading (env_above old.tasks e) s)) result
-      (ap (λ ts. behind tables inputs reading ts e (k tables inputs reading (env_above ts e) (read reading x) t)) same_tasks
-      ∙ ap (λ (o : Outcome Halt Jump Y State). behind tables inputs reading old.tasks e (following o (k tables inputs reading (env_above old.tasks e)))) (sym says)
-      ∙ ap (λ p. behind tables inputs reading old.tasks e p) (sym (same tables inputs reading (env_above old.tasks e) s)))
-      (begins tables inputs reading e told turns is (ap (λ ts. (env_above ts e).place) same_tasks ∙ at))
+      let says : act tables inputs functions reading s ≡ Goes (read reading x) t = subst (λ a. Says (read reading) reading (act tables inputs functions reading s) t a) part.0 ((acts tables inputs functions).says reading earlier told turns) in
+      moves_as tables inputs functions reading new e (state_of reading world_last told turns) (behind tables inputs functions reading between.tasks e (k tables inputs functions reading (env_above between.tasks e) (read reading x) t)) (behind tables inputs functions reading old.tasks e (plan tables inputs functions reading (env_above old.tasks e) s)) result
+      (ap (λ ts. behind tables inputs functions reading ts e (k tables inputs functions reading (env_above ts e) (read reading x) t)) same_tasks
+      ∙ ap (λ (o : Outcome Halt Jump Y State). behind tables inputs functions reading old.tasks e (following o (k tables inputs functions reading (env_above old.tasks e)))) (sym says)
+      ∙ ap (λ p. behind tables inputs functions reading old.tasks e p) (sym (same tables inputs functions reading (env_above old.tasks e) s)))
+      (begins tables inputs functions reading e told turns is (ap (λ ts. (env_above ts e).place) same_tasks ∙ at))
 
   pub begun_on : (room : S → ℕ) (firm : S → Bool) (later : S) → IsKept made meaning room firm store later → (middle between new : Kept T) (world_last : World T) (answer : Result (Came X T) (FlowFault T)) (x : X) (result : Result Next (FlowFault T)) → middle.tasks ≡ old.tasks
-      → ((tables : Tables) (inputs : Given) → Acts made meaning store read (act tables inputs) world_old world_new answer) → Parts middle between answer (Ok (went.On x))
-      → BeginsWith made meaning later (λ tables inputs reading f. k tables inputs reading f (read reading x)) between new world_new world_last result
+      → ((tables : Tables) (inputs : Given) (functions : List FunctionCode) → Acts made meaning store read (act tables inputs functions) world_old world_new answer) → Parts middle between answer (Ok (went.On x))
+      → BeginsWith made meaning later (λ tables inputs functions reading f. k tables inputs functions reading f (read reading x)) between new world_new world_last result
       → BeginsWith made meaning later plan old new world_old world_last result
-  begun_on room firm later kept middle between new world_last answer x result tasks acts parts begins tables inputs reading e told turns is =
-      begun_on_at (env_above old.tasks e).place room firm later kept middle between new world_last answer x result tasks acts parts (λ ts gs g f l n read_is at. begins ts gs g f l n read_is) tables inputs reading e told turns is refl
+  begun_on room firm later kept middle between new world_last answer x result tasks acts parts begins tables inputs functions reading e told turns is =
+      begun_on_at (env_above old.tasks e).place room firm later kept middle between new world_last answer x result tasks acts parts (λ ts gs fs g f l n read_is at. begins ts gs fs g f l n read_is) tables inputs functions reading e told turns is refl
 
   -- it doesn't
   pub begun_off : (middle new : Kept T) (answer : Result (Came X T) (FlowFault T)) (move : Next) → middle.tasks ≡ old.tasks
-      → ((tables : Tables) (inputs : Given) → Acts made meaning store read (act tables inputs) world_old world_new answer) → Parts middle new answer (Ok (went.Off move))
+      → ((tables : Tables) (inputs : Given) (functions : List FunctionCode) → Acts made meaning store read (act tables inputs functions) world_old world_new answer) → Parts middle new answer (Ok (went.Off move))
       → BeginsWith made meaning store plan old new world_old world_new (Ok move)
-  begun_off middle new answer move tasks acts parts tables inputs reading e told turns is =
+  begun_off middle new answer move tasks acts parts tables inputs functions reading e told turns is =
       let s = state_of reading world_old told turns in
       let t = state_of reading world_new told turns in
       let f = env_above old.tasks e in
-      moves_off (read reading) tables inputs reading e t (act tables inputs reading s) (k tables inputs reading f) middle new answer move ((acts tables inputs).says reading is told turns) parts
-      ∙ ap (λ ts. behind tables inputs reading ts e (following (act tables inputs reading s) (k tables inputs reading f))) tasks
-      ∙ ap (λ p. behind tables inputs reading old.tasks e p) (sym (same tables inputs reading f s))
+      moves_off (read reading) tables inputs functions reading e t (act tables inputs functions reading s) (k tables inputs functions reading f) middle new answer move ((acts tables inputs functions).says reading is told turns) parts
+      ∙ ap (λ ts. behind tables inputs functions reading ts e (following (act tables inputs functions reading s) (k tables inputs functions reading f))) tasks
+      ∙ ap (λ p. behind tables inputs functions reading old.tasks e p) (sym (same tables inputs functions reading f s))
 
   pub begun_err : (middle between new : Kept T) (answer : Result (Came X T) (FlowFault T)) (g : FlowFault T) (result : Result Next (FlowFault T)) → middle.tasks ≡ old.tasks
-      → ((tables : Tables) (inputs : Given) → Acts made meaning store read (act tables inputs) world_old world_new answer) → Parts middle between answer (Err g) → IsErrAnd result (λ h. h ≡ g)
+      → ((tables : Tables) (inputs : Given) (functions : List FunctionCode) → Acts made meaning store read (act tables inputs functions) world_old world_new answer) → Parts middle between answer (Err g) → IsErrAnd result (λ h. h ≡ g)
       → BeginsWith made meaning store plan old new world_old world_new result
-  begun_err middle between new answer g result tasks acts parts failed tables inputs reading e told turns is =
+  begun_err middle between new answer g result tasks acts parts failed tables inputs functions reading e told turns is =
       let s = state_of reading world_old told turns in
       let t = state_of reading world_new told turns in
       let f = env_above old.tasks e in
-      moves_as tables inputs reading new e t (behind tables inputs reading middle.tasks e (following (act tables inputs reading s) (k tables inputs reading f))) (behind tables inputs reading old.tasks e (plan tables inputs reading f s)) result
-      (ap (λ ts. behind tables inputs reading ts e (following (act tables inputs reading s) (k tables inputs reading f))) tasks
-      ∙ ap (λ p. behind tables inputs reading old.tasks e p) (sym (same tables inputs reading f s)))
-      (moves_err (read reading) tables inputs reading e t (act tables inputs reading s) (k tables inputs reading f) middle between new answer g result ((acts tables inputs).says reading is told turns) parts failed)
+      moves_as tables inputs functions reading new e t (behind tables inputs functions reading middle.tasks e (following (act tables inputs functions reading s) (k tables inputs functions reading f))) (behind tables inputs functions reading old.tasks e (plan tables inputs functions reading f s)) result
+      (ap (λ ts. behind tables inputs functions reading ts e (following (act tables inputs functions reading s) (k tables inputs functions reading f))) tasks
+      ∙ ap (λ p. behind tables inputs functions reading old.tasks e p) (sym (same tables inputs functions reading f s)))
+      (moves_err (read reading) tables inputs functions reading e t (act tables inputs functions reading s) (k tables inputs functions reading f) middle between new answer g result ((acts tables inputs functions).says reading is told turns) parts failed)

@@ -7,6 +7,7 @@ use Rattle.std.proofs.lemmas.Simd.{map-map}
 use Rattle.origin_labels.specs.Label.{Label}
 use Rattle.flow_policy.specs.Policies.{Tables}
 use Rattle.flow_policy.specs.Inputs.{Given}
+use Rattle.js_ast.specs.Functions.{FunctionCode}
 use Rattle.js_ast.specs.Keys.{key_text}
 use Rattle.js_ast.specs.declared.trees.Key.{Key}
 use Rattle.js_ast.specs.declared.trees.Property.{Property}
@@ -97,16 +98,16 @@ unfolding act make_object
 object_taken keys vs s =
     ap (with_rows s) (ap (λ ps. defined_all keys ps []) (sym (take-map (data_slot (context s.frames)) (length keys) vs)) ∙ defined_taken keys (map (data_slot (context s.frames)) vs) [])
 
-module _ (tables : Tables) (inputs : Given) (does : Act) (vs : List Val) (s : State) where
+module _ (tables : Tables) (inputs : Given) (functions : List FunctionCode) (does : Act) (vs : List Val) (s : State) where
   -- what stands behind so many isn't built
-  pub unbuilt_behind : (ps : List Property) (n : ℕ) → n < length ps → completed tables inputs does vs (view_properties (drop n ps)) s ≡ (planned tables inputs).unbuilt Value s
+  pub unbuilt_behind : (ps : List Property) (n : ℕ) → n < length ps → completed tables inputs functions does vs (view_properties (drop n ps)) s ≡ (planned tables inputs functions).unbuilt Value s
   unbuilt_behind [] n lt = absurd (omega (arith, lt))
   unbuilt_behind (p ∷ ps) zero lt = refl
   unbuilt_behind (p ∷ ps) (suc n) lt = unbuilt_behind ps n (omega (arith, lt))
 
   -- and where nothing does, the object is complete
-  pub complete_behind : (ps : List Property) (n : ℕ) → length ps ≤ n → completed tables inputs does vs (view_properties (drop n ps)) s ≡ (planned tables inputs).act does vs s
-  complete_behind ps n past = ap (λ qs. completed tables inputs does vs (view_properties qs) s) (drop_all n ps past)
+  pub complete_behind : (ps : List Property) (n : ℕ) → length ps ≤ n → completed tables inputs functions does vs (view_properties (drop n ps)) s ≡ (planned tables inputs functions).act does vs s
+  complete_behind ps n past = ap (λ qs. completed tables inputs functions does vs (view_properties qs) s) (drop_all n ps past)
 
 -- ---- rows of the properties
 

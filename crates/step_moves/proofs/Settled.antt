@@ -1,5 +1,5 @@
 -- Answers of acts, handed on to the pending work.
-use Rattle.std.proofs.Common.{refl, sym, ap, subst, ◌∙◌, ◌≡◌, ◌+◌, ◌≤◌, ℕ, [], ◌∷◌, ◌++◌, length, Result, Ok, Err, IfOk, append-nil}
+use Rattle.std.proofs.Common.{refl, sym, ap, subst, ◌∙◌, ◌≡◌, ◌+◌, ◌≤◌, ℕ, [], ◌∷◌, ◌++◌, length, Result, Ok, Err, IfOk, append-nil, List, arith}
 use Rattle.std.specs.List.{All}
 use Rattle.std.specs.Result.{IsErrAnd}
 use Rattle.std.proofs.lemmas.List.{nil_from_length}
@@ -7,6 +7,7 @@ use Rattle.std.proofs.lemmas.List.Elements.{All-append}
 use Rattle.origin_labels.specs.Label.{Label}
 use Rattle.flow_policy.specs.Policies.{Tables}
 use Rattle.flow_policy.specs.Inputs.{Given}
+use Rattle.js_ast.specs.Functions.{FunctionCode}
 use Rattle.flow_frames.specs.declared.faults.FlowFault.{FlowFault}
 use Rattle.flow_frames.specs.declared.faults.FlowFault.TheVariants as fault
 use Rattle.js_values.specs.declared.value.Labelled.{Labelled}
@@ -22,20 +23,20 @@ use Rattle.step_work.specs.Loads.{Adds, load, lift}
 use Rattle.step_work.specs.Pending.{behind, values_of}
 use Rattle.step_work.specs.Resuming.{Keeps}
 use Rattle.step_work.proofs.Handed.{behind_end}
-use Rattle.step_moves.specs.Moving.{Moves, Settles, Rests}
+use Rattle.step_work.specs.Moving.{Moves, Settles, Rests}
 use Rattle.step_moves.proofs.Loose.{only}
 
 module _ {T : Type 0} where
   -- another plan that is equal
-  pub moves_as : (tables : Tables) (inputs : Given) (reading : T → Label) (stack : Kept T) (e : Env ℕ) (s : State) (plan other : Plan) (result : Result Next (FlowFault T)) → plan ≡ other → Moves tables inputs reading stack e s plan result → Moves tables inputs reading stack e s other result
-  moves_as tables inputs reading stack e s plan other result same moves = subst (λ p. Moves tables inputs reading stack e s p result) same moves
+  pub moves_as : (tables : Tables) (inputs : Given) (functions : List FunctionCode) (reading : T → Label) (stack : Kept T) (e : Env ℕ) (s : State) (plan other : Plan) (result : Result Next (FlowFault T)) → plan ≡ other → Moves tables inputs functions reading stack e s plan result → Moves tables inputs functions reading stack e s other result
+  moves_as tables inputs functions reading stack e s plan other result same moves = subst (λ p. Moves tables inputs functions reading stack e s p result) same moves
 
   -- ---- an answer is handed on
 
   settled_fault : (old new : Kept T) (f : FlowFault T) → Settles old new (Err f) (Err f)
-  settled_fault old new (fault.Stop stop) tables inputs reading e s outcome says =
-      sym (behind_end tables inputs reading old.tasks e (stopped stop.rule (reading stop.need) (reading stop.have)) s) ∙ ap (λ (o : Outcome Halt Jump Val State). behind tables inputs reading old.tasks e (as_plan Value o)) (sym says)
-  settled_fault old new fault.OutOfMemory tables inputs reading e s outcome says = tt
+  settled_fault old new (fault.Stop stop) tables inputs functions reading e s outcome says =
+      sym (behind_end tables inputs functions reading old.tasks e (stopped stop.rule (reading stop.need) (reading stop.have)) s) ∙ ap (λ (o : Outcome Halt Jump Val State). behind tables inputs functions reading old.tasks e (as_plan Value o)) (sym says)
+  settled_fault old new fault.OutOfMemory tables inputs functions reading e s outcome says = tt
 
   -- a `?` hands on the fault
   pub settled_passes : (old new : Kept T) (f : FlowFault T) (result : Result Next (FlowFault T)) → IsErrAnd result (λ e. e ≡ f) → Settles old new (Err f) result
@@ -104,3 +105,11 @@ module _ {T : Type 0} (made : T → Type 0) where
 pub adds_popped : {T : Type 0} (n : ℕ) (old middle new : Kept T) (result : Result Next (FlowFault T)) → middle.tasks ≡ old.tasks → IfOk result (Adds n middle new) → IfOk result (Adds n old new)
 adds_popped n old middle new (Ok move) tasks adds = subst (λ ts. load new.tasks + lift move ≤ load ts + n) tasks adds
 adds_popped n old middle new (Err f) tasks adds = tt
+
+-- a call that adds so much adds no more than that
+pub adds_more : {T : Type 0} (n m : ℕ) (old new : Kept T) (move : Next) → n ≤ m → Adds n old new move → Adds m old new move
+adds_more n m old new move most adds = omega (arith, most, adds)
+
+pub adds_within : {T : Type 0} (n m : ℕ) (old new : Kept T) (result : Result Next (FlowFault T)) → n ≤ m → IfOk result (Adds n old new) → IfOk result (Adds m old new)
+adds_within n m old new (Ok move) most adds = adds_more n m old new move most adds
+adds_within n m old new (Err f) most adds = tt

@@ -2,6 +2,7 @@
 use Rattle.std.proofs.Common.{refl, ap, ◌∙◌, ◌≡◌, ℕ, List, [], ◌∷◌, Some, None}
 use Rattle.flow_policy.specs.Policies.{Tables}
 use Rattle.flow_policy.specs.Inputs.{Given}
+use Rattle.js_ast.specs.Functions.{FunctionCode}
 use Rattle.js_ast.specs.Trees.{Ident, Expr, MaybeExpr, absent, present}
 use Rattle.js_ast.specs.declared.trees.Expr as code
 use Rattle.js_ast.specs.declared.trees.Declaration.{Declaration, out-Declaration}
@@ -16,25 +17,25 @@ use Rattle.flow_meaning.specs.Scopes.{State}
 use Rattle.flow_meaning.specs.Planned.{Give, gave, planned, asking}
 use Rattle.step_moves.specs.Variables.{Variable, first_given, initialised}
 
-module _ (tables : Tables) (inputs : Given) (i : ℕ) (s : State) where
-  given_step : (ident : Ident) (e : Expr) (ds : List (Ident × MaybeExpr)) → variables (planned tables inputs) (asking tables inputs) ((ident, present e) ∷ ds) i s ≡ initialised tables inputs (ident.text, e, ds) i s
+module _ (tables : Tables) (inputs : Given) (functions : List FunctionCode) (i : ℕ) (s : State) where
+  given_step : (ident : Ident) (e : Expr) (ds : List (Ident × MaybeExpr)) → variables (planned tables inputs functions) (asking tables inputs functions) ((ident, present e) ∷ ds) i s ≡ initialised tables inputs functions (ident.text, e, ds) i s
   unfolding variables more_variables
   given_step ident e ds = refl
 
-  absent_step : (ident : Ident) (ds : List (Ident × MaybeExpr)) → variables (planned tables inputs) (asking tables inputs) ((ident, absent) ∷ ds) i s ≡ variables (planned tables inputs) (asking tables inputs) ds i s
+  absent_step : (ident : Ident) (ds : List (Ident × MaybeExpr)) → variables (planned tables inputs functions) (asking tables inputs functions) ((ident, absent) ∷ ds) i s ≡ variables (planned tables inputs functions) (asking tables inputs functions) ds i s
   unfolding variables
   absent_step ident ds = refl
 
-  none_step : variables (planned tables inputs) (asking tables inputs) [] i s ≡ Give (gave (unlabelled undefined)) s
+  none_step : variables (planned tables inputs functions) (asking tables inputs functions) [] i s ≡ Give (gave (unlabelled undefined)) s
   unfolding variables
   none_step = refl
 
-  pub variables_given : (ds : List (Ident × MaybeExpr)) (v : Variable) → first_given ds ≡ Some v → variables (planned tables inputs) (asking tables inputs) ds i s ≡ initialised tables inputs v i s
+  pub variables_given : (ds : List (Ident × MaybeExpr)) (v : Variable) → first_given ds ≡ Some v → variables (planned tables inputs functions) (asking tables inputs functions) ds i s ≡ initialised tables inputs functions v i s
   variables_given [] v e = absurd cc e
   variables_given ((ident, absent) ∷ ds) v e = absent_step ident ds ∙ variables_given ds v e
-  variables_given ((ident, present init) ∷ ds) v e = let same : (ident.text, init, ds) ≡ v = cc e in given_step ident init ds ∙ ap (λ w. initialised tables inputs w i s) same
+  variables_given ((ident, present init) ∷ ds) v e = let same : (ident.text, init, ds) ≡ v = cc e in given_step ident init ds ∙ ap (λ w. initialised tables inputs functions w i s) same
 
-  pub variables_none : (ds : List (Ident × MaybeExpr)) → first_given ds ≡ None → variables (planned tables inputs) (asking tables inputs) ds i s ≡ Give (gave (unlabelled undefined)) s
+  pub variables_none : (ds : List (Ident × MaybeExpr)) → first_given ds ≡ None → variables (planned tables inputs functions) (asking tables inputs functions) ds i s ≡ Give (gave (unlabelled undefined)) s
   variables_none [] e = none_step
   variables_none ((ident, absent) ∷ ds) e = absent_step ident ds ∙ variables_none ds e
   variables_none ((ident, present init) ∷ ds) e = absurd cc e
@@ -53,8 +54,8 @@ pub declared : (ds : Declarations) → variable_list (view_declarations ds) ≡ 
 declared ds = ap variable_list (parts_declarations ds) ∙ all_from (view_declaration (out-Declarations ds).first) (view_other_declarations (nodes_of (out-Declarations ds).others))
 
 -- a variable without an initialiser is passed over
-pub variables_behind : (tables : Tables) (inputs : Given) (i : ℕ) (s : State) (d : Declaration) (ds : List Declaration) → (out-Declaration d).value ≡ None
-    → variables (planned tables inputs) (asking tables inputs) (view_other_declarations (d ∷ ds)) i s ≡ variables (planned tables inputs) (asking tables inputs) (view_other_declarations ds) i s
-variables_behind tables inputs i s d ds has =
-    ap (λ p. variables (planned tables inputs) (asking tables inputs) (p ∷ view_other_declarations ds) i s) (parts_declaration d ∙ ap (λ o. (view_ident (out-Declaration d).name, view_maybe_expr o)) has)
-    ∙ absent_step tables inputs i s (view_ident (out-Declaration d).name) (view_other_declarations ds)
+pub variables_behind : (tables : Tables) (inputs : Given) (functions : List FunctionCode) (i : ℕ) (s : State) (d : Declaration) (ds : List Declaration) → (out-Declaration d).value ≡ None
+    → variables (planned tables inputs functions) (asking tables inputs functions) (view_other_declarations (d ∷ ds)) i s ≡ variables (planned tables inputs functions) (asking tables inputs functions) (view_other_declarations ds) i s
+variables_behind tables inputs functions i s d ds has =
+    ap (λ p. variables (planned tables inputs functions) (asking tables inputs functions) (p ∷ view_other_declarations ds) i s) (parts_declaration d ∙ ap (λ o. (view_ident (out-Declaration d).name, view_maybe_expr o)) has)
+    ∙ absent_step tables inputs functions i s (view_ident (out-Declaration d).name) (view_other_declarations ds)

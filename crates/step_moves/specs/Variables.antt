@@ -2,6 +2,7 @@
 use Rattle.std.specs.Prelude.{ℕ, List, [], ◌∷◌, Option, Some, None}
 use Rattle.flow_policy.specs.Policies.{Tables}
 use Rattle.flow_policy.specs.Inputs.{Given}
+use Rattle.js_ast.specs.Functions.{FunctionCode}
 use Rattle.js_ast.specs.Trees.{Ident, Expr, MaybeExpr, absent, present}
 use Rattle.es_meaning.specs.Operations.{One, Value}
 use Rattle.es_meaning.specs.Evaluation.{more_variables}
@@ -19,5 +20,5 @@ first_given ((ident, absent) ∷ ds) = first_given ds
 first_given ((ident, present e) ∷ ds) = Some (ident.text, e, ds)
 
 -- a variable is given its value, and those behind it follow
-abbrev pub initialised : Tables → Given → Variable → ℕ → State → Plan
-initialised tables inputs v i = (planned tables inputs).resolve One i v.0 (λ n. (planned tables inputs).bind Value One ((asking tables inputs).expr v.1 i) (more_variables (planned tables inputs) (asking tables inputs) n v.2 i))
+abbrev pub initialised : Tables → Given → List FunctionCode → Variable → ℕ → State → Plan
+initialised tables inputs functions v i = (planned tables inputs functions).resolve One i v.0 (λ n. (planned tables inputs functions).bind Value One ((asking tables inputs functions).expr v.1 i) (more_variables (planned tables inputs functions) (asking tables inputs functions) n v.2 i))

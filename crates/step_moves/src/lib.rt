@@ -1,6 +1,7 @@
 //! Pending work that acts on the run's state: operators, names and their values, variables.
 #![tactic(auto)]
 
+mod calls;
 mod keeping;
 mod literals;
 mod names;
@@ -12,7 +13,7 @@ mod variables;
 
 pub use literals::{boolean, null, number, object, text};
 pub use names::{assigned, read_name, this};
-pub use operators::{binary_done, compound_done, unary};
+pub use operators::{binary_done, compound_done, instance_done, unary};
 pub use properties::{index_key, member};
 pub use settling::{Went, go_on, settle};
 pub use uses::begin_use;

@@ -14,7 +14,7 @@ ghost use Rattle.flow_meaning.specs.Planned.{Give, gave, planned};
 ghost use Rattle.step_work.specs.declared.work.Next.TheVariants as next;
 ghost use Rattle.step_work.specs.Pending.{next_plan};
 ghost use Rattle.step_work.specs.Loads.{Adds};
-ghost use Rattle.step_moves.specs.Moving.{BeginsAnywhere, BeginsWith, Rests, Stands};
+ghost use Rattle.step_work.specs.Moving.{BeginsAnywhere, BeginsWith, Rests, Stands};
 
 use crate::settling::settle;
 use flow_frames::FlowFault;
@@ -35,7 +35,7 @@ pub fn number<'p, L: Labels>(
     n: &'p Int,
 ) -> Result<Next<'p>, OutOfMemory>
     requires loose { length stack.old.loose ≡ 0 }
-    ensures goes_on { IfOk result (BeginsAnywhere L.made L.meaning labels.now (λ tables inputs e. next_plan tables inputs (next.Number n.entry) [] e) stack.old stack.new) }
+    ensures goes_on { IfOk result (BeginsAnywhere L.made L.meaning labels.now (λ tables inputs functions e. next_plan tables inputs functions (next.Number n.entry) [] e) stack.old stack.new) }
     ensures rests { IfOk result (Rests (L.made labels.now) stack.old stack.new) }
     ensures adds { IfOk result (Adds 1 stack.old stack.new) }
 {
@@ -50,7 +50,7 @@ pub fn text<'p, L: Labels>(
     units: &'p Text,
 ) -> Result<Next<'p>, OutOfMemory>
     requires loose { length stack.old.loose ≡ 0 }
-    ensures goes_on { IfOk result (BeginsAnywhere L.made L.meaning labels.now (λ tables inputs e. next_plan tables inputs (next.Text units.entry) [] e) stack.old stack.new) }
+    ensures goes_on { IfOk result (BeginsAnywhere L.made L.meaning labels.now (λ tables inputs functions e. next_plan tables inputs functions (next.Text units.entry) [] e) stack.old stack.new) }
     ensures rests { IfOk result (Rests (L.made labels.now) stack.old stack.new) }
     ensures adds { IfOk result (Adds 1 stack.old stack.new) }
 {
@@ -65,7 +65,7 @@ pub fn boolean<'p, L: Labels>(
     b: bool,
 ) -> Result<Next<'p>, OutOfMemory>
     requires loose { length stack.old.loose ≡ 0 }
-    ensures goes_on { IfOk result (BeginsAnywhere L.made L.meaning labels.now (λ tables inputs e. next_plan tables inputs (next.Bool b) [] e) stack.old stack.new) }
+    ensures goes_on { IfOk result (BeginsAnywhere L.made L.meaning labels.now (λ tables inputs functions e. next_plan tables inputs functions (next.Bool b) [] e) stack.old stack.new) }
     ensures rests { IfOk result (Rests (L.made labels.now) stack.old stack.new) }
     ensures adds { IfOk result (Adds 1 stack.old stack.new) }
 {
@@ -78,7 +78,7 @@ pub fn null<'p, L: Labels>(
     stack: &mut Stack<'p, L::Label>,
 ) -> Result<Next<'p>, OutOfMemory>
     requires loose { length stack.old.loose ≡ 0 }
-    ensures goes_on { IfOk result (BeginsAnywhere L.made L.meaning labels.now (λ tables inputs e. next_plan tables inputs next.Null [] e) stack.old stack.new) }
+    ensures goes_on { IfOk result (BeginsAnywhere L.made L.meaning labels.now (λ tables inputs functions e. next_plan tables inputs functions next.Null [] e) stack.old stack.new) }
     ensures rests { IfOk result (Rests (L.made labels.now) stack.old stack.new) }
     ensures adds { IfOk result (Adds 1 stack.old stack.new) }
 {
@@ -92,7 +92,7 @@ fn literal<'p, L: Labels>(
     value: Primitive,
 ) -> Result<Next<'p>, OutOfMemory>
     requires loose { length stack.old.loose ≡ 0 }
-    ensures goes_on { IfOk result (BeginsAnywhere L.made L.meaning labels.now (λ tables inputs e s. Give (gave ((planned tables inputs).literal value)) s) stack.old stack.new) }
+    ensures goes_on { IfOk result (BeginsAnywhere L.made L.meaning labels.now (λ tables inputs functions e s. Give (gave ((planned tables inputs functions).literal value)) s) stack.old stack.new) }
     ensures rests { IfOk result (Rests (L.made labels.now) stack.old stack.new) }
     ensures adds { IfOk result (Adds 1 stack.old stack.new) }
 {
@@ -115,7 +115,7 @@ pub fn object<'p, L: Labels>(
     requires loose { length stack.old.loose ≡ count }
     requires made { All (HasValue (L.made labels.old)) stack.old.loose }
     requires belongs { Belongs L.made L.meaning labels.old world.old }
-    ensures goes_on { BeginsWith L.made L.meaning labels.new (λ tables inputs reading e. next_plan tables inputs (next.Object list.entry count) (map (read_value reading) stack.old.loose) e) stack.old stack.new world.old world.new result }
+    ensures goes_on { BeginsWith L.made L.meaning labels.new (λ tables inputs functions reading e. next_plan tables inputs functions (next.Object list.entry count) (map (read_value reading) stack.old.loose) e) stack.old stack.new world.old world.new result }
     ensures rests { IfOk result (Rests (L.made labels.new) stack.old stack.new) }
     ensures adds { IfOk result (Adds 1 stack.old stack.new) }
     ensures stopped { IfErr result (IfStop (HasStop (L.made labels.new))) }

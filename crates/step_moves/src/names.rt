@@ -14,7 +14,7 @@ ghost use Rattle.step_work.specs.declared.work.Work.TheVariants as work;
 ghost use Rattle.step_work.specs.Loads.{Adds};
 ghost use Rattle.step_work.specs.Pending.{next_plan, owns_target};
 ghost use Rattle.step_work.specs.Stops.{HasStop};
-ghost use Rattle.step_moves.specs.Moving.{BeginsAt, Rests, Resumes, Stands};
+ghost use Rattle.step_work.specs.Moving.{BeginsAt, Rests, Resumes, Stands};
 
 use crate::keeping::take_reference;
 use crate::settling::settle;
@@ -43,7 +43,7 @@ pub fn read_name<'p, L: Labels>(
     requires loose { length stack.old.loose ≡ 0 }
     requires at { at.0 < length world.old.records }
     requires belongs { Belongs L.made L.meaning labels.old world.old }
-    ensures goes_on { BeginsAt L.made L.meaning labels.new at.0 (λ tables inputs reading e. (planned tables inputs).resolve Value e.place name.now (read_value (planned tables inputs) (asking tables inputs))) stack.old stack.new world.old world.new result }
+    ensures goes_on { BeginsAt L.made L.meaning labels.new at.0 (λ tables inputs functions reading e. (planned tables inputs functions).resolve Value e.place name.now (read_value (planned tables inputs functions) (asking tables inputs functions))) stack.old stack.new world.old world.new result }
     ensures rests { IfOk result (Rests (L.made labels.new) stack.old stack.new) }
     ensures adds { IfOk result (Adds 1 stack.old stack.new) }
     ensures stopped { IfErr result (IfStop (HasStop (L.made labels.new))) }
@@ -68,7 +68,7 @@ pub fn this<'p, L: Labels>(
     requires loose { length stack.old.loose ≡ 0 }
     requires at { at.0 < length world.old.records }
     requires belongs { Belongs L.made L.meaning labels.old world.old }
-    ensures goes_on { BeginsAt L.made L.meaning labels.new at.0 (λ tables inputs reading e. next_plan tables inputs next.This [] e) stack.old stack.new world.old world.new result }
+    ensures goes_on { BeginsAt L.made L.meaning labels.new at.0 (λ tables inputs functions reading e. next_plan tables inputs functions next.This [] e) stack.old stack.new world.old world.new result }
     ensures rests { IfOk result (Rests (L.made labels.new) stack.old stack.new) }
     ensures adds { IfOk result (Adds 1 stack.old stack.new) }
     ensures stopped { IfErr result (IfStop (HasStop (L.made labels.new))) }

@@ -13,7 +13,7 @@ ghost use Rattle.step_work.specs.Pending.{owns_use};
 ghost use Rattle.step_work.specs.Shapes.{use_of};
 ghost use Rattle.step_work.specs.Loads.{Adds};
 ghost use Rattle.step_work.specs.Stops.{HasStop};
-ghost use Rattle.step_moves.specs.Moving.{BeginsWith, Rests, Resumes, Stands};
+ghost use Rattle.step_work.specs.Moving.{BeginsWith, Rests, Resumes, Stands};
 
 use crate::settling::{Went, go_on};
 use crate::uses::use_reference;
@@ -41,7 +41,7 @@ pub fn member<'p, L: Labels>(
     requires belongs { Belongs L.made L.meaning labels.old world.old }
     ensures goes_on { Resumes L.made L.meaning labels.new (work.MemberBase how.entry name.entry) stack.old stack.new world.old world.new result }
     ensures rests { IfOk result (Rests (L.made labels.new) stack.old stack.new) }
-    ensures adds { IfOk result (Adds 1 stack.old stack.new) }
+    ensures adds { IfOk result (Adds 3 stack.old stack.new) }
     ensures stopped { IfErr result (IfStop (HasStop (L.made labels.new))) }
     ensures stands { IfOk result (Stands world.old world.new) }
     ensures belongs { Belongs L.made L.meaning labels.new world.new }
@@ -70,7 +70,7 @@ pub fn index_key<'p, L: Labels>(
     requires belongs { Belongs L.made L.meaning labels.old world.old }
     ensures goes_on { Resumes L.made L.meaning labels.new (work.IndexKey how.entry) stack.old stack.new world.old world.new result }
     ensures rests { IfOk result (Rests (L.made labels.new) stack.old stack.new) }
-    ensures adds { IfOk result (Adds 1 stack.old stack.new) }
+    ensures adds { IfOk result (Adds 3 stack.old stack.new) }
     ensures stopped { IfErr result (IfStop (HasStop (L.made labels.new))) }
     ensures stands { IfOk result (Stands world.old world.new) }
     ensures belongs { Belongs L.made L.meaning labels.new world.new }
@@ -97,9 +97,9 @@ fn use_property<'p, L: Labels>(
     requires base { L.made labels.old base.label }
     requires key { L.made labels.old key.label }
     requires belongs { Belongs L.made L.meaning labels.old world.old }
-    ensures goes_on { BeginsWith L.made L.meaning labels.new (λ tables inputs reading e. index_key (planned tables inputs) (asking tables inputs) (use_of how.entry (map (read_value reading) stack.old.loose)) e.place (read_value reading base) (read_value reading key)) stack.old stack.new world.old world.new result }
+    ensures goes_on { BeginsWith L.made L.meaning labels.new (λ tables inputs functions reading e. index_key (planned tables inputs functions) (asking tables inputs functions) (use_of how.entry (map (read_value reading) stack.old.loose)) e.place (read_value reading base) (read_value reading key)) stack.old stack.new world.old world.new result }
     ensures rests { IfOk result (Rests (L.made labels.new) stack.old stack.new) }
-    ensures adds { IfOk result (Adds 1 stack.old stack.new) }
+    ensures adds { IfOk result (Adds 3 stack.old stack.new) }
     ensures stopped { IfErr result (IfStop (HasStop (L.made labels.new))) }
     ensures stands { IfOk result (Stands world.old world.new) }
     ensures belongs { Belongs L.made L.meaning labels.new world.new }

@@ -8,12 +8,13 @@ ghost use Rattle.step_world.specs.Acts.{HasAnswer};
 ghost use Rattle.step_work.specs.Loads.{Adds};
 ghost use Rattle.step_work.specs.Stops.{HasStop};
 ghost use Rattle.step_updates.specs.Standing.{StandsBy};
-ghost use Rattle.step_moves.specs.Moving.{Parts, Rests, Settles, Stands};
+ghost use Rattle.step_work.specs.Moving.{Rests, Settles, Stands};
+ghost use Rattle.step_moves.specs.Moving.{Parts};
 
 use flow_frames::FlowFault;
 use js_values::Labelled;
 use origin_labels::Labels;
-use step_work::{Next, Stack};
+use step_work::{Jump, Next, Stack};
 use step_world::Came;
 
 /// What comes behind an act: its value, or what it threw, lies uppermost.
@@ -38,7 +39,7 @@ pub fn settle<'p, L: Labels>(
         }
         Came::Throws(value) => {
             stack.lay(value)?;
-            Ok(Next::Throws)
+            Ok(Next::Jumps(Jump::Throws))
         }
         Came::Leaves(why) => Ok(Next::Leave(why)),
     }
@@ -69,7 +70,7 @@ pub fn go_on<'p, X: Drop, L: Labels>(
         Came::Throws(error) => {
             stack.clear(count);
             stack.lay(error)?;
-            Ok(Went::Off(Next::Throws))
+            Ok(Went::Off(Next::Jumps(Jump::Throws)))
         }
         Came::Leaves(why) => {
             stack.clear(count);

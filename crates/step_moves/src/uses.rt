@@ -16,8 +16,9 @@ ghost use Rattle.step_work.specs.Pending.{owns_use};
 ghost use Rattle.step_work.specs.Shapes.{use_of};
 ghost use Rattle.step_work.specs.Loads.{Adds};
 ghost use Rattle.step_work.specs.Stops.{HasStop};
-ghost use Rattle.step_moves.specs.Moving.{BeginsAt, BeginsWith, Rests, Stands};
+ghost use Rattle.step_work.specs.Moving.{BeginsAt, BeginsWith, Rests, Stands};
 
+use crate::calls::begin_call;
 use crate::keeping::lay_reference;
 use crate::settling::{Went, go_on, settle};
 use flow_frames::FlowFault;
@@ -47,9 +48,9 @@ pub fn begin_use<'p, L: Labels>(
     requires made { All (HasValue (L.made labels.old)) stack.old.loose }
     requires at { at.0 < length world.old.records }
     requires belongs { Belongs L.made L.meaning labels.old world.old }
-    ensures goes_on { BeginsAt L.made L.meaning labels.new at.0 (λ tables inputs reading e. use_step (planned tables inputs) (asking tables inputs) (use_of how.entry (map (read_value reading) stack.old.loose)) (view_expr target.entry.now) e.place) stack.old stack.new world.old world.new result }
+    ensures goes_on { BeginsAt L.made L.meaning labels.new at.0 (λ tables inputs functions reading e. use_step (planned tables inputs functions) (asking tables inputs functions) (use_of how.entry (map (read_value reading) stack.old.loose)) (view_expr target.entry.now) e.place) stack.old stack.new world.old world.new result }
     ensures rests { IfOk result (Rests (L.made labels.new) stack.old stack.new) }
-    ensures adds { IfOk result (Adds 2 stack.old stack.new) }
+    ensures adds { IfOk result (Adds 3 stack.old stack.new) }
     ensures stopped { IfErr result (IfStop (HasStop (L.made labels.new))) }
     ensures stands { IfOk result (Stands world.old world.new) }
     ensures belongs { Belongs L.made L.meaning labels.new world.new }
@@ -90,9 +91,9 @@ pub(crate) fn use_reference<'p, L: Labels>(
     requires made { All (HasValue (L.made labels.old)) stack.old.loose }
     requires reference { HasReference (L.made labels.old) reference }
     requires belongs { Belongs L.made L.meaning labels.old world.old }
-    ensures goes_on { BeginsWith L.made L.meaning labels.new (λ tables inputs reading e. used (planned tables inputs) (asking tables inputs) (use_of how.entry (map (read_value reading) stack.old.loose)) e.place (refers reading reference.entry)) stack.old stack.new world.old world.new result }
+    ensures goes_on { BeginsWith L.made L.meaning labels.new (λ tables inputs functions reading e. used (planned tables inputs functions) (asking tables inputs functions) (use_of how.entry (map (read_value reading) stack.old.loose)) e.place (refers reading reference.entry)) stack.old stack.new world.old world.new result }
     ensures rests { IfOk result (Rests (L.made labels.new) stack.old stack.new) }
-    ensures adds { IfOk result (Adds 1 stack.old stack.new) }
+    ensures adds { IfOk result (Adds 3 stack.old stack.new) }
     ensures stopped { IfErr result (IfStop (HasStop (L.made labels.new))) }
     ensures stands { IfOk result (Stands world.old world.new) }
     ensures belongs { Belongs L.made L.meaning labels.new world.new }
@@ -128,6 +129,7 @@ pub(crate) fn use_reference<'p, L: Labels>(
             let answer = remove(alloc, labels, world, &reference);
             settle(labels, stack, answer)
         }
+        Use::Called(list) => begin_call(alloc, labels, world, stack, reference, list),
         Use::GivenText => give_text(alloc, labels, world, stack, reference),
     }
 }
@@ -145,7 +147,7 @@ fn begin_update<'p, L: Labels>(
     requires loose { length stack.old.loose ≡ 0 }
     requires reference { HasReference (L.made labels.old) reference }
     requires belongs { Belongs L.made L.meaning labels.old world.old }
-    ensures goes_on { BeginsWith L.made L.meaning labels.new (λ tables inputs reading e. used (planned tables inputs) (asking tables inputs) (updated_by operator (view_expr operand.entry.now)) e.place (refers reading reference.entry)) stack.old stack.new world.old world.new result }
+    ensures goes_on { BeginsWith L.made L.meaning labels.new (λ tables inputs functions reading e. used (planned tables inputs functions) (asking tables inputs functions) (updated_by operator (view_expr operand.entry.now)) e.place (refers reading reference.entry)) stack.old stack.new world.old world.new result }
     ensures rests { IfOk result (Rests (L.made labels.new) stack.old stack.new) }
     ensures adds { IfOk result (Adds 1 stack.old stack.new) }
     ensures stopped { IfErr result (IfStop (HasStop (L.made labels.new))) }
@@ -178,7 +180,7 @@ pub(crate) fn give_text<'p, L: Labels>(
     requires loose { length stack.old.loose ≡ 1 }
     requires reference { HasReference (L.made labels.old) reference }
     requires belongs { Belongs L.made L.meaning labels.old world.old }
-    ensures goes_on { BeginsWith L.made L.meaning labels.new (λ tables inputs reading e. used (planned tables inputs) (asking tables inputs) (use_of use_as.GivenText (map (read_value reading) stack.old.loose)) e.place (refers reading reference.entry)) stack.old stack.new world.old world.new result }
+    ensures goes_on { BeginsWith L.made L.meaning labels.new (λ tables inputs functions reading e. used (planned tables inputs functions) (asking tables inputs functions) (use_of use_as.GivenText (map (read_value reading) stack.old.loose)) e.place (refers reading reference.entry)) stack.old stack.new world.old world.new result }
     ensures rests { IfOk result (Rests (L.made labels.new) stack.old stack.new) }
     ensures adds { IfOk result (Adds 1 stack.old stack.new) }
     ensures stopped { IfErr result (IfStop (HasStop (L.made labels.new))) }

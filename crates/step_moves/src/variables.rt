@@ -15,7 +15,7 @@ ghost use Rattle.step_work.specs.Loads.{Adds};
 ghost use Rattle.step_work.specs.Pending.{next_plan, owns_target};
 ghost use Rattle.step_work.specs.Stops.{HasStop};
 ghost use Rattle.step_moves.specs.Variables.{first_given, initialised};
-ghost use Rattle.step_moves.specs.Moving.{BeginsAt, Rests, ResumesAt, Stands};
+ghost use Rattle.step_work.specs.Moving.{BeginsAt, Rests, ResumesAt, Stands};
 
 use crate::keeping::{lay_reference, take_reference};
 use crate::settling::{Went, go_on};
@@ -42,7 +42,7 @@ pub fn declare<'p, L: Labels>(
     requires loose { length stack.old.loose ≡ 0 }
     requires at { at.0 < length world.now.records }
     requires belongs { Belongs L.made L.meaning labels.old world.now }
-    ensures goes_on { BeginsAt L.made L.meaning labels.new at.0 (λ tables inputs reading e. declarations (planned tables inputs) (asking tables inputs) (view_declarations list.entry.now) e.place) stack.old stack.new world.now world.now result }
+    ensures goes_on { BeginsAt L.made L.meaning labels.new at.0 (λ tables inputs functions reading e. declarations (planned tables inputs functions) (asking tables inputs functions) (view_declarations list.entry.now) e.place) stack.old stack.new world.now world.now result }
     ensures rests { IfOk result (Rests (L.made labels.new) stack.old stack.new) }
     ensures adds { IfOk result (Adds 1 stack.old stack.new) }
     ensures stopped { IfErr result (IfStop (HasStop (L.made labels.new))) }
@@ -69,7 +69,7 @@ fn declare_others<'p, L: Labels>(
     requires loose { length stack.old.loose ≡ 0 }
     requires at { at.0 < length world.now.records }
     requires belongs { Belongs L.made L.meaning labels.old world.now }
-    ensures goes_on { BeginsAt L.made L.meaning labels.new at.0 (λ tables inputs reading e. variables (planned tables inputs) (asking tables inputs) (view_other_declarations list.entry.now) e.place) stack.old stack.new world.now world.now result }
+    ensures goes_on { BeginsAt L.made L.meaning labels.new at.0 (λ tables inputs functions reading e. variables (planned tables inputs functions) (asking tables inputs functions) (view_other_declarations list.entry.now) e.place) stack.old stack.new world.now world.now result }
     ensures rests { IfOk result (Rests (L.made labels.new) stack.old stack.new) }
     ensures adds { IfOk result (Adds 1 stack.old stack.new) }
     ensures stopped { IfErr result (IfStop (HasStop (L.made labels.new))) }
@@ -109,7 +109,7 @@ fn initialise<'p, L: Labels>(
     requires loose { length stack.old.loose ≡ 0 }
     requires at { at.0 < length world.now.records }
     requires belongs { Belongs L.made L.meaning labels.old world.now }
-    ensures goes_on { BeginsAt L.made L.meaning labels.new at.0 (λ tables inputs reading e. initialised tables inputs (name.entry.now, view_expr value.entry.now, view_other_declarations rest.entry.now) e.place) stack.old stack.new world.now world.now result }
+    ensures goes_on { BeginsAt L.made L.meaning labels.new at.0 (λ tables inputs functions reading e. initialised tables inputs functions (name.entry.now, view_expr value.entry.now, view_other_declarations rest.entry.now) e.place) stack.old stack.new world.now world.now result }
     ensures rests { IfOk result (Rests (L.made labels.new) stack.old stack.new) }
     ensures adds { IfOk result (Adds 1 stack.old stack.new) }
     ensures stopped { IfErr result (IfStop (HasStop (L.made labels.new))) }
@@ -167,7 +167,7 @@ pub fn give_variable<'p, L: Labels>(
     requires loose { length stack.old.loose ≡ 1 }
     requires at { at.0 < length world.old.records }
     requires belongs { Belongs L.made L.meaning labels.old world.old }
-    ensures goes_on { BeginsAt L.made L.meaning labels.new at.0 (λ tables inputs reading e. next_plan tables inputs (next.GiveVariable variable.entry) (map (read_value reading) stack.old.loose) e) stack.old stack.new world.old world.new result }
+    ensures goes_on { BeginsAt L.made L.meaning labels.new at.0 (λ tables inputs functions reading e. next_plan tables inputs functions (next.GiveVariable variable.entry) (map (read_value reading) stack.old.loose) e) stack.old stack.new world.old world.new result }
     ensures rests { IfOk result (Rests (L.made labels.new) stack.old stack.new) }
     ensures adds { IfOk result (Adds 1 stack.old stack.new) }
     ensures stopped { IfErr result (IfStop (HasStop (L.made labels.new))) }

@@ -15,6 +15,7 @@ use Rattle.flow_frames.specs.Frames.{context}
 use Rattle.flow_frames.specs.Held.{seen}
 use Rattle.flow_policy.specs.Policies.{Tables}
 use Rattle.flow_policy.specs.Inputs.{Given}
+use Rattle.js_ast.specs.Functions.{FunctionCode}
 use Rattle.js_values.specs.declared.value.Labelled.{Labelled}
 use Rattle.js_values.specs.Records.{Binding, Record, bound_in}
 use Rattle.js_values.specs.Readings.{IsReading, HasRecords, read_value, read_binding, read_records}
@@ -167,12 +168,12 @@ module _ {S T : Type 0} (made : S → T → Type 0) (meaning : S → T → Label
 
 -- ---- what an assignment gives
 
-module _ {S T : Type 0} (made : S → T → Type 0) (meaning : S → T → Label) (store : S) (tables : Tables) (inputs : Given) (r : (T → Label) → Reference) (other v : Labelled T) (old new : World T) where
+module _ {S T : Type 0} (made : S → T → Type 0) (meaning : S → T → Label) (store : S) (tables : Tables) (inputs : Given) (functions : List FunctionCode) (r : (T → Label) → Reference) (other v : Labelled T) (old new : World T) where
   abbrev puts : Result (Came (Unit {0}) T) (FlowFault T) → Type 0
   puts result = Acts made meaning store (λ reading (x : Unit {0}). x) (λ reading. put_value (r reading) (read_value reading v)) old new result
 
   abbrev gives : Result (Came (Labelled T) T) (FlowFault T) → Type 0
-  gives result = Acts made meaning store (λ reading. read_value reading) (λ reading. assign_giving (labelled tables inputs) (r reading) (read_value reading other) (read_value reading v)) old new result
+  gives result = Acts made meaning store (λ reading. read_value reading) (λ reading. assign_giving (labelled tables inputs functions) (r reading) (read_value reading other) (read_value reading v)) old new result
 
   pub giving_goes : (u : Unit {0}) → puts (Ok (came.Goes u)) → gives (Ok (came.Goes other))
   unfolding assign_giving give
@@ -180,19 +181,19 @@ module _ {S T : Type 0} (made : S → T → Type 0) (meaning : S → T → Label
 
   pub giving_throws : (error : Labelled T) → puts (Ok (came.Throws error)) → gives (Ok (came.Throws error))
   unfolding assign_giving
-  giving_throws error acts = Acts-throws made meaning store (λ reading (x : Unit {0}). x) (λ reading. read_value reading) (λ reading. put_value (r reading) (read_value reading v)) (λ reading. give (labelled tables inputs) (read_value reading other)) old new error acts
+  giving_throws error acts = Acts-throws made meaning store (λ reading (x : Unit {0}). x) (λ reading. read_value reading) (λ reading. put_value (r reading) (read_value reading v)) (λ reading. give (labelled tables inputs functions) (read_value reading other)) old new error acts
 
   pub giving_leaves : (why : Leaving) → puts (Ok (came.Leaves why)) → gives (Ok (came.Leaves why))
   unfolding assign_giving
-  giving_leaves why acts = Acts-leaves made meaning store (λ reading (x : Unit {0}). x) (λ reading. read_value reading) (λ reading. put_value (r reading) (read_value reading v)) (λ reading. give (labelled tables inputs) (read_value reading other)) old new why acts
+  giving_leaves why acts = Acts-leaves made meaning store (λ reading (x : Unit {0}). x) (λ reading. read_value reading) (λ reading. put_value (r reading) (read_value reading v)) (λ reading. give (labelled tables inputs functions) (read_value reading other)) old new why acts
 
   pub giving_fails : (f : FlowFault T) (result : Result (Came (Labelled T) T) (FlowFault T)) → IsErrAnd result (λ e. e ≡ f) → puts (Err f) → gives result
   unfolding assign_giving
-  giving_fails f result is acts = Acts-passes made meaning store (λ reading (x : Unit {0}). x) (λ reading. read_value reading) (λ reading. put_value (r reading) (read_value reading v)) (λ reading. give (labelled tables inputs) (read_value reading other)) old new f result is acts
+  giving_fails f result is acts = Acts-passes made meaning store (λ reading (x : Unit {0}). x) (λ reading. read_value reading) (λ reading. put_value (r reading) (read_value reading v)) (λ reading. give (labelled tables inputs functions) (read_value reading other)) old new f result is acts
 
   -- the value itself is given
-  pub giving_itself : (result : Result (Came (Labelled T) T) (FlowFault T)) → other ≡ v → gives result → Acts made meaning store (λ reading. read_value reading) (λ reading. assign_to (labelled tables inputs) (r reading) (read_value reading v)) old new result
+  pub giving_itself : (result : Result (Came (Labelled T) T) (FlowFault T)) → other ≡ v → gives result → Acts made meaning store (λ reading. read_value reading) (λ reading. assign_to (labelled tables inputs functions) (r reading) (read_value reading v)) old new result
   unfolding assign_giving assign_to
   giving_itself result same acts =
-      let given = subst (λ (x : Labelled T). Acts made meaning store (λ reading. read_value reading) (λ reading. assign_giving (labelled tables inputs) (r reading) (read_value reading x) (read_value reading v)) old new result) same acts in
+      let given = subst (λ (x : Labelled T). Acts made meaning store (λ reading. read_value reading) (λ reading. assign_giving (labelled tables inputs functions) (r reading) (read_value reading x) (read_value reading v)) old new result) same acts in
       record { says = given.says }

@@ -1,9 +1,10 @@
 //! Names that are given values.
 
-ghost use Rattle.std.specs.Prelude.{◌≡◌, IsSome, slice_get};
+ghost use Rattle.std.specs.Prelude.{◌≡◌, IsSome, slice_get, List};
 ghost use Rattle.origin_labels.specs.Stores.{IsKept};
 ghost use Rattle.flow_policy.specs.Policies.{Tables};
 ghost use Rattle.flow_policy.specs.Inputs.{Given};
+ghost use Rattle.js_ast.specs.Functions.{FunctionCode};
 ghost use Rattle.js_values.specs.Records.{bound_in};
 ghost use Rattle.js_values.specs.Readings.{HasValue, read_value};
 ghost use Rattle.es_meaning.specs.Plain.{in_record, on_global};
@@ -60,7 +61,7 @@ pub fn assign_to<T: Copy, L: Labels<Label = T>>(
     requires walk { L.made labels.old named.walk }
     requires value { L.made labels.old value.label }
     requires belongs { Belongs L.made L.meaning labels.old world.old }
-    ensures acts { (tables : Tables) (inputs : Given) → Acts L.made L.meaning labels.new (λ reading. read_value reading) (λ reading. assign_to (labelled tables inputs) (reference_of reading named.entry) (read_value reading value)) world.old world.new result }
+    ensures acts { (tables : Tables) (inputs : Given) (functions : List FunctionCode) → Acts L.made L.meaning labels.new (λ reading. read_value reading) (λ reading. assign_to (labelled tables inputs functions) (reference_of reading named.entry) (read_value reading value)) world.old world.new result }
     ensures made { HasAnswer (HasValue (L.made labels.new)) (L.made labels.new) result }
     ensures belongs { Belongs L.made L.meaning labels.new world.new }
     ensures grows { Grows world.old world.new }
@@ -83,7 +84,7 @@ pub fn assign_giving<T: Copy, L: Labels<Label = T>>(
     requires other { L.made labels.old other.label }
     requires value { L.made labels.old value.label }
     requires belongs { Belongs L.made L.meaning labels.old world.old }
-    ensures acts { (tables : Tables) (inputs : Given) → Acts L.made L.meaning labels.new (λ reading. read_value reading) (λ reading. assign_giving (labelled tables inputs) (reference_of reading named.entry) (read_value reading other) (read_value reading value)) world.old world.new result }
+    ensures acts { (tables : Tables) (inputs : Given) (functions : List FunctionCode) → Acts L.made L.meaning labels.new (λ reading. read_value reading) (λ reading. assign_giving (labelled tables inputs functions) (reference_of reading named.entry) (read_value reading other) (read_value reading value)) world.old world.new result }
     ensures made { HasAnswer (HasValue (L.made labels.new)) (L.made labels.new) result }
     ensures belongs { Belongs L.made L.meaning labels.new world.new }
     ensures grows { Grows world.old world.new }

@@ -1,11 +1,12 @@
 //! Names and their values.
 
-ghost use Rattle.std.specs.Prelude.{◌≡◌, ◌<◌, length, IfOk};
+ghost use Rattle.std.specs.Prelude.{◌≡◌, ◌<◌, length, IfOk, List};
 ghost use Rattle.std.specs.Option.{option_map};
 ghost use Rattle.origin_labels.specs.Label.{Label};
 ghost use Rattle.origin_labels.specs.Stores.{IsKept};
 ghost use Rattle.flow_policy.specs.Policies.{Tables};
 ghost use Rattle.flow_policy.specs.Inputs.{Given};
+ghost use Rattle.js_ast.specs.Functions.{FunctionCode};
 ghost use Rattle.js_values.specs.Objects.{number_of};
 ghost use Rattle.js_values.specs.Readings.{HasValue, IsReading, read_heap, read_records, read_value};
 ghost use Rattle.es_meaning.specs.Plain.{binding_at, place_beyond};
@@ -69,7 +70,7 @@ pub fn get_name<T: Copy, L: Labels<Label = T>>(
 ) -> Result<Came<Labelled<T>, T>, FlowFault<T>>
     requires walk { L.made labels.old named.walk }
     requires belongs { Belongs L.made L.meaning labels.old world.old }
-    ensures acts { (tables : Tables) (inputs : Given) → Acts L.made L.meaning labels.new (λ reading. read_value reading) (λ reading. (labelled tables inputs).get_value (reference_of reading named.entry) (enters (labelled tables inputs))) world.old world.new result }
+    ensures acts { (tables : Tables) (inputs : Given) (functions : List FunctionCode) → Acts L.made L.meaning labels.new (λ reading. read_value reading) (λ reading. (labelled tables inputs functions).get_value (reference_of reading named.entry) (enters (labelled tables inputs functions))) world.old world.new result }
     ensures made { HasAnswer (HasValue (L.made labels.new)) (L.made labels.new) result }
     ensures belongs { Belongs L.made L.meaning labels.new world.new }
     ensures grows { Grows world.old world.new }
@@ -91,7 +92,7 @@ pub fn typeof_name<T: Copy, L: Labels<Label = T>>(
 ) -> Result<Came<Labelled<T>, T>, FlowFault<T>>
     requires walk { L.made labels.old named.walk }
     requires belongs { Belongs L.made L.meaning labels.old world.old }
-    ensures acts { (tables : Tables) (inputs : Given) → Acts L.made L.meaning labels.new (λ reading. read_value reading) (λ reading. (labelled tables inputs).typeof_value (reference_of reading named.entry) (enters (labelled tables inputs))) world.old world.new result }
+    ensures acts { (tables : Tables) (inputs : Given) (functions : List FunctionCode) → Acts L.made L.meaning labels.new (λ reading. read_value reading) (λ reading. (labelled tables inputs functions).typeof_value (reference_of reading named.entry) (enters (labelled tables inputs functions))) world.old world.new result }
     ensures made { HasAnswer (HasValue (L.made labels.new)) (L.made labels.new) result }
     ensures belongs { Belongs L.made L.meaning labels.new world.new }
     ensures grows { Grows world.old world.new }

@@ -1,11 +1,12 @@
 -- Names that were given numbers.
-use Rattle.std.proofs.Common.{refl, sym, ap, ap₂, subst, ◌∙◌, ◌≡◌, ◌≤◌, ◌-◌, ℕ, suc, ℤ, pos, Bool, List, length, Some, IsSome, Ok, arith}
+use Rattle.std.proofs.Common.{refl, sym, ap, ap₂, subst, ◌∙◌, ◌≡◌, ◌≤◌, ◌-◌, ℕ, suc, ℤ, pos, Bool, true, false, List, length, [], Option, Some, None, IsSome, Ok, arith}
 use Rattle.std.specs.List.{slice_get}
 use Rattle.origin_labels.specs.Label.{Label, IsLabel, bottom, union}
 use Rattle.origin_labels.proofs.LabelLaws.{union-bottom}
 use Rattle.origin_labels.specs.Stores.{IsKept}
-use Rattle.flow_policy.specs.Policies.{Tables}
+use Rattle.flow_policy.specs.Policies.{Tables, no_tables}
 use Rattle.flow_policy.specs.Inputs as inputs
+use Rattle.js_ast.specs.Functions.{FunctionCode}
 use Rattle.flow_frames.specs.Frames.{context}
 use Rattle.flow_frames.specs.Held as held
 use Rattle.js_ast.specs.declared.operators.AssignOperator.{AssignOperator}
@@ -17,7 +18,8 @@ use Rattle.js_ast.specs.declared.operators.PostfixOperator.{PostfixOperator}
 use Rattle.js_ast.specs.declared.operators.PostfixOperator.TheVariants as postfix_operator
 use Rattle.js_ast.specs.declared.operators.UnaryOperator.TheVariants as unary_operator
 use Rattle.js_number.specs.declared.primitive.Primitive.{Primitive}
-use Rattle.js_number.specs.declared.primitive.Primitive.TheVariants.{Num}
+use Rattle.js_number.specs.declared.primitive.Primitive.TheVariants.{Num, Str}
+use Rattle.js_values.specs.declared.value.Value as values
 use Rattle.js_values.specs.declared.value.Value.TheVariants as value
 use Rattle.js_values.specs.declared.value.Labelled.{Labelled}
 use Rattle.js_values.specs.Readings.{HasHeap, HasRecords, read_heap, read_records, read_value}
@@ -25,13 +27,14 @@ use Rattle.js_values.specs.Objects.{Object}
 use Rattle.js_values.specs.Records.{Record, bound_in}
 use Rattle.env_records.specs.Acts.{assign, done}
 use Rattle.env_records.specs.Answers.{Comes}
+use Rattle.es_meaning.specs.Directives.{Upgrade, upgrade_of}
 use Rattle.es_meaning.specs.Environments.{Env}
-use Rattle.es_meaning.specs.Evaluation.{assign_giving, assign_to, assigned_by, compound_done, compound_right, discard, expr_step, give, operator_of, postfix_by, postfix_number, postfix_value, stmt_step, use_step, used}
+use Rattle.es_meaning.specs.Evaluation.{assign_giving, assign_to, assigned_by, compound_done, compound_right, behind_expression, expr_step, give, operator_of, postfix_by, postfix_number, postfix_value, stmt_step, use_step, used}
 use Rattle.es_meaning.specs.Operators.{a_primitive, binary_of, unary_of}
 use Rattle.es_meaning.specs.Plain.{in_record, undefined}
 use Rattle.es_meaning.specs.Operations.{Use, Value, assigned, postfixed, updated_by}
-use Rattle.es_meaning.specs.Outcomes.{Goes, and_then}
-use Rattle.flow_meaning.specs.Scopes.{State, Val}
+use Rattle.es_meaning.specs.Outcomes.{Outcome, Goes, and_then}
+use Rattle.flow_meaning.specs.Scopes.{Halt, Jump, State, Val}
 use Rattle.flow_meaning.specs.Erased.{unlabelled}
 use Rattle.flow_meaning.specs.Tracked.{Reference, get_value, given, labelled, put_named, put_value, resolved, seen, unless_object}
 use Rattle.flow_meaning.specs.Planned.{Ask, Give, a_stmt, a_use, an_expr, and_go, and_plan, as_plan, asking, completed, meaning, perform, plan, planned, with_result}
@@ -54,100 +57,106 @@ use Rattle.step_numbers.proofs.EvaluationLaws.{asked_gave, later, one_left, unke
 
 -- ---- plans
 
-module _ (tables : Tables) (inputs : inputs.Given) where
+module _ (tables : Tables) (inputs : inputs.Given) (functions : List FunctionCode) where
   -- what an expression with `++` or `--` behind it asks for, and what a use of a name is
-  asks_postfix : (place : ℕ) (e : Expr) (operator : PostfixOperator) (at : ℕ) (s : State) → plan tables inputs (an_expr (trees.postfix place e operator) at) s ≡ Ask (a_use (postfixed (step_of operator)) e at) s Give
+  asks_postfix : (place : ℕ) (e : Expr) (operator : PostfixOperator) (at : ℕ) (s : State) → plan tables inputs functions (an_expr (trees.postfix place e operator) at) s ≡ Ask (a_use (postfixed (step_of operator)) e at) s Give
   unfolding plan expr_step
   asks_postfix place e postfix_operator.Increment at s = refl
   asks_postfix place e postfix_operator.Decrement at s = refl
 
-  asks_use : (how : Use) (there : ℕ) (text : List ℕ) (at : ℕ) (s : State) → plan tables inputs (a_use how (trees.name there text) at) s ≡ used (planned tables inputs) (asking tables inputs) how at (resolved s.records s.heap at text) s
+  asks_use : (how : Use) (there : ℕ) (text : List ℕ) (at : ℕ) (s : State) → plan tables inputs functions (a_use how (trees.name there text) at) s ≡ used (planned tables inputs functions) (asking tables inputs functions) how at (resolved s.records s.heap at text) s
   unfolding plan use_step
   asks_use how there text at s = refl
 
   -- a name is given what an expression comes to
-  assign_plan : (place there at : ℕ) (text : List ℕ) (r : Expr) (s t u : State) (v : Val) (n : ℕ) → meaning tables inputs (an_expr r at) (record s { turns = n }) ≡ Goes v t → put_value (resolved s.records s.heap at text) v t ≡ Goes tt u
-      → meaning tables inputs (an_expr (trees.assign place (trees.name there text) assign_operator.Assign r) at) (record s { turns = suc (suc n) }) ≡ Goes v u
+  assign_plan : (place there at : ℕ) (text : List ℕ) (r : Expr) (s t u : State) (v : Val) (n : ℕ) → meaning tables inputs functions (an_expr r at) (record s { turns = n }) ≡ Goes v t → put_value (resolved s.records s.heap at text) v t ≡ Goes tt u
+      → meaning tables inputs functions (an_expr (trees.assign place (trees.name there text) assign_operator.Assign r) at) (record s { turns = suc (suc n) }) ≡ Goes v u
   unfolding plan expr_step use_step used assign_to give perform completed
   assign_plan place there at text r s t u v n comes puts =
-      let M = meaning tables inputs in
+      let M = meaning tables inputs functions in
       let name : Reference = resolved s.records s.heap at text in
-      is_performed.some_left tables inputs (an_expr (trees.assign place (trees.name there text) assign_operator.Assign r) at) s (suc n)
+      is_performed.some_left tables inputs functions (an_expr (trees.assign place (trees.name there text) assign_operator.Assign r) at) s (suc n)
       ∙ perform_asked M (a_use (assigned r) (trees.name there text) at) (record s { turns = suc n })
-      ∙ is_performed.some_left tables inputs (a_use (assigned r) (trees.name there text) at) s n
-      ∙ asked_gave tables inputs (an_expr r at) (assign_to (planned tables inputs) name) (record s { turns = n }) t v comes
-      ∙ ap (perform M) (plan_laws.assign_as tables inputs name v t)
-      ∙ ap (λ o. perform M (as_plan Value (and_then o (give (labelled tables inputs) v)))) puts
+      ∙ is_performed.some_left tables inputs functions (a_use (assigned r) (trees.name there text) at) s n
+      ∙ asked_gave tables inputs functions (an_expr r at) (assign_to (planned tables inputs functions) name) (record s { turns = n }) t v comes
+      ∙ ap (perform M) (plan_laws.assign_as tables inputs functions name v t)
+      ∙ ap (λ o. perform M (as_plan Value (and_then o (give (labelled tables inputs functions) v)))) puts
 
   -- what a compound assignment asks for
-  asks_compound : (place : ℕ) (e r : Expr) (operator : AssignOperator) (o : BinaryOperator) (at : ℕ) (s : State) → operator_of operator ≡ Some o → plan tables inputs (an_expr (trees.assign place e operator r) at) s ≡ Ask (a_use (updated_by o r) e at) s Give
+  asks_compound : (place : ℕ) (e r : Expr) (operator : AssignOperator) (o : BinaryOperator) (at : ℕ) (s : State) → operator_of operator ≡ Some o → plan tables inputs functions (an_expr (trees.assign place e operator r) at) s ≡ Ask (a_use (updated_by o r) e at) s Give
   unfolding plan expr_step
   asks_compound place e r operator o at s is = ap (λ x. Ask (a_use (assigned_by x r) e at) s Give) is
 
   -- a name is given what an operator makes of its value and that of an expression
   compound_plan : (place there at : ℕ) (text : List ℕ) (r : Expr) (operator : AssignOperator) (o : BinaryOperator) (s t u : State) (v w : Val) (p : Primitive) (n : ℕ) → operator_of operator ≡ Some o
-      → get_value (resolved s.records s.heap at text) (record s { turns = n }) ≡ Goes v (record s { turns = n }) → meaning tables inputs (an_expr r at) (record s { turns = n }) ≡ Goes w t → converted o v.value w.value ≡ Ok p
+      → get_value (resolved s.records s.heap at text) (record s { turns = n }) ≡ Goes v (record s { turns = n }) → meaning tables inputs functions (an_expr r at) (record s { turns = n }) ≡ Goes w t → converted o v.value w.value ≡ Ok p
       → put_value (resolved s.records s.heap at text) (record { value = value.Primitive p; label = union v.label w.label }) t ≡ Goes tt u
-      → meaning tables inputs (an_expr (trees.assign place (trees.name there text) operator r) at) (record s { turns = suc (suc n) }) ≡ Goes (record { value = value.Primitive p; label = union v.label w.label }) u
+      → meaning tables inputs functions (an_expr (trees.assign place (trees.name there text) operator r) at) (record s { turns = suc (suc n) }) ≡ Goes (record { value = value.Primitive p; label = union v.label w.label }) u
   unfolding used compound_right compound_done assign_to give given perform completed
   compound_plan place there at text r operator o s t u v w p n is gets comes gives puts =
-      let M = meaning tables inputs in
+      let M = meaning tables inputs functions in
       let x : Val = record { value = value.Primitive p; label = union v.label w.label } in
       let name : Reference = resolved s.records s.heap at text in
       let now : State = record s { turns = n } in
-      is_performed.some_left tables inputs (an_expr (trees.assign place (trees.name there text) operator r) at) s (suc n)
+      is_performed.some_left tables inputs functions (an_expr (trees.assign place (trees.name there text) operator r) at) s (suc n)
       ∙ ap (perform M) (asks_compound place (trees.name there text) r operator o at (record s { turns = suc n }) is)
       ∙ perform_asked M (a_use (updated_by o r) (trees.name there text) at) (record s { turns = suc n })
-      ∙ is_performed.some_left tables inputs (a_use (updated_by o r) (trees.name there text) at) s n
+      ∙ is_performed.some_left tables inputs functions (a_use (updated_by o r) (trees.name there text) at) s n
       ∙ ap (perform M) (asks_use (updated_by o r) there text at now)
-      ∙ ap (λ q. perform M (and_plan (as_plan Value q) (with_result Value (compound_right (planned tables inputs) (asking tables inputs) o r at name)))) gets
-      ∙ asked_gave tables inputs (an_expr r at) (compound_done (planned tables inputs) (asking tables inputs) o name v) now t w comes
-      ∙ ap (λ q. perform M (and_plan q (with_result Value (assign_to (planned tables inputs) name)))) (plan_laws.binary_as tables inputs o v w t)
-      ∙ ap (λ q. perform M (and_plan (as_plan Value q) (with_result Value (assign_to (planned tables inputs) name)))) (converted_laws.binary_as tables inputs o v w t (unkeyed o v.value w.value p gives))
-      ∙ ap (λ q. perform M (and_plan (as_plan Value (given (union v.label w.label) q t)) (with_result Value (assign_to (planned tables inputs) name)))) gives
-      ∙ ap (perform M) (plan_laws.assign_as tables inputs name x t)
-      ∙ ap (λ q. perform M (as_plan Value (and_then q (give (labelled tables inputs) x)))) puts
+      ∙ ap (λ q. perform M (and_plan (as_plan Value q) (with_result Value (compound_right (planned tables inputs functions) (asking tables inputs functions) o r at name)))) gets
+      ∙ asked_gave tables inputs functions (an_expr r at) (compound_done (planned tables inputs functions) (asking tables inputs functions) o name v) now t w comes
+      ∙ ap (λ q. perform M (and_plan q (with_result Value (assign_to (planned tables inputs functions) name)))) (plan_laws.binary_as tables inputs functions o v w t)
+      ∙ ap (λ q. perform M (and_plan (as_plan Value q) (with_result Value (assign_to (planned tables inputs functions) name)))) (converted_laws.binary_as tables inputs functions o v w t (unkeyed o v.value w.value p gives))
+      ∙ ap (λ q. perform M (and_plan (as_plan Value (given (union v.label w.label) q t)) (with_result Value (assign_to (planned tables inputs functions) name)))) gives
+      ∙ ap (perform M) (plan_laws.assign_as tables inputs functions name x t)
+      ∙ ap (λ q. perform M (as_plan Value (and_then q (give (labelled tables inputs functions) x)))) puts
 
   -- a name's number with one more or less is given to it, and the number is what is given
   postfix_counts : (o : BinaryOperator) (n : Reference) (a c : ℤ) (l : Label) (s : State) → unary_of unary_operator.Plus (a_primitive (Num a)) ≡ Ok (Num a) → binary_of o (value.Primitive (Num a)) (value.Primitive (Num (pos 1))) ≡ Ok (Num c)
-      → postfix_value (labelled tables inputs) o n (record { value = value.Primitive (Num a); label = l }) s ≡ assign_giving (labelled tables inputs) n (record { value = value.Primitive (Num a); label = l }) (record { value = value.Primitive (Num c); label = union l bottom }) s
+      → postfix_value (labelled tables inputs functions) o n (record { value = value.Primitive (Num a); label = l }) s ≡ assign_giving (labelled tables inputs functions) n (record { value = value.Primitive (Num a); label = l }) (record { value = value.Primitive (Num c); label = union l bottom }) s
   unfolding postfix_value postfix_number postfix_by unless_object given seen
   postfix_counts o n a c l s plus counts =
       let v : Val = record { value = value.Primitive (Num a); label = l } in
-      ap (λ r. and_then (given l r s) (postfix_by (labelled tables inputs) o n)) plus
-      ∙ ap (λ r. and_then (given (union l bottom) r s) (assign_giving (labelled tables inputs) n v)) counts
+      ap (λ r. and_then (given l r s) (postfix_by (labelled tables inputs functions) o n)) plus
+      ∙ ap (λ r. and_then (given (union l bottom) r s) (assign_giving (labelled tables inputs functions) n v)) counts
 
   postfix_plan : (place there at : ℕ) (text : List ℕ) (operator : PostfixOperator) (s u : State) (a c : ℤ) (l : Label) (n : ℕ) → IsLabel l
       → unary_of unary_operator.Plus (a_primitive (Num a)) ≡ Ok (Num a) → binary_of (step_of operator) (value.Primitive (Num a)) (value.Primitive (Num (pos 1))) ≡ Ok (Num c)
       → get_value (resolved s.records s.heap at text) (record s { turns = n }) ≡ Goes (record { value = value.Primitive (Num a); label = l }) (record s { turns = n })
       → put_value (resolved s.records s.heap at text) (record { value = value.Primitive (Num c); label = l }) (record s { turns = n }) ≡ Goes tt u
-      → meaning tables inputs (an_expr (trees.postfix place (trees.name there text) operator) at) (record s { turns = suc (suc n) }) ≡ Goes (record { value = value.Primitive (Num a); label = l }) u
+      → meaning tables inputs functions (an_expr (trees.postfix place (trees.name there text) operator) at) (record s { turns = suc (suc n) }) ≡ Goes (record { value = value.Primitive (Num a); label = l }) u
   unfolding use_step assign_giving give perform completed
   postfix_plan place there at text operator s u a c l n is_label plus counts gets puts =
-      let M = meaning tables inputs in
+      let M = meaning tables inputs functions in
       let o = step_of operator in
       let v : Val = record { value = value.Primitive (Num a); label = l } in
       let name : Reference = resolved s.records s.heap at text in
       let now : State = record s { turns = n } in
-      is_performed.some_left tables inputs (an_expr (trees.postfix place (trees.name there text) operator) at) s (suc n)
+      is_performed.some_left tables inputs functions (an_expr (trees.postfix place (trees.name there text) operator) at) s (suc n)
       ∙ ap (perform M) (asks_postfix place (trees.name there text) operator at (record s { turns = suc n }))
       ∙ perform_asked M (a_use (postfixed o) (trees.name there text) at) (record s { turns = suc n })
-      ∙ is_performed.some_left tables inputs (a_use (postfixed o) (trees.name there text) at) s n
+      ∙ is_performed.some_left tables inputs functions (a_use (postfixed o) (trees.name there text) at) s n
       ∙ ap (perform M) (asks_use (postfixed o) there text at now)
-      ∙ ap (perform M) (plan_laws.postfix_as tables inputs o at name now)
-      ∙ ap (λ x. perform M (as_plan Value (and_then x (postfix_value (labelled tables inputs) o name)))) gets
+      ∙ ap (perform M) (plan_laws.postfix_as tables inputs functions o at name now)
+      ∙ ap (λ x. perform M (as_plan Value (and_then x (postfix_value (labelled tables inputs functions) o name)))) gets
       ∙ ap (λ x. perform M (as_plan Value x)) (postfix_counts o name a c l now plus counts)
-      ∙ ap (λ k. perform M (as_plan Value (and_then (put_value name (record { value = value.Primitive (Num c); label = k }) now) (give (labelled tables inputs) v)))) (union-bottom l is_label)
-      ∙ ap (λ x. perform M (as_plan Value (and_then x (give (labelled tables inputs) v)))) puts
+      ∙ ap (λ k. perform M (as_plan Value (and_then (put_value name (record { value = value.Primitive (Num c); label = k }) now) (give (labelled tables inputs functions) v)))) (union-bottom l is_label)
+      ∙ ap (λ x. perform M (as_plan Value (and_then x (give (labelled tables inputs functions) v)))) puts
 
-  -- an expression statement is its expression
-  finish_plan : (place : ℕ) (e : Expr) (semi : Semi) (env : Env ℕ) (s u : State) (v : Val) (n : ℕ) → meaning tables inputs (an_expr e env.place) (record s { turns = n }) ≡ Goes v u
-      → meaning tables inputs (a_stmt (trees.expression place e semi) env) (record s { turns = suc n }) ≡ Goes (unlabelled undefined) u
-  unfolding plan stmt_step discard perform completed and_go
-  finish_plan place e semi env s u v n comes =
-      let M = meaning tables inputs in
-      is_performed.some_left tables inputs (a_stmt (trees.expression place e semi) env) s n
-      ∙ ap (λ o. and_go o (λ c t. perform M (with_result Value (discard (planned tables inputs)) c t))) comes
+  -- a text gives itself
+  text_plan : (place : ℕ) (text units : List ℕ) (at n : ℕ) (s : State) → meaning tables inputs functions (an_expr (trees.string place text units) at) (record s { turns = suc n }) ≡ Goes (record { value = value.Primitive (Str units); label = bottom }) (record s { turns = n })
+  unfolding plan expr_step perform completed
+  text_plan place text units at n s = is_performed.some_left tables inputs functions (an_expr (trees.string place text units) at) s n
+
+  -- an expression statement is its expression, if it is no directive
+  finish_plan : (place : ℕ) (e : Expr) (semi : Semi) (env : Env ℕ) (s u : State) (v : Val) (n : ℕ) → upgrade_of e ≡ None → meaning tables inputs functions (an_expr e env.place) (record s { turns = n }) ≡ Goes v u
+      → meaning tables inputs functions (a_stmt (trees.expression place e semi) env) (record s { turns = suc n }) ≡ Goes (unlabelled undefined) u
+  unfolding plan stmt_step behind_expression perform completed and_go
+  finish_plan place e semi env s u v n alone comes =
+      let M = meaning tables inputs functions in
+      is_performed.some_left tables inputs functions (a_stmt (trees.expression place e semi) env) s n
+      ∙ ap (λ o. and_go o (λ c t. perform M (with_result Value (behind_expression (planned tables inputs functions) (asking tables inputs functions) (upgrade_of e) env) c t))) comes
+      ∙ ap (λ (d : Option Upgrade). perform M (behind_expression (planned tables inputs functions) (asking tables inputs functions) d env v u)) alone
 
 -- ---- names
 
@@ -190,10 +199,10 @@ module _ {S T : Type 0} (made : S → T → Type 0) (meaning_of : S → T → La
       let n = turns - 2 in
       let two : turns ≡ suc (suc n) = omega (arith, enough) in
       record {
-        comes = λ tables inputs reading told read.
-            ap (λ x. meaning tables inputs (an_expr (trees.assign place x assign_operator.Assign r) at) (state_of reading old told turns)) is
-            ∙ ap (λ m. meaning tables inputs (an_expr (trees.assign place (trees.name there text) assign_operator.Assign r) at) (state_of reading old told m)) two
-            ∙ assign_plan tables inputs place there at text r (state_of reading old told n) (state_of reading old told left) (state_of reading new told left) (read_value reading v) n (evaluated.comes tables inputs reading told read) (puts.goes reading told left read);
+        comes = λ tables inputs functions reading told read.
+            ap (λ x. meaning tables inputs functions (an_expr (trees.assign place x assign_operator.Assign r) at) (state_of reading old told turns)) is
+            ∙ ap (λ m. meaning tables inputs functions (an_expr (trees.assign place (trees.name there text) assign_operator.Assign r) at) (state_of reading old told m)) two
+            ∙ assign_plan tables inputs functions place there at text r (state_of reading old told n) (state_of reading old told left) (state_of reading new told left) (read_value reading v) n (evaluated.comes tables inputs functions reading told read) (puts.goes reading told left read);
         labelled = evaluated.labelled;
         fewer = let fewer = evaluated.fewer in omega (arith, fewer, enough);
       }
@@ -208,11 +217,11 @@ module _ {S T : Type 0} (made : S → T → Type 0) (meaning_of : S → T → La
       let two : turns ≡ suc (suc n) = omega (arith, enough) in
       let later_held = (kept.labels label named.labelled).0 in
       record {
-        comes = λ tables inputs reading told read.
+        comes = λ tables inputs functions reading told read.
             let is_label : IsLabel (reading label) = subst IsLabel (sym (read.agrees label later_held)) (rising store label later_held) in
-            ap (λ x. meaning tables inputs (an_expr (trees.postfix place x operator) at) (state_of reading old told turns)) is
-            ∙ ap (λ m. meaning tables inputs (an_expr (trees.postfix place (trees.name there text) operator) at) (state_of reading old told m)) two
-            ∙ postfix_plan tables inputs place there at text operator (state_of reading old told n) (state_of reading new told n) a c (reading label) n is_label plus counts
+            ap (λ x. meaning tables inputs functions (an_expr (trees.postfix place x operator) at) (state_of reading old told turns)) is
+            ∙ ap (λ m. meaning tables inputs functions (an_expr (trees.postfix place (trees.name there text) operator) at) (state_of reading old told m)) two
+            ∙ postfix_plan tables inputs functions place there at text operator (state_of reading old told n) (state_of reading new told n) a c (reading label) n is_label plus counts
             (named.comes reading told n (IsReading-earlier made meaning_of room firm earlier store reading kept read)) (puts.goes reading told n read)
             ∙ ap (λ m. Goes (read_value reading (labelled_number a label)) (state_of reading new told m)) (sym none);
         labelled = later_held;
@@ -230,15 +239,15 @@ module _ {S T : Type 0} (made : S → T → Type 0) (meaning_of : S → T → La
       let two : turns ≡ suc (suc n) = omega (arith, enough) in
       let held : made middle v.label = (before.labels v.label named.labelled).0 in
       record {
-        comes = λ tables inputs reading told read.
+        comes = λ tables inputs functions reading told read.
             let read_joined = IsReading-earlier made meaning_of room firm joined store reading behind read in
             let read_middle = IsReading-earlier made meaning_of room firm middle joined reading between read_joined in
             let read_earlier = IsReading-earlier made meaning_of room firm earlier middle reading before read_middle in
             let union_is : union (reading v.label) (reading w.label) ≡ reading label = ap₂ union (read_middle.agrees v.label held) (read_middle.agrees w.label evaluates.labelled) ∙ sym means ∙ sym (read_joined.agrees label made_label) in
-            ap (λ x. meaning tables inputs (an_expr (trees.assign place x operator r) at) (state_of reading old told turns)) is
-            ∙ ap (λ m. meaning tables inputs (an_expr (trees.assign place (trees.name there text) operator r) at) (state_of reading old told m)) two
-            ∙ compound_plan tables inputs place there at text r operator o (state_of reading old told n) (state_of reading old told left) (state_of reading new told left) (read_value reading v) (read_value reading w) p n by
-            (named.comes reading told n read_earlier) (evaluates.comes tables inputs reading told read_middle) gives
+            ap (λ x. meaning tables inputs functions (an_expr (trees.assign place x operator r) at) (state_of reading old told turns)) is
+            ∙ ap (λ m. meaning tables inputs functions (an_expr (trees.assign place (trees.name there text) operator r) at) (state_of reading old told m)) two
+            ∙ compound_plan tables inputs functions place there at text r operator o (state_of reading old told n) (state_of reading old told left) (state_of reading new told left) (read_value reading v) (read_value reading w) p n by
+            (named.comes reading told n read_earlier) (evaluates.comes tables inputs functions reading told read_middle) gives
             (ap (λ k. put_value (resolved (read_records reading old.records) (read_heap reading old.heap) at text) (record { value = value.Primitive p; label = k }) (state_of reading old told left)) union_is ∙ puts.goes reading told left read)
             ∙ ap (λ k. Goes (record { value = value.Primitive p; label = k }) (state_of reading new told left)) union_is
             ∙ ap (λ m. Goes (record { value = value.Primitive p; label = reading label }) (state_of reading new told m)) (sym same);
@@ -248,19 +257,41 @@ module _ {S T : Type 0} (made : S → T → Type 0) (meaning_of : S → T → La
 
 -- ---- statements
 
+-- whether a text is given
+abbrev is_text : values.Value → Bool
+is_text (value.Primitive (Str units)) = true
+is_text _ = false
+
+abbrev gives_text : Outcome Halt Jump Val State → Bool
+gives_text (Goes v s) = is_text v.value
+gives_text _ = false
+
 module _ {S T : Type 0} (made : S → T → Type 0) (meaning_of : S → T → Label) where
+  -- what gives a number is no directive
+  no_directive : (store : S) (at : ℕ) (e : Expr) (old new : World T) (turns : ℕ) (number : ℤ) (label : T) (left : ℕ) → Gives made meaning_of store e at old new turns (labelled_number number label) left → upgrade_of e ≡ None
+  unfolding upgrade_of
+  no_directive store at (trees.string place text units) old new turns number label left gives =
+      let reading = meaning_of store in
+      let fewer = gives.fewer in
+      let one : turns ≡ suc (turns - 1) = omega (arith, fewer) in
+      let text_given = text_plan no_tables [] [] place text units at (turns - 1) (state_of reading old [] 0) in
+      let number_given = gives.comes no_tables [] [] reading [] (record { agrees = λ l m. refl }) in
+      let differ : true ≡ false = ap gives_text (sym text_given ∙ ap (λ k. meaning no_tables [] [] (an_expr (trees.string place text units) at) (state_of reading old [] k)) (sym one) ∙ number_given) in
+      cc differ
+  no_directive store at _ old new turns number label left gives = refl
+
   -- an expression statement comes to its end
-  pub finishes : (store : S) (place at : ℕ) (stmt : Statement) (e : Expr) (semi : Semi) (old new : World T) (turns : ℕ) (v : Labelled T) (left : ℕ) → stmt ≡ trees.expression place e semi → (turns ≡ 0 → ⊥)
-      → Gives made meaning_of store e at old new (turns - 1) v left → Finishes made meaning_of store stmt at old new turns left
-  finishes store place at stmt e semi old new turns v left is some gives =
+  pub finishes : (store : S) (place at : ℕ) (stmt : Statement) (e : Expr) (semi : Semi) (old new : World T) (turns : ℕ) (number : ℤ) (label : T) (left : ℕ) → stmt ≡ trees.expression place e semi → (turns ≡ 0 → ⊥)
+      → Gives made meaning_of store e at old new (turns - 1) (labelled_number number label) left → Finishes made meaning_of store stmt at old new turns left
+  finishes store place at stmt e semi old new turns number label left is some gives =
       let n = turns - 1 in
       let below = one_left turns some in
       let one : turns ≡ suc n = omega (arith, below) in
       record {
-        comes = λ tables inputs env reading told here read.
-            ap (λ x. meaning tables inputs (a_stmt x env) (state_of reading old told turns)) is
-            ∙ ap (λ m. meaning tables inputs (a_stmt (trees.expression place e semi) env) (state_of reading old told m)) one
-            ∙ finish_plan tables inputs place e semi env (state_of reading old told n) (state_of reading new told left) (read_value reading v) n
-            (ap (λ i. meaning tables inputs (an_expr e i) (state_of reading old told n)) here ∙ gives.comes tables inputs reading told read);
+        comes = λ tables inputs functions env reading told here read.
+            ap (λ x. meaning tables inputs functions (a_stmt x env) (state_of reading old told turns)) is
+            ∙ ap (λ m. meaning tables inputs functions (a_stmt (trees.expression place e semi) env) (state_of reading old told m)) one
+            ∙ finish_plan tables inputs functions place e semi env (state_of reading old told n) (state_of reading new told left) (read_value reading (labelled_number number label)) n (no_directive store at e old new n number label left gives)
+            (ap (λ i. meaning tables inputs functions (an_expr e i) (state_of reading old told n)) here ∙ gives.comes tables inputs functions reading told read);
         fewer = let fewer = gives.fewer in omega (arith, fewer, below);
       }

@@ -4,6 +4,7 @@ use Rattle.origin_labels.specs.Label.{Label, bottom, union}
 use Rattle.origin_labels.specs.Stores.{IsKept}
 use Rattle.flow_policy.specs.Policies.{Tables}
 use Rattle.flow_policy.specs.Inputs as inputs
+use Rattle.js_ast.specs.Functions.{FunctionCode}
 use Rattle.js_ast.specs.declared.operators.BinaryOperator.{BinaryOperator}
 use Rattle.js_ast.specs.declared.operators.BinaryOperator.TheVariants as binary_operator
 use Rattle.js_ast.specs.Trees as trees
@@ -54,43 +55,43 @@ unkeyed _ v u p is = refl
 
 -- ---- plans
 
-module _ (tables : Tables) (inputs : inputs.Given) where
+module _ (tables : Tables) (inputs : inputs.Given) (functions : List FunctionCode) where
   -- for a turn an expression comes to what its plan comes to
   entered : {T : Type 0} (reading : T → Label) (w : World T) (told : List LabelledLine) (e : Expr) (at turns : ℕ) → (turns ≡ 0 → ⊥)
-      → meaning tables inputs (an_expr e at) (state_of reading w told turns) ≡ perform (meaning tables inputs) (plan tables inputs (an_expr e at) (state_of reading w told (turns - 1)))
+      → meaning tables inputs functions (an_expr e at) (state_of reading w told turns) ≡ perform (meaning tables inputs functions) (plan tables inputs functions (an_expr e at) (state_of reading w told (turns - 1)))
   entered reading w told e at zero some = absurd (some refl)
   entered reading w told e at (suc n) some =
       let less : n ≡ suc n - 1 = omega arith in
-      subst (λ k. meaning tables inputs (an_expr e at) (state_of reading w told (suc n)) ≡ perform (meaning tables inputs) (plan tables inputs (an_expr e at) (state_of reading w told k))) less
-      (is_performed.some_left tables inputs (an_expr e at) (state_of reading w told n) n)
+      subst (λ k. meaning tables inputs functions (an_expr e at) (state_of reading w told (suc n)) ≡ perform (meaning tables inputs functions) (plan tables inputs functions (an_expr e at) (state_of reading w told k))) less
+      (is_performed.some_left tables inputs functions (an_expr e at) (state_of reading w told n) n)
 
   -- a part that was asked for gave a value
-  pub asked_gave : (part : Part) (f : Val → State → Plan) (s t : State) (v : Val) → meaning tables inputs part s ≡ Goes v t → perform (meaning tables inputs) (Ask part s (with_result Value f)) ≡ perform (meaning tables inputs) (f v t)
+  pub asked_gave : (part : Part) (f : Val → State → Plan) (s t : State) (v : Val) → meaning tables inputs functions part s ≡ Goes v t → perform (meaning tables inputs functions) (Ask part s (with_result Value f)) ≡ perform (meaning tables inputs functions) (f v t)
   unfolding perform and_go
-  asked_gave part f s t v h = ap (λ o. and_go o (λ c u. perform (meaning tables inputs) (with_result Value f c u))) h
+  asked_gave part f s t v h = ap (λ o. and_go o (λ c u. perform (meaning tables inputs functions) (with_result Value f c u))) h
 
-  number_plan : (place at : ℕ) (n : ℤ) (s : State) → perform (meaning tables inputs) (plan tables inputs (an_expr (trees.number place n) at) s) ≡ Goes (record { value = value.Primitive (Num n); label = bottom }) s
+  number_plan : (place at : ℕ) (n : ℤ) (s : State) → perform (meaning tables inputs functions) (plan tables inputs functions (an_expr (trees.number place n) at) s) ≡ Goes (record { value = value.Primitive (Num n); label = bottom }) s
   unfolding plan expr_step perform completed
   number_plan place at n s = refl
 
-  paren_plan : (place at : ℕ) (e : Expr) (s : State) → perform (meaning tables inputs) (plan tables inputs (an_expr (trees.paren place e) at) s) ≡ meaning tables inputs (an_expr e at) s
+  paren_plan : (place at : ℕ) (e : Expr) (s : State) → perform (meaning tables inputs functions) (plan tables inputs functions (an_expr (trees.paren place e) at) s) ≡ meaning tables inputs functions (an_expr e at) s
   unfolding plan expr_step
-  paren_plan place at e s = perform_asked (meaning tables inputs) (an_expr e at) s
+  paren_plan place at e s = perform_asked (meaning tables inputs functions) (an_expr e at) s
 
-  name_plan : (place at : ℕ) (text : List ℕ) (s : State) (v : Val) (t : State) → get_value (resolved s.records s.heap at text) s ≡ Goes v t → perform (meaning tables inputs) (plan tables inputs (an_expr (trees.name place text) at) s) ≡ Goes v t
+  name_plan : (place at : ℕ) (text : List ℕ) (s : State) (v : Val) (t : State) → get_value (resolved s.records s.heap at text) s ≡ Goes v t → perform (meaning tables inputs functions) (plan tables inputs functions (an_expr (trees.name place text) at) s) ≡ Goes v t
   unfolding plan expr_step read_value perform completed
-  name_plan place at text s v t reads = ap (λ o. perform (meaning tables inputs) (as_plan Value o)) reads
+  name_plan place at text s v t reads = ap (λ o. perform (meaning tables inputs functions) (as_plan Value o)) reads
 
   binary_plan : (place at : ℕ) (l r : Expr) (o : BinaryOperator) (s t u : State) (v w : Val) (p : Primitive) → evaluates_both o ≡ true
-      → meaning tables inputs (an_expr l at) s ≡ Goes v t → meaning tables inputs (an_expr r at) t ≡ Goes w u → converted o v.value w.value ≡ Ok p
-      → perform (meaning tables inputs) (plan tables inputs (an_expr (trees.binary place l o r) at) s) ≡ Goes (record { value = value.Primitive p; label = union v.label w.label }) u
+      → meaning tables inputs functions (an_expr l at) s ≡ Goes v t → meaning tables inputs functions (an_expr r at) t ≡ Goes w u → converted o v.value w.value ≡ Ok p
+      → perform (meaning tables inputs functions) (plan tables inputs functions (an_expr (trees.binary place l o r) at) s) ≡ Goes (record { value = value.Primitive p; label = union v.label w.label }) u
   unfolding plan expr_step binary_right given perform completed
   binary_plan place at l r o s t u v w p both left right is =
-      ap (perform (meaning tables inputs)) (both_operands tables inputs o l r at s both)
-      ∙ asked_gave (an_expr l at) (binary_right (planned tables inputs) (asking tables inputs) o r at) s t v left
-      ∙ asked_gave (an_expr r at) (binary_values (planned tables inputs) o v) t u w right
-      ∙ ap (perform (meaning tables inputs)) (plan_laws.binary_as tables inputs o v w u)
-      ∙ ap (λ x. perform (meaning tables inputs) (as_plan Value x)) (converted_laws.binary_as tables inputs o v w u (unkeyed o v.value w.value p is) ∙ ap (λ x. given (union v.label w.label) x u) is)
+      ap (perform (meaning tables inputs functions)) (both_operands tables inputs functions o l r at s both)
+      ∙ asked_gave (an_expr l at) (binary_right (planned tables inputs functions) (asking tables inputs functions) o r at) s t v left
+      ∙ asked_gave (an_expr r at) (binary_values (planned tables inputs functions) o v) t u w right
+      ∙ ap (perform (meaning tables inputs functions)) (plan_laws.binary_as tables inputs functions o v w u)
+      ∙ ap (λ x. perform (meaning tables inputs functions) (as_plan Value x)) (converted_laws.binary_as tables inputs functions o v w u (unkeyed o v.value w.value p is) ∙ ap (λ x. given (union v.label w.label) x u) is)
 
 -- ---- what an expression comes to
 
@@ -99,7 +100,7 @@ module _ {S T : Type 0} (made : S → T → Type 0) (meaning_of : S → T → La
   pub later : (room : S → ℕ) (firm : S → Bool) (old new : S) (e : Expr) (at : ℕ) (w : World T) (turns : ℕ) (v : Labelled T) (left : ℕ) → IsKept made meaning_of room firm old new
       → Evaluates made meaning_of old e at w turns v left → Evaluates made meaning_of new e at w turns v left
   later room firm old new e at w turns v left kept evaluates = record {
-    comes = λ tables inputs reading told read. evaluates.comes tables inputs reading told (IsReading-earlier made meaning_of room firm old new reading kept read);
+    comes = λ tables inputs functions reading told read. evaluates.comes tables inputs functions reading told (IsReading-earlier made meaning_of room firm old new reading kept read);
     labelled = (kept.labels v.label evaluates.labelled).0;
     fewer = evaluates.fewer;
   }
@@ -107,9 +108,9 @@ module _ {S T : Type 0} (made : S → T → Type 0) (meaning_of : S → T → La
   pub number_evaluated : (store : S) (place at : ℕ) (w : World T) (turns : ℕ) (n : ℤ) (label : T) → (turns ≡ 0 → ⊥) → made store label → meaning_of store label ≡ bottom
       → Evaluates made meaning_of store (trees.number place n) at w turns (labelled_number n label) (turns - 1)
   number_evaluated store place at w turns n label some has means = record {
-    comes = λ tables inputs reading told read.
-        entered tables inputs reading w told (trees.number place n) at turns some
-        ∙ number_plan tables inputs place at n (state_of reading w told (turns - 1))
+    comes = λ tables inputs functions reading told read.
+        entered tables inputs functions reading w told (trees.number place n) at turns some
+        ∙ number_plan tables inputs functions place at n (state_of reading w told (turns - 1))
         ∙ ap (λ l. Goes (record { value = value.Primitive (Num n); label = l }) (state_of reading w told (turns - 1))) (sym (read.agrees label has ∙ means));
     labelled = has;
     fewer = one_left turns some;
@@ -118,19 +119,19 @@ module _ {S T : Type 0} (made : S → T → Type 0) (meaning_of : S → T → La
   pub paren_evaluated : (store : S) (place at : ℕ) (w : World T) (turns : ℕ) (e : Expr) (v : Labelled T) (left : ℕ) → (turns ≡ 0 → ⊥)
       → Evaluates made meaning_of store e at w (turns - 1) v left → Evaluates made meaning_of store (trees.paren place e) at w turns v left
   paren_evaluated store place at w turns e v left some inner = record {
-    comes = λ tables inputs reading told read.
-        entered tables inputs reading w told (trees.paren place e) at turns some
-        ∙ paren_plan tables inputs place at e (state_of reading w told (turns - 1))
-        ∙ inner.comes tables inputs reading told read;
+    comes = λ tables inputs functions reading told read.
+        entered tables inputs functions reading w told (trees.paren place e) at turns some
+        ∙ paren_plan tables inputs functions place at e (state_of reading w told (turns - 1))
+        ∙ inner.comes tables inputs functions reading told read;
     labelled = inner.labelled;
     fewer = let fewer = inner.fewer in let below = one_left turns some in omega (arith, below, fewer);
   }
 
   pub name_evaluated : (store : S) (place at : ℕ) (w : World T) (turns : ℕ) (text : List ℕ) (v : Labelled T) → (turns ≡ 0 → ⊥) → IsNamed made meaning_of store at text w v → Evaluates made meaning_of store (trees.name place text) at w turns v (turns - 1)
   name_evaluated store place at w turns text v some is = record {
-    comes = λ tables inputs reading told read.
+    comes = λ tables inputs functions reading told read.
         let s = state_of reading w told (turns - 1) in
-        entered tables inputs reading w told (trees.name place text) at turns some ∙ name_plan tables inputs place at text s (readings.read_value reading v) s (is.comes reading told (turns - 1) read);
+        entered tables inputs functions reading w told (trees.name place text) at turns some ∙ name_plan tables inputs functions place at text s (readings.read_value reading v) s (is.comes reading told (turns - 1) read);
     labelled = is.labelled;
     fewer = one_left turns some;
   }
@@ -140,11 +141,11 @@ module _ {S T : Type 0} (made : S → T → Type 0) (meaning_of : S → T → La
       → made store label → meaning_of store label ≡ union (meaning_of store v.label) (meaning_of store u.label)
       → Evaluates made meaning_of store (trees.binary place l o r) at w turns (record { value = value.Primitive p; label = label }) left
   binary_evaluated store place at w turns l r o v u t left p label some both first second is has means = record {
-    comes = λ tables inputs reading told read.
+    comes = λ tables inputs functions reading told read.
         let joined : union (reading v.label) (reading u.label) ≡ reading label = ap₂ union (read.agrees v.label first.labelled) (read.agrees u.label second.labelled) ∙ sym means ∙ sym (read.agrees label has) in
-        entered tables inputs reading w told (trees.binary place l o r) at turns some
-        ∙ binary_plan tables inputs place at l r o (state_of reading w told (turns - 1)) (state_of reading w told t) (state_of reading w told left) (readings.read_value reading v) (readings.read_value reading u) p both
-        (first.comes tables inputs reading told read) (second.comes tables inputs reading told read) is
+        entered tables inputs functions reading w told (trees.binary place l o r) at turns some
+        ∙ binary_plan tables inputs functions place at l r o (state_of reading w told (turns - 1)) (state_of reading w told t) (state_of reading w told left) (readings.read_value reading v) (readings.read_value reading u) p both
+        (first.comes tables inputs functions reading told read) (second.comes tables inputs functions reading told read) is
         ∙ ap (λ x. Goes (record { value = value.Primitive p; label = x }) (state_of reading w told left)) joined;
     labelled = has;
     fewer = let fewer = first.fewer in let less = second.fewer in let below = one_left turns some in omega (arith, below, fewer, less);

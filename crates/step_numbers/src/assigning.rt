@@ -312,7 +312,7 @@ fn put_global<L: Labels>(
 
 /// The label of the existence of the global object's own property with a name, if its value can be written over (ECMA-262 8.12.4).
 fn written<T: Copy>(world: &World<T>, name: &Text) -> Option<T>
-    requires { 9 ≤ length world.now.heap }
+    requires { 10 ≤ length world.now.heap }
     ensures { result ≡ written_in name.now (global_in world.now.heap) }
 {
     if is_array(world) {
@@ -324,7 +324,7 @@ fn written<T: Copy>(world: &World<T>, name: &Text) -> Option<T>
 
 /// Whether the global object is an array.
 fn is_array<T: Copy>(world: &World<T>) -> bool
-    requires { 9 ≤ length world.now.heap }
+    requires { 10 ≤ length world.now.heap }
     ensures { result ≡ array_in (global_in world.now.heap) }
 {
     is_array_class(world.heap.shape(GLOBAL).class)

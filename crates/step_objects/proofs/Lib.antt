@@ -5,3 +5,5 @@ pub mod DeletingLaws
 pub mod TakingLaws
 pub mod LiteralLaws
 pub mod VisitingLaws
+pub mod ShapeLaws
+pub mod InstanceLaws

@@ -1,7 +1,7 @@
 -- Whether a key is still there, in a reading of the labels.
-use Rattle.std.proofs.Common.{◌≡◌, ℕ, Bool, List, [], ◌∷◌, map, length, ◌-◌, Result, Ok, Err, IfOk, OnOk, refl, sym, ap, ap₂, ◌∙◌}
+use Rattle.std.proofs.Common.{◌≡◌, ℕ, Bool, List, [], ◌∷◌, length, ◌-◌, Result, Ok, Err, IfOk, OnOk, sym, ap, ap₂, ◌∙◌}
 use Rattle.std.specs.Result.{IsErrAnd}
-use Rattle.origin_labels.specs.Label.{Label, bottom, union}
+use Rattle.origin_labels.specs.Label.{Label, bottom}
 use Rattle.origin_labels.specs.Stores.{IsKept}
 use Rattle.flow_frames.specs.declared.faults.FlowFault.{FlowFault}
 use Rattle.flow_frames.specs.Changes.{raised}
@@ -11,14 +11,14 @@ use Rattle.js_number.specs.declared.primitive.Primitive.TheVariants.{Str}
 use Rattle.js_values.specs.declared.value.Labelled.{Labelled}
 use Rattle.js_values.specs.declared.value.Value.{Value}
 use Rattle.js_values.specs.declared.value.Value.TheVariants as value
-use Rattle.js_values.specs.Readings.{IsReading, read_value}
+use Rattle.js_values.specs.Readings.{read_value}
 use Rattle.js_values.proofs.ReadingLaws.{IsReading-earlier}
 use Rattle.es_meaning.specs.Outcomes.{Goes, and_then, ret, ◌>>=◌}
 use Rattle.es_meaning.specs.Operations.{has_key}
 use Rattle.es_meaning.specs.Operators.{truth}
 use Rattle.es_meaning.specs.Plain.{key_text}
 use Rattle.flow_meaning.specs.Erased.{unlabelled}
-use Rattle.flow_meaning.specs.Scopes.{State, L, Val, LabelledLine, raise}
+use Rattle.flow_meaning.specs.Scopes.{L, Val, raise}
 use Rattle.flow_meaning.specs.Tracked.{act}
 use Rattle.step_world.specs.declared.came.Came.{Came}
 use Rattle.step_world.specs.declared.came.Came.TheVariants as came

@@ -4,6 +4,7 @@ use Rattle.std.specs.Option.{option_map}
 use Rattle.origin_labels.specs.Label.{Label, union}
 use Rattle.flow_policy.specs.Policies.{Tables}
 use Rattle.flow_policy.specs.Inputs.{Given}
+use Rattle.js_ast.specs.Functions.{FunctionCode}
 use Rattle.js_number.specs.declared.primitive.Primitive.TheVariants.{Str}
 use Rattle.js_values.specs.declared.value.Value.{Value}
 use Rattle.js_values.specs.declared.value.Value.TheVariants as value
@@ -37,7 +38,7 @@ pub record IsListed {S T : Type 0} (made : S → T → Type 0) (meaning : S → 
 
 -- what `for in` does with the keys of a value is done with those that are taken
 abbrev pub AreHandedOn : Type 0
-AreHandedOn = (tables : Tables) (inputs : Given) (v : Val) (next : List (List ℕ) → L (Unit {0})) (s : State) → (labelled tables inputs).keys v next s ≡ (taken v >>= next) s
+AreHandedOn = (tables : Tables) (inputs : Given) (functions : List FunctionCode) (v : Val) (next : List (List ℕ) → L (Unit {0})) (s : State) → (labelled tables inputs functions).keys v next s ≡ (taken v >>= next) s
 
 -- whether an object still has a key: what is told raises the innermost frame, which is the loop's
 unfoldable pub still : Val → List ℕ → L Bool

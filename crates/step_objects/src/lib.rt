@@ -1,9 +1,10 @@
-//! Objects: how a literal makes one, which values can have properties, which keys an object has, and how a property is deleted.
+//! Objects: how a literal makes one, which values can have properties, which keys an object has, how a property is deleted, and what an object is an instance of.
 #![tactic(auto)]
 
 mod asking;
 mod deleting;
 mod enumerating;
+mod instances;
 mod literals;
 mod needing;
 mod parts;
@@ -12,6 +13,7 @@ mod visiting;
 pub use asking::has_key;
 pub use deleting::remove_property;
 pub use enumerating::{keys_of, taking_keys};
+pub use instances::instance;
 pub use literals::make_object;
 pub use needing::{base_needed, object_needed};
 pub use parts::text_of_key;

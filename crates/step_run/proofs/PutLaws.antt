@@ -5,6 +5,7 @@ use Rattle.origin_labels.specs.Stores.{IsKept}
 use Rattle.flow_io.specs.Sinks.{IsFrontOf, Appends, AppendsFront}
 use Rattle.flow_policy.specs.Policies.{Tables}
 use Rattle.flow_policy.specs.Inputs.{Given}
+use Rattle.js_ast.specs.Functions.{FunctionCode}
 use Rattle.js_values.specs.Readings.{IsReading}
 use Rattle.js_values.proofs.ReadingLaws.{IsReading-earlier}
 use Rattle.flow_meaning.specs.Laws.{performed_run}
@@ -34,11 +35,11 @@ front_rest (longer {x = x} f) = let r = front_rest f in (r.0, ap (λ ys. x ∷ y
 begins_bytes : (which : Show) (tables : Tables) (lines : List LabelledLine) (run : Run) → Front lines run.lines → IsFrontOf (shown_bytes which tables lines) (shown_bytes which tables run.lines)
 begins_bytes which tables lines run front = let r = front_rest front in (shown_bytes which tables r.0, ap (shown_bytes which tables) r.1 ∙ bytes_append which tables lines r.0)
 
-module _ {S T : Type 0} (made : S → T → Type 0) (meaning : S → T → Label) (which : Show) (tables : Tables) (inputs : Given) (first_machine : Machine T) (first : Next) where
+module _ {S T : Type 0} (made : S → T → Type 0) (meaning : S → T → Label) (which : Show) (tables : Tables) (inputs : Given) (functions : List FunctionCode) (first_machine : Machine T) (first : Next) where
   -- how far a run has come: these lines were printed, those that are shown are appended, and the machine goes on from there
   pub record SoFar (store : S) (m : Machine T) (next : Next) (old now : Option (List ℕ)) : Type 0 where
     pub lines : (T → Label) → List LabelledLine
-    pub comes : (reading : T → Label) → IsReading made meaning store reading → outlook tables inputs reading first_machine first [] ≡ outlook tables inputs reading m next (lines reading)
+    pub comes : (reading : T → Label) → IsReading made meaning store reading → outlook tables inputs functions reading first_machine first [] ≡ outlook tables inputs functions reading m next (lines reading)
     pub appended : (reading : T → Label) → Appends old now (shown_bytes which tables (lines reading))
 
   pub begun : (store : S) (old : Option (List ℕ)) → SoFar store first_machine first old old
@@ -50,14 +51,14 @@ module _ {S T : Type 0} (made : S → T → Type 0) (meaning : S → T → Label
 
   -- what the whole run comes to
   abbrev pub whole : (T → Label) → Run
-  whole reading = performed_run (outlook tables inputs reading first_machine first [])
+  whole reading = performed_run (outlook tables inputs functions reading first_machine first [])
 
-  module _ (room : S → ℕ) (firm : S → Bool) (adds : (reading : T → Label) (m : Machine T) (next : Next) (told : List LabelledLine) → Front told (performed_run (outlook tables inputs reading m next told)).lines) (store later : S) (kept : IsKept made meaning room firm store later) (m n : Machine T) (next move : Next) (old now : Option (List ℕ)) (so_far : SoFar store m next old now) where
+  module _ (room : S → ℕ) (firm : S → Bool) (adds : (reading : T → Label) (m : Machine T) (next : Next) (told : List LabelledLine) → Front told (performed_run (outlook tables inputs functions reading m next told)).lines) (store later : S) (kept : IsKept made meaning room firm store later) (m n : Machine T) (next move : Next) (old now : Option (List ℕ)) (so_far : SoFar store m next old now) where
     earlier : (reading : T → Label) → IsReading made meaning later reading → IsReading made meaning store reading
     earlier reading read = IsReading-earlier made meaning room firm store later reading kept read
 
     -- a step that prints nothing
-    pub goes_on : ((reading : T → Label) (told : List LabelledLine) → IsReading made meaning later reading → outlook tables inputs reading m next told ≡ outlook tables inputs reading n move told) → SoFar later n move old now
+    pub goes_on : ((reading : T → Label) (told : List LabelledLine) → IsReading made meaning later reading → outlook tables inputs functions reading m next told ≡ outlook tables inputs functions reading n move told) → SoFar later n move old now
     goes_on steps = record {
       lines = so_far.lines;
       comes = λ reading read. so_far.comes reading (earlier reading read) ∙ steps reading (so_far.lines reading) read;
@@ -65,24 +66,24 @@ module _ {S T : Type 0} (made : S → T → Type 0) (meaning : S → T → Label
     }
 
     -- the end
-    pub ended : (e : core.Ending T) → ((reading : T → Label) (told : List LabelledLine) → IsReading made meaning later reading → performed_run (outlook tables inputs reading m next told) ≡ record { lines = told; ending = ending_of tables inputs reading n e })
-        → (reading : T → Label) → IsReading made meaning later reading → PutsRun which tables (whole reading) (ending_of tables inputs reading n) old now (Ok e)
+    pub ended : (e : core.Ending T) → ((reading : T → Label) (told : List LabelledLine) → IsReading made meaning later reading → performed_run (outlook tables inputs functions reading m next told) ≡ record { lines = told; ending = ending_of reading n e })
+        → (reading : T → Label) → IsReading made meaning later reading → PutsRun which tables (whole reading) (ending_of reading n) old now (Ok e)
     ended e ends reading read =
-        let run : whole reading ≡ record { lines = so_far.lines reading; ending = ending_of tables inputs reading n e } = ap performed_run (so_far.comes reading (earlier reading read)) ∙ ends reading (so_far.lines reading) read in
+        let run : whole reading ≡ record { lines = so_far.lines reading; ending = ending_of reading n e } = ap performed_run (so_far.comes reading (earlier reading read)) ∙ ends reading (so_far.lines reading) read in
         (ap (λ (r : Run). r.ending) run, subst (Appends old now) (ap (λ (r : Run). shown_bytes which tables r.lines) (sym run)) (so_far.appended reading))
 
     -- the lines so far begin those of the run
     begins : (reading : T → Label) → IsReading made meaning later reading → IsFrontOf (shown_bytes which tables (so_far.lines reading)) (shown_bytes which tables (whole reading).lines)
     begins reading read =
         subst (λ (o : Ran). IsFrontOf (shown_bytes which tables (so_far.lines reading)) (shown_bytes which tables (performed_run o).lines)) (sym (so_far.comes reading (earlier reading read)))
-        (begins_bytes which tables (so_far.lines reading) (performed_run (outlook tables inputs reading m next (so_far.lines reading))) (adds reading m next (so_far.lines reading)))
+        (begins_bytes which tables (so_far.lines reading) (performed_run (outlook tables inputs functions reading m next (so_far.lines reading))) (adds reading m next (so_far.lines reading)))
 
     -- memory was wanted
-    pub cut_off : (why : Cut) (reading : T → Label) → IsReading made meaning later reading → PutsRun which tables (whole reading) (ending_of tables inputs reading n) old now (Err why)
+    pub cut_off : (why : Cut) (reading : T → Label) → IsReading made meaning later reading → PutsRun which tables (whole reading) (ending_of reading n) old now (Err why)
     cut_off why reading read = front_of_whole old now (shown_bytes which tables (so_far.lines reading)) (shown_bytes which tables (whole reading).lines) (so_far.appended reading) (begins reading read)
 
     -- a step that prints a line
-    module _ (p : Printed T) (steps : (reading : T → Label) (told : List LabelledLine) → IsReading made meaning later reading → outlook tables inputs reading m next told ≡ outlook tables inputs reading n move (told ++ line_of tables reading p ∷ [])) where
+    module _ (p : Printed T) (steps : (reading : T → Label) (told : List LabelledLine) → IsReading made meaning later reading → outlook tables inputs functions reading m next told ≡ outlook tables inputs functions reading n move (told ++ line_of tables reading p ∷ [])) where
       -- which is put
       pub line_put : (behind : Option (List ℕ)) → ((reading : T → Label) → Appends now behind (shown_bytes which tables (line_of tables reading p ∷ []))) → SoFar later n move old behind
       line_put behind put = record {
@@ -97,11 +98,11 @@ module _ {S T : Type 0} (made : S → T → Type 0) (meaning : S → T → Label
       begins_behind reading read =
           let lines : List LabelledLine = so_far.lines reading ++ line_of tables reading p ∷ [] in
           subst (λ (o : Ran). IsFrontOf (shown_bytes which tables lines) (shown_bytes which tables (performed_run o).lines)) (sym (so_far.comes reading (earlier reading read) ∙ steps reading (so_far.lines reading) read))
-          (begins_bytes which tables lines (performed_run (outlook tables inputs reading n move lines)) (adds reading n move lines))
+          (begins_bytes which tables lines (performed_run (outlook tables inputs functions reading n move lines)) (adds reading n move lines))
 
       -- which is cut off
       pub line_cut : (why : Cut) (behind : Option (List ℕ)) → ((reading : T → Label) → AppendsFront now behind (shown_bytes which tables (line_of tables reading p ∷ [])))
-          → (reading : T → Label) → IsReading made meaning later reading → PutsRun which tables (whole reading) (ending_of tables inputs reading n) old behind (Err why)
+          → (reading : T → Label) → IsReading made meaning later reading → PutsRun which tables (whole reading) (ending_of reading n) old behind (Err why)
       line_cut why behind put reading read =
           let line : List ℕ = shown_bytes which tables (line_of tables reading p ∷ []) in
           front_longer old behind (shown_bytes which tables (so_far.lines reading) ++ line) (shown_bytes which tables (whole reading).lines)

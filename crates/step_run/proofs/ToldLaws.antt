@@ -53,12 +53,12 @@ tells_no_fault wanted ending.WriteFault tells = absurd (none-some wanted tells)
 tells_no_fault wanted ending.OutOfMemory tells = refl
 
 -- what a stop of a machine needs and has is declared where its ending is
-pub stop_declared : {T : Type 0} (count : ℕ) (tables : Tables) (inputs : Given) (reading : T → Label) (m : Machine T) (e : core.Ending T) → EndsDeclared count (ending_of tables inputs reading m e) → IfStopped (NeedsDeclared reading count) (Ends e)
-stop_declared count tables inputs reading m machine.Done h = tt
-stop_declared count tables inputs reading m (machine.Threw v) h = tt
-stop_declared count tables inputs reading m (machine.Stopped stop) h = h
-stop_declared count tables inputs reading m (machine.Left why) h = tt
-stop_declared count tables inputs reading m machine.OutOfTurns h = tt
+pub stop_declared : {T : Type 0} (count : ℕ) (reading : T → Label) (m : Machine T) (e : core.Ending T) → EndsDeclared count (ending_of reading m e) → IfStopped (NeedsDeclared reading count) (Ends e)
+stop_declared count reading m machine.Done h = tt
+stop_declared count reading m (machine.Threw v) h = tt
+stop_declared count reading m (machine.Stopped stop) h = h
+stop_declared count reading m (machine.Left why) h = tt
+stop_declared count reading m machine.OutOfTurns h = tt
 
 module _ (tables : Tables) (which : Show) (run : Run) (old new : Option (List ℕ)) where
   -- a run whose lines are appended, and whose ending is told

@@ -11,14 +11,16 @@ ghost use Rattle.step_work.specs.Stops.{HasStop};
 ghost use Rattle.step_channels.specs.Answers.{line_of};
 ghost use Rattle.step_work.specs.Kept.{scopes_of};
 ghost use Rattle.step_work.specs.Pending.{values_of};
+ghost use Rattle.function_table.specs.Tables.{table};
 ghost use Rattle.step_core.specs.Outlook.{IfStopped, ending_of, outlook};
-ghost use Rattle.step_core.specs.Standing.{Standing};
+ghost use Rattle.step_work.specs.Standing.{Standing};
 ghost use Rattle.step_run.specs.Puts.{PutsLine, PutsRun, is_cut_by_write};
 
 use crate::ending::Show;
 use crate::lines::{is_shown, line_bytes};
 use flow_io::{Failed, Sink};
 use flow_policy::{Inputs, Policy};
+use function_table::Functions;
 use origin_labels::Labels;
 use std::alloc::Global;
 use step_channels::Printed;
@@ -38,6 +40,7 @@ pub(crate) fn put_lines<'p, L: Labels, K: Sink>(
     labels: &mut L,
     policy: &Policy,
     inputs: &Inputs,
+    functions: &Functions<'p>,
     show: &Show,
     machine: &mut Machine<'p, L::Label>,
     first: Next<'p>,
@@ -48,7 +51,7 @@ pub(crate) fn put_lines<'p, L: Labels, K: Sink>(
     requires given { IsGivenTo policy.now inputs.now }
     requires positions { length machine.old.world.positions.items ≡ length policy.now.inputs }
     requires open { K.shut sink.old ≡ false }
-    ensures puts { (reading : L.Label → Label) → IsReading L.made L.meaning labels.new reading → PutsRun show.now policy.now (performed_run (outlook policy.now inputs.now reading machine.old first.entry [])) (ending_of policy.now inputs.now reading machine.new) (K.taken sink.old) (K.taken sink.new) result }
+    ensures puts { (reading : L.Label → Label) → IsReading L.made L.meaning labels.new reading → PutsRun show.now policy.now (performed_run (outlook policy.now inputs.now (table functions.now) reading machine.old first.entry [])) (ending_of reading machine.new) (K.taken sink.old) (K.taken sink.new) result }
     ensures stop { IfOk result (λ e. IfStopped (HasStop (L.made labels.new)) (Step.Ends e)) }
     ensures kept { IsKept L.made L.meaning L.room L.firm labels.old labels.new }
     ensures shut { K.shut sink.new ≡ is_cut_by_write result }
@@ -58,7 +61,7 @@ pub(crate) fn put_lines<'p, L: Labels, K: Sink>(
     only_adds::<L>();
     let mut next = first;
     'steps: loop {
-        let Ok(came) = step(alloc, labels, policy, inputs, machine, next) else {
+        let Ok(came) = step(alloc, labels, policy, inputs, functions, machine, next) else {
             return Err(Cut::OutOfMemory);
         };
         match came {

@@ -4,6 +4,7 @@ ghost use Rattle.std.specs.Prelude.{◌≡◌, ◌≤◌, false, length};
 ghost use Rattle.origin_labels.specs.Stores.{IsKept};
 ghost use Rattle.flow_io.specs.Files.{Rose};
 ghost use Rattle.flow_policy.specs.Inputs.{IsGivenTo};
+ghost use Rattle.js_ast.specs.IsMarked.{IsMarked};
 ghost use Rattle.js_ast.specs.Views.{view_program};
 ghost use Rattle.flow_meaning.specs.Tracked.{tracked_run};
 ghost use Rattle.step_run.specs.Ran.{HasDeclared, IsBroken, Isolates, Ran, is_write_fault};
@@ -13,6 +14,7 @@ use crate::putting::{Cut, put_lines};
 use crate::telling::told;
 use flow_io::Sink;
 use flow_policy::{Inputs, Policy};
+use function_table::Functions;
 use js_ast::Program;
 use low_equal::{declared, erasure, two_runs};
 use origin_labels::Labels;
@@ -30,6 +32,7 @@ pub fn run<L: Labels, K: Sink>(
     labels: &mut L,
     sink: &mut K,
 ) -> Ending
+    requires marked { IsMarked program.now }
     requires room { length policy.now.origins ≤ L.room labels.old }
     requires given { IsGivenTo policy.now inputs.now }
     requires open { K.shut sink.old ≡ false }
@@ -60,6 +63,7 @@ fn put_run<L: Labels, K: Sink>(
     labels: &mut L,
     sink: &mut K,
 ) -> Ending
+    requires marked { IsMarked program.now }
     requires room { length policy.now.origins ≤ L.room labels.old }
     requires given { IsGivenTo policy.now inputs.now }
     requires open { K.shut sink.old ≡ false }
@@ -71,7 +75,10 @@ fn put_run<L: Labels, K: Sink>(
 {
     declared();
     let _formed = policy.origins();
-    let Ok((mut machine, next)) = begin(alloc, labels, program, policy, turns) else {
+    let Ok(functions) = Functions::of(alloc, program) else {
+        return Ending::OutOfMemory;
+    };
+    let Ok((mut machine, next)) = begin(alloc, labels, program, &functions, policy, turns) else {
         return Ending::OutOfMemory;
     };
     match put_lines(
@@ -79,6 +86,7 @@ fn put_run<L: Labels, K: Sink>(
         labels,
         policy,
         inputs,
+        &functions,
         show,
         &mut machine,
         next,

@@ -35,7 +35,7 @@ pub(crate) fn told<'p, L: Labels>(
 ) -> Ending
     requires stop { IfStopped (HasStop (L.made labels.now)) (Ends ending) }
     requires declared { IfStopped (NeedsDeclared (L.meaning labels.now) (length policy.now.origins)) (Ends ending) }
-    ensures { (inputs : Given) → Tells (ending_of policy.now inputs (L.meaning labels.now) machine.now ending) result }
+    ensures { Tells (ending_of (L.meaning labels.now) machine.now ending) result }
 {
     match ending {
         step_core::Ending::Done => Ending::Done,

@@ -1,4 +1,6 @@
 pub mod AddingLaws
+pub mod EnterLaws
+pub mod EnteredLaws
 pub mod FirstLaws
 pub mod Names
 pub mod StartLaws

@@ -33,11 +33,11 @@ unlabelled_own_at : (r : List ℕ × Property) (rest : Option (Slot Label)) (mor
 unlabelled_own_at r rest more true same = refl
 unlabelled_own_at r rest more false same = same
 
-unlabelled_own : (key : List ℕ) (rows : Rows Property) → own key (unlabelled_rows rows) ≡ option_map (slot_in bottom) (own key rows)
+pub unlabelled_own : (key : List ℕ) (rows : Rows Property) → own key (unlabelled_rows rows) ≡ option_map (slot_in bottom) (own key rows)
 unlabelled_own key [] = refl
 unlabelled_own key (r ∷ rows) = unlabelled_own_at r (own key (unlabelled_rows rows)) (own key rows) (same_name r.0 key) (unlabelled_own key rows)
 
-unlabelled_more : (rows : Rows Property) (key : List ℕ) (p : Property) → unlabelled_rows (with_row key p rows) ≡ with_row key (slot_in bottom p) (unlabelled_rows rows)
+pub unlabelled_more : (rows : Rows Property) (key : List ℕ) (p : Property) → unlabelled_rows (with_row key p rows) ≡ with_row key (slot_in bottom p) (unlabelled_rows rows)
 unlabelled_more [] key p = refl
 unlabelled_more (r ∷ rows) key p = ap (λ more. (r.0, slot_in bottom r.1) ∷ more) (unlabelled_more rows key p)
 
@@ -52,14 +52,14 @@ variable = record { body = Data undefined; marks = declared_by_script }
 
 module _ (name : List ℕ) where
   -- the property that the name has on the global object, or on its prototype
-  abbrev along : Option Property → Option Property → Option (ℕ × Property)
+  abbrev pub along : Option Property → Option Property → Option (ℕ × Property)
   along on_global on_root = plain_found_at 1 on_global (plain_found_at 0 on_root None)
 
   module _ (root global : PlainObject) (others : List PlainObject) (has : HasGlobal (root ∷ global ∷ others)) where
     abbrev all : List PlainObject
     all = root ∷ global ∷ others
 
-    found_along : plain_find name (plain_chain all global_object.0) ≡ along (own name global.rows) (own name root.rows)
+    pub found_along : plain_find name (plain_chain all global_object.0) ≡ along (own name global.rows) (own name root.rows)
     found_along =
         ap (λ (o : Option ObjId). plain_found_at 1 (own name global.rows) (plain_find name (onwards (number_of o) (chain_within (λ p. number_of p.proto) all 1)))) has.2
         ∙ ap (λ (o : Option ObjId). plain_found_at 1 (own name global.rows) (plain_found_at 0 (own name root.rows) (plain_find name (onwards (number_of o) (chain_within (λ p. number_of p.proto) all 0))))) has.0

@@ -1,5 +1,8 @@
 -- The first objects of a run, as they are made.
-use Rattle.std.specs.Prelude.{◌≡◌, ℕ, List, [], ◌∷◌, ◌++◌, Some, None, Ok, codes}
+use Rattle.std.specs.Prelude.{◌≡◌, ℕ, pos, List, [], ◌∷◌, ◌++◌, Some, None, Ok, codes}
+use Rattle.js_number.specs.declared.primitive.Primitive.TheVariants.{Num}
+use Rattle.js_values.specs.declared.property.Body.TheVariants.{Data}
+use Rattle.js_values.specs.declared.value.Value.TheVariants as value
 use Rattle.origin_labels.specs.Label.{Label, bottom}
 use Rattle.js_values.specs.declared.ids.ObjId.{ObjId}
 use Rattle.js_values.specs.declared.property.Body.{Body}
@@ -27,6 +30,10 @@ kinds = prototype_of_errors eval_error (error_prototype error)
     ∷ prototype_of_errors syntax_error (error_prototype error)
     ∷ prototype_of_errors type_error (error_prototype error)
     ∷ prototype_of_errors uri_error (error_prototype error) ∷ []
+
+-- a number
+abbrev pub count_body : ℕ → Body
+count_body n = Data (value.Primitive (Num (pos n)))
 
 module _ {S T : Type 0} (made : S → T → Type 0) (meaning : S → T → Label) (store : S) where
   -- further objects with empty labels, in each reading that agrees with the store

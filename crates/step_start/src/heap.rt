@@ -4,10 +4,10 @@ ghost use Rattle.std.specs.Prelude.{◌≡◌, ◌<◌, ◌≤◌, ◌+◌, [], 
 ghost use Rattle.origin_labels.specs.Stores.{IsKept};
 ghost use Rattle.js_values.specs.Readings.{HasHeap};
 ghost use Rattle.object_heap.specs.Formed.{own_in};
-ghost use Rattle.es_meaning.specs.Start.{start_heap, text_property, error_prototype, error};
+ghost use Rattle.es_meaning.specs.Start.{start_heap, text_property, error_prototype, error, prototype_of_functions};
 ghost use Rattle.step_start.specs.First.{first_two, named, kinds, Makes, Adds};
 
-use crate::adding::{OBJECT_PROTOTYPE, add_property, text_of, undefined_body};
+use crate::adding::{OBJECT_PROTOTYPE, add_length, add_property, text_of, undefined_body};
 use flow_text::OutOfMemory;
 use js_number::Primitive;
 use js_values::{Body, Class, Inner, Key, Marks, ObjId, Value};
@@ -151,6 +151,30 @@ fn make_kinds<T: Copy, L: Labels<Label = T>>(
     Ok(())
 }
 
+// Makes the prototype of functions (ECMA-262 15.3.4).
+fn make_function_prototype<T: Copy, L: Labels<Label = T>>(
+    alloc: Global,
+    labels: &mut L,
+    heap: &mut Heap<T>,
+) -> Result<(), OutOfMemory>
+    requires started { length heap.old ≡ 9 }
+    requires belongs { HasHeap (L.made labels.old) heap.old }
+    ensures makes { OnOk result (Makes L.made L.meaning labels.new (prototype_of_functions ∷ []) heap.old heap.new) }
+    ensures length { OnOk result (length heap.new ≡ 10) }
+    ensures belongs { OnOk result (HasHeap (L.made labels.new) heap.new) }
+    ensures kept { IsKept L.made L.meaning L.room L.firm labels.old labels.new }
+{
+    let none = labels.bottom();
+    let o = heap.new_object(
+        Class::Function,
+        Some(OBJECT_PROTOTYPE),
+        none,
+        none,
+        Inner::Plain,
+    )?;
+    add_length(alloc, labels, heap, o, 0)
+}
+
 // Makes the prototype of all objects, and the global object with `undefined` (ECMA-262 15.1.1.3, 15.2.4).
 fn make_global<T: Copy, L: Labels<Label = T>>(
     alloc: Global,
@@ -181,12 +205,13 @@ pub(crate) fn first_objects<T: Copy, L: Labels<Label = T>>(
     labels: &mut L,
 ) -> Result<Heap<T>, OutOfMemory>
     ensures objects { IfOk result (Makes L.made L.meaning labels.new start_heap []) }
-    ensures length { IfOk result (λ heap. length heap ≡ 9) }
+    ensures length { IfOk result (λ heap. length heap ≡ 10) }
     ensures belongs { IfOk result (HasHeap (L.made labels.new)) }
     ensures kept { IsKept L.made L.meaning L.room L.firm labels.old labels.new }
 {
     let mut heap = make_global(alloc, labels)?;
     make_prototype(alloc, labels, &mut heap, &ERROR, OBJECT_PROTOTYPE)?;
     make_kinds(alloc, labels, &mut heap)?;
+    make_function_prototype(alloc, labels, &mut heap)?;
     Ok(heap)
 }

@@ -2,8 +2,9 @@
 #![tactic(auto)]
 
 mod adding;
+mod functions;
 mod heap;
 mod hoisting;
 mod starting;
 
-pub use starting::start;
+pub use starting::{Started, start};

@@ -43,10 +43,10 @@ fn refused<T: Copy>(fault: FlowFault<T>) -> Answer {
 }
 
 // As many objects as a run begins with.
-const OBJECTS: usize = 9;
+const OBJECTS: usize = 10;
 
 fn first_objects<L: Labels>(alloc: Global, labels: &L) -> Result<Heap<L::Label>, OutOfMemory>
-    ensures there { IfOk result (λ heap. 9 ≤ length heap) }
+    ensures there { IfOk result (λ heap. 10 ≤ length heap) }
     ensures belongs { IfOk result (HasHeap (L.made labels.now)) }
 {
     objects_belong::<L>();

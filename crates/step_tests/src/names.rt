@@ -41,13 +41,13 @@ pub(crate) fn unlabelled<L: Labels>(labels: &L, value: Value) -> Labelled<L::Lab
 
 // As many objects as a run starts with.
 fn objects<L: Labels>(alloc: Global, labels: &L) -> Result<Heap<L::Label>, OutOfMemory>
-    ensures count { IfOk result (λ heap. 9 ≤ length heap) }
+    ensures count { IfOk result (λ heap. 10 ≤ length heap) }
     ensures belongs { IfOk result (λ heap. HasHeap (L.made labels.now) heap) }
 {
     objects_belong::<L>();
     let none = labels.bottom();
     let mut heap = Heap::new(alloc);
-    'more: while heap.len() < 9 {
+    'more: while heap.len() < 10 {
         heap.new_object(Class::Object, None, none, none, Inner::Plain)?;
     }
     Ok(heap)

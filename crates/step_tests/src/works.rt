@@ -103,10 +103,12 @@ fn statements_in_their_order(alloc: Global) -> Result<bool, OutOfMemory> {
     Ok(follow(alloc, list.items()) == Some((true, true)))
 }
 
+const PRINTS: Calling = Calling::Directly(Direct::Print);
+
 // Whether the first of two arguments is evaluated, behind it the other one, and then the function is called with two.
 fn called(alloc: Global, list: &[Expr]) -> Option<(bool, bool, bool)> {
     let mut stack: Stack<'_, u8> = Stack::new(alloc);
-    let Ok(first) = begin_arguments(&mut stack, Direct::Print, 0, list) else {
+    let Ok(first) = begin_arguments(&mut stack, PRINTS, 0, list) else {
         return None;
     };
     let mut beside: Stack<'_, u8> = Stack::new(alloc);
@@ -116,7 +118,7 @@ fn called(alloc: Global, list: &[Expr]) -> Option<(bool, bool, bool)> {
     let [_, rest @ ..] = list else {
         return None;
     };
-    let Ok(second) = more_arguments(&mut beside, Direct::Print, 0, rest) else {
+    let Ok(second) = more_arguments(&mut beside, PRINTS, 0, rest) else {
         return None;
     };
     let mut both: Stack<'_, u8> = Stack::new(alloc);
@@ -126,7 +128,7 @@ fn called(alloc: Global, list: &[Expr]) -> Option<(bool, bool, bool)> {
     let Ok(()) = both.lay(null()) else {
         return None;
     };
-    let Ok(call) = more_arguments(&mut both, Direct::Print, 1, &[]) else {
+    let Ok(call) = more_arguments(&mut both, PRINTS, 1, &[]) else {
         return None;
     };
     Some((

@@ -1,11 +1,12 @@
 -- An act that is made of one act and of another behind it.
-use Rattle.std.proofs.Common.{◌≡◌, refl, sym, subst, ℕ, pos, Bool, true, [], ◌∷◌, Result, Ok, Err}
+use Rattle.std.proofs.Common.{◌≡◌, refl, sym, subst, ℕ, pos, Bool, true, [], ◌∷◌, Result, Ok, Err, List}
 use Rattle.std.specs.Result.{IsErrAnd}
 use Rattle.origin_labels.specs.Label.{Label}
 use Rattle.origin_labels.specs.Stores.{IsKept}
 use Rattle.flow_frames.specs.declared.faults.FlowFault.{FlowFault}
 use Rattle.flow_policy.specs.Policies.{Tables}
 use Rattle.flow_policy.specs.Inputs.{Given}
+use Rattle.js_ast.specs.Functions.{FunctionCode}
 use Rattle.js_ast.specs.declared.operators.BinaryOperator.{BinaryOperator}
 use Rattle.js_ast.specs.declared.operators.BinaryOperator.TheVariants as binary_operator
 use Rattle.js_ast.specs.declared.operators.UnaryOperator.TheVariants as unary_operator
@@ -84,49 +85,49 @@ pub keyed_is_in : (o : BinaryOperator) → is_keyed o ≡ true → o ≡ binary_
 keyed_is_in binary_operator.In e = refl
 keyed_is_in _ e = absurd cc e
 
-module _ (tables : Tables) (inputs : Given) where
+module _ (tables : Tables) (inputs : Given) (functions : List FunctionCode) where
   abbrev number : Val → L Val
-  number v = unary_value (labelled tables inputs) unary_operator.Plus v
+  number v = unary_value (labelled tables inputs functions) unary_operator.Plus v
 
   -- a value that is made a number, and then changed by one
-  prefixes : (o : BinaryOperator) (n : Reference) (v : Val) (s : State) → prefix_value (labelled tables inputs) o n v s ≡ and_then (number v s) (prefix_by (labelled tables inputs) o n)
+  prefixes : (o : BinaryOperator) (n : Reference) (v : Val) (s : State) → prefix_value (labelled tables inputs functions) o n v s ≡ and_then (number v s) (prefix_by (labelled tables inputs functions) o n)
   unfolding prefix_value prefix_number unary_value unary_done
-  prefixes o n v s = through ((labelled tables inputs).primitive number_hint v s) (unary_done (labelled tables inputs) unary_operator.Plus) (prefix_by (labelled tables inputs) o n) (prefix_number (labelled tables inputs) o n) (λ x t. refl)
+  prefixes o n v s = through ((labelled tables inputs functions).primitive number_hint v s) (unary_done (labelled tables inputs functions) unary_operator.Plus) (prefix_by (labelled tables inputs functions) o n) (prefix_number (labelled tables inputs functions) o n) (λ x t. refl)
 
-  postfixes : (o : BinaryOperator) (n : Reference) (v : Val) (s : State) → postfix_value (labelled tables inputs) o n v s ≡ and_then (number v s) (postfix_by (labelled tables inputs) o n)
+  postfixes : (o : BinaryOperator) (n : Reference) (v : Val) (s : State) → postfix_value (labelled tables inputs functions) o n v s ≡ and_then (number v s) (postfix_by (labelled tables inputs functions) o n)
   unfolding postfix_value postfix_number unary_value unary_done
-  postfixes o n v s = through ((labelled tables inputs).primitive number_hint v s) (unary_done (labelled tables inputs) unary_operator.Plus) (postfix_by (labelled tables inputs) o n) (postfix_number (labelled tables inputs) o n) (λ x t. refl)
+  postfixes o n v s = through ((labelled tables inputs functions).primitive number_hint v s) (unary_done (labelled tables inputs functions) unary_operator.Plus) (postfix_by (labelled tables inputs functions) o n) (postfix_number (labelled tables inputs functions) o n) (λ x t. refl)
 
-  asks : (v : Val) (s : State) → unary_done (labelled tables inputs) unary_operator.Typeof v s ≡ unary_value (labelled tables inputs) unary_operator.Typeof v s
+  asks : (v : Val) (s : State) → unary_done (labelled tables inputs functions) unary_operator.Typeof v s ≡ unary_value (labelled tables inputs functions) unary_operator.Typeof v s
   unfolding unary_done unary_value
   asks v s = refl
 
   -- the value of a reference, and its value for `typeof`
   abbrev pub valued : Reference → L Val
-  valued n = (labelled tables inputs).get_value n (enters (labelled tables inputs))
+  valued n = (labelled tables inputs functions).get_value n (enters (labelled tables inputs functions))
 
   abbrev pub asked : Reference → L Val
-  asked n = (labelled tables inputs).typeof_value n (enters (labelled tables inputs))
+  asked n = (labelled tables inputs functions).typeof_value n (enters (labelled tables inputs functions))
 
   -- `in` asks for an object, and then for the key
-  pub contains : (v u : Val) (s : State) → binary_values (labelled tables inputs) binary_operator.In v u s ≡ and_then (act object_needed (u ∷ []) s) (has_right (labelled tables inputs) v)
+  pub contains : (v u : Val) (s : State) → binary_values (labelled tables inputs functions) binary_operator.In v u s ≡ and_then (act object_needed (u ∷ []) s) (has_right (labelled tables inputs functions) v)
   unfolding binary_values
   contains v u s = refl
 
   module _ {T : Type 0} where
-    pub contained_parts : (v u : Labelled T) → MadeOf (λ (reading : T → Label). act object_needed (read_value reading u ∷ [])) (λ reading. has_right (labelled tables inputs) (read_value reading v)) (λ reading. binary_values (labelled tables inputs) binary_operator.In (read_value reading v) (read_value reading u))
+    pub contained_parts : (v u : Labelled T) → MadeOf (λ (reading : T → Label). act object_needed (read_value reading u ∷ [])) (λ reading. has_right (labelled tables inputs functions) (read_value reading v)) (λ reading. binary_values (labelled tables inputs functions) binary_operator.In (read_value reading v) (read_value reading u))
     contained_parts v u = record { same = λ reading s. contains (read_value reading v) (read_value reading u) s }
 
-    pub compound_parts : (R : Rec (labelled tables inputs)) (o : BinaryOperator) (n : (T → Label) → Reference) (old v : Labelled T) → MadeOf (λ (reading : T → Label). binary_values (labelled tables inputs) o (read_value reading old) (read_value reading v)) (λ reading. assign_to (labelled tables inputs) (n reading)) (λ reading. compound_done (labelled tables inputs) R o (n reading) (read_value reading old) (read_value reading v))
+    pub compound_parts : (R : Rec (labelled tables inputs functions)) (o : BinaryOperator) (n : (T → Label) → Reference) (old v : Labelled T) → MadeOf (λ (reading : T → Label). binary_values (labelled tables inputs functions) o (read_value reading old) (read_value reading v)) (λ reading. assign_to (labelled tables inputs functions) (n reading)) (λ reading. compound_done (labelled tables inputs functions) R o (n reading) (read_value reading old) (read_value reading v))
     unfolding compound_done
     compound_parts R o n old v = record { same = λ reading s. refl }
 
     -- a number with one more or less, and what is done with it
-    pub prefix_parts : (o : BinaryOperator) (n : (T → Label) → Reference) (v : Labelled T) → MadeOf (λ (reading : T → Label). (labelled tables inputs).binary o (read_value reading v) ((labelled tables inputs).literal (Num (pos 1)))) (λ reading. assign_to (labelled tables inputs) (n reading)) (λ reading. prefix_by (labelled tables inputs) o (n reading) (read_value reading v))
+    pub prefix_parts : (o : BinaryOperator) (n : (T → Label) → Reference) (v : Labelled T) → MadeOf (λ (reading : T → Label). (labelled tables inputs functions).binary o (read_value reading v) ((labelled tables inputs functions).literal (Num (pos 1)))) (λ reading. assign_to (labelled tables inputs functions) (n reading)) (λ reading. prefix_by (labelled tables inputs functions) o (n reading) (read_value reading v))
     unfolding prefix_by
     prefix_parts o n v = record { same = λ reading s. refl }
 
-    pub postfix_parts : (o : BinaryOperator) (n : (T → Label) → Reference) (v : Labelled T) → MadeOf (λ (reading : T → Label). (labelled tables inputs).binary o (read_value reading v) ((labelled tables inputs).literal (Num (pos 1)))) (λ reading. assign_giving (labelled tables inputs) (n reading) (read_value reading v)) (λ reading. postfix_by (labelled tables inputs) o (n reading) (read_value reading v))
+    pub postfix_parts : (o : BinaryOperator) (n : (T → Label) → Reference) (v : Labelled T) → MadeOf (λ (reading : T → Label). (labelled tables inputs functions).binary o (read_value reading v) ((labelled tables inputs functions).literal (Num (pos 1)))) (λ reading. assign_giving (labelled tables inputs functions) (n reading) (read_value reading v)) (λ reading. postfix_by (labelled tables inputs functions) o (n reading) (read_value reading v))
     unfolding postfix_by
     postfix_parts o n v = record { same = λ reading s. refl }
 
@@ -135,12 +136,12 @@ module _ (tables : Tables) (inputs : Given) where
     number_parts n = record { same = λ reading s. refl }
 
     -- that number, and what is done with it
-    pub prefixed_parts : (o : BinaryOperator) (n : (T → Label) → Reference) → MadeOf (λ (reading : T → Label) s. and_then (valued (n reading) s) number) (λ reading. prefix_by (labelled tables inputs) o (n reading)) (λ reading s. and_then (valued (n reading) s) (prefix_value (labelled tables inputs) o (n reading)))
-    prefixed_parts o n = record { same = λ reading s. through (valued (n reading) s) number (prefix_by (labelled tables inputs) o (n reading)) (prefix_value (labelled tables inputs) o (n reading)) (prefixes o (n reading)) }
+    pub prefixed_parts : (o : BinaryOperator) (n : (T → Label) → Reference) → MadeOf (λ (reading : T → Label) s. and_then (valued (n reading) s) number) (λ reading. prefix_by (labelled tables inputs functions) o (n reading)) (λ reading s. and_then (valued (n reading) s) (prefix_value (labelled tables inputs functions) o (n reading)))
+    prefixed_parts o n = record { same = λ reading s. through (valued (n reading) s) number (prefix_by (labelled tables inputs functions) o (n reading)) (prefix_value (labelled tables inputs functions) o (n reading)) (prefixes o (n reading)) }
 
-    pub postfixed_parts : (o : BinaryOperator) (n : (T → Label) → Reference) → MadeOf (λ (reading : T → Label) s. and_then (valued (n reading) s) number) (λ reading. postfix_by (labelled tables inputs) o (n reading)) (λ reading s. and_then (valued (n reading) s) (postfix_value (labelled tables inputs) o (n reading)))
-    postfixed_parts o n = record { same = λ reading s. through (valued (n reading) s) number (postfix_by (labelled tables inputs) o (n reading)) (postfix_value (labelled tables inputs) o (n reading)) (postfixes o (n reading)) }
+    pub postfixed_parts : (o : BinaryOperator) (n : (T → Label) → Reference) → MadeOf (λ (reading : T → Label) s. and_then (valued (n reading) s) number) (λ reading. postfix_by (labelled tables inputs functions) o (n reading)) (λ reading s. and_then (valued (n reading) s) (postfix_value (labelled tables inputs functions) o (n reading)))
+    postfixed_parts o n = record { same = λ reading s. through (valued (n reading) s) number (postfix_by (labelled tables inputs functions) o (n reading)) (postfix_value (labelled tables inputs functions) o (n reading)) (postfixes o (n reading)) }
 
     -- the type of a reference's value
-    pub type_parts : (n : (T → Label) → Reference) → MadeOf (λ (reading : T → Label). asked (n reading)) (λ reading. unary_value (labelled tables inputs) unary_operator.Typeof) (λ reading s. and_then (asked (n reading) s) (unary_done (labelled tables inputs) unary_operator.Typeof))
-    type_parts n = record { same = λ reading s. alike (asked (n reading) s) (unary_done (labelled tables inputs) unary_operator.Typeof) (unary_value (labelled tables inputs) unary_operator.Typeof) asks }
+    pub type_parts : (n : (T → Label) → Reference) → MadeOf (λ (reading : T → Label). asked (n reading)) (λ reading. unary_value (labelled tables inputs functions) unary_operator.Typeof) (λ reading s. and_then (asked (n reading) s) (unary_done (labelled tables inputs functions) unary_operator.Typeof))
+    type_parts n = record { same = λ reading s. alike (asked (n reading) s) (unary_done (labelled tables inputs functions) unary_operator.Typeof) (unary_value (labelled tables inputs functions) unary_operator.Typeof) asks }

@@ -9,6 +9,7 @@ use Rattle.flow_frames.specs.Held.{seen_frame, meant_at}
 use Rattle.flow_frames.specs.Rules.{jump_need}
 use Rattle.flow_policy.specs.Policies.{Tables}
 use Rattle.flow_policy.specs.Inputs.{Given}
+use Rattle.js_ast.specs.Functions.{FunctionCode}
 use Rattle.js_ast.specs.declared.operators.UnaryOperator.{UnaryOperator}
 use Rattle.js_ast.specs.declared.operators.UnaryOperator.TheVariants as unary_operator
 use Rattle.js_ast.specs.declared.operators.BinaryOperator.{BinaryOperator}
@@ -20,13 +21,13 @@ use Rattle.js_values.specs.declared.value.Value.TheVariants as value
 use Rattle.js_values.specs.Records.{Binding}
 use Rattle.js_values.specs.Readings.{IsReading}
 use Rattle.es_meaning.specs.Outcomes.{Outcome, Goes, Jumps, Ends, and_then, ret, ◌>>=◌}
-use Rattle.es_meaning.specs.Operations.{Act, object_of, base_needed, object_needed, has_key, Hint, number_hint, string_hint, Rec}
+use Rattle.es_meaning.specs.Operations.{Act, object_of, base_needed, object_needed, has_key, refused_declaration, Hint, number_hint, string_hint, Rec}
 use Rattle.es_meaning.specs.Operators.{is_object, converts_beside, unary_of, binary_of}
-use Rattle.es_meaning.specs.Plain.{binding_at, is_coercible, key_text, Place, in_record, on_global, nowhere}
+use Rattle.es_meaning.specs.Plain.{prototype_name, binding_at, is_coercible, key_text, Place, in_record, on_global, nowhere}
 use Rattle.es_meaning.specs.Start.{ErrorKind, reference_error, type_error, global_object}
 use Rattle.es_meaning.specs.Evaluation.{Conversion, unconverted, compared, numbers, primitives, keyed, conversion_of, has_left, has_right, takes_number, enters, give, unary_done, unary_value, unary_by, binary_done, binary_by, binary_values, compared_left, primitive_left, number_left, assign_to, assign_giving, prefix_by, prefix_number, prefix_value, postfix_by, postfix_number, postfix_value, compound_done}
 use Rattle.flow_meaning.specs.Scopes.{Halt, State, Jump, Val, L, guard, joined, reached, jump, jump_to, cut_to}
-use Rattle.flow_meaning.specs.Tracked.{labelled, make_object, throw_error, with_error, error_jump, given, unless_object, seen, bound, rebinds, assigned, assigned_to, Reference, of_name, of_property, global_walk, held, found_globally, found, property_of, named, get_value, typeof_value, acted, put_by, put_on, is_element_of, put, put_property, put_named, put_value, truth_of, removed_if, removed_own, removed_in, remove_property, remove, needed, has, argument, act}
+use Rattle.flow_meaning.specs.Tracked.{labelled, instance_if, instance_of, is_function_at, is_instance, make_object, throw_error, with_error, error_jump, given, unless_object, seen, bound, rebinds, assigned, assigned_to, Reference, of_name, of_property, global_walk, held, found_globally, found, property_of, named, get_value, typeof_value, acted, put_by, put_on, is_element_of, put, put_property, put_named, put_value, truth_of, removed_if, removed_own, removed_in, remove_property, remove, needed, has, argument, act}
 use Rattle.step_world.specs.declared.came.Came.TheVariants as came
 use Rattle.step_world.specs.declared.world.World.{World}
 use Rattle.step_world.specs.Acts.{Acts}
@@ -236,117 +237,140 @@ act_stands (object_of keys) vs s = refl
 act_stands base_needed vs s = needed_stands (is_coercible (argument 0 vs).value) (argument 0 vs) s
 act_stands object_needed vs s = needed_stands (is_object (argument 0 vs).value) (argument 0 vs) s
 act_stands has_key vs s = has_stands (union (argument 0 vs).label (argument 1 vs).label) (key_text (argument 0 vs).value) (argument 1 vs).value s
+act_stands refused_declaration vs s = error_stands Val type_error bottom s
 
-module _ (tables : Tables) (inputs : Given) where
+-- ---- `instanceof`
+
+is_instance_stands : (label : Label) (o : ℕ) (v : Value) (s : State) → FramesStand (is_instance label o v s) s
+unfolding is_instance
+is_instance_stands label o (value.Primitive p) s = error_stands Val type_error label s
+is_instance_stands label o (value.Object proto) s = refl
+
+instance_of_stands : (v : Val) (u : Value) (f : Val) (s : State) → FramesStand (instance_of v u f s) s
+unfolding instance_of
+instance_of_stands v (value.Primitive p) f s = refl
+instance_of_stands v (value.Object o) f s =
+    then_stands (property_of f.label f.value prototype_name s) (λ proto. is_instance (union v.label (union f.label proto.label)) o.0 proto.value) s (property_stands f.label f.value prototype_name s)
+    (λ proto t. is_instance_stands (union v.label (union f.label proto.label)) o.0 proto.value t)
+
+instance_if_stands : (b : Bool) (v f : Val) (s : State) → FramesStand (instance_if b v f s) s
+unfolding instance_if
+instance_if_stands true v f s = instance_of_stands v v.value f s
+instance_if_stands false v f s = error_stands Val type_error f.label s
+
+pub instance_stands : (v f : Val) (s : State) → FramesStand (instance_if (is_function_at s.heap f.value) v f s) s
+instance_stands v f s = instance_if_stands (is_function_at s.heap f.value) v f s
+
+module _ (tables : Tables) (inputs : Given) (functions : List FunctionCode) where
   -- ---- operators
 
-  pub front_stands : (o : UnaryOperator) (v : Val) (s : State) → FramesStand ((labelled tables inputs).unary o v s) s
+  pub front_stands : (o : UnaryOperator) (v : Val) (s : State) → FramesStand ((labelled tables inputs functions).unary o v s) s
   front_stands o v s = given_stands v.label (unary_of o (seen s.heap v.value)) s
 
-  pub between_stands : (o : BinaryOperator) (v u : Val) (s : State) → FramesStand ((labelled tables inputs).binary o v u s) s
+  pub between_stands : (o : BinaryOperator) (v u : Val) (s : State) → FramesStand ((labelled tables inputs functions).binary o v u s) s
   between_stands o v u s = given_stands (union v.label u.label) (binary_of o v.value u.value) s
 
-  pub unary_done_stands : (o : UnaryOperator) (v : Val) (s : State) → FramesStand (unary_done (labelled tables inputs) o v s) s
+  pub unary_done_stands : (o : UnaryOperator) (v : Val) (s : State) → FramesStand (unary_done (labelled tables inputs functions) o v s) s
   unfolding unary_done
   unary_done_stands o v s = front_stands o v s
 
-  unary_by_stands : (b : Bool) (o : UnaryOperator) (v : Val) (s : State) → FramesStand (unary_by (labelled tables inputs) b o v s) s
-  unary_by_stands true o v s = then_stands (unless_object (is_object v.value) v s) (unary_done (labelled tables inputs) o) s (unless_stands (is_object v.value) v s) (unary_done_stands o)
+  unary_by_stands : (b : Bool) (o : UnaryOperator) (v : Val) (s : State) → FramesStand (unary_by (labelled tables inputs functions) b o v s) s
+  unary_by_stands true o v s = then_stands (unless_object (is_object v.value) v s) (unary_done (labelled tables inputs functions) o) s (unless_stands (is_object v.value) v s) (unary_done_stands o)
   unary_by_stands false o v s = front_stands o v s
 
-  pub unary_stands : (o : UnaryOperator) (v : Val) (s : State) → FramesStand (unary_value (labelled tables inputs) o v s) s
+  pub unary_stands : (o : UnaryOperator) (v : Val) (s : State) → FramesStand (unary_value (labelled tables inputs functions) o v s) s
   unfolding unary_value
   unary_stands o v s = unary_by_stands (takes_number o) o v s
 
-  binary_done_stands : (o : BinaryOperator) (v u : Val) (s : State) → FramesStand (binary_done (labelled tables inputs) o v u s) s
+  binary_done_stands : (o : BinaryOperator) (v u : Val) (s : State) → FramesStand (binary_done (labelled tables inputs functions) o v u s) s
   unfolding binary_done
   binary_done_stands o v u s = between_stands o v u s
 
-  compared_stands : (o : BinaryOperator) (u v : Val) (s : State) → FramesStand (compared_left (labelled tables inputs) o u v s) s
+  compared_stands : (o : BinaryOperator) (u v : Val) (s : State) → FramesStand (compared_left (labelled tables inputs functions) o u v s) s
   unfolding compared_left
-  compared_stands o u v s = then_stands (unless_object (converts_beside u.value v.value) u s) (binary_done (labelled tables inputs) o v) s (unless_stands (converts_beside u.value v.value) u s) (binary_done_stands o v)
+  compared_stands o u v s = then_stands (unless_object (converts_beside u.value v.value) u s) (binary_done (labelled tables inputs functions) o v) s (unless_stands (converts_beside u.value v.value) u s) (binary_done_stands o v)
 
-  primitive_stands : (hint : Hint) (o : BinaryOperator) (u v : Val) (s : State) → FramesStand (primitive_left (labelled tables inputs) hint o u v s) s
+  primitive_stands : (hint : Hint) (o : BinaryOperator) (u v : Val) (s : State) → FramesStand (primitive_left (labelled tables inputs functions) hint o u v s) s
   unfolding primitive_left
-  primitive_stands hint o u v s = then_stands (unless_object (is_object u.value) u s) (binary_done (labelled tables inputs) o v) s (unless_stands (is_object u.value) u s) (binary_done_stands o v)
+  primitive_stands hint o u v s = then_stands (unless_object (is_object u.value) u s) (binary_done (labelled tables inputs functions) o v) s (unless_stands (is_object u.value) u s) (binary_done_stands o v)
 
-  number_stands : (o : BinaryOperator) (u v : Val) (s : State) → FramesStand (number_left (labelled tables inputs) o u v s) s
+  number_stands : (o : BinaryOperator) (u v : Val) (s : State) → FramesStand (number_left (labelled tables inputs functions) o u v s) s
   unfolding number_left
-  number_stands o u v s = then_stands ((labelled tables inputs).unary unary_operator.Plus v s) (primitive_left (labelled tables inputs) number_hint o u) s (front_stands unary_operator.Plus v s) (primitive_stands number_hint o u)
+  number_stands o u v s = then_stands ((labelled tables inputs functions).unary unary_operator.Plus v s) (primitive_left (labelled tables inputs functions) number_hint o u) s (front_stands unary_operator.Plus v s) (primitive_stands number_hint o u)
 
-  has_left_stands : (u v : Val) (s : State) → FramesStand (has_left (labelled tables inputs) u v s) s
+  has_left_stands : (u v : Val) (s : State) → FramesStand (has_left (labelled tables inputs functions) u v s) s
   unfolding has_left
   has_left_stands u v s = act_stands has_key (v ∷ u ∷ []) s
 
-  has_right_stands : (v u : Val) (s : State) → FramesStand (has_right (labelled tables inputs) v u s) s
+  has_right_stands : (v u : Val) (s : State) → FramesStand (has_right (labelled tables inputs functions) v u s) s
   unfolding has_right
-  has_right_stands v u s = then_stands (unless_object (is_object v.value) v s) (has_left (labelled tables inputs) u) s (unless_stands (is_object v.value) v s) (has_left_stands u)
+  has_right_stands v u s = then_stands (unless_object (is_object v.value) v s) (has_left (labelled tables inputs functions) u) s (unless_stands (is_object v.value) v s) (has_left_stands u)
 
-  binary_by_stands : (c : Conversion) (o : BinaryOperator) (v u : Val) (s : State) → FramesStand (binary_by (labelled tables inputs) c o v u s) s
+  binary_by_stands : (c : Conversion) (o : BinaryOperator) (v u : Val) (s : State) → FramesStand (binary_by (labelled tables inputs functions) c o v u s) s
   binary_by_stands unconverted o v u s = between_stands o v u s
-  binary_by_stands compared o v u s = then_stands (unless_object (converts_beside v.value u.value) v s) (compared_left (labelled tables inputs) o u) s (unless_stands (converts_beside v.value u.value) v s) (compared_stands o u)
-  binary_by_stands (primitives hint) o v u s = then_stands (unless_object (is_object v.value) v s) (primitive_left (labelled tables inputs) hint o u) s (unless_stands (is_object v.value) v s) (primitive_stands hint o u)
-  binary_by_stands numbers o v u s = then_stands (unless_object (is_object v.value) v s) (number_left (labelled tables inputs) o u) s (unless_stands (is_object v.value) v s) (number_stands o u)
-  binary_by_stands keyed o v u s = then_stands (act object_needed (u ∷ []) s) (has_right (labelled tables inputs) v) s (act_stands object_needed (u ∷ []) s) (has_right_stands v)
+  binary_by_stands compared o v u s = then_stands (unless_object (converts_beside v.value u.value) v s) (compared_left (labelled tables inputs functions) o u) s (unless_stands (converts_beside v.value u.value) v s) (compared_stands o u)
+  binary_by_stands (primitives hint) o v u s = then_stands (unless_object (is_object v.value) v s) (primitive_left (labelled tables inputs functions) hint o u) s (unless_stands (is_object v.value) v s) (primitive_stands hint o u)
+  binary_by_stands numbers o v u s = then_stands (unless_object (is_object v.value) v s) (number_left (labelled tables inputs functions) o u) s (unless_stands (is_object v.value) v s) (number_stands o u)
+  binary_by_stands keyed o v u s = then_stands (act object_needed (u ∷ []) s) (has_right (labelled tables inputs functions) v) s (act_stands object_needed (u ∷ []) s) (has_right_stands v)
 
-  pub binary_stands : (o : BinaryOperator) (v u : Val) (s : State) → FramesStand (binary_values (labelled tables inputs) o v u s) s
+  pub binary_stands : (o : BinaryOperator) (v u : Val) (s : State) → FramesStand (binary_values (labelled tables inputs functions) o v u s) s
   unfolding binary_values
   binary_stands o v u s = binary_by_stands (conversion_of o) o v u s
 
   -- ---- references
 
-  pub get_stands : (n : Reference) (s : State) → FramesStand ((labelled tables inputs).get_value n (enters (labelled tables inputs)) s) s
+  pub get_stands : (n : Reference) (s : State) → FramesStand ((labelled tables inputs functions).get_value n (enters (labelled tables inputs functions)) s) s
   get_stands n s = got_stands n s
 
-  pub typeof_stands : (n : Reference) (s : State) → FramesStand ((labelled tables inputs).typeof_value n (enters (labelled tables inputs)) s) s
+  pub typeof_stands : (n : Reference) (s : State) → FramesStand ((labelled tables inputs functions).typeof_value n (enters (labelled tables inputs functions)) s) s
   typeof_stands n s = asked_stands n s
 
-  give_stands : (v : Val) (x : Unit {0}) (s : State) → FramesStand (give (labelled tables inputs) v x s) s
+  give_stands : (v : Val) (x : Unit {0}) (s : State) → FramesStand (give (labelled tables inputs functions) v x s) s
   unfolding give
   give_stands v x s = refl
 
-  pub assign_stands : (n : Reference) (v : Val) (s : State) → FramesStand (assign_to (labelled tables inputs) n v s) s
+  pub assign_stands : (n : Reference) (v : Val) (s : State) → FramesStand (assign_to (labelled tables inputs functions) n v s) s
   unfolding assign_to
-  assign_stands n v s = then_stands (put_value n v s) (give (labelled tables inputs) v) s (put_stands n v s) (give_stands v)
+  assign_stands n v s = then_stands (put_value n v s) (give (labelled tables inputs functions) v) s (put_stands n v s) (give_stands v)
 
-  pub giving_stands : (n : Reference) (other v : Val) (s : State) → FramesStand (assign_giving (labelled tables inputs) n other v s) s
+  pub giving_stands : (n : Reference) (other v : Val) (s : State) → FramesStand (assign_giving (labelled tables inputs functions) n other v s) s
   unfolding assign_giving
-  giving_stands n other v s = then_stands (put_value n v s) (give (labelled tables inputs) other) s (put_stands n v s) (give_stands other)
+  giving_stands n other v s = then_stands (put_value n v s) (give (labelled tables inputs functions) other) s (put_stands n v s) (give_stands other)
 
-  key_stands : (b k : Val) (s : State) → FramesStand (((labelled tables inputs).primitive string_hint k >>= λ u. ret ((labelled tables inputs).property b u)) s) s
-  key_stands b k s = then_stands (unless_object (is_object k.value) k s) (λ u. ret ((labelled tables inputs).property b u)) s (unless_stands (is_object k.value) k s) (λ u t. refl)
+  key_stands : (b k : Val) (s : State) → FramesStand (((labelled tables inputs functions).primitive string_hint k >>= λ u. ret ((labelled tables inputs functions).property b u)) s) s
+  key_stands b k s = then_stands (unless_object (is_object k.value) k s) (λ u. ret ((labelled tables inputs functions).property b u)) s (unless_stands (is_object k.value) k s) (λ u t. refl)
 
-  pub reached_stands : (base key : Val) (s : State) → FramesStand (property_reached tables inputs base key s) s
+  pub reached_stands : (base key : Val) (s : State) → FramesStand (property_reached tables inputs functions base key s) s
   unfolding property_reached
-  reached_stands base key s = then_stands (act base_needed (base ∷ []) s) (λ b. (labelled tables inputs).primitive string_hint key >>= λ k. ret ((labelled tables inputs).property b k)) s (act_stands base_needed (base ∷ []) s) (λ b. key_stands b key)
+  reached_stands base key s = then_stands (act base_needed (base ∷ []) s) (λ b. (labelled tables inputs functions).primitive string_hint key >>= λ k. ret ((labelled tables inputs functions).property b k)) s (act_stands base_needed (base ∷ []) s) (λ b. key_stands b key)
 
-  pub compound_stands : (R : Rec (labelled tables inputs)) (o : BinaryOperator) (n : Reference) (old v : Val) (s : State) → FramesStand (compound_done (labelled tables inputs) R o n old v s) s
+  pub compound_stands : (R : Rec (labelled tables inputs functions)) (o : BinaryOperator) (n : Reference) (old v : Val) (s : State) → FramesStand (compound_done (labelled tables inputs functions) R o n old v s) s
   unfolding compound_done
-  compound_stands R o n old v s = then_stands (binary_values (labelled tables inputs) o old v s) (assign_to (labelled tables inputs) n) s (binary_stands o old v s) (assign_stands n)
+  compound_stands R o n old v s = then_stands (binary_values (labelled tables inputs functions) o old v s) (assign_to (labelled tables inputs functions) n) s (binary_stands o old v s) (assign_stands n)
 
-  prefix_by_stands : (o : BinaryOperator) (n : Reference) (v : Val) (s : State) → FramesStand (prefix_by (labelled tables inputs) o n v s) s
+  prefix_by_stands : (o : BinaryOperator) (n : Reference) (v : Val) (s : State) → FramesStand (prefix_by (labelled tables inputs functions) o n v s) s
   unfolding prefix_by
-  prefix_by_stands o n v s = then_stands ((labelled tables inputs).binary o v ((labelled tables inputs).literal (Num (pos 1))) s) (assign_to (labelled tables inputs) n) s (between_stands o v ((labelled tables inputs).literal (Num (pos 1))) s) (assign_stands n)
+  prefix_by_stands o n v s = then_stands ((labelled tables inputs functions).binary o v ((labelled tables inputs functions).literal (Num (pos 1))) s) (assign_to (labelled tables inputs functions) n) s (between_stands o v ((labelled tables inputs functions).literal (Num (pos 1))) s) (assign_stands n)
 
-  prefix_number_stands : (o : BinaryOperator) (n : Reference) (v : Val) (s : State) → FramesStand (prefix_number (labelled tables inputs) o n v s) s
+  prefix_number_stands : (o : BinaryOperator) (n : Reference) (v : Val) (s : State) → FramesStand (prefix_number (labelled tables inputs functions) o n v s) s
   unfolding prefix_number
-  prefix_number_stands o n v s = then_stands ((labelled tables inputs).unary unary_operator.Plus v s) (prefix_by (labelled tables inputs) o n) s (front_stands unary_operator.Plus v s) (prefix_by_stands o n)
+  prefix_number_stands o n v s = then_stands ((labelled tables inputs functions).unary unary_operator.Plus v s) (prefix_by (labelled tables inputs functions) o n) s (front_stands unary_operator.Plus v s) (prefix_by_stands o n)
 
-  pub prefix_stands : (o : BinaryOperator) (n : Reference) (v : Val) (s : State) → FramesStand (prefix_value (labelled tables inputs) o n v s) s
+  pub prefix_stands : (o : BinaryOperator) (n : Reference) (v : Val) (s : State) → FramesStand (prefix_value (labelled tables inputs functions) o n v s) s
   unfolding prefix_value
-  prefix_stands o n v s = then_stands (unless_object (is_object v.value) v s) (prefix_number (labelled tables inputs) o n) s (unless_stands (is_object v.value) v s) (prefix_number_stands o n)
+  prefix_stands o n v s = then_stands (unless_object (is_object v.value) v s) (prefix_number (labelled tables inputs functions) o n) s (unless_stands (is_object v.value) v s) (prefix_number_stands o n)
 
-  postfix_by_stands : (o : BinaryOperator) (n : Reference) (v : Val) (s : State) → FramesStand (postfix_by (labelled tables inputs) o n v s) s
+  postfix_by_stands : (o : BinaryOperator) (n : Reference) (v : Val) (s : State) → FramesStand (postfix_by (labelled tables inputs functions) o n v s) s
   unfolding postfix_by
-  postfix_by_stands o n v s = then_stands ((labelled tables inputs).binary o v ((labelled tables inputs).literal (Num (pos 1))) s) (assign_giving (labelled tables inputs) n v) s (between_stands o v ((labelled tables inputs).literal (Num (pos 1))) s) (giving_stands n v)
+  postfix_by_stands o n v s = then_stands ((labelled tables inputs functions).binary o v ((labelled tables inputs functions).literal (Num (pos 1))) s) (assign_giving (labelled tables inputs functions) n v) s (between_stands o v ((labelled tables inputs functions).literal (Num (pos 1))) s) (giving_stands n v)
 
-  postfix_number_stands : (o : BinaryOperator) (n : Reference) (v : Val) (s : State) → FramesStand (postfix_number (labelled tables inputs) o n v s) s
+  postfix_number_stands : (o : BinaryOperator) (n : Reference) (v : Val) (s : State) → FramesStand (postfix_number (labelled tables inputs functions) o n v s) s
   unfolding postfix_number
-  postfix_number_stands o n v s = then_stands ((labelled tables inputs).unary unary_operator.Plus v s) (postfix_by (labelled tables inputs) o n) s (front_stands unary_operator.Plus v s) (postfix_by_stands o n)
+  postfix_number_stands o n v s = then_stands ((labelled tables inputs functions).unary unary_operator.Plus v s) (postfix_by (labelled tables inputs functions) o n) s (front_stands unary_operator.Plus v s) (postfix_by_stands o n)
 
-  pub postfix_stands : (o : BinaryOperator) (n : Reference) (v : Val) (s : State) → FramesStand (postfix_value (labelled tables inputs) o n v s) s
+  pub postfix_stands : (o : BinaryOperator) (n : Reference) (v : Val) (s : State) → FramesStand (postfix_value (labelled tables inputs functions) o n v s) s
   unfolding postfix_value
-  postfix_stands o n v s = then_stands (unless_object (is_object v.value) v s) (postfix_number (labelled tables inputs) o n) s (unless_stands (is_object v.value) v s) (postfix_number_stands o n)
+  postfix_stands o n v s = then_stands (unless_object (is_object v.value) v s) (postfix_number (labelled tables inputs functions) o n) s (unless_stands (is_object v.value) v s) (postfix_number_stands o n)
 
 -- ---- worlds: a store's own meaning is a reading that agrees with it
 

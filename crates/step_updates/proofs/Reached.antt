@@ -1,10 +1,11 @@
 -- Properties that a base and a key name, and keys that are asked for.
-use Rattle.std.proofs.Common.{◌≡◌, ap, ◌∙◌, Bool, [], ◌∷◌, Result, Ok, Err}
+use Rattle.std.proofs.Common.{◌≡◌, ap, ◌∙◌, Bool, [], ◌∷◌, Result, Ok, Err, List}
 use Rattle.std.specs.Result.{IsErrAnd}
 use Rattle.origin_labels.specs.Label.{Label}
 use Rattle.flow_frames.specs.declared.faults.FlowFault.{FlowFault}
 use Rattle.flow_policy.specs.Policies.{Tables}
 use Rattle.flow_policy.specs.Inputs.{Given}
+use Rattle.js_ast.specs.Functions.{FunctionCode}
 use Rattle.js_number.specs.declared.primitive.Primitive.{Primitive}
 use Rattle.js_values.specs.declared.ids.ObjId.{ObjId}
 use Rattle.js_values.specs.declared.value.Labelled.{Labelled}
@@ -29,34 +30,34 @@ use Rattle.step_updates.specs.declared.references.Reference as code
 use Rattle.step_updates.specs.declared.references.Reference.TheVariants.{Property}
 use Rattle.step_updates.specs.References.{refers, reached}
 
-module _ (tables : Tables) (inputs : Given) where
+module _ (tables : Tables) (inputs : Given) (functions : List FunctionCode) where
   -- what follows the base
   abbrev keyed_by : Val → Val → L Reference
-  keyed_by key b = (labelled tables inputs).primitive string_hint key >>= λ k. ret ((labelled tables inputs).property b k)
+  keyed_by key b = (labelled tables inputs functions).primitive string_hint key >>= λ k. ret ((labelled tables inputs functions).property b k)
 
   -- a primitive value is a key as it is
   primitive_key : (key b : Val) (p : Primitive) (s : State) → key.value ≡ value.Primitive p → keyed_by key b s ≡ Goes (of_property b (key_text key.value) key.label) s
   unfolding unless_object
-  primitive_key key b p s is = ap (λ (x : Bool). and_then (unless_object x key s) (λ k. ret ((labelled tables inputs).property b k))) (ap is_object is)
+  primitive_key key b p s is = ap (λ (x : Bool). and_then (unless_object x key s) (λ k. ret ((labelled tables inputs functions).property b k))) (ap is_object is)
 
   object_key : (key b : Val) (o : ObjId) (s : State) → key.value ≡ value.Object o → keyed_by key b s ≡ ends (left not_built) s
   unfolding unless_object
-  object_key key b o s is = ap (λ (x : Bool). and_then (unless_object x key s) (λ k. ret ((labelled tables inputs).property b k))) (ap is_object is)
+  object_key key b o s is = ap (λ (x : Bool). and_then (unless_object x key s) (λ k. ret ((labelled tables inputs functions).property b k))) (ap is_object is)
 
-  pub asked_key : (key u : Val) (p : Primitive) (s : State) → key.value ≡ value.Primitive p → has_right (labelled tables inputs) key u s ≡ act has_key (key ∷ u ∷ []) s
+  pub asked_key : (key u : Val) (p : Primitive) (s : State) → key.value ≡ value.Primitive p → has_right (labelled tables inputs functions) key u s ≡ act has_key (key ∷ u ∷ []) s
   unfolding has_right has_left unless_object
-  asked_key key u p s is = ap (λ (x : Bool). and_then (unless_object x key s) (has_left (labelled tables inputs) u)) (ap is_object is)
+  asked_key key u p s is = ap (λ (x : Bool). and_then (unless_object x key s) (has_left (labelled tables inputs functions) u)) (ap is_object is)
 
-  pub asked_object : (key u : Val) (o : ObjId) (s : State) → key.value ≡ value.Object o → has_right (labelled tables inputs) key u s ≡ ends (left not_built) s
+  pub asked_object : (key u : Val) (o : ObjId) (s : State) → key.value ≡ value.Object o → has_right (labelled tables inputs functions) key u s ≡ ends (left not_built) s
   unfolding has_right unless_object
-  asked_object key u o s is = ap (λ (x : Bool). and_then (unless_object x key s) (has_left (labelled tables inputs) u)) (ap is_object is)
+  asked_object key u o s is = ap (λ (x : Bool). and_then (unless_object x key s) (has_left (labelled tables inputs functions) u)) (ap is_object is)
 
   module _ {S T : Type 0} (made : S → T → Type 0) (meaning : S → T → Label) (store : S) (base key : Labelled T) (old new : World T) where
     abbrev Needs : Result (Came (Labelled T) T) (FlowFault T) → Type 0
     Needs answer = Acts made meaning store (λ reading. read_value reading) (λ reading. act base_needed (read_value reading base ∷ [])) old new answer
 
     abbrev Reaches : Result (Came (code.Reference T) T) (FlowFault T) → Type 0
-    Reaches answer = Acts made meaning store (λ reading. refers reading) (λ reading. reached tables inputs (read_value reading base) (read_value reading key)) old new answer
+    Reaches answer = Acts made meaning store (λ reading. refers reading) (λ reading. reached tables inputs functions (read_value reading base) (read_value reading key)) old new answer
 
     abbrev next : (T → Label) → Val → L Reference
     next reading b = keyed_by (read_value reading key) b
@@ -82,15 +83,15 @@ module _ (tables : Tables) (inputs : Given) where
     reach_fails f result is acts = Acts-passes made meaning store (λ reading. read_value reading) (λ reading. refers reading) (λ reading. act base_needed (read_value reading base ∷ [])) next old new f result is acts
 
 -- what is given to a reference, and what the assignment gives
-module _ (tables : Tables) (inputs : Given) {S T : Type 0} (made : S → T → Type 0) (meaning : S → T → Label) (store : S) (n : (T → Label) → Reference) (other v : Labelled T) (old new : World T) where
+module _ (tables : Tables) (inputs : Given) (functions : List FunctionCode) {S T : Type 0} (made : S → T → Type 0) (meaning : S → T → Label) (store : S) (n : (T → Label) → Reference) (other v : Labelled T) (old new : World T) where
   abbrev Puts : Result (Came (Unit {0}) T) (FlowFault T) → Type 0
   Puts answer = Acts made meaning store (λ reading x. x) (λ reading. put_value (n reading) (read_value reading v)) old new answer
 
   abbrev Gives : Result (Came (Labelled T) T) (FlowFault T) → Type 0
-  Gives answer = Acts made meaning store (λ reading. read_value reading) (λ reading. assign_giving (labelled tables inputs) (n reading) (read_value reading other) (read_value reading v)) old new answer
+  Gives answer = Acts made meaning store (λ reading. read_value reading) (λ reading. assign_giving (labelled tables inputs functions) (n reading) (read_value reading other) (read_value reading v)) old new answer
 
   abbrev given : (T → Label) → Unit {0} → L Val
-  given reading u = give (labelled tables inputs) (read_value reading other) u
+  given reading u = give (labelled tables inputs functions) (read_value reading other) u
 
   pub giving_goes : (u : Unit {0}) → Puts (Ok (came.Goes u)) → Gives (Ok (came.Goes other))
   unfolding assign_giving give

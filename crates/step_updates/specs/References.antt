@@ -1,7 +1,8 @@
 -- References, as the meaning has them, and what their labels are made of.
-use Rattle.std.specs.Prelude.{[], ◌∷◌}
+use Rattle.std.specs.Prelude.{[], ◌∷◌, List}
 use Rattle.flow_policy.specs.Policies.{Tables}
 use Rattle.flow_policy.specs.Inputs.{Given}
+use Rattle.js_ast.specs.Functions.{FunctionCode}
 use Rattle.es_meaning.specs.Operations.{base_needed, string_hint}
 use Rattle.es_meaning.specs.Outcomes.{ret, ◌>>=◌}
 use Rattle.flow_meaning.specs.Scopes.{Val, L}
@@ -23,5 +24,5 @@ HasReference made (Name named) = made named.walk
 HasReference made (Property base key) = made base.label × made key.label
 
 -- the property of a base that a key names: the base can have properties, and then the key is converted
-unfoldable pub reached : Tables → Given → Val → Val → L tracked.Reference
-reached tables inputs base key = tracked.act base_needed (base ∷ []) >>= λ b. (labelled tables inputs).primitive string_hint key >>= λ k. ret ((labelled tables inputs).property b k)
+unfoldable pub reached : Tables → Given → List FunctionCode → Val → Val → L tracked.Reference
+reached tables inputs functions base key = tracked.act base_needed (base ∷ []) >>= λ b. (labelled tables inputs functions).primitive string_hint key >>= λ k. ret ((labelled tables inputs functions).property b k)

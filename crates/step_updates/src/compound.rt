@@ -1,9 +1,10 @@
 //! Compound assignments behind their operand.
 
-ghost use Rattle.std.specs.Prelude.{◌≡◌};
+ghost use Rattle.std.specs.Prelude.{◌≡◌, List};
 ghost use Rattle.origin_labels.specs.Stores.{IsKept};
 ghost use Rattle.flow_policy.specs.Policies.{Tables};
 ghost use Rattle.flow_policy.specs.Inputs.{Given};
+ghost use Rattle.js_ast.specs.Functions.{FunctionCode};
 ghost use Rattle.js_values.specs.Readings.{HasValue, read_value};
 ghost use Rattle.es_meaning.specs.Operations.{Rec};
 ghost use Rattle.es_meaning.specs.Evaluation.{compound_done};
@@ -35,7 +36,7 @@ pub fn compound_value<L: Labels>(
     requires old { L.made labels.old old.now.label }
     requires operand { L.made labels.old operand.now.label }
     requires belongs { Belongs L.made L.meaning labels.old world.old }
-    ensures acts { (tables : Tables) (inputs : Given) (R : Rec (labelled tables inputs)) → Acts L.made L.meaning labels.new (λ reading. read_value reading) (λ reading. compound_done (labelled tables inputs) R operator (refers reading reference.now) (read_value reading old.now) (read_value reading operand.now)) world.old world.new result }
+    ensures acts { (tables : Tables) (inputs : Given) (functions : List FunctionCode) (R : Rec (labelled tables inputs functions)) → Acts L.made L.meaning labels.new (λ reading. read_value reading) (λ reading. compound_done (labelled tables inputs functions) R operator (refers reading reference.now) (read_value reading old.now) (read_value reading operand.now)) world.old world.new result }
     ensures made { HasAnswer (HasValue (L.made labels.new)) (L.made labels.new) result }
     ensures belongs { Belongs L.made L.meaning labels.new world.new }
     ensures grows { Grows world.old world.new }

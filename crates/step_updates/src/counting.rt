@@ -1,9 +1,10 @@
 //! `++` and `--` on names (ECMA-262 11.3, 11.4.4, 11.4.5).
 
-ghost use Rattle.std.specs.Prelude.{◌≡◌, pos};
+ghost use Rattle.std.specs.Prelude.{◌≡◌, pos, List};
 ghost use Rattle.origin_labels.specs.Stores.{IsKept};
 ghost use Rattle.flow_policy.specs.Policies.{Tables};
 ghost use Rattle.flow_policy.specs.Inputs.{Given};
+ghost use Rattle.js_ast.specs.Functions.{FunctionCode};
 ghost use Rattle.js_ast.specs.declared.operators.UnaryOperator.TheVariants as unary_operator;
 ghost use Rattle.js_number.specs.declared.primitive.Primitive.TheVariants.{Num};
 ghost use Rattle.js_values.specs.Readings.{HasValue, read_value};
@@ -33,7 +34,7 @@ fn named_number<L: Labels>(
 ) -> Result<Came<Labelled<L::Label>, L::Label>, FlowFault<L::Label>>
     requires reference { HasReference (L.made labels.old) reference.now }
     requires belongs { Belongs L.made L.meaning labels.old world.old }
-    ensures acts { (tables : Tables) (inputs : Given) → Acts L.made L.meaning labels.new (λ reading. read_value reading) (λ reading s. and_then ((labelled tables inputs).get_value (refers reading reference.now) (enters (labelled tables inputs)) s) (unary_value (labelled tables inputs) unary_operator.Plus)) world.old world.new result }
+    ensures acts { (tables : Tables) (inputs : Given) (functions : List FunctionCode) → Acts L.made L.meaning labels.new (λ reading. read_value reading) (λ reading s. and_then ((labelled tables inputs functions).get_value (refers reading reference.now) (enters (labelled tables inputs functions)) s) (unary_value (labelled tables inputs functions) unary_operator.Plus)) world.old world.new result }
     ensures made { HasAnswer (HasValue (L.made labels.new)) (L.made labels.new) result }
     ensures belongs { Belongs L.made L.meaning labels.new world.new }
     ensures grows { Grows world.old world.new }
@@ -54,7 +55,7 @@ fn one_more<L: Labels>(
     number: &Labelled<L::Label>,
 ) -> Result<Came<Labelled<L::Label>, L::Label>, FlowFault<L::Label>>
     requires number { L.made labels.old number.now.label }
-    ensures acts { (tables : Tables) (inputs : Given) (world : World L.Label) → Acts L.made L.meaning labels.new (λ reading. read_value reading) (λ reading. (labelled tables inputs).binary operator (read_value reading number.now) ((labelled tables inputs).literal (Num (pos 1)))) world world result }
+    ensures acts { (tables : Tables) (inputs : Given) (functions : List FunctionCode) (world : World L.Label) → Acts L.made L.meaning labels.new (λ reading. read_value reading) (λ reading. (labelled tables inputs functions).binary operator (read_value reading number.now) ((labelled tables inputs functions).literal (Num (pos 1)))) world world result }
     ensures made { HasAnswer (HasValue (L.made labels.new)) (L.made labels.new) result }
     ensures kept { IsKept L.made L.meaning L.room L.firm labels.old labels.new }
 {
@@ -84,7 +85,7 @@ fn counted<L: Labels>(
     requires reference { HasReference (L.made labels.old) reference.now }
     requires number { L.made labels.old number.now.label }
     requires belongs { Belongs L.made L.meaning labels.old world.old }
-    ensures acts { (tables : Tables) (inputs : Given) → Acts L.made L.meaning labels.new (λ reading. read_value reading) (λ reading. prefix_by (labelled tables inputs) operator (refers reading reference.now) (read_value reading number.now)) world.old world.new result }
+    ensures acts { (tables : Tables) (inputs : Given) (functions : List FunctionCode) → Acts L.made L.meaning labels.new (λ reading. read_value reading) (λ reading. prefix_by (labelled tables inputs functions) operator (refers reading reference.now) (read_value reading number.now)) world.old world.new result }
     ensures made { HasAnswer (HasValue (L.made labels.new)) (L.made labels.new) result }
     ensures belongs { Belongs L.made L.meaning labels.new world.new }
     ensures grows { Grows world.old world.new }
@@ -109,7 +110,7 @@ fn counted_behind<L: Labels>(
     requires reference { HasReference (L.made labels.old) reference.now }
     requires number { L.made labels.old number.label }
     requires belongs { Belongs L.made L.meaning labels.old world.old }
-    ensures acts { (tables : Tables) (inputs : Given) → Acts L.made L.meaning labels.new (λ reading. read_value reading) (λ reading. postfix_by (labelled tables inputs) operator (refers reading reference.now) (read_value reading number)) world.old world.new result }
+    ensures acts { (tables : Tables) (inputs : Given) (functions : List FunctionCode) → Acts L.made L.meaning labels.new (λ reading. read_value reading) (λ reading. postfix_by (labelled tables inputs functions) operator (refers reading reference.now) (read_value reading number)) world.old world.new result }
     ensures made { HasAnswer (HasValue (L.made labels.new)) (L.made labels.new) result }
     ensures belongs { Belongs L.made L.meaning labels.new world.new }
     ensures grows { Grows world.old world.new }
@@ -132,7 +133,7 @@ pub fn prefixed<L: Labels>(
 ) -> Result<Came<Labelled<L::Label>, L::Label>, FlowFault<L::Label>>
     requires reference { HasReference (L.made labels.old) reference.now }
     requires belongs { Belongs L.made L.meaning labels.old world.old }
-    ensures acts { (tables : Tables) (inputs : Given) → Acts L.made L.meaning labels.new (λ reading. read_value reading) (λ reading s. and_then ((labelled tables inputs).get_value (refers reading reference.now) (enters (labelled tables inputs)) s) (prefix_value (labelled tables inputs) operator (refers reading reference.now))) world.old world.new result }
+    ensures acts { (tables : Tables) (inputs : Given) (functions : List FunctionCode) → Acts L.made L.meaning labels.new (λ reading. read_value reading) (λ reading s. and_then ((labelled tables inputs functions).get_value (refers reading reference.now) (enters (labelled tables inputs functions)) s) (prefix_value (labelled tables inputs functions) operator (refers reading reference.now))) world.old world.new result }
     ensures made { HasAnswer (HasValue (L.made labels.new)) (L.made labels.new) result }
     ensures belongs { Belongs L.made L.meaning labels.new world.new }
     ensures grows { Grows world.old world.new }
@@ -155,7 +156,7 @@ pub fn postfixed<L: Labels>(
 ) -> Result<Came<Labelled<L::Label>, L::Label>, FlowFault<L::Label>>
     requires reference { HasReference (L.made labels.old) reference.now }
     requires belongs { Belongs L.made L.meaning labels.old world.old }
-    ensures acts { (tables : Tables) (inputs : Given) → Acts L.made L.meaning labels.new (λ reading. read_value reading) (λ reading s. and_then ((labelled tables inputs).get_value (refers reading reference.now) (enters (labelled tables inputs)) s) (postfix_value (labelled tables inputs) operator (refers reading reference.now))) world.old world.new result }
+    ensures acts { (tables : Tables) (inputs : Given) (functions : List FunctionCode) → Acts L.made L.meaning labels.new (λ reading. read_value reading) (λ reading s. and_then ((labelled tables inputs functions).get_value (refers reading reference.now) (enters (labelled tables inputs functions)) s) (postfix_value (labelled tables inputs functions) operator (refers reading reference.now))) world.old world.new result }
     ensures made { HasAnswer (HasValue (L.made labels.new)) (L.made labels.new) result }
     ensures belongs { Belongs L.made L.meaning labels.new world.new }
     ensures grows { Grows world.old world.new }

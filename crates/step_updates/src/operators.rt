@@ -1,9 +1,10 @@
 //! Operators between two values (ECMA-262 11.5 to 11.11), `in` among them.
 
-ghost use Rattle.std.specs.Prelude.{◌≡◌, true};
+ghost use Rattle.std.specs.Prelude.{◌≡◌, true, List};
 ghost use Rattle.origin_labels.specs.Stores.{IsKept};
 ghost use Rattle.flow_policy.specs.Policies.{Tables};
 ghost use Rattle.flow_policy.specs.Inputs.{Given};
+ghost use Rattle.js_ast.specs.Functions.{FunctionCode};
 ghost use Rattle.js_ast.specs.declared.operators.BinaryOperator.TheVariants as binary_operator;
 ghost use Rattle.js_values.specs.Readings.{HasValue, read_value};
 ghost use Rattle.es_meaning.specs.Evaluation.{binary_values, has_right};
@@ -33,7 +34,7 @@ pub fn operated<L: Labels>(
     requires left { L.made labels.old left.now.label }
     requires right { L.made labels.old right.now.label }
     requires belongs { Belongs L.made L.meaning labels.old world.old }
-    ensures acts { (tables : Tables) (inputs : Given) → Acts L.made L.meaning labels.new (λ reading. read_value reading) (λ reading. binary_values (labelled tables inputs) operator (read_value reading left.now) (read_value reading right.now)) world.old world.new result }
+    ensures acts { (tables : Tables) (inputs : Given) (functions : List FunctionCode) → Acts L.made L.meaning labels.new (λ reading. read_value reading) (λ reading. binary_values (labelled tables inputs functions) operator (read_value reading left.now) (read_value reading right.now)) world.old world.new result }
     ensures made { HasAnswer (HasValue (L.made labels.new)) (L.made labels.new) result }
     ensures belongs { Belongs L.made L.meaning labels.new world.new }
     ensures grows { Grows world.old world.new }
@@ -64,7 +65,7 @@ fn contained<L: Labels>(
     requires key { L.made labels.old key.now.label }
     requires object { L.made labels.old object.now.label }
     requires belongs { Belongs L.made L.meaning labels.old world.old }
-    ensures acts { (tables : Tables) (inputs : Given) → Acts L.made L.meaning labels.new (λ reading. read_value reading) (λ reading. binary_values (labelled tables inputs) binary_operator.In (read_value reading key.now) (read_value reading object.now)) world.old world.new result }
+    ensures acts { (tables : Tables) (inputs : Given) (functions : List FunctionCode) → Acts L.made L.meaning labels.new (λ reading. read_value reading) (λ reading. binary_values (labelled tables inputs functions) binary_operator.In (read_value reading key.now) (read_value reading object.now)) world.old world.new result }
     ensures made { HasAnswer (HasValue (L.made labels.new)) (L.made labels.new) result }
     ensures belongs { Belongs L.made L.meaning labels.new world.new }
     ensures grows { Grows world.old world.new }
@@ -89,7 +90,7 @@ fn contained_key<L: Labels>(
     requires key { L.made labels.old key.now.label }
     requires object { L.made labels.old object.label }
     requires belongs { Belongs L.made L.meaning labels.old world.now }
-    ensures acts { (tables : Tables) (inputs : Given) → Acts L.made L.meaning labels.new (λ reading. read_value reading) (λ reading. has_right (labelled tables inputs) (read_value reading key.now) (read_value reading object)) world.now world.now result }
+    ensures acts { (tables : Tables) (inputs : Given) (functions : List FunctionCode) → Acts L.made L.meaning labels.new (λ reading. read_value reading) (λ reading. has_right (labelled tables inputs functions) (read_value reading key.now) (read_value reading object)) world.now world.now result }
     ensures made { HasAnswer (HasValue (L.made labels.new)) (L.made labels.new) result }
     ensures belongs { Belongs L.made L.meaning labels.new world.now }
     ensures kept { IsKept L.made L.meaning L.room L.firm labels.old labels.new }

@@ -1,9 +1,10 @@
 //! Properties of bases (ECMA-262 11.2.1).
 
-ghost use Rattle.std.specs.Prelude.{◌≡◌};
+ghost use Rattle.std.specs.Prelude.{◌≡◌, List};
 ghost use Rattle.origin_labels.specs.Stores.{IsKept};
 ghost use Rattle.flow_policy.specs.Policies.{Tables};
 ghost use Rattle.flow_policy.specs.Inputs.{Given};
+ghost use Rattle.js_ast.specs.Functions.{FunctionCode};
 ghost use Rattle.js_values.specs.Readings.{read_value};
 ghost use Rattle.step_world.specs.Acts.{Acts, HasAnswer};
 ghost use Rattle.step_world.specs.Worlds.{Belongs, Grows};
@@ -27,7 +28,7 @@ pub fn reach<'p, L: Labels>(
     requires base { L.made labels.old base.label }
     requires key { L.made labels.old key.label }
     requires belongs { Belongs L.made L.meaning labels.old world.old }
-    ensures acts { (tables : Tables) (inputs : Given) → Acts L.made L.meaning labels.new (λ reading. refers reading) (λ reading. reached tables inputs (read_value reading base) (read_value reading key)) world.old world.new result }
+    ensures acts { (tables : Tables) (inputs : Given) (functions : List FunctionCode) → Acts L.made L.meaning labels.new (λ reading. refers reading) (λ reading. reached tables inputs functions (read_value reading base) (read_value reading key)) world.old world.new result }
     ensures made { HasAnswer (HasReference (L.made labels.new)) (L.made labels.new) result }
     ensures belongs { Belongs L.made L.meaning labels.new world.new }
     ensures grows { Grows world.old world.new }

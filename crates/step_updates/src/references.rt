@@ -1,9 +1,10 @@
 //! References: a name that is resolved, or a property of a base (ECMA-262 8.7).
 
-ghost use Rattle.std.specs.Prelude.{◌≡◌};
+ghost use Rattle.std.specs.Prelude.{◌≡◌, List};
 ghost use Rattle.origin_labels.specs.Stores.{IsKept};
 ghost use Rattle.flow_policy.specs.Policies.{Tables};
 ghost use Rattle.flow_policy.specs.Inputs.{Given};
+ghost use Rattle.js_ast.specs.Functions.{FunctionCode};
 ghost use Rattle.js_values.specs.Readings.{HasValue, read_value};
 ghost use Rattle.es_meaning.specs.Evaluation.{enters, assign_to, assign_giving};
 ghost use Rattle.flow_meaning.specs.Tracked.{labelled};
@@ -46,7 +47,7 @@ pub fn get_value<L: Labels>(
 ) -> Result<Came<Labelled<L::Label>, L::Label>, FlowFault<L::Label>>
     requires reference { HasReference (L.made labels.old) reference.now }
     requires belongs { Belongs L.made L.meaning labels.old world.old }
-    ensures acts { (tables : Tables) (inputs : Given) → Acts L.made L.meaning labels.new (λ reading. read_value reading) (λ reading. (labelled tables inputs).get_value (refers reading reference.now) (enters (labelled tables inputs))) world.old world.new result }
+    ensures acts { (tables : Tables) (inputs : Given) (functions : List FunctionCode) → Acts L.made L.meaning labels.new (λ reading. read_value reading) (λ reading. (labelled tables inputs functions).get_value (refers reading reference.now) (enters (labelled tables inputs functions))) world.old world.new result }
     ensures made { HasAnswer (HasValue (L.made labels.new)) (L.made labels.new) result }
     ensures belongs { Belongs L.made L.meaning labels.new world.new }
     ensures grows { Grows world.old world.new }
@@ -67,7 +68,7 @@ pub fn typeof_value<L: Labels>(
 ) -> Result<Came<Labelled<L::Label>, L::Label>, FlowFault<L::Label>>
     requires reference { HasReference (L.made labels.old) reference.now }
     requires belongs { Belongs L.made L.meaning labels.old world.old }
-    ensures acts { (tables : Tables) (inputs : Given) → Acts L.made L.meaning labels.new (λ reading. read_value reading) (λ reading. (labelled tables inputs).typeof_value (refers reading reference.now) (enters (labelled tables inputs))) world.old world.new result }
+    ensures acts { (tables : Tables) (inputs : Given) (functions : List FunctionCode) → Acts L.made L.meaning labels.new (λ reading. read_value reading) (λ reading. (labelled tables inputs functions).typeof_value (refers reading reference.now) (enters (labelled tables inputs functions))) world.old world.new result }
     ensures made { HasAnswer (HasValue (L.made labels.new)) (L.made labels.new) result }
     ensures belongs { Belongs L.made L.meaning labels.new world.new }
     ensures grows { Grows world.old world.new }
@@ -90,7 +91,7 @@ pub fn put_value<L: Labels>(
     requires reference { HasReference (L.made labels.old) reference.now }
     requires value { L.made labels.old value.label }
     requires belongs { Belongs L.made L.meaning labels.old world.old }
-    ensures acts { (tables : Tables) (inputs : Given) → Acts L.made L.meaning labels.new (λ reading x. x) (λ reading. (labelled tables inputs).put_value (refers reading reference.now) (read_value reading value) (enters (labelled tables inputs))) world.old world.new result }
+    ensures acts { (tables : Tables) (inputs : Given) (functions : List FunctionCode) → Acts L.made L.meaning labels.new (λ reading x. x) (λ reading. (labelled tables inputs functions).put_value (refers reading reference.now) (read_value reading value) (enters (labelled tables inputs functions))) world.old world.new result }
     ensures made { HasAnswer (λ x. Unit {0}) (L.made labels.new) result }
     ensures belongs { Belongs L.made L.meaning labels.new world.new }
     ensures grows { Grows world.old world.new }
@@ -111,7 +112,7 @@ pub fn remove<L: Labels>(
 ) -> Result<Came<Labelled<L::Label>, L::Label>, FlowFault<L::Label>>
     requires reference { HasReference (L.made labels.old) reference.now }
     requires belongs { Belongs L.made L.meaning labels.old world.old }
-    ensures acts { (tables : Tables) (inputs : Given) → Acts L.made L.meaning labels.new (λ reading. read_value reading) (λ reading. (labelled tables inputs).remove (refers reading reference.now)) world.old world.new result }
+    ensures acts { (tables : Tables) (inputs : Given) (functions : List FunctionCode) → Acts L.made L.meaning labels.new (λ reading. read_value reading) (λ reading. (labelled tables inputs functions).remove (refers reading reference.now)) world.old world.new result }
     ensures made { HasAnswer (HasValue (L.made labels.new)) (L.made labels.new) result }
     ensures belongs { Belongs L.made L.meaning labels.new world.new }
     ensures grows { Grows world.old world.new }
@@ -134,7 +135,7 @@ pub fn assign_to<L: Labels>(
     requires reference { HasReference (L.made labels.old) reference.now }
     requires value { L.made labels.old value.label }
     requires belongs { Belongs L.made L.meaning labels.old world.old }
-    ensures acts { (tables : Tables) (inputs : Given) → Acts L.made L.meaning labels.new (λ reading. read_value reading) (λ reading. assign_to (labelled tables inputs) (refers reading reference.now) (read_value reading value)) world.old world.new result }
+    ensures acts { (tables : Tables) (inputs : Given) (functions : List FunctionCode) → Acts L.made L.meaning labels.new (λ reading. read_value reading) (λ reading. assign_to (labelled tables inputs functions) (refers reading reference.now) (read_value reading value)) world.old world.new result }
     ensures made { HasAnswer (HasValue (L.made labels.new)) (L.made labels.new) result }
     ensures belongs { Belongs L.made L.meaning labels.new world.new }
     ensures grows { Grows world.old world.new }
@@ -157,7 +158,7 @@ pub fn assign_giving<L: Labels>(
     requires other { L.made labels.old other.label }
     requires value { L.made labels.old value.label }
     requires belongs { Belongs L.made L.meaning labels.old world.old }
-    ensures acts { (tables : Tables) (inputs : Given) → Acts L.made L.meaning labels.new (λ reading. read_value reading) (λ reading. assign_giving (labelled tables inputs) (refers reading reference.now) (read_value reading other) (read_value reading value)) world.old world.new result }
+    ensures acts { (tables : Tables) (inputs : Given) (functions : List FunctionCode) → Acts L.made L.meaning labels.new (λ reading. read_value reading) (λ reading. assign_giving (labelled tables inputs functions) (refers reading reference.now) (read_value reading other) (read_value reading value)) world.old world.new result }
     ensures made { HasAnswer (HasValue (L.made labels.new)) (L.made labels.new) result }
     ensures belongs { Belongs L.made L.meaning labels.new world.new }
     ensures grows { Grows world.old world.new }

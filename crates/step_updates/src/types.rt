@@ -1,9 +1,10 @@
 //! The types of names.
 
-ghost use Rattle.std.specs.Prelude.{◌≡◌};
+ghost use Rattle.std.specs.Prelude.{◌≡◌, List};
 ghost use Rattle.origin_labels.specs.Stores.{IsKept};
 ghost use Rattle.flow_policy.specs.Policies.{Tables};
 ghost use Rattle.flow_policy.specs.Inputs.{Given};
+ghost use Rattle.js_ast.specs.Functions.{FunctionCode};
 ghost use Rattle.js_ast.specs.declared.operators.UnaryOperator.TheVariants as unary_operator;
 ghost use Rattle.js_values.specs.Readings.{HasValue, read_value};
 ghost use Rattle.es_meaning.specs.Outcomes.{and_then};
@@ -31,7 +32,7 @@ pub fn type_of<L: Labels>(
 ) -> Result<Came<Labelled<L::Label>, L::Label>, FlowFault<L::Label>>
     requires reference { HasReference (L.made labels.old) reference.now }
     requires belongs { Belongs L.made L.meaning labels.old world.old }
-    ensures acts { (tables : Tables) (inputs : Given) → Acts L.made L.meaning labels.new (λ reading. read_value reading) (λ reading s. and_then ((labelled tables inputs).typeof_value (refers reading reference.now) (enters (labelled tables inputs)) s) (unary_done (labelled tables inputs) unary_operator.Typeof)) world.old world.new result }
+    ensures acts { (tables : Tables) (inputs : Given) (functions : List FunctionCode) → Acts L.made L.meaning labels.new (λ reading. read_value reading) (λ reading s. and_then ((labelled tables inputs functions).typeof_value (refers reading reference.now) (enters (labelled tables inputs functions)) s) (unary_done (labelled tables inputs functions) unary_operator.Typeof)) world.old world.new result }
     ensures made { HasAnswer (HasValue (L.made labels.new)) (L.made labels.new) result }
     ensures belongs { Belongs L.made L.meaning labels.new world.new }
     ensures grows { Grows world.old world.new }

@@ -1,10 +1,11 @@
 //! Operators on values with labels.
 
-ghost use Rattle.std.specs.Prelude.{◌≡◌, false};
+ghost use Rattle.std.specs.Prelude.{◌≡◌, false, List};
 ghost use Rattle.origin_labels.specs.Label.{union};
 ghost use Rattle.origin_labels.specs.Stores.{IsKept};
 ghost use Rattle.flow_policy.specs.Policies.{Tables};
 ghost use Rattle.flow_policy.specs.Inputs.{Given};
+ghost use Rattle.js_ast.specs.Functions.{FunctionCode};
 ghost use Rattle.js_values.specs.Readings.{HasValue, read_value};
 ghost use Rattle.es_meaning.specs.Evaluation.{binary_values, unary_value};
 ghost use Rattle.flow_meaning.specs.Tracked.{labelled};
@@ -31,7 +32,7 @@ pub fn unary_value<T: Copy>(
     operator: UnaryOperator,
     value: &Labelled<T>,
 ) -> Result<Came<Labelled<T>, T>, FlowFault<T>>
-    ensures computes { (tables : Tables) (inputs : Given) → Computes (λ reading. read_value reading) (λ reading. unary_value (labelled tables inputs) operator (read_value reading value.now)) world.now result }
+    ensures computes { (tables : Tables) (inputs : Given) (functions : List FunctionCode) → Computes (λ reading. read_value reading) (λ reading. unary_value (labelled tables inputs functions) operator (read_value reading value.now)) world.now result }
     ensures label { HasAnswer (λ v. v.label ≡ value.now.label) (λ label. label ≡ value.now.label) result }
 {
     came(
@@ -50,7 +51,7 @@ pub fn binary<L: Labels>(
 ) -> Result<Came<Labelled<L::Label>, L::Label>, FlowFault<L::Label>>
     requires left { L.made labels.old left.now.label }
     requires right { L.made labels.old right.now.label }
-    ensures acts { (tables : Tables) (inputs : Given) (world : World L.Label) → Acts L.made L.meaning labels.new (λ reading. read_value reading) (λ reading. (labelled tables inputs).binary operator (read_value reading left.now) (read_value reading right.now)) world world result }
+    ensures acts { (tables : Tables) (inputs : Given) (functions : List FunctionCode) (world : World L.Label) → Acts L.made L.meaning labels.new (λ reading. read_value reading) (λ reading. (labelled tables inputs functions).binary operator (read_value reading left.now) (read_value reading right.now)) world world result }
     ensures made { HasAnswer (HasValue (L.made labels.new)) (L.made labels.new) result }
     ensures kept { IsKept L.made L.meaning L.room L.firm labels.old labels.new }
 {
@@ -70,7 +71,7 @@ pub fn binary_values<L: Labels>(
     requires values { is_keyed operator ≡ false }
     requires left { L.made labels.old left.now.label }
     requires right { L.made labels.old right.now.label }
-    ensures acts { (tables : Tables) (inputs : Given) → Acts L.made L.meaning labels.new (λ reading. read_value reading) (λ reading. binary_values (labelled tables inputs) operator (read_value reading left.now) (read_value reading right.now)) world.now world.now result }
+    ensures acts { (tables : Tables) (inputs : Given) (functions : List FunctionCode) → Acts L.made L.meaning labels.new (λ reading. read_value reading) (λ reading. binary_values (labelled tables inputs functions) operator (read_value reading left.now) (read_value reading right.now)) world.now world.now result }
     ensures made { HasAnswer (HasValue (L.made labels.new)) (L.made labels.new) result }
     ensures kept { IsKept L.made L.meaning L.room L.firm labels.old labels.new }
 {

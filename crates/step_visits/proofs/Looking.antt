@@ -9,6 +9,7 @@ use Rattle.origin_labels.specs.Stores.{IsKept}
 use Rattle.origin_labels.proofs.StoreLaws.{IsKept-refl}
 use Rattle.flow_policy.specs.Policies.{Tables}
 use Rattle.flow_policy.specs.Inputs.{Given}
+use Rattle.js_ast.specs.Functions.{FunctionCode}
 use Rattle.flow_frames.specs.declared.faults.FlowFault.{FlowFault}
 use Rattle.js_ast.specs.Views.{view_stmt, view_target}
 use Rattle.js_values.specs.declared.value.Labelled.{Labelled}
@@ -31,10 +32,11 @@ use Rattle.step_work.specs.declared.work.Next.TheVariants as next
 use Rattle.step_work.specs.Kept.{Kept, scopes_of, kept_operands}
 use Rattle.step_work.specs.Loads.{Adds}
 use Rattle.step_work.specs.Pending.{behind, env_above, next_plan}
-use Rattle.step_work.specs.Shapes.{nth}
+use Rattle.step_work.specs.Shapes.{labels_at, nth}
 use Rattle.step_work.proofs.BranchLaws.{none_in_front}
 use Rattle.step_moves.specs.declared.settling.Went.TheVariants as went
-use Rattle.step_moves.specs.Moving.{BeginsWith, Parts, Planning, Rests, following}
+use Rattle.step_work.specs.Moving.{BeginsWith, Planning, Rests, following}
+use Rattle.step_moves.specs.Moving.{Parts}
 use Rattle.step_moves.proofs.Loose.{lone}
 use Rattle.step_moves.proofs.Parted.{begun_err, begun_off, begun_on, part_on, stack_of}
 use Rattle.step_moves.proofs.Settled.{moves_as, rests_lying}
@@ -99,34 +101,34 @@ module _ {S T : Type 0} (made : S → T → Type 0) (meaning : S → T → Label
   module _ (store : S) (old middle : Kept T) (object given : Labelled T) (size : length old.loose ≡ 1) (top : old.loose ≡ middle.loose ++ object ∷ []) (tasks : middle.tasks ≡ old.tasks) (copied : given ≡ object)
       (world_old world_new : World T) (answer : Result (Came (List (List ℕ)) T) (FlowFault T)) (acts : Acts made meaning store (λ reading (keys : List (List ℕ)). keys) (λ reading. taken (read_value reading given)) world_old world_new answer) where
     abbrev keys_of : Planning T
-    keys_of tables inputs reading e = next_plan tables inputs (next.Keys x) (map (read_value reading) old.loose) e
+    keys_of tables inputs functions reading e = next_plan tables inputs functions (next.Keys x) (map (read_value reading) old.loose) e
 
-    abbrev visited : Tables → Given → (T → Label) → Env ℕ → List (List ℕ) → State → Plan
-    visited tables inputs reading e keys = visits (planned tables inputs) (asking tables inputs) (view_target x.target.now) (view_stmt x.body.now) (read_value reading given) keys e
+    abbrev visited : Tables → Given → List FunctionCode → (T → Label) → Env ℕ → List (List ℕ) → State → Plan
+    visited tables inputs functions reading e keys = visits (planned tables inputs functions) (asking tables inputs functions) (labels_at (view_stmt x.of.now)) (view_target x.target.now) (view_stmt x.body.now) (read_value reading given) keys e
 
-    same_keys : (tables : Tables) (inputs : Given) (reading : T → Label) (e : Env ℕ) (s : State) → keys_of tables inputs reading e s ≡ following (taken (read_value reading given) s) (visited tables inputs reading e)
-    same_keys tables inputs reading e s =
-        ap (λ vs. next_plan tables inputs (next.Keys x) (map (read_value reading) vs) e s) (lone middle.loose old.loose object top size)
-        ∙ ap (λ (v : Labelled T). next_plan tables inputs (next.Keys x) (read_value reading v ∷ []) e s) (sym copied)
-        ∙ keys_taken tables inputs (view_target x.target.now) (view_stmt x.body.now) (read_value reading given) e s
+    same_keys : (tables : Tables) (inputs : Given) (functions : List FunctionCode) (reading : T → Label) (e : Env ℕ) (s : State) → keys_of tables inputs functions reading e s ≡ following (taken (read_value reading given) s) (visited tables inputs functions reading e)
+    same_keys tables inputs functions reading e s =
+        ap (λ vs. next_plan tables inputs functions (next.Keys x) (map (read_value reading) vs) e s) (lone middle.loose old.loose object top size)
+        ∙ ap (λ (v : Labelled T). next_plan tables inputs functions (next.Keys x) (read_value reading v ∷ []) e s) (sym copied)
+        ∙ keys_taken tables inputs functions (labels_at (view_stmt x.of.now)) (view_target x.target.now) (view_stmt x.body.now) (read_value reading given) e s
 
     pub taking_goes : (room : S → ℕ) (firm : S → Bool) (between new : Kept T) (keys : List (List ℕ)) (none : T) (count : ℕ) → Parts middle between answer (Ok (went.On keys)) → new.tasks ≡ between.tasks → new.loose ≡ object ∷ laid_keys none keys
         → BeginsWith made meaning store keys_of old new world_old world_new (Ok (next.Visits x count))
     taking_goes room firm between new keys none count parts same lies =
-        begun_on made meaning store (λ reading (ks : List (List ℕ)). ks) keys_of (λ tables inputs reading. taken (read_value reading given)) visited same_keys old world_old world_new
-        room firm store (IsKept-refl made meaning room firm store) middle between new world_new answer keys (Ok (next.Visits x count)) tasks (λ tables inputs. acts) parts
-        (λ tables inputs reading e told turns is.
+        begun_on made meaning store (λ reading (ks : List (List ℕ)). ks) keys_of (λ tables inputs functions reading. taken (read_value reading given)) visited same_keys old world_old world_new
+        room firm store (IsKept-refl made meaning room firm store) middle between new world_new answer keys (Ok (next.Visits x count)) tasks (λ tables inputs functions. acts) parts
+        (λ tables inputs functions reading e told turns is.
         let s = state_of reading world_new told turns in
-        ap₂ (λ ts vs. behind tables inputs reading ts e (next_plan tables inputs (next.Visits x count) (map (read_value reading) vs) (env_above ts e) s)) same (lies ∙ ap (λ v. v ∷ laid_keys none keys) (sym copied))
-        ∙ ap (λ ks. behind tables inputs reading between.tasks e (visited tables inputs reading (env_above between.tasks e) ks s)) (left_laid reading given none keys))
+        ap₂ (λ ts vs. behind tables inputs functions reading ts e (next_plan tables inputs functions (next.Visits x count) (map (read_value reading) vs) (env_above ts e) s)) same (lies ∙ ap (λ v. v ∷ laid_keys none keys) (sym copied))
+        ∙ ap (λ ks. behind tables inputs functions reading between.tasks e (visited tables inputs functions reading (env_above between.tasks e) ks s)) (left_laid reading given none keys))
 
     pub taking_off : (new : Kept T) (move : Next) → Parts middle new answer (Ok (went.Off move)) → BeginsWith made meaning store keys_of old new world_old world_new (Ok move)
     taking_off new move parts =
-        begun_off made meaning store (λ reading (ks : List (List ℕ)). ks) keys_of (λ tables inputs reading. taken (read_value reading given)) visited same_keys old world_old world_new middle new answer move tasks (λ tables inputs. acts) parts
+        begun_off made meaning store (λ reading (ks : List (List ℕ)). ks) keys_of (λ tables inputs functions reading. taken (read_value reading given)) visited same_keys old world_old world_new middle new answer move tasks (λ tables inputs functions. acts) parts
 
     pub taking_fails : (between new : Kept T) (f : FlowFault T) (result : Result Next (FlowFault T)) → Parts middle between answer (Err f) → IsErrAnd result (λ g. g ≡ f) → BeginsWith made meaning store keys_of old new world_old world_new result
     taking_fails between new f result parts failed =
-        begun_err made meaning store (λ reading (ks : List (List ℕ)). ks) keys_of (λ tables inputs reading. taken (read_value reading given)) visited same_keys old world_old world_new middle between new answer f result tasks (λ tables inputs. acts) parts failed
+        begun_err made meaning store (λ reading (ks : List (List ℕ)). ks) keys_of (λ tables inputs functions reading. taken (read_value reading given)) visited same_keys old world_old world_new middle between new answer f result tasks (λ tables inputs functions. acts) parts failed
 
   -- ---- a key that is looked at
 
@@ -135,15 +137,15 @@ module _ {S T : Type 0} (made : S → T → Type 0) (meaning : S → T → Label
     abbrev asks : (T → Label) → L Bool
     asks reading = still (read_value reading object) (key_text key.value)
 
-    same : (tables : Tables) (inputs : Given) (reading : T → Label) (e : Env ℕ) (s : State) → visits_of x left old.loose tables inputs reading e s ≡ following (asks reading s) (looked_on x left old.loose tables inputs reading e)
-    same tables inputs reading e s = look_as x left old.loose object key some size is_object is_key tables inputs reading e s
+    same : (tables : Tables) (inputs : Given) (functions : List FunctionCode) (reading : T → Label) (e : Env ℕ) (s : State) → visits_of x left old.loose tables inputs functions reading e s ≡ following (asks reading s) (looked_on x left old.loose tables inputs functions reading e)
+    same tables inputs functions reading e s = look_as x left old.loose object key some size is_object is_key tables inputs functions reading e s
 
     -- it is still there
     look_goes : (room : S → ℕ) (firm : S → Bool) (between : Kept T) → Parts old between answer (Ok (went.On true)) → BeginsWith made meaning store (visits_of x left old.loose) old between world_old world_new (Ok (next.Visit x (left - 1)))
     look_goes room firm between parts =
-        begun_on made meaning store (λ reading (b : Bool). b) (visits_of x left old.loose) (λ tables inputs. asks) (looked_on x left old.loose) same old world_old world_new
-        room firm store (IsKept-refl made meaning room firm store) old between between world_new answer true (Ok (next.Visit x (left - 1))) refl (λ tables inputs. acts) parts
-        (λ tables inputs reading e told turns is. ap (λ (k : Kept T). behind tables inputs reading between.tasks e (next_plan tables inputs (next.Visit x (left - 1)) (map (read_value reading) k.loose) (env_above between.tasks e) (state_of reading world_new told turns))) (part_on old between answer true parts).1)
+        begun_on made meaning store (λ reading (b : Bool). b) (visits_of x left old.loose) (λ tables inputs functions. asks) (looked_on x left old.loose) same old world_old world_new
+        room firm store (IsKept-refl made meaning room firm store) old between between world_new answer true (Ok (next.Visit x (left - 1))) refl (λ tables inputs functions. acts) parts
+        (λ tables inputs functions reading e told turns is. ap (λ (k : Kept T). behind tables inputs functions reading between.tasks e (next_plan tables inputs functions (next.Visit x (left - 1)) (map (read_value reading) k.loose) (env_above between.tasks e) (state_of reading world_new told turns))) (part_on old between answer true parts).1)
 
     -- it is gone: the others are visited
     look_gone : (between new : Kept T) → Parts old between answer (Ok (went.On false)) → new.tasks ≡ between.tasks → new.loose ≡ take (length between.loose - 1) between.loose
@@ -153,13 +155,13 @@ module _ {S T : Type 0} (made : S → T → Type 0) (meaning : S → T → Label
         let fewer : length old.loose - 1 ≡ left = omega (arith, size) in
         let is_rest : new.loose ≡ take left old.loose = rest ∙ ap (λ (k : Kept T). take (length k.loose - 1) k.loose) part.1 ∙ ap (λ n. take n old.loose) fewer in (
           ap₂ stack_of (tasks ∙ ap (λ (k : Kept T). k.tasks) part.1) is_rest,
-          λ tables inputs reading e told turns is.
+          λ tables inputs functions reading e told turns is.
               let s = state_of reading world_old told turns in
               let t = state_of reading world_new told turns in
               let says : asks reading s ≡ Goes false t = subst (λ (a : Result (Came Bool T) (FlowFault T)). Says (λ (b : Bool). b) reading (asks reading s) t a) part.0 (acts.says reading is told turns) in
-              same tables inputs reading e s
-              ∙ ap (λ (p : Outcome Halt Jump Bool State). following p (looked_on x left old.loose tables inputs reading e)) says
-              ∙ ap (λ vs. visits_of x (left - 1) vs tables inputs reading e t) (sym is_rest),
+              same tables inputs functions reading e s
+              ∙ ap (λ (p : Outcome Halt Jump Bool State). following p (looked_on x left old.loose tables inputs functions reading e)) says
+              ∙ ap (λ vs. visits_of x (left - 1) vs tables inputs functions reading e t) (sym is_rest),
         )
 
     pub look_ends : (room : S → ℕ) (firm : S → Bool) (between new : Kept T) (there : Bool) (seen : Look) → Parts old between answer (Ok (went.On there)) → Sees x left between new there seen → Looked made meaning store x left old new world_old world_new seen
@@ -173,31 +175,31 @@ module _ {S T : Type 0} (made : S → T → Type 0) (meaning : S → T → Label
     -- the look didn't end
     pub look_off : (new : Kept T) (move : Next) → Parts old new answer (Ok (went.Off move)) → BeginsWith made meaning store (visits_of x left old.loose) old new world_old world_new (Ok move)
     look_off new move parts =
-        begun_off made meaning store (λ reading (b : Bool). b) (visits_of x left old.loose) (λ tables inputs. asks) (looked_on x left old.loose) same old world_old world_new old new answer move refl (λ tables inputs. acts) parts
+        begun_off made meaning store (λ reading (b : Bool). b) (visits_of x left old.loose) (λ tables inputs functions. asks) (looked_on x left old.loose) same old world_old world_new old new answer move refl (λ tables inputs functions. acts) parts
 
     pub look_fails : (between new : Kept T) (f : FlowFault T) (result : Result Look (FlowFault T)) → Parts old between answer (Err f) → IsErrAnd result (λ g. g ≡ f) → IfErr result (Fails made meaning store x left old new world_old world_new)
     look_fails between new f (Ok seen) parts failed = tt
     look_fails between new f (Err g) parts failed =
-        begun_err made meaning store (λ reading (b : Bool). b) (visits_of x left old.loose) (λ tables inputs. asks) (looked_on x left old.loose) same old world_old world_new old between new answer f (Err g) refl (λ tables inputs. acts) parts failed
+        begun_err made meaning store (λ reading (b : Bool). b) (visits_of x left old.loose) (λ tables inputs functions. asks) (looked_on x left old.loose) same old world_old world_new old between new answer f (Err g) refl (λ tables inputs functions. acts) parts failed
 
   -- ---- looks behind one another
 
   module _ (room : S → ℕ) (firm : S → Bool) (earlier later : S) (kept : IsKept made meaning room firm earlier later) (count left : ℕ) (loose : List (Labelled T)) (world : World T) where
     pub alike_on : (left_next : ℕ) (loose_now loose_next : List (Labelled T)) (world_now world_next : World T) → VisitsAlike made meaning earlier x count loose world left loose_now world_now → VisitsAlike made meaning later x left loose_now world_now left_next loose_next world_next
         → VisitsAlike made meaning later x count loose world left_next loose_next world_next
-    alike_on left_next loose_now loose_next world_now world_next so_far more tables inputs reading e told turns is =
-        so_far tables inputs reading e told turns (IsReading-earlier made meaning room firm earlier later reading kept is) ∙ more tables inputs reading e told turns is
+    alike_on left_next loose_now loose_next world_now world_next so_far more tables inputs functions reading e told turns is =
+        so_far tables inputs functions reading e told turns (IsReading-earlier made meaning room firm earlier later reading kept is) ∙ more tables inputs functions reading e told turns is
 
     -- what the last look came to is what all of them do
     pub visits_on : (old now new : Kept T) (world_now world_new : World T) (result : Result Next (FlowFault T)) → now.tasks ≡ old.tasks → VisitsAlike made meaning earlier x count loose world left now.loose world_now
         → BeginsWith made meaning later (visits_of x left now.loose) now new world_now world_new result → BeginsWith made meaning later (visits_of x count loose) old new world world_new result
-    visits_on old now new world_now world_new result tasks alike begins tables inputs reading e told turns is =
+    visits_on old now new world_now world_new result tasks alike begins tables inputs functions reading e told turns is =
         let s = state_of reading world told turns in
         let t = state_of reading world_now told turns in
-        moves_as tables inputs reading new e (state_of reading world_new told turns) (behind tables inputs reading now.tasks e (visits_of x left now.loose tables inputs reading (env_above now.tasks e) t)) (behind tables inputs reading old.tasks e (visits_of x count loose tables inputs reading (env_above old.tasks e) s)) result
-        (ap (λ ts. behind tables inputs reading ts e (visits_of x left now.loose tables inputs reading (env_above ts e) t)) tasks
-        ∙ ap (λ p. behind tables inputs reading old.tasks e p) (sym (alike tables inputs reading (env_above old.tasks e) told turns (IsReading-earlier made meaning room firm earlier later reading kept is))))
-        (begins tables inputs reading e told turns is)
+        moves_as tables inputs functions reading new e (state_of reading world_new told turns) (behind tables inputs functions reading now.tasks e (visits_of x left now.loose tables inputs functions reading (env_above now.tasks e) t)) (behind tables inputs functions reading old.tasks e (visits_of x count loose tables inputs functions reading (env_above old.tasks e) s)) result
+        (ap (λ ts. behind tables inputs functions reading ts e (visits_of x left now.loose tables inputs functions reading (env_above ts e) t)) tasks
+        ∙ ap (λ p. behind tables inputs functions reading old.tasks e p) (sym (alike tables inputs functions reading (env_above old.tasks e) told turns (IsReading-earlier made meaning room firm earlier later reading kept is))))
+        (begins tables inputs functions reading e told turns is)
 
     pub visits_failed : (old now new : Kept T) (world_now world_new : World T) (f : FlowFault T) (result : Result Next (FlowFault T)) → now.tasks ≡ old.tasks → VisitsAlike made meaning earlier x count loose world left now.loose world_now
         → Fails made meaning later x left now new world_now world_new f → IsErrAnd result (λ g. g ≡ f) → BeginsWith made meaning later (visits_of x count loose) old new world world_new result
@@ -209,11 +211,11 @@ module _ {S T : Type 0} (made : S → T → Type 0) (meaning : S → T → Label
   pub visits_over : (store : S) (count left : ℕ) (old now new : Kept T) (world world_now : World T) → now.tasks ≡ old.tasks → new.tasks ≡ now.tasks → length now.loose ≡ 1 → VisitsAlike made meaning store x count old.loose world left now.loose world_now
       → BeginsWith made meaning store (visits_of x count old.loose) old new world world_now (Ok next.Done)
   unfolding visits
-  visits_over store count left old now new world world_now tasks same one alike tables inputs reading e told turns is =
+  visits_over store count left old now new world world_now tasks same one alike tables inputs functions reading e told turns is =
       let t = state_of reading world_now told turns in
       let f = env_above old.tasks e in
       let vs = map (read_value reading) now.loose in
       let none = none_left vs (length-map now.loose (read_value reading) ∙ one) in
-      ap (λ ts. behind tables inputs reading ts e (next_plan tables inputs next.Done (map (read_value reading) new.loose) (env_above ts e) t)) (same ∙ tasks)
-      ∙ ap (λ ks. behind tables inputs reading old.tasks e (visits (planned tables inputs) (asking tables inputs) (view_target x.target.now) (view_stmt x.body.now) (nth 0 vs) ks f t)) (sym none)
-      ∙ ap (λ p. behind tables inputs reading old.tasks e p) (sym (alike tables inputs reading f told turns is))
+      ap (λ ts. behind tables inputs functions reading ts e (next_plan tables inputs functions next.Done (map (read_value reading) new.loose) (env_above ts e) t)) (same ∙ tasks)
+      ∙ ap (λ ks. behind tables inputs functions reading old.tasks e (visits (planned tables inputs functions) (asking tables inputs functions) (labels_at (view_stmt x.of.now)) (view_target x.target.now) (view_stmt x.body.now) (nth 0 vs) ks f t)) (sym none)
+      ∙ ap (λ p. behind tables inputs functions reading old.tasks e p) (sym (alike tables inputs functions reading f told turns is))

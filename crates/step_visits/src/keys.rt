@@ -10,7 +10,7 @@ ghost use Rattle.step_work.specs.declared.work.Next.TheVariants as next;
 ghost use Rattle.step_work.specs.Loads.{Adds};
 ghost use Rattle.step_work.specs.Pending.{next_plan};
 ghost use Rattle.step_work.specs.Stops.{HasStop};
-ghost use Rattle.step_moves.specs.Moving.{BeginsWith, Rests, Stands};
+ghost use Rattle.step_work.specs.Moving.{BeginsWith, Rests, Stands};
 ghost use Rattle.step_visits.specs.Visiting.{laid_keys};
 
 use flow_frames::FlowFault;
@@ -35,7 +35,7 @@ pub fn take_keys<'p, L: Labels>(
     requires loose { length stack.old.loose ≡ 1 }
     requires made { All (HasValue (L.made labels.old)) stack.old.loose }
     requires belongs { Belongs L.made L.meaning labels.old world.old }
-    ensures goes_on { BeginsWith L.made L.meaning labels.new (λ tables inputs reading e. next_plan tables inputs (next.Keys enumeration.entry) (map (read_value reading) stack.old.loose) e) stack.old stack.new world.old world.new result }
+    ensures goes_on { BeginsWith L.made L.meaning labels.new (λ tables inputs functions reading e. next_plan tables inputs functions (next.Keys enumeration.entry) (map (read_value reading) stack.old.loose) e) stack.old stack.new world.old world.new result }
     ensures rests { IfOk result (Rests (L.made labels.new) stack.old stack.new) }
     ensures adds { IfOk result (Adds 2 stack.old stack.new) }
     ensures stopped { IfErr result (IfStop (HasStop (L.made labels.new))) }

@@ -8,7 +8,7 @@ ghost use Rattle.js_values.specs.Readings.{HasValue};
 ghost use Rattle.step_world.specs.Worlds.{Belongs, Grows};
 ghost use Rattle.step_work.specs.Loads.{Adds};
 ghost use Rattle.step_work.specs.Stops.{HasStop};
-ghost use Rattle.step_moves.specs.Moving.{BeginsWith, Rests, Stands};
+ghost use Rattle.step_work.specs.Moving.{BeginsWith, Rests, Stands};
 ghost use Rattle.step_visits.specs.Visiting.{visits_of, Fails, IfGoes, Looked, Sees};
 
 use flow_frames::FlowFault;

@@ -4,6 +4,7 @@ use Rattle.js_values.specs.Readings.{read_value}
 use Rattle.origin_labels.specs.Label.{Label}
 use Rattle.flow_policy.specs.Policies.{Tables}
 use Rattle.flow_policy.specs.Inputs.{Given}
+use Rattle.js_ast.specs.Functions.{FunctionCode}
 use Rattle.es_meaning.specs.Environments.{Env}
 use Rattle.flow_text.specs.declared.memory.OutOfMemory.{OutOfMemory}
 use Rattle.flow_meaning.specs.Scopes.{Val, State}
@@ -18,20 +19,20 @@ unfolding env_above
 env_more [] w e = refl
 env_more (v ∷ tasks) w e = env_more tasks w (inside v.0 e)
 
-pub behind_more : {T : Type 0} → (tables : Tables) (inputs : Given) (reading : T → Label) (tasks : List (Task T)) (w : Task T) (e : Env ℕ) (p : Plan)
-    → behind tables inputs reading (tasks ++ w ∷ []) e p ≡ behind tables inputs reading tasks e (and_plan p (after_task tables inputs reading w (env_above tasks e)))
+pub behind_more : {T : Type 0} → (tables : Tables) (inputs : Given) (functions : List FunctionCode) (reading : T → Label) (tasks : List (Task T)) (w : Task T) (e : Env ℕ) (p : Plan)
+    → behind tables inputs functions reading (tasks ++ w ∷ []) e p ≡ behind tables inputs functions reading tasks e (and_plan p (after_task tables inputs functions reading w (env_above tasks e)))
 unfolding behind env_above
-behind_more tables inputs reading [] w e p = refl
-behind_more tables inputs reading (v ∷ tasks) w e p = ap (λ q. and_plan q (after_task tables inputs reading v e)) (behind_more tables inputs reading tasks w (inside v.0 e) p)
+behind_more tables inputs functions reading [] w e p = refl
+behind_more tables inputs functions reading (v ∷ tasks) w e p = ap (λ q. and_plan q (after_task tables inputs functions reading v e)) (behind_more tables inputs functions reading tasks w (inside v.0 e) p)
 
 -- a call that begins with one plan begins with an equal one
-pub begins_as : {T : Type 0} → (plan same : Tables → Given → Env ℕ → State → Plan) (old new : Kept T) (result : Result Next OutOfMemory) → ((tables : Tables) (inputs : Given) (e : Env ℕ) (s : State) → plan tables inputs e s ≡ same tables inputs e s)
+pub begins_as : {T : Type 0} → (plan same : Tables → Given → List FunctionCode → Env ℕ → State → Plan) (old new : Kept T) (result : Result Next OutOfMemory) → ((tables : Tables) (inputs : Given) (functions : List FunctionCode) (e : Env ℕ) (s : State) → plan tables inputs functions e s ≡ same tables inputs functions e s)
     → IfOk result (Begins plan old new) → IfOk result (Begins same old new)
-begins_as plan same old new (Ok next) equal begins = λ tables inputs reading e s loose. begins tables inputs reading e s loose ∙ ap (behind tables inputs reading old.tasks e) (equal tables inputs (env_above old.tasks e) s)
+begins_as plan same old new (Ok next) equal begins = λ tables inputs functions reading e s loose. begins tables inputs functions reading e s loose ∙ ap (behind tables inputs functions reading old.tasks e) (equal tables inputs functions (env_above old.tasks e) s)
 begins_as plan same old new (Err fault) equal begins = tt
 
 -- a call that begins a plan of the values that lie loose begins it of none where none lie so
-pub begins_alone : {T : Type 0} → (plan : Tables → Given → List Val → Env ℕ → State → Plan) (old new : Kept T) (result : Result Next OutOfMemory)
-    → IfOk result (BeginsBehind plan old new) → IfOk result (Begins (λ tables inputs e s. plan tables inputs [] e s) old new)
-begins_alone plan old new (Ok next) begins = λ tables inputs reading e s loose. begins tables inputs reading e s ∙ ap (λ vs. behind tables inputs reading old.tasks e (plan tables inputs (map (read_value reading) vs) (env_above old.tasks e) s)) loose
+pub begins_alone : {T : Type 0} → (plan : Tables → Given → List FunctionCode → List Val → Env ℕ → State → Plan) (old new : Kept T) (result : Result Next OutOfMemory)
+    → IfOk result (BeginsBehind plan old new) → IfOk result (Begins (λ tables inputs functions e s. plan tables inputs functions [] e s) old new)
+begins_alone plan old new (Ok next) begins = λ tables inputs functions reading e s loose. begins tables inputs functions reading e s ∙ ap (λ vs. behind tables inputs functions reading old.tasks e (plan tables inputs functions (map (read_value reading) vs) (env_above old.tasks e) s)) loose
 begins_alone plan old new (Err fault) begins = tt

@@ -4,6 +4,7 @@ use Rattle.std.proofs.lemmas.List.{length-map, length-append}
 use Rattle.origin_labels.specs.Label.{Label}
 use Rattle.flow_policy.specs.Policies.{Tables}
 use Rattle.flow_policy.specs.Inputs.{Given}
+use Rattle.js_ast.specs.Functions.{FunctionCode}
 use Rattle.flow_text.specs.declared.memory.OutOfMemory.{OutOfMemory}
 use Rattle.flow_frames.specs.declared.kind.Kind.TheVariants as kind
 use Rattle.flow_frames.specs.Changes.{pushed}
@@ -46,39 +47,39 @@ module _ {S T : Type 0} (made : S → T → Type 0) (meaning : S → T → Label
   in_branch : (gives : Bool) (tasks : List (Task T)) (new : Kept T) (frames_old frames_new : List (Held T)) (label : T) (next : Next)
       → new.tasks ≡ tasks ++ (work.EndBranch gives (length frames_old), []) ∷ []
       → ((reading : T → Label) → IsReading made meaning store reading → map (seen_frame reading) frames_new ≡ map (seen_frame reading) frames_old ++ pushed kind.Branch (reading label) ∷ [])
-      → (tables : Tables) (inputs : Given) (reading : T → Label) (e : Env ℕ) (s : State) → IsReading made meaning store reading
-      → coming tables inputs reading new next e (with_frames reading frames_new s) ≡ behind tables inputs reading tasks e (and_plan (next_plan tables inputs next (map (read_value reading) new.loose) (env_above tasks e) (pushed_on kind.Branch (reading label) (with_frames reading frames_old s))) (end_branch (result_type gives) (length (map (seen_frame reading) frames_old))))
-  in_branch gives tasks new frames_old frames_new label next is entered tables inputs reading e s read =
+      → (tables : Tables) (inputs : Given) (functions : List FunctionCode) (reading : T → Label) (e : Env ℕ) (s : State) → IsReading made meaning store reading
+      → coming tables inputs functions reading new next e (with_frames reading frames_new s) ≡ behind tables inputs functions reading tasks e (and_plan (next_plan tables inputs functions next (map (read_value reading) new.loose) (env_above tasks e) (pushed_on kind.Branch (reading label) (with_frames reading frames_old s))) (end_branch (result_type gives) (length (map (seen_frame reading) frames_old))))
+  in_branch gives tasks new frames_old frames_new label next is entered tables inputs functions reading e s read =
       let t = with_frames reading frames_new s in
       let f = env_above tasks e in
       let vs = map (read_value reading) new.loose in
-      ap (λ ts. behind tables inputs reading ts e (next_plan tables inputs next vs (env_above ts e) t)) is
-      ∙ in_scope made meaning store tables inputs reading tasks (work.EndBranch gives (length frames_old), []) e (λ g. next_plan tables inputs next vs g t)
-      ∙ ap₂ (λ d u. behind tables inputs reading tasks e (and_plan (next_plan tables inputs next vs f u) (end_branch (result_type gives) d))) (sym (length-map frames_old (seen_frame reading))) (ap (λ fs. record s { frames = fs }) (entered reading read))
+      ap (λ ts. behind tables inputs functions reading ts e (next_plan tables inputs functions next vs (env_above ts e) t)) is
+      ∙ in_scope made meaning store tables inputs functions reading tasks (work.EndBranch gives (length frames_old), []) e (λ g. next_plan tables inputs functions next vs g t)
+      ∙ ap₂ (λ d u. behind tables inputs functions reading tasks e (and_plan (next_plan tables inputs functions next vs f u) (end_branch (result_type gives) d))) (sym (length-map frames_old (seen_frame reading))) (ap (λ fs. record s { frames = fs }) (entered reading read))
 
   -- what is done next is what a popped value chose
-  pub forked : (gives : Bool) (before middle new : Kept T) (popped : Labelled T) (frames_old frames_new : List (Held T)) (next : Next) (then other : Tables → Given → Val → Env ℕ → State → Plan)
+  pub forked : (gives : Bool) (before middle new : Kept T) (popped : Labelled T) (frames_old frames_new : List (Held T)) (next : Next) (then other : Tables → Given → List FunctionCode → Val → Env ℕ → State → Plan)
       → length before.loose ≡ 1 → before.loose ≡ middle.loose ++ popped ∷ [] → middle.tasks ≡ before.tasks
       → new.tasks ≡ middle.tasks ++ (work.EndBranch gives (length frames_old), middle.loose) ∷ []
       → ((reading : T → Label) → IsReading made meaning store reading → map (seen_frame reading) frames_new ≡ map (seen_frame reading) frames_old ++ pushed kind.Branch (reading popped.label) ∷ [])
-      → ((tables : Tables) (inputs : Given) (reading : T → Label) (f : Env ℕ) (s : State) → next_plan tables inputs next (map (read_value reading) new.loose) f s ≡ choose (truth popped.value) (then tables inputs (read_value reading popped) f) (other tables inputs (read_value reading popped) f) s)
+      → ((tables : Tables) (inputs : Given) (functions : List FunctionCode) (reading : T → Label) (f : Env ℕ) (s : State) → next_plan tables inputs functions next (map (read_value reading) new.loose) f s ≡ choose (truth popped.value) (then tables inputs functions (read_value reading popped) f) (other tables inputs functions (read_value reading popped) f) s)
       → Forks made meaning store gives then other before new frames_old frames_new next
-  forked gives before middle new popped frames_old frames_new next then other one top stays is entered chosen = λ tables inputs reading e s value read loose.
+  forked gives before middle new popped frames_old frames_new next then other one top stays is entered chosen = λ tables inputs functions reading e s value read loose.
       let same = last_one middle.loose popped value (sym top ∙ loose) in
       let f = env_above before.tasks e in
       let u = λ (v : Labelled T). pushed_on kind.Branch (reading v.label) (with_frames reading frames_old s) in
       let ends = end_branch (result_type gives) (length (map (seen_frame reading) frames_old)) in
-      in_branch gives before.tasks new frames_old frames_new popped.label next (is ∙ ap₂ (λ ts vs. ts ++ (work.EndBranch gives (length frames_old), vs) ∷ []) stays (none_in_front middle.loose before.loose popped top one)) entered tables inputs reading e s read
-      ∙ ap (λ p. behind tables inputs reading before.tasks e (and_plan p ends)) (chosen tables inputs reading f (u popped))
-      ∙ ap (λ (v : Labelled T). behind tables inputs reading before.tasks e (and_plan (choose (truth v.value) (then tables inputs (read_value reading v) f) (other tables inputs (read_value reading v) f) (u v)) ends)) same
+      in_branch gives before.tasks new frames_old frames_new popped.label next (is ∙ ap₂ (λ ts vs. ts ++ (work.EndBranch gives (length frames_old), vs) ∷ []) stays (none_in_front middle.loose before.loose popped top one)) entered tables inputs functions reading e s read
+      ∙ ap (λ p. behind tables inputs functions reading before.tasks e (and_plan p ends)) (chosen tables inputs functions reading f (u popped))
+      ∙ ap (λ (v : Labelled T). behind tables inputs functions reading before.tasks e (and_plan (choose (truth v.value) (then tables inputs functions (read_value reading v) f) (other tables inputs functions (read_value reading v) f) (u v)) ends)) same
 
   -- and work that chooses so says the same
-  pub resumes_forked : (w : Work) (gives : Bool) (then other : Tables → Given → Val → Env ℕ → State → Plan) (old new : Kept T) (frames_old frames_new : List (Held T)) (result : Result Next OutOfMemory)
-      → ((tables : Tables) (inputs : Given) (v : Val) (f : Env ℕ) (s : State) → and_plan (choose (truth v.value) (then tables inputs v f) (other tables inputs v f) (pushed_on kind.Branch v.label s)) (end_branch (result_type gives) (length s.frames)) ≡ after tables inputs w [] f (gave v) s)
+  pub resumes_forked : (w : Work) (gives : Bool) (then other : Tables → Given → List FunctionCode → Val → Env ℕ → State → Plan) (old new : Kept T) (frames_old frames_new : List (Held T)) (result : Result Next OutOfMemory)
+      → ((tables : Tables) (inputs : Given) (functions : List FunctionCode) (v : Val) (f : Env ℕ) (s : State) → and_plan (choose (truth v.value) (then tables inputs functions v f) (other tables inputs functions v f) (pushed_on kind.Branch v.label s)) (end_branch (result_type gives) (length s.frames)) ≡ after tables inputs functions w [] f (gave v) s)
       → IfOk result (Forks made meaning store gives then other old new frames_old frames_new)
       → IfOk result (ResumesIn made meaning store w old new frames_old frames_new)
-  resumes_forked w gives then other old new frames_old frames_new (Ok next) says forks = λ tables inputs reading e s value read loose.
-      forks tables inputs reading e s value read loose ∙ ap (behind tables inputs reading old.tasks e) (says tables inputs (read_value reading value) (env_above old.tasks e) (with_frames reading frames_old s))
+  resumes_forked w gives then other old new frames_old frames_new (Ok next) says forks = λ tables inputs functions reading e s value read loose.
+      forks tables inputs functions reading e s value read loose ∙ ap (behind tables inputs functions reading old.tasks e) (says tables inputs functions (read_value reading value) (env_above old.tasks e) (with_frames reading frames_old s))
   resumes_forked w gives then other old new frames_old frames_new (Err fault) says forks = tt
 
   -- what such a call leaves

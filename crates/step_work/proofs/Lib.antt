@@ -12,3 +12,6 @@ pub mod ScopeLaws
 pub mod Steps
 pub mod Uses
 pub mod VisitLaws
+pub mod LabelLaws
+pub mod NamedLaws
+pub mod AimLaws

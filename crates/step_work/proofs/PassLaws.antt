@@ -1,4 +1,4 @@
--- What is thrown, and the work that it passes or that it reaches.
+-- A jump, and the work that it passes or that it reaches.
 use Rattle.std.proofs.Common.{refl, sym, ap, ap₂, ◌∙◌, ◌≡◌, ◌+◌, ◌<◌, ◌≤◌, ℕ, Bool, List, [], ◌∷◌, ◌++◌, map, take, length, arith}
 use Rattle.std.proofs.lemmas.Bool.{lt-ltb, le-ltb}
 use Rattle.std.proofs.lemmas.List.{length-map, take_all}
@@ -11,13 +11,22 @@ use Rattle.es_meaning.specs.Plain.{undefined, choose}
 use Rattle.flow_meaning.specs.Erased.{unlabelled}
 use Rattle.flow_meaning.specs.Scopes.{State, Jump, Left, caught, cut_to, popped, settled}
 use Rattle.flow_meaning.specs.Planned.{Give, gave, jumped, as_plan, end_branch, end_round}
-use Rattle.step_world.specs.Acts.{thrown}
+use Rattle.std.specs.Borrow.{Bor}
+use Rattle.js_ast.specs.declared.trees.Stmt.{Stmt}
+use Rattle.js_values.specs.Readings.{read_value}
+use Rattle.step_work.specs.declared.work.Jump as moves
+use Rattle.step_work.specs.Shapes.{jump_of}
 use Rattle.step_work.specs.declared.work.Work.TheVariants as work
 use Rattle.step_work.specs.declared.work.Next.TheVariants as next
 use Rattle.step_work.specs.Kept.{Kept}
-use Rattle.step_work.specs.Pending.{behind, result_type}
+use Rattle.flow_policy.specs.Policies.{Tables}
+use Rattle.flow_policy.specs.Inputs.{Given}
+use Rattle.js_ast.specs.Functions.{FunctionCode}
+use Rattle.js_ast.specs.Trees.{Clauses, no_clauses, case, default}
+use Rattle.es_meaning.specs.Environments.{Env}
+use Rattle.step_work.specs.Pending.{behind, fallen, result_type}
 use Rattle.step_work.specs.Resuming.{with_frames, PassesIn, LeavesAt}
-use Rattle.step_work.proofs.Handed.{gives_alone, throws_alone}
+use Rattle.step_work.proofs.Handed.{gives_alone, jumps_alone}
 
 -- ---- what pending work says of a jump
 
@@ -33,6 +42,12 @@ unfolding end_round popped
 passes_round depth j s few =
     ap (λ b. as_plan One (and_then (choose b (Goes (record { label = meant_at s.frames depth; how = caught j }) (cut_to depth s)) (Jumps j (cut_to depth s))) (λ (l : Left (Unit {0})). ret tt))) (le-ltb depth (length s.frames) few)
     ∙ ap (λ fs. Give (jumped j) (record s { frames = fs })) (take_all depth s.frames few)
+
+-- and so do clauses that are left of a `switch`
+pub fallen_passes : (tables : Tables) (inputs : Given) (functions : List FunctionCode) (i : ℕ) (cs : Clauses) (e : Env ℕ) (j : Jump) (s : State) → fallen tables inputs functions i cs e (jumped j) s ≡ Give (jumped j) s
+fallen_passes tables inputs functions i no_clauses e j s = refl
+fallen_passes tables inputs functions i (case c ss cs) e j s = refl
+fallen_passes tables inputs functions i (default ss cs) e j s = refl
 
 -- where the frame still stands, the scope is over
 reaches_value : (depth : ℕ) (j : Jump) (s : State) → depth < length s.frames → end_branch Value depth (jumped j) s ≡ Give (gave (record { value = undefined; label = meant_at s.frames depth })) (cut_to depth s)
@@ -52,23 +67,33 @@ reaches_round depth j s stands =
 
 -- ---- what a call comes to
 
-module _ {S T : Type 0} (made : S → T → Type 0) (meaning : S → T → Label) (store : S) (depth : ℕ) where
+module _ {S T : Type 0} (made : S → T → Type 0) (meaning : S → T → Label) (store : S) (m : moves.Jump) (depth : ℕ) where
   -- the frame was left before
   module _ (stack : Kept T) (frames : List (Held T)) (few : length frames ≤ depth) where
     few_read : (reading : T → Label) → length (map (seen_frame reading) frames) ≤ depth
     few_read reading = omega (arith, few, length-map frames (seen_frame reading))
 
-    pub branch_passed : (gives : Bool) → PassesIn made meaning store (work.EndBranch gives depth) stack stack frames frames next.Throws
-    branch_passed gives = λ tables inputs reading e s value read loose.
-        throws_alone tables inputs reading stack stack value e (with_frames reading frames s) refl loose
-        ∙ ap (λ p. behind tables inputs reading stack.tasks e p) (sym (passes_branch (result_type gives) depth (thrown reading value) (with_frames reading frames s) (few_read reading)))
+    pub branch_passed : (gives : Bool) → PassesIn made meaning store m (work.EndBranch gives depth) stack stack frames frames (next.Jumps m)
+    branch_passed gives = λ tables inputs functions reading e s value read loose.
+        jumps_alone tables inputs functions reading m stack stack value e (with_frames reading frames s) refl loose
+        ∙ ap (λ p. behind tables inputs functions reading stack.tasks e p) (sym (passes_branch (result_type gives) depth (jump_of m (read_value reading value)) (with_frames reading frames s) (few_read reading)))
 
-    pub round_passed : (turn : Bool) → PassesIn made meaning store (work.EndRound turn depth) stack stack frames frames next.Throws
-    round_passed turn = λ tables inputs reading e s value read loose.
-        throws_alone tables inputs reading stack stack value e (with_frames reading frames s) refl loose
-        ∙ ap (λ p. behind tables inputs reading stack.tasks e p) (sym (passes_round depth (thrown reading value) (with_frames reading frames s) (few_read reading)))
+    pub round_passed : (turn : Bool) (of : Bor Stmt) → PassesIn made meaning store m (work.EndRound turn depth of) stack stack frames frames (next.Jumps m)
+    round_passed turn of = λ tables inputs functions reading e s value read loose.
+        jumps_alone tables inputs functions reading m stack stack value e (with_frames reading frames s) refl loose
+        ∙ ap (λ p. behind tables inputs functions reading stack.tasks e p) (sym (passes_round depth (jump_of m (read_value reading value)) (with_frames reading frames s) (few_read reading)))
 
-    pub passed_at : length stack.loose ≡ 1 → LeavesAt depth stack stack frames frames next.Throws
+    pub label_passed : (text : Bor (List ℕ)) → PassesIn made meaning store m (work.EndLabel depth text) stack stack frames frames (next.Jumps m)
+    label_passed text = λ tables inputs functions reading e s value read loose.
+        jumps_alone tables inputs functions reading m stack stack value e (with_frames reading frames s) refl loose
+        ∙ ap (λ p. behind tables inputs functions reading stack.tasks e p) (sym (passes_round depth (jump_of m (read_value reading value)) (with_frames reading frames s) (few_read reading)))
+
+    pub try_passed : PassesIn made meaning store m (work.EndTry depth) stack stack frames frames (next.Jumps m)
+    try_passed = λ tables inputs functions reading e s value read loose.
+        jumps_alone tables inputs functions reading m stack stack value e (with_frames reading frames s) refl loose
+        ∙ ap (λ p. behind tables inputs functions reading stack.tasks e p) (sym (passes_round depth (jump_of m (read_value reading value)) (with_frames reading frames s) (few_read reading)))
+
+    pub passed_at : length stack.loose ≡ 1 → LeavesAt depth stack stack frames frames (next.Jumps m)
     passed_at one = record { values = one; tasks = refl; fewer = omega arith; stands = few }
 
   -- the frame is left
@@ -77,22 +102,32 @@ module _ {S T : Type 0} (made : S → T → Type 0) (meaning : S → T → Label
     stands_read reading = omega (arith, deep, length-map frames_old (seen_frame reading))
 
     -- nothing is given
-    pub branch_reached : PassesIn made meaning store (work.EndBranch Bool.false depth) old alone frames_old frames_new next.Done
-    branch_reached = λ tables inputs reading e s value read loose.
-        ap₂ (λ ts fs. behind tables inputs reading ts e (Give (gave (unlabelled undefined)) (record s { frames = fs }))) keep (outside reading)
-        ∙ ap (λ p. behind tables inputs reading old.tasks e p) (sym (reaches_branch depth (thrown reading value) (with_frames reading frames_old s) (stands_read reading)))
+    pub branch_reached : PassesIn made meaning store m (work.EndBranch Bool.false depth) old alone frames_old frames_new next.Done
+    branch_reached = λ tables inputs functions reading e s value read loose.
+        ap₂ (λ ts fs. behind tables inputs functions reading ts e (Give (gave (unlabelled undefined)) (record s { frames = fs }))) keep (outside reading)
+        ∙ ap (λ p. behind tables inputs functions reading old.tasks e p) (sym (reaches_branch depth (jump_of m (read_value reading value)) (with_frames reading frames_old s) (stands_read reading)))
 
-    pub round_reached : (turn : Bool) → PassesIn made meaning store (work.EndRound turn depth) old alone frames_old frames_new next.Done
-    round_reached turn = λ tables inputs reading e s value read loose.
-        ap₂ (λ ts fs. behind tables inputs reading ts e (Give (gave (unlabelled undefined)) (record s { frames = fs }))) keep (outside reading)
-        ∙ ap (λ p. behind tables inputs reading old.tasks e p) (sym (reaches_round depth (thrown reading value) (with_frames reading frames_old s) (stands_read reading)))
+    pub round_reached : (turn : Bool) (of : Bor Stmt) → PassesIn made meaning store m (work.EndRound turn depth of) old alone frames_old frames_new next.Done
+    round_reached turn of = λ tables inputs functions reading e s value read loose.
+        ap₂ (λ ts fs. behind tables inputs functions reading ts e (Give (gave (unlabelled undefined)) (record s { frames = fs }))) keep (outside reading)
+        ∙ ap (λ p. behind tables inputs functions reading old.tasks e p) (sym (reaches_round depth (jump_of m (read_value reading value)) (with_frames reading frames_old s) (stands_read reading)))
+
+    pub label_reached : (text : Bor (List ℕ)) → PassesIn made meaning store m (work.EndLabel depth text) old alone frames_old frames_new next.Done
+    label_reached text = λ tables inputs functions reading e s value read loose.
+        ap₂ (λ ts fs. behind tables inputs functions reading ts e (Give (gave (unlabelled undefined)) (record s { frames = fs }))) keep (outside reading)
+        ∙ ap (λ p. behind tables inputs functions reading old.tasks e p) (sym (reaches_round depth (jump_of m (read_value reading value)) (with_frames reading frames_old s) (stands_read reading)))
+
+    pub try_reached : PassesIn made meaning store m (work.EndTry depth) old alone frames_old frames_new next.Done
+    try_reached = λ tables inputs functions reading e s value read loose.
+        ap₂ (λ ts fs. behind tables inputs functions reading ts e (Give (gave (unlabelled undefined)) (record s { frames = fs }))) keep (outside reading)
+        ∙ ap (λ p. behind tables inputs functions reading old.tasks e p) (sym (reaches_round depth (jump_of m (read_value reading value)) (with_frames reading frames_old s) (stands_read reading)))
 
     -- undefined is given, with the frame's label
     pub value_reached : (new : Kept T) (label : T) → alone.loose ≡ [] → new.tasks ≡ alone.tasks → new.loose ≡ alone.loose ++ record { value = undefined; label = label } ∷ []
         → ((reading : T → Label) → meant_at (map (seen_frame reading) frames_old) depth ≡ reading label)
-        → PassesIn made meaning store (work.EndBranch Bool.true depth) old new frames_old frames_new next.Value
-    value_reached new label none same laid labelled = λ tables inputs reading e s value read loose.
+        → PassesIn made meaning store m (work.EndBranch Bool.true depth) old new frames_old frames_new next.Value
+    value_reached new label none same laid labelled = λ tables inputs functions reading e s value read loose.
         let given : Labelled T = record { value = undefined; label = label } in
-        gives_alone tables inputs reading old new given e (with_frames reading frames_new s) (same ∙ keep) (laid ∙ ap (λ vs. vs ++ given ∷ []) none)
-        ∙ ap₂ (λ l fs. behind tables inputs reading old.tasks e (Give (gave (record { value = undefined; label = l })) (record s { frames = fs }))) (sym (labelled reading)) (outside reading)
-        ∙ ap (λ p. behind tables inputs reading old.tasks e p) (sym (reaches_value depth (thrown reading value) (with_frames reading frames_old s) (stands_read reading)))
+        gives_alone tables inputs functions reading old new given e (with_frames reading frames_new s) (same ∙ keep) (laid ∙ ap (λ vs. vs ++ given ∷ []) none)
+        ∙ ap₂ (λ l fs. behind tables inputs functions reading old.tasks e (Give (gave (record { value = undefined; label = l })) (record s { frames = fs }))) (sym (labelled reading)) (outside reading)
+        ∙ ap (λ p. behind tables inputs functions reading old.tasks e p) (sym (reaches_value depth (jump_of m (read_value reading value)) (with_frames reading frames_old s) (stands_read reading)))

@@ -4,7 +4,7 @@ use Rattle.es_meaning.specs.Operations.{given_text}
 use Rattle.es_meaning.specs.Plain.{key_text}
 use Rattle.flow_meaning.specs.Scopes.{Val}
 use Rattle.step_work.specs.declared.work.Use.{Use}
-use Rattle.step_work.specs.declared.work.Use.TheVariants.{Assigned, Updated, Prefixed, Postfixed, Asked, Valued, Deleted, GivenText}
+use Rattle.step_work.specs.declared.work.Use.TheVariants.{Assigned, Updated, Prefixed, Postfixed, Asked, Valued, Deleted, GivenText, Called}
 use Rattle.step_work.specs.Pending.{owns_use}
 use Rattle.step_work.specs.Shapes.{nth, use_of}
 
@@ -26,6 +26,7 @@ use_kept (Prefixed o) vs v few = refl
 use_kept (Postfixed o) vs v few = refl
 use_kept Asked vs v few = refl
 use_kept Valued vs v few = refl
+use_kept (Called es) vs v few = refl
 use_kept Deleted vs v few = refl
 use_kept GivenText vs v few = ap (λ u. given_text (key_text u.value)) (nth_kept 0 vs (v ∷ []) (omega (arith, few)))
 

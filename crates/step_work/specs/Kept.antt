@@ -1,5 +1,5 @@
 -- Pending work with the operands that it keeps. The operands stand in one list, from those of the first work on.
-use Rattle.std.specs.Prelude.{◌≡◌, ◌≤◌, ℕ, ◌+◌, ◌-◌, List, [], ◌∷◌, ◌++◌, length, take, drop}
+use Rattle.std.specs.Prelude.{Bool, true, false, ◌≡◌, ◌≤◌, ℕ, ◌+◌, ◌-◌, List, [], ◌∷◌, ◌++◌, length, take, drop}
 use Rattle.js_values.specs.declared.value.Labelled.{Labelled}
 use Rattle.step_work.specs.declared.work.Work.{Work}
 use Rattle.step_work.specs.declared.work.Work.TheVariants as work
@@ -41,12 +41,33 @@ without_top stack = record { tasks = stack.tasks; loose = take (length stack.loo
 -- the depths of the frames in which the scopes stand that are pending, the outermost first
 abbrev pub scope_of : Work → List ℕ
 scope_of (work.EndBranch gives depth) = depth ∷ []
-scope_of (work.EndRound turn depth) = depth ∷ []
+scope_of (work.EndRound turn depth of) = depth ∷ []
+scope_of (work.EndLabel depth text) = depth ∷ []
+scope_of (work.EndCall own depth) = depth ∷ []
+scope_of (work.EndNew own depth) = depth ∷ []
+scope_of (work.EndTry depth) = depth ∷ []
 scope_of _ = []
 
 abbrev pub scopes_of : {T : Type 0} → List (Task T) → List ℕ
 scopes_of [] = []
 scopes_of (w ∷ tasks) = scope_of w.0 ++ scopes_of tasks
+
+-- whether a jump may stay there, though it ends no scope: in the block or the handler of a `try` statement
+abbrev pub may_stay : Work → Bool
+may_stay (work.EndBlock s depth) = true
+may_stay (work.EndHandler s own depth) = true
+may_stay _ = false
+
+-- the records in which calls and handlers began that are pending, the outermost first
+abbrev pub place_of : Work → List ℕ
+place_of (work.EndCall own depth) = own.0 ∷ []
+place_of (work.EndNew own depth) = own.0 ∷ []
+place_of (work.EndHandler s own depth) = own.0 ∷ []
+place_of _ = []
+
+abbrev pub places_of : List Work → List ℕ
+places_of [] = []
+places_of (w ∷ works) = place_of w ++ places_of works
 
 -- the work that was done first is taken from the others. Its operands lie loose then, below the values that lay so
 pub record Taken {T : Type 0} (old new : Kept T) (w : Work) : Type 0 where

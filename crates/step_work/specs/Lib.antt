@@ -4,3 +4,7 @@ pub mod Resuming
 pub mod Shapes
 pub mod Loads
 pub mod Stops
+pub mod Moving
+pub mod Going
+pub mod Aims
+pub mod Standing

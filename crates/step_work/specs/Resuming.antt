@@ -3,6 +3,7 @@ use Rattle.std.specs.Prelude.{◌≡◌, ℕ, ◌+◌, ◌-◌, ◌≤◌, Bool,
 use Rattle.origin_labels.specs.Label.{Label}
 use Rattle.flow_policy.specs.Policies.{Tables}
 use Rattle.flow_policy.specs.Inputs.{Given}
+use Rattle.js_ast.specs.Functions.{FunctionCode}
 use Rattle.js_values.specs.declared.value.Labelled.{Labelled}
 use Rattle.flow_frames.specs.Held.{Held, seen_frame}
 use Rattle.js_values.specs.Readings.{IsReading, read_value}
@@ -13,52 +14,53 @@ use Rattle.flow_meaning.specs.Erased.{unlabelled}
 use Rattle.flow_frames.specs.declared.kind.Kind.TheVariants as Kind
 use Rattle.flow_meaning.specs.Scopes.{Val, State, pushed_on}
 use Rattle.flow_meaning.specs.Planned.{gave, jumped, Plan, and_plan, end_branch}
-use Rattle.step_world.specs.Acts.{thrown}
 use Rattle.step_work.specs.declared.work.Work.{Work}
+use Rattle.step_work.specs.declared.work.Jump.{Jump}
 use Rattle.step_work.specs.declared.work.Next.{Next}
 use Rattle.step_work.specs.declared.work.Next.TheVariants as moves
 use Rattle.step_work.specs.Kept.{Kept, scopes_of, kept_operands, operands_of}
+use Rattle.step_work.specs.Shapes.{jump_of}
 use Rattle.step_work.specs.Pending.{env_above, after, next_plan, behind, values_of, result_type}
 
 module _ {T : Type 0} where
   -- what is done next, and behind it the pending work
-  abbrev pub coming : Tables → Given → (T → Label) → Kept T → Next → Env ℕ → State → Plan
-  coming tables inputs reading stack next e s = behind tables inputs reading stack.tasks e (next_plan tables inputs next (map (read_value reading) stack.loose) (env_above stack.tasks e) s)
+  abbrev pub coming : Tables → Given → List FunctionCode → (T → Label) → Kept T → Next → Env ℕ → State → Plan
+  coming tables inputs functions reading stack next e s = behind tables inputs functions reading stack.tasks e (next_plan tables inputs functions next (map (read_value reading) stack.loose) (env_above stack.tasks e) s)
 
   -- it comes to what work that keeps no operand says of the value that it waited for
   abbrev pub Resumes : Work → Kept T → Kept T → Next → Type 0
-  Resumes w old new next = (tables : Tables) (inputs : Given) (reading : T → Label) (e : Env ℕ) (s : State) (value : Labelled T) → old.loose ≡ value ∷ []
-      → coming tables inputs reading new next e s ≡ behind tables inputs reading old.tasks e (after tables inputs w [] (env_above old.tasks e) (gave (read_value reading value)) s)
+  Resumes w old new next = (tables : Tables) (inputs : Given) (functions : List FunctionCode) (reading : T → Label) (e : Env ℕ) (s : State) (value : Labelled T) → old.loose ≡ value ∷ []
+      → coming tables inputs functions reading new next e s ≡ behind tables inputs functions reading old.tasks e (after tables inputs functions w [] (env_above old.tasks e) (gave (read_value reading value)) s)
 
   -- and what work says that keeps one operand, which lies below
   abbrev pub ResumesBeside : Work → Kept T → Kept T → Next → Type 0
-  ResumesBeside w old new next = (tables : Tables) (inputs : Given) (reading : T → Label) (e : Env ℕ) (s : State) (operand value : Labelled T) → old.loose ≡ operand ∷ (value ∷ [])
-      → coming tables inputs reading new next e s ≡ behind tables inputs reading old.tasks e (after tables inputs w (read_value reading operand ∷ []) (env_above old.tasks e) (gave (read_value reading value)) s)
+  ResumesBeside w old new next = (tables : Tables) (inputs : Given) (functions : List FunctionCode) (reading : T → Label) (e : Env ℕ) (s : State) (operand value : Labelled T) → old.loose ≡ operand ∷ (value ∷ [])
+      → coming tables inputs functions reading new next e s ≡ behind tables inputs functions reading old.tasks e (after tables inputs functions w (read_value reading operand ∷ []) (env_above old.tasks e) (gave (read_value reading value)) s)
 
   -- what work says that waited for the end of a part
   abbrev pub ResumesDone : Work → Kept T → Kept T → Next → Type 0
-  ResumesDone w old new next = (tables : Tables) (inputs : Given) (reading : T → Label) (e : Env ℕ) (s : State) → old.loose ≡ []
-      → coming tables inputs reading new next e s ≡ behind tables inputs reading old.tasks e (after tables inputs w [] (env_above old.tasks e) (gave (unlabelled undefined)) s)
+  ResumesDone w old new next = (tables : Tables) (inputs : Given) (functions : List FunctionCode) (reading : T → Label) (e : Env ℕ) (s : State) → old.loose ≡ []
+      → coming tables inputs functions reading new next e s ≡ behind tables inputs functions reading old.tasks e (after tables inputs functions w [] (env_above old.tasks e) (gave (unlabelled undefined)) s)
 
   -- it comes to what a plan says
-  abbrev pub Begins : (Tables → Given → Env ℕ → State → Plan) → Kept T → Kept T → Next → Type 0
-  Begins plan old new next = (tables : Tables) (inputs : Given) (reading : T → Label) (e : Env ℕ) (s : State) → old.loose ≡ []
-      → coming tables inputs reading new next e s ≡ behind tables inputs reading old.tasks e (plan tables inputs (env_above old.tasks e) s)
+  abbrev pub Begins : (Tables → Given → List FunctionCode → Env ℕ → State → Plan) → Kept T → Kept T → Next → Type 0
+  Begins plan old new next = (tables : Tables) (inputs : Given) (functions : List FunctionCode) (reading : T → Label) (e : Env ℕ) (s : State) → old.loose ≡ []
+      → coming tables inputs functions reading new next e s ≡ behind tables inputs functions reading old.tasks e (plan tables inputs functions (env_above old.tasks e) s)
 
   -- what the evaluation of further arguments says, before which these values lie loose
-  abbrev pub BeginsBehind : (Tables → Given → List Val → Env ℕ → State → Plan) → Kept T → Kept T → Next → Type 0
-  BeginsBehind plan old new next = (tables : Tables) (inputs : Given) (reading : T → Label) (e : Env ℕ) (s : State)
-      → coming tables inputs reading new next e s ≡ behind tables inputs reading old.tasks e (plan tables inputs (map (read_value reading) old.loose) (env_above old.tasks e) s)
+  abbrev pub BeginsBehind : (Tables → Given → List FunctionCode → List Val → Env ℕ → State → Plan) → Kept T → Kept T → Next → Type 0
+  BeginsBehind plan old new next = (tables : Tables) (inputs : Given) (functions : List FunctionCode) (reading : T → Label) (e : Env ℕ) (s : State)
+      → coming tables inputs functions reading new next e s ≡ behind tables inputs functions reading old.tasks e (plan tables inputs functions (map (read_value reading) old.loose) (env_above old.tasks e) s)
 
   -- what an argument's work says, which keeps those before it
   abbrev pub ResumesBehind : Work → Kept T → Kept T → Next → Type 0
-  ResumesBehind w old new next = (tables : Tables) (inputs : Given) (reading : T → Label) (e : Env ℕ) (s : State) (kept : List (Labelled T)) (value : Labelled T) → old.loose ≡ kept ++ value ∷ []
-      → coming tables inputs reading new next e s ≡ behind tables inputs reading old.tasks e (after tables inputs w (map (read_value reading) kept) (env_above old.tasks e) (gave (read_value reading value)) s)
+  ResumesBehind w old new next = (tables : Tables) (inputs : Given) (functions : List FunctionCode) (reading : T → Label) (e : Env ℕ) (s : State) (kept : List (Labelled T)) (value : Labelled T) → old.loose ≡ kept ++ value ∷ []
+      → coming tables inputs functions reading new next e s ≡ behind tables inputs functions reading old.tasks e (after tables inputs functions w (map (read_value reading) kept) (env_above old.tasks e) (gave (read_value reading value)) s)
 
   -- what work says that keeps operands and waited for the end of a part
   abbrev pub ResumesDoneBehind : Work → Kept T → Kept T → Next → Type 0
-  ResumesDoneBehind w old new next = (tables : Tables) (inputs : Given) (reading : T → Label) (e : Env ℕ) (s : State)
-      → coming tables inputs reading new next e s ≡ behind tables inputs reading old.tasks e (after tables inputs w (map (read_value reading) old.loose) (env_above old.tasks e) (gave (unlabelled undefined)) s)
+  ResumesDoneBehind w old new next = (tables : Tables) (inputs : Given) (functions : List FunctionCode) (reading : T → Label) (e : Env ℕ) (s : State)
+      → coming tables inputs functions reading new next e s ≡ behind tables inputs functions reading old.tasks e (after tables inputs functions w (map (read_value reading) old.loose) (env_above old.tasks e) (gave (unlabelled undefined)) s)
 
   -- what a call leaves: the values that its next move has, the scopes that were pending, and the same operands and values
   pub record Keeps (old new : Kept T) (next : Next) : Type 0 where
@@ -71,29 +73,29 @@ module _ {T : Type 0} where
   with_frames reading frames s = record s { frames = map (seen_frame reading) frames }
 
   -- a call that changes frames comes to what a plan says, under each reading that agrees with the store
-  abbrev pub BeginsIn : {S : Type 0} → (S → T → Type 0) → (S → T → Label) → S → (Tables → Given → Env ℕ → State → Plan) → Kept T → Kept T → List (Held T) → List (Held T) → Next → Type 0
-  BeginsIn made meaning store plan old new frames_old frames_new next = (tables : Tables) (inputs : Given) (reading : T → Label) (e : Env ℕ) (s : State) → IsReading made meaning store reading → old.loose ≡ []
-      → coming tables inputs reading new next e (with_frames reading frames_new s) ≡ behind tables inputs reading old.tasks e (plan tables inputs (env_above old.tasks e) (with_frames reading frames_old s))
+  abbrev pub BeginsIn : {S : Type 0} → (S → T → Type 0) → (S → T → Label) → S → (Tables → Given → List FunctionCode → Env ℕ → State → Plan) → Kept T → Kept T → List (Held T) → List (Held T) → Next → Type 0
+  BeginsIn made meaning store plan old new frames_old frames_new next = (tables : Tables) (inputs : Given) (functions : List FunctionCode) (reading : T → Label) (e : Env ℕ) (s : State) → IsReading made meaning store reading → old.loose ≡ []
+      → coming tables inputs functions reading new next e (with_frames reading frames_new s) ≡ behind tables inputs functions reading old.tasks e (plan tables inputs functions (env_above old.tasks e) (with_frames reading frames_old s))
 
   -- and to what a plan says of the values that lie loose
-  abbrev pub BeginsBeside : {S : Type 0} → (S → T → Type 0) → (S → T → Label) → S → (Tables → Given → List Val → Env ℕ → State → Plan) → Kept T → Kept T → List (Held T) → List (Held T) → Next → Type 0
-  BeginsBeside made meaning store plan old new frames_old frames_new next = (tables : Tables) (inputs : Given) (reading : T → Label) (e : Env ℕ) (s : State) → IsReading made meaning store reading
-      → coming tables inputs reading new next e (with_frames reading frames_new s) ≡ behind tables inputs reading old.tasks e (plan tables inputs (map (read_value reading) old.loose) (env_above old.tasks e) (with_frames reading frames_old s))
+  abbrev pub BeginsBeside : {S : Type 0} → (S → T → Type 0) → (S → T → Label) → S → (Tables → Given → List FunctionCode → List Val → Env ℕ → State → Plan) → Kept T → Kept T → List (Held T) → List (Held T) → Next → Type 0
+  BeginsBeside made meaning store plan old new frames_old frames_new next = (tables : Tables) (inputs : Given) (functions : List FunctionCode) (reading : T → Label) (e : Env ℕ) (s : State) → IsReading made meaning store reading
+      → coming tables inputs functions reading new next e (with_frames reading frames_new s) ≡ behind tables inputs functions reading old.tasks e (plan tables inputs functions (map (read_value reading) old.loose) (env_above old.tasks e) (with_frames reading frames_old s))
 
   -- a call that changes frames comes to what work says that keeps no operand of the value that it waited for
   abbrev pub ResumesIn : {S : Type 0} → (S → T → Type 0) → (S → T → Label) → S → Work → Kept T → Kept T → List (Held T) → List (Held T) → Next → Type 0
-  ResumesIn made meaning store w old new frames_old frames_new next = (tables : Tables) (inputs : Given) (reading : T → Label) (e : Env ℕ) (s : State) (value : Labelled T) → IsReading made meaning store reading → old.loose ≡ value ∷ []
-      → coming tables inputs reading new next e (with_frames reading frames_new s) ≡ behind tables inputs reading old.tasks e (after tables inputs w [] (env_above old.tasks e) (gave (read_value reading value)) (with_frames reading frames_old s))
+  ResumesIn made meaning store w old new frames_old frames_new next = (tables : Tables) (inputs : Given) (functions : List FunctionCode) (reading : T → Label) (e : Env ℕ) (s : State) (value : Labelled T) → IsReading made meaning store reading → old.loose ≡ value ∷ []
+      → coming tables inputs functions reading new next e (with_frames reading frames_new s) ≡ behind tables inputs functions reading old.tasks e (after tables inputs functions w [] (env_above old.tasks e) (gave (read_value reading value)) (with_frames reading frames_old s))
 
   -- and of the end of a part
   abbrev pub ResumesDoneIn : {S : Type 0} → (S → T → Type 0) → (S → T → Label) → S → Work → Kept T → Kept T → List (Held T) → List (Held T) → Next → Type 0
-  ResumesDoneIn made meaning store w old new frames_old frames_new next = (tables : Tables) (inputs : Given) (reading : T → Label) (e : Env ℕ) (s : State) → IsReading made meaning store reading → old.loose ≡ []
-      → coming tables inputs reading new next e (with_frames reading frames_new s) ≡ behind tables inputs reading old.tasks e (after tables inputs w [] (env_above old.tasks e) (gave (unlabelled undefined)) (with_frames reading frames_old s))
+  ResumesDoneIn made meaning store w old new frames_old frames_new next = (tables : Tables) (inputs : Given) (functions : List FunctionCode) (reading : T → Label) (e : Env ℕ) (s : State) → IsReading made meaning store reading → old.loose ≡ []
+      → coming tables inputs functions reading new next e (with_frames reading frames_new s) ≡ behind tables inputs functions reading old.tasks e (after tables inputs functions w [] (env_above old.tasks e) (gave (unlabelled undefined)) (with_frames reading frames_old s))
 
   -- a value chose one of two parts, which is done in a frame of its own; it is still there for a part that gives it
-  abbrev pub Forks : {S : Type 0} → (S → T → Type 0) → (S → T → Label) → S → Bool → (Tables → Given → Val → Env ℕ → State → Plan) → (Tables → Given → Val → Env ℕ → State → Plan) → Kept T → Kept T → List (Held T) → List (Held T) → Next → Type 0
-  Forks made meaning store gives then other old new frames_old frames_new next = (tables : Tables) (inputs : Given) (reading : T → Label) (e : Env ℕ) (s : State) (value : Labelled T) → IsReading made meaning store reading → old.loose ≡ value ∷ []
-      → coming tables inputs reading new next e (with_frames reading frames_new s) ≡ behind tables inputs reading old.tasks e (and_plan (choose (truth value.value) (then tables inputs (read_value reading value) (env_above old.tasks e)) (other tables inputs (read_value reading value) (env_above old.tasks e)) (pushed_on Kind.Branch (reading value.label) (with_frames reading frames_old s))) (end_branch (result_type gives) (length (map (seen_frame reading) frames_old))))
+  abbrev pub Forks : {S : Type 0} → (S → T → Type 0) → (S → T → Label) → S → Bool → (Tables → Given → List FunctionCode → Val → Env ℕ → State → Plan) → (Tables → Given → List FunctionCode → Val → Env ℕ → State → Plan) → Kept T → Kept T → List (Held T) → List (Held T) → Next → Type 0
+  Forks made meaning store gives then other old new frames_old frames_new next = (tables : Tables) (inputs : Given) (functions : List FunctionCode) (reading : T → Label) (e : Env ℕ) (s : State) (value : Labelled T) → IsReading made meaning store reading → old.loose ≡ value ∷ []
+      → coming tables inputs functions reading new next e (with_frames reading frames_new s) ≡ behind tables inputs functions reading old.tasks e (and_plan (choose (truth value.value) (then tables inputs functions (read_value reading value) (env_above old.tasks e)) (other tables inputs functions (read_value reading value) (env_above old.tasks e)) (pushed_on Kind.Branch (reading value.label) (with_frames reading frames_old s))) (end_branch (result_type gives) (length (map (seen_frame reading) frames_old))))
 
   -- what a call leaves that opened a frame: the values that its next move has, one more pending scope, which is the frame's, and a front of the operands
   pub record Opened (old new : Kept T) (frames_old frames_new : List (Held T)) (next : Next) : Type 0 where
@@ -108,29 +110,29 @@ module _ {T : Type 0} where
     pub tasks : new.tasks ≡ old.tasks
     pub shallower : length frames_new + 1 ≡ length frames_old
 
-  -- what is thrown comes to what work says of it, with the operands that it keeps
-  abbrev pub Passes : Work → Kept T → Kept T → Next → Type 0
-  Passes w old new next = (tables : Tables) (inputs : Given) (reading : T → Label) (e : Env ℕ) (s : State) (kept : List (Labelled T)) (value : Labelled T) → old.loose ≡ kept ++ value ∷ []
-      → coming tables inputs reading new next e s ≡ behind tables inputs reading old.tasks e (after tables inputs w (map (read_value reading) kept) (env_above old.tasks e) (jumped (thrown reading value)) s)
+  -- a jump comes to what work says of it, with the operands that it keeps
+  abbrev pub Passes : Jump → Work → Kept T → Kept T → Next → Type 0
+  Passes j w old new next = (tables : Tables) (inputs : Given) (functions : List FunctionCode) (reading : T → Label) (e : Env ℕ) (s : State) (kept : List (Labelled T)) (value : Labelled T) → old.loose ≡ kept ++ value ∷ []
+      → coming tables inputs functions reading new next e s ≡ behind tables inputs functions reading old.tasks e (after tables inputs functions w (map (read_value reading) kept) (env_above old.tasks e) (jumped (jump_of j (read_value reading value))) s)
 
   -- and what the end of a scope says of it, which keeps no operand, under each reading that agrees with the store
-  abbrev pub PassesIn : {S : Type 0} → (S → T → Type 0) → (S → T → Label) → S → Work → Kept T → Kept T → List (Held T) → List (Held T) → Next → Type 0
-  PassesIn made meaning store w old new frames_old frames_new next = (tables : Tables) (inputs : Given) (reading : T → Label) (e : Env ℕ) (s : State) (value : Labelled T) → IsReading made meaning store reading → old.loose ≡ value ∷ []
-      → coming tables inputs reading new next e (with_frames reading frames_new s) ≡ behind tables inputs reading old.tasks e (after tables inputs w [] (env_above old.tasks e) (jumped (thrown reading value)) (with_frames reading frames_old s))
+  abbrev pub PassesIn : {S : Type 0} → (S → T → Type 0) → (S → T → Label) → S → Jump → Work → Kept T → Kept T → List (Held T) → List (Held T) → Next → Type 0
+  PassesIn made meaning store j w old new frames_old frames_new next = (tables : Tables) (inputs : Given) (functions : List FunctionCode) (reading : T → Label) (e : Env ℕ) (s : State) (value : Labelled T) → IsReading made meaning store reading → old.loose ≡ value ∷ []
+      → coming tables inputs functions reading new next e (with_frames reading frames_new s) ≡ behind tables inputs functions reading old.tasks e (after tables inputs functions w [] (env_above old.tasks e) (jumped (jump_of j (read_value reading value))) (with_frames reading frames_old s))
 
-  -- what a throw leaves that passed work: the uppermost value is thrown on, above the operands of the work that still waits
-  pub record Passed (old new : Kept T) (next : Next) : Type 0 where
-    pub throws : next ≡ moves.Throws
+  -- what a jump leaves that passed work: it goes on with the uppermost value, above the operands of the work that still waits
+  pub record Passed (j : Jump) (old new : Kept T) (next : Next) : Type 0 where
+    pub jumps : next ≡ moves.Jumps j
     pub values : length new.loose ≡ values_of next
     pub tasks : new.tasks ≡ old.tasks
     pub operands : operands_of new ≡ kept_operands old.tasks ++ drop (length old.loose - 1) old.loose
 
-  -- as many frames stand, or fewer, if a throw goes on that left some
+  -- as many frames stand, or fewer, if a jump goes on that left some
   abbrev pub StandsAt : ℕ → List (Held T) → Next → Type 0
-  StandsAt depth frames moves.Throws = length frames ≤ depth
+  StandsAt depth frames (moves.Jumps j) = length frames ≤ depth
   StandsAt depth frames _ = length frames ≡ depth
 
-  -- what a throw leaves at the end of the scope that stands in the frame at a depth, whose pending scope was taken before
+  -- what a jump leaves at the end of the scope that stands in the frame at a depth, whose pending scope was taken before
   pub record LeavesAt (depth : ℕ) (old new : Kept T) (frames_old frames_new : List (Held T)) (next : Next) : Type 0 where
     pub values : length new.loose ≡ values_of next
     pub tasks : new.tasks ≡ old.tasks

@@ -1,36 +1,56 @@
 //! The arguments of a call, from the left (ECMA-262 11.2.4).
 
-ghost use Rattle.std.specs.Prelude.{◌≡◌, ◌+◌, length, IfOk, OnOk};
+ghost use Rattle.std.specs.Prelude.{◌≡◌, ◌≤◌, ◌+◌, ℕ, List, length, drop, IfOk, OnOk};
+ghost use Rattle.flow_policy.specs.Inputs.{Given};
+ghost use Rattle.flow_policy.specs.Policies.{Tables};
+ghost use Rattle.js_ast.specs.Functions.{FunctionCode};
+ghost use Rattle.es_meaning.specs.Environments.{Env};
+ghost use Rattle.flow_meaning.specs.Scopes.{State, Val};
 ghost use Rattle.js_ast.specs.Views.{view_exprs};
-ghost use Rattle.es_meaning.specs.Evaluation.{arguments};
+ghost use Rattle.es_meaning.specs.Evaluation.{arguments, call_with};
 ghost use Rattle.flow_meaning.specs.Planned.{planned, asking};
 ghost use Rattle.step_work.specs.declared.work.Work.TheVariants as work;
-ghost use Rattle.step_work.specs.Loads.{Adds};
+ghost use Rattle.step_work.specs.Loads.{Adds, lift};
 ghost use Rattle.step_work.specs.Resuming.{BeginsBehind, Keeps, ResumesBehind};
-ghost use Rattle.step_work.specs.Shapes.{direct_of};
+ghost use Rattle.step_work.specs.Pending.{next_plan, owns_calling, values_of};
+ghost use Rattle.step_work.specs.Shapes.{calling_of};
 
 use crate::stack::Stack;
-use crate::work::{Direct, Next, Work};
+use crate::work::{Calling, Next, Work};
 use flow_text::OutOfMemory;
 use js_ast::Expr;
+
+/// What is done with all arguments.
+#[tactic(auto, unfolding(es_meaning::specs::Evaluation::call_with))]
+fn called<'p>(calling: Calling, count: u32) -> Next<'p>
+    ensures plan { (tables : Tables) (inputs : Given) (functions : List FunctionCode) (vs : List Val) (e : Env ℕ) (s : State) → next_plan tables inputs functions result vs e s ≡ call_with (planned tables inputs functions) (asking tables inputs functions) (calling_of calling vs) (drop (owns_calling calling) vs) s }
+    ensures values { values_of result ≡ owns_calling calling + count }
+    ensures lifts { lift result ≤ 3 }
+{
+    match calling {
+        Calling::Directly(function) => Next::Direct(function, count),
+        Calling::Calls => Next::Call(count),
+        Calling::Constructs => Next::Construct(count),
+    }
+}
 
 /// Further arguments, behind those that were evaluated.
 #[tactic(auto, using(crate::proofs::Behind::behind_more, crate::proofs::Behind::env_more, crate::proofs::Steps::arguments_none, crate::proofs::Steps::arguments_more))]
 pub fn begin_arguments<'p, T: Copy>(
     stack: &mut Stack<'p, T>,
-    function: Direct,
+    calling: Calling,
     count: u32,
     list: &'p [Expr],
 ) -> Result<Next<'p>, OutOfMemory>
-    requires { length stack.old.loose ≡ count }
-    ensures goes_on { IfOk result (BeginsBehind (λ tables inputs vs e. arguments (planned tables inputs) (asking tables inputs) (direct_of function) vs (view_exprs list.entry.now) e.place) stack.old stack.new) }
+    requires { length stack.old.loose ≡ owns_calling calling + count }
+    ensures goes_on { IfOk result (BeginsBehind (λ tables inputs functions vs e. arguments (planned tables inputs functions) (asking tables inputs functions) (calling_of calling vs) (drop (owns_calling calling) vs) (view_exprs list.entry.now) e.place) stack.old stack.new) }
     ensures keeps { IfOk result (Keeps stack.old stack.new) }
-    ensures adds { IfOk result (Adds 2 stack.old stack.new) }
+    ensures adds { IfOk result (Adds 3 stack.old stack.new) }
 {
     match list.split_first() {
-        None => Ok(Next::Direct(function, count)),
+        None => Ok(called(calling, count)),
         Some((first, rest)) => {
-            stack.push(Work::Argument(function, count, rest))?;
+            stack.push(Work::Argument(calling, count, rest))?;
             Ok(Next::Expr(first))
         }
     }
@@ -40,17 +60,17 @@ pub fn begin_arguments<'p, T: Copy>(
 #[tactic(auto, using(crate::proofs::Steps::values_more), unfolding(es_meaning::specs::Evaluation::more_arguments))]
 pub fn more_arguments<'p, T: Copy>(
     stack: &mut Stack<'p, T>,
-    function: Direct,
+    calling: Calling,
     count: u32,
     rest: &'p [Expr],
 ) -> Result<Next<'p>, OutOfMemory>
-    requires { length stack.old.loose ≡ count + 1 }
-    ensures goes_on { IfOk result (ResumesBehind (work.Argument function count rest.entry) stack.old stack.new) }
+    requires { length stack.old.loose ≡ owns_calling calling + count + 1 }
+    ensures goes_on { IfOk result (ResumesBehind (work.Argument calling count rest.entry) stack.old stack.new) }
     ensures keeps { IfOk result (Keeps stack.old stack.new) }
-    ensures adds { IfOk result (Adds 2 stack.old stack.new) }
+    ensures adds { IfOk result (Adds 3 stack.old stack.new) }
 {
     match count.checked_add(1) {
-        Some(count) => begin_arguments(stack, function, count, rest),
+        Some(count) => begin_arguments(stack, calling, count, rest),
         None => Err(OutOfMemory),
     }
 }

@@ -61,7 +61,7 @@ fn branch<'p, L: Labels>(
     requires other { values_of other ≡ 0 }
     requires little { lift then ≤ 1 }
     requires other_little { lift other ≤ 1 }
-    ensures forks { IfOk result (Forks L.made L.meaning labels.new gives (λ tables inputs v e. next_plan tables inputs then.entry [] e) (λ tables inputs v e. next_plan tables inputs other.entry [] e) stack.old stack.new frames.old.frames frames.new.frames) }
+    ensures forks { IfOk result (Forks L.made L.meaning labels.new gives (λ tables inputs functions v e. next_plan tables inputs functions then.entry [] e) (λ tables inputs functions v e. next_plan tables inputs functions other.entry [] e) stack.old stack.new frames.old.frames frames.new.frames) }
     ensures opened { IfOk result (Opened stack.old stack.new frames.old.frames frames.new.frames) }
     ensures adds { IfOk result (Adds 2 stack.old stack.new) }
     ensures belongs { Belong L.made L.meaning labels.new frames.new.frames }

@@ -1,6 +1,8 @@
 //! The ends of frames, and what raises them: a condition of a loop, and the ends of branches, loops and turns.
 
-ghost use Rattle.std.specs.Prelude.{◌≡◌, ◌+◌, ◌<◌, true, false, [], length, map, take, IfOk};
+ghost use Rattle.std.specs.Prelude.{◌≡◌, ◌+◌, ◌<◌, Bool, ℕ, List, true, false, [], length, map, take, IfOk};
+ghost use Rattle.std.specs.Borrow.{Bor};
+ghost use Rattle.js_ast.specs.declared.trees.Stmt.{Stmt};
 ghost use Rattle.std.specs.List.{All};
 ghost use Rattle.origin_labels.specs.Stores.{IsKept};
 ghost use Rattle.origin_labels.specs.Label.{Label};
@@ -114,19 +116,20 @@ pub fn end_branch<'p, L: Labels>(
     Next::Done
 }
 
-/// The end of a loop or of a turn.
+/// The end of a loop, of a turn, of a `switch`, of a labelled statement or of a `try` statement.
 pub fn end_round<'p, L: Labels>(
     labels: &L,
     frames: &mut Frames<L::Label>,
     stack: &mut Stack<'p, L::Label>,
-    _turn: bool,
     depth: usize,
 ) -> Next<'p>
     requires loose { length stack.old.loose ≡ 0 }
     requires frame { length frames.old.frames ≡ depth + 1 }
     requires inner { 0 < depth }
     requires belongs { Belong L.made L.meaning labels.now frames.old.frames }
-    ensures goes_on { ResumesDoneIn L.made L.meaning labels.now (work.EndRound _turn depth) stack.old stack.new frames.old.frames frames.new.frames result }
+    ensures goes_on { (turn : Bool) (of : Bor Stmt) → ResumesDoneIn L.made L.meaning labels.now (work.EndRound turn depth of) stack.old stack.new frames.old.frames frames.new.frames result }
+    ensures label { (text : Bor (List ℕ)) → ResumesDoneIn L.made L.meaning labels.now (work.EndLabel depth text) stack.old stack.new frames.old.frames frames.new.frames result }
+    ensures tried { ResumesDoneIn L.made L.meaning labels.now (work.EndTry depth) stack.old stack.new frames.old.frames frames.new.frames result }
     ensures closed { Closed stack.old stack.new frames.old.frames frames.new.frames result }
     ensures none { stack.new.loose ≡ [] }
     ensures adds { Adds 1 stack.old stack.new result }

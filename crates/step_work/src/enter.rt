@@ -1,24 +1,33 @@
 //! The first step of each part of a script.
 
-ghost use Rattle.std.specs.Prelude.{◌≡◌, List, length, IfOk, option_map};
-ghost use Rattle.js_ast.specs.Views.{view_expr, view_exprs, view_stmt, view_first, view_target};
+ghost use Rattle.std.specs.Prelude.{◌≡◌, ◌≤◌, ℕ, [], List, false, None, length, IfOk, option_map};
+ghost use Rattle.flow_policy.specs.Inputs.{Given};
+ghost use Rattle.flow_policy.specs.Policies.{Tables};
+ghost use Rattle.js_ast.specs.Functions.{FunctionCode};
+ghost use Rattle.js_ast.specs.Nodes.{nodes_of};
+ghost use Rattle.js_ast.specs.Trees.{labelled};
+ghost use Rattle.es_meaning.specs.Environments.{Env, thrown};
+ghost use Rattle.es_meaning.specs.Directives.{upgrade_of};
+ghost use Rattle.js_ast.specs.Views.{view_clauses, view_expr, view_exprs, view_maybe_expr, view_stmt, view_first, view_target};
 ghost use Rattle.es_meaning.specs.Operations.{One, Value, postfixed};
-ghost use Rattle.es_meaning.specs.Evaluation.{expr_step, call_step, direct_of, choose_expr, comma_right, stmt_step, first_step, discard, choose_stmt, choose_stmts, enumerated};
+ghost use Rattle.es_meaning.specs.Evaluation.{expr_step, call_by, callee_step, construct_value, direct_in, direct_of, is_reference, choose_expr, comma_right, stmt_step, named_step, label_step, carries_labels, return_step, first_step, behind_expression, jump_with, choose_stmt, choose_stmts, enumerated, switched};
 ghost use Rattle.flow_meaning.specs.Planned.{planned, asking};
-ghost use Rattle.flow_meaning.specs.Scopes.{Val};
-ghost use Rattle.step_work.specs.Loads.{Adds};
-ghost use Rattle.step_work.specs.Pending.{owns_use};
+ghost use Rattle.flow_meaning.specs.Scopes.{State, Val};
+ghost use Rattle.step_work.specs.Loads.{Adds, lift};
+ghost use Rattle.step_work.specs.Pending.{next_plan, owns_use, values_of};
 ghost use Rattle.step_work.specs.Resuming.{Begins, Keeps};
-ghost use Rattle.step_work.specs.Shapes.{direct_of as meant, round_of, step_of, use_of};
+ghost use Rattle.step_work.specs.Shapes.{all_labels, behind_labels, body_behind, direct_of as meant, labels_at, passed_labels, round_of, step_of, use_of};
 
 use crate::arguments::begin_arguments;
 use crate::objects::{begin_index, begin_member, begin_properties};
-use crate::operators::{assigned_by, begin_binary, begin_unary};
+use crate::operators::{assigned_by, begin_binary, begin_unary, is_reference};
 use crate::stack::Stack;
 use crate::statements::begin_statements;
-use crate::work::{Direct, Enumeration, Next, Round, Use, Work};
+use crate::work::{Calling, Direct, Enumeration, Next, Round, Use, Work};
 use flow_text::{OutOfMemory, Text};
-use js_ast::{BinaryOperator, Expr, ExprKind, ForFirst, PostfixOperator, Stmt, StmtKind};
+use js_ast::{
+    BinaryOperator, ClauseList, Expr, ExprKind, ForFirst, PostfixOperator, Stmt, StmtKind,
+};
 use step_world::Leaving;
 
 // `read`, `print`, `lbl`, `upgs` and `upge`
@@ -53,21 +62,68 @@ fn direct_of(name: &Text) -> Option<Direct>
     }
 }
 
-/// A call by a name, which is built where that is a function of the product.
+/// The function of the product that a callee names.
+#[tactic(auto, using(js_ast::specs::declared::trees::ExprKind::TheViews::the_lemmas), unfolding(es_meaning::specs::Evaluation::direct_in))]
+fn direct_in(callee: &Expr) -> Option<Direct>
+    ensures { option_map meant result ≡ direct_in (view_expr callee.now) }
+{
+    match &*callee.kind {
+        ExprKind::Name(name) => direct_of(name),
+        _ => None,
+    }
+}
+
+/// A call.
 fn begin_call<'p, T: Copy>(
     stack: &mut Stack<'p, T>,
-    name: &'p Text,
+    callee: &'p Expr,
     list: &'p [Expr],
 ) -> Result<Next<'p>, OutOfMemory>
     requires { length stack.old.loose ≡ 0 }
-    ensures goes_on { IfOk result (Begins (λ tables inputs e. call_step (planned tables inputs) (asking tables inputs) (direct_of name.entry.now) (view_exprs list.entry.now) e.place) stack.old stack.new) }
+    ensures goes_on { IfOk result (Begins (λ tables inputs functions e. call_by (planned tables inputs functions) (asking tables inputs functions) (direct_in (view_expr callee.entry.now)) (view_expr callee.entry.now) (view_exprs list.entry.now) e.place) stack.old stack.new) }
     ensures keeps { IfOk result (Keeps stack.old stack.new) }
-    ensures adds { IfOk result (Adds 2 stack.old stack.new) }
+    ensures adds { IfOk result (Adds 3 stack.old stack.new) }
 {
-    match direct_of(name) {
-        Some(function) => begin_arguments(stack, function, 0, list),
-        None => Ok(Next::Leave(Leaving::Unbuilt)),
+    match direct_in(callee) {
+        Some(function) => begin_arguments(stack, Calling::Directly(function), 0, list),
+        None => begin_callee(stack, callee, list),
     }
+}
+
+/// A callee is a reference, or else an expression.
+#[tactic(auto, using(crate::proofs::Behind::behind_more, crate::proofs::Behind::env_more))]
+fn begin_callee<'p, T: Copy>(
+    stack: &mut Stack<'p, T>,
+    callee: &'p Expr,
+    list: &'p [Expr],
+) -> Result<Next<'p>, OutOfMemory>
+    requires { length stack.old.loose ≡ 0 }
+    ensures goes_on { IfOk result (Begins (λ tables inputs functions e. callee_step (planned tables inputs functions) (asking tables inputs functions) (is_reference (view_expr callee.entry.now)) (view_expr callee.entry.now) (view_exprs list.entry.now) e.place) stack.old stack.new) }
+    ensures keeps { IfOk result (Keeps stack.old stack.new) }
+    ensures adds { IfOk result (Adds 3 stack.old stack.new) }
+{
+    if is_reference(callee) {
+        Ok(Next::Use(Use::Called(list), callee))
+    } else {
+        stack.push(Work::Callee(list))?;
+        Ok(Next::Expr(callee))
+    }
+}
+
+/// `new` with arguments.
+#[tactic(auto, using(crate::proofs::Behind::behind_more, crate::proofs::Behind::env_more))]
+fn begin_new<'p, T: Copy>(
+    stack: &mut Stack<'p, T>,
+    callee: &'p Expr,
+    list: &'p [Expr],
+) -> Result<Next<'p>, OutOfMemory>
+    requires { length stack.old.loose ≡ 0 }
+    ensures goes_on { IfOk result (Begins (λ tables inputs functions e. (planned tables inputs functions).bind Value Value ((asking tables inputs functions).expr (view_expr callee.entry.now) e.place) (construct_value (planned tables inputs functions) (asking tables inputs functions) (view_exprs list.entry.now) e.place)) stack.old stack.new) }
+    ensures keeps { IfOk result (Keeps stack.old stack.new) }
+    ensures adds { IfOk result (Adds 3 stack.old stack.new) }
+{
+    stack.push(Work::Constructor(list))?;
+    Ok(Next::Expr(callee))
 }
 
 /// What is done with the operand of `++` or `--` behind it.
@@ -90,7 +146,7 @@ fn begin_choice<'p, T: Copy>(
     other: &'p Expr,
 ) -> Result<Next<'p>, OutOfMemory>
     requires { length stack.old.loose ≡ 0 }
-    ensures goes_on { IfOk result (Begins (λ tables inputs e. (planned tables inputs).bind Value Value ((asking tables inputs).expr (view_expr test.entry.now) e.place) (choose_expr (planned tables inputs) (asking tables inputs) (view_expr then.entry.now) (view_expr other.entry.now) e.place)) stack.old stack.new) }
+    ensures goes_on { IfOk result (Begins (λ tables inputs functions e. (planned tables inputs functions).bind Value Value ((asking tables inputs functions).expr (view_expr test.entry.now) e.place) (choose_expr (planned tables inputs functions) (asking tables inputs functions) (view_expr then.entry.now) (view_expr other.entry.now) e.place)) stack.old stack.new) }
     ensures keeps { IfOk result (Keeps stack.old stack.new) }
     ensures adds { IfOk result (Adds 2 stack.old stack.new) }
 {
@@ -106,7 +162,7 @@ fn begin_comma<'p, T: Copy>(
     right: &'p Expr,
 ) -> Result<Next<'p>, OutOfMemory>
     requires { length stack.old.loose ≡ 0 }
-    ensures goes_on { IfOk result (Begins (λ tables inputs e. (planned tables inputs).bind Value Value ((asking tables inputs).expr (view_expr left.entry.now) e.place) (comma_right (planned tables inputs) (asking tables inputs) (view_expr right.entry.now) e.place)) stack.old stack.new) }
+    ensures goes_on { IfOk result (Begins (λ tables inputs functions e. (planned tables inputs functions).bind Value Value ((asking tables inputs functions).expr (view_expr left.entry.now) e.place) (comma_right (planned tables inputs functions) (asking tables inputs functions) (view_expr right.entry.now) e.place)) stack.old stack.new) }
     ensures keeps { IfOk result (Keeps stack.old stack.new) }
     ensures adds { IfOk result (Adds 2 stack.old stack.new) }
 {
@@ -121,9 +177,9 @@ pub fn begin_expression<'p, T: Copy>(
     e: &'p Expr,
 ) -> Result<Next<'p>, OutOfMemory>
     requires { length stack.old.loose ≡ 0 }
-    ensures goes_on { IfOk result (Begins (λ tables inputs env. expr_step (planned tables inputs) (asking tables inputs) (view_expr e.entry.now) env.place) stack.old stack.new) }
+    ensures goes_on { IfOk result (Begins (λ tables inputs functions env. expr_step (planned tables inputs functions) (asking tables inputs functions) (view_expr e.entry.now) env.place) stack.old stack.new) }
     ensures keeps { IfOk result (Keeps stack.old stack.new) }
-    ensures adds { IfOk result (Adds 2 stack.old stack.new) }
+    ensures adds { IfOk result (Adds 3 stack.old stack.new) }
 {
     match &*e.kind {
         ExprKind::Name(name) => Ok(Next::Name(name)),
@@ -132,10 +188,12 @@ pub fn begin_expression<'p, T: Copy>(
         ExprKind::Null => Ok(Next::Null),
         ExprKind::Bool(b) => Ok(Next::Bool(*b)),
         ExprKind::Paren(inner) => Ok(Next::Expr(inner)),
-        ExprKind::Call { callee, args } => match &*callee.kind {
-            ExprKind::Name(name) => begin_call(stack, name, args.items()),
-            _ => Ok(Next::Leave(Leaving::Unbuilt)),
+        ExprKind::Call { callee, args } => begin_call(stack, callee, args.items()),
+        ExprKind::New { callee, args } => match args {
+            None => begin_new(stack, callee, &[]),
+            Some(args) => begin_new(stack, callee, args.items()),
         },
+        ExprKind::Function(f) => Ok(Next::Function(f)),
         ExprKind::Postfix { operand, operator } => Ok(Next::Use(postfix_use(*operator), operand)),
         ExprKind::Unary { operator, operand } => begin_unary(stack, *operator, operand),
         ExprKind::Binary {
@@ -154,9 +212,7 @@ pub fn begin_expression<'p, T: Copy>(
         ExprKind::Object { properties, .. } => begin_properties(stack, properties, 0),
         ExprKind::Member { base, name } => begin_member(stack, Use::Valued, base, name),
         ExprKind::Index { base, index } => begin_index(stack, Use::Valued, base, index),
-        ExprKind::Array { .. } | ExprKind::Function(_) | ExprKind::New { .. } => {
-            Ok(Next::Leave(Leaving::Unbuilt))
-        }
+        ExprKind::Array { .. } => Ok(Next::Leave(Leaving::Unbuilt)),
     }
 }
 
@@ -168,7 +224,7 @@ fn begin_for<'p, T: Copy>(
     round: Round<'p>,
 ) -> Result<Next<'p>, OutOfMemory>
     requires { length stack.old.loose ≡ 0 }
-    ensures goes_on { IfOk result (Begins (λ tables inputs e. first_step (planned tables inputs) (asking tables inputs) (view_first first.entry.now) (round_of round.entry) e) stack.old stack.new) }
+    ensures goes_on { IfOk result (Begins (λ tables inputs functions e. first_step (planned tables inputs functions) (asking tables inputs functions) (view_first first.entry.now) (round_of round.entry) e) stack.old stack.new) }
     ensures keeps { IfOk result (Keeps stack.old stack.new) }
     ensures adds { IfOk result (Adds 5 stack.old stack.new) }
 {
@@ -185,19 +241,66 @@ fn begin_for<'p, T: Copy>(
     }
 }
 
-/// An expression is evaluated, and its value is of no use.
-#[tactic(auto, using(crate::proofs::Behind::behind_more, crate::proofs::Behind::env_more))]
+/// It can be an upgrade directive: it is a string literal.
+#[tactic(auto, using(js_ast::specs::declared::trees::ExprKind::TheViews::the_lemmas), unfolding(es_meaning::specs::Directives::upgrade_of))]
+fn is_literal(e: &Expr) -> bool
+    ensures { result ≡ false → upgrade_of (view_expr e.now) ≡ None }
+{
+    matches!(&*e.kind, ExprKind::String { .. })
+}
+
+/// An expression is evaluated, and its value is of no use, or it is a directive.
+#[tactic(auto, using(crate::proofs::Behind::behind_more, crate::proofs::Behind::env_more), unfolding(es_meaning::specs::Evaluation::behind_expression, es_meaning::specs::Evaluation::discard))]
 fn begin_discard<'p, T: Copy>(
     stack: &mut Stack<'p, T>,
     e: &'p Expr,
 ) -> Result<Next<'p>, OutOfMemory>
     requires { length stack.old.loose ≡ 0 }
-    ensures goes_on { IfOk result (Begins (λ tables inputs env. (planned tables inputs).bind Value One ((asking tables inputs).expr (view_expr e.entry.now) env.place) (discard (planned tables inputs))) stack.old stack.new) }
+    ensures goes_on { IfOk result (Begins (λ tables inputs functions env. (planned tables inputs functions).bind Value One ((asking tables inputs functions).expr (view_expr e.entry.now) env.place) (behind_expression (planned tables inputs functions) (asking tables inputs functions) (upgrade_of (view_expr e.entry.now)) env)) stack.old stack.new) }
     ensures keeps { IfOk result (Keeps stack.old stack.new) }
     ensures adds { IfOk result (Adds 1 stack.old stack.new) }
 {
-    stack.push(Work::Discard)?;
+    if is_literal(e) {
+        stack.push(Work::Raise(e))?;
+    } else {
+        stack.push(Work::Discard)?;
+    }
     Ok(Next::Expr(e))
+}
+
+/// What is thrown is evaluated first.
+#[tactic(auto, using(crate::proofs::Behind::behind_more, crate::proofs::Behind::env_more))]
+fn begin_throw<'p, T: Copy>(
+    stack: &mut Stack<'p, T>,
+    value: &'p Expr,
+) -> Result<Next<'p>, OutOfMemory>
+    requires { length stack.old.loose ≡ 0 }
+    ensures goes_on { IfOk result (Begins (λ tables inputs functions env. (planned tables inputs functions).bind Value One ((asking tables inputs functions).expr (view_expr value.entry.now) env.place) (jump_with (planned tables inputs functions) (asking tables inputs functions) thrown env)) stack.old stack.new) }
+    ensures keeps { IfOk result (Keeps stack.old stack.new) }
+    ensures adds { IfOk result (Adds 1 stack.old stack.new) }
+{
+    stack.push(Work::Throw)?;
+    Ok(Next::Expr(value))
+}
+
+/// What is returned is evaluated first, if anything.
+#[tactic(auto, using(crate::proofs::Behind::behind_more, crate::proofs::Behind::env_more))]
+fn begin_return<'p, T: Copy>(
+    stack: &mut Stack<'p, T>,
+    value: &'p Option<Expr>,
+) -> Result<Next<'p>, OutOfMemory>
+    requires { length stack.old.loose ≡ 0 }
+    ensures goes_on { IfOk result (Begins (λ tables inputs functions env. return_step (planned tables inputs functions) (asking tables inputs functions) (view_maybe_expr value.entry.now) env) stack.old stack.new) }
+    ensures keeps { IfOk result (Keeps stack.old stack.new) }
+    ensures adds { IfOk result (Adds 2 stack.old stack.new) }
+{
+    match value {
+        None => Ok(Next::Return),
+        Some(value) => {
+            stack.push(Work::Return)?;
+            Ok(Next::Expr(value))
+        }
+    }
 }
 
 /// A condition is evaluated, and then a statement or nothing.
@@ -208,7 +311,7 @@ fn begin_if<'p, T: Copy>(
     then: &'p Stmt,
 ) -> Result<Next<'p>, OutOfMemory>
     requires { length stack.old.loose ≡ 0 }
-    ensures goes_on { IfOk result (Begins (λ tables inputs env. (planned tables inputs).bind Value One ((asking tables inputs).expr (view_expr test.entry.now) env.place) (choose_stmt (planned tables inputs) (asking tables inputs) (view_stmt then.entry.now) env)) stack.old stack.new) }
+    ensures goes_on { IfOk result (Begins (λ tables inputs functions env. (planned tables inputs functions).bind Value One ((asking tables inputs functions).expr (view_expr test.entry.now) env.place) (choose_stmt (planned tables inputs functions) (asking tables inputs functions) (view_stmt then.entry.now) env)) stack.old stack.new) }
     ensures keeps { IfOk result (Keeps stack.old stack.new) }
     ensures adds { IfOk result (Adds 2 stack.old stack.new) }
 {
@@ -225,7 +328,7 @@ fn begin_if_else<'p, T: Copy>(
     other: &'p Stmt,
 ) -> Result<Next<'p>, OutOfMemory>
     requires { length stack.old.loose ≡ 0 }
-    ensures goes_on { IfOk result (Begins (λ tables inputs env. (planned tables inputs).bind Value One ((asking tables inputs).expr (view_expr test.entry.now) env.place) (choose_stmts (planned tables inputs) (asking tables inputs) (view_stmt then.entry.now) (view_stmt other.entry.now) env)) stack.old stack.new) }
+    ensures goes_on { IfOk result (Begins (λ tables inputs functions env. (planned tables inputs functions).bind Value One ((asking tables inputs functions).expr (view_expr test.entry.now) env.place) (choose_stmts (planned tables inputs functions) (asking tables inputs functions) (view_stmt then.entry.now) (view_stmt other.entry.now) env)) stack.old stack.new) }
     ensures keeps { IfOk result (Keeps stack.old stack.new) }
     ensures adds { IfOk result (Adds 2 stack.old stack.new) }
 {
@@ -241,12 +344,118 @@ fn begin_for_in<'p, T: Copy>(
     object: &'p Expr,
 ) -> Result<Next<'p>, OutOfMemory>
     requires { length stack.old.loose ≡ 0 }
-    ensures goes_on { IfOk result (Begins (λ tables inputs env. (planned tables inputs).bind Value One ((asking tables inputs).expr (view_expr object.entry.now) env.place) (enumerated (planned tables inputs) (asking tables inputs) (view_target enumeration.entry.target.now) (view_stmt enumeration.entry.body.now) env)) stack.old stack.new) }
+    ensures goes_on { IfOk result (Begins (λ tables inputs functions env. (planned tables inputs functions).bind Value One ((asking tables inputs functions).expr (view_expr object.entry.now) env.place) (enumerated (planned tables inputs functions) (asking tables inputs functions) (labels_at (view_stmt enumeration.entry.of.now)) (view_target enumeration.entry.target.now) (view_stmt enumeration.entry.body.now) env)) stack.old stack.new) }
     ensures keeps { IfOk result (Keeps stack.old stack.new) }
     ensures adds { IfOk result (Adds 4 stack.old stack.new) }
 {
     stack.push(Work::Enumerated(enumeration))?;
     Ok(Next::Expr(object))
+}
+
+/// What a `switch` compares is evaluated first.
+#[tactic(auto, using(crate::proofs::Behind::behind_more, crate::proofs::Behind::env_more))]
+fn begin_switch<'p, T: Copy>(
+    stack: &mut Stack<'p, T>,
+    of: &'p Stmt,
+    value: &'p Expr,
+    clauses: &'p ClauseList,
+) -> Result<Next<'p>, OutOfMemory>
+    requires { length stack.old.loose ≡ 0 }
+    ensures goes_on { IfOk result (Begins (λ tables inputs functions env. (planned tables inputs functions).bind Value One ((asking tables inputs functions).expr (view_expr value.entry.now) env.place) (switched (planned tables inputs functions) (asking tables inputs functions) (all_labels [] (view_stmt of.entry.now)) (view_clauses (nodes_of clauses.entry.now)) env)) stack.old stack.new) }
+    ensures keeps { IfOk result (Keeps stack.old stack.new) }
+    ensures adds { IfOk result (Adds 2 stack.old stack.new) }
+{
+    stack.push(Work::Switched(of, clauses))?;
+    Ok(Next::Expr(value))
+}
+
+/// The statement behind a label, if one stands in front.
+#[tactic(auto, using(js_ast::specs::declared::trees::ExprKind::TheViews::the_lemmas))]
+fn behind_label(s: &Stmt) -> Option<&Stmt>
+    ensures { option_map (λ t. view_stmt t.now) result ≡ body_behind (view_stmt s.entry.now) }
+{
+    match &*s.kind {
+        StmtKind::Labelled { body, .. } => Some(body),
+        _ => None,
+    }
+}
+
+/// The statement behind so many labels.
+fn behind_labels(s: &Stmt, passed: u32) -> &Stmt
+    ensures { view_stmt result.now ≡ behind_labels passed (view_stmt s.entry.now) }
+{
+    if passed == 0 {
+        return s;
+    }
+    match behind_label(s) {
+        Some(body) => behind_labels(body, passed - 1),
+        None => s,
+    }
+}
+
+/// It is a loop or a `switch`, also behind labels.
+fn carries_labels(s: &Stmt) -> bool
+    ensures { result ≡ carries_labels (view_stmt s.now) }
+{
+    match &*s.kind {
+        StmtKind::DoWhile { .. }
+        | StmtKind::While { .. }
+        | StmtKind::For { .. }
+        | StmtKind::ForIn { .. }
+        | StmtKind::Switch { .. } => true,
+        StmtKind::Labelled { body, .. } => carries_labels(body),
+        _ => false,
+    }
+}
+
+/// A labelled statement behind so many labels: a loop and a `switch` carry the label, and what is neither has a frame of its own.
+fn begin_labelled<'p>(
+    of: &'p Stmt,
+    passed: u32,
+    label: &'p Text,
+    body: &'p Stmt,
+) -> Result<Next<'p>, OutOfMemory>
+    ensures plan { IfOk result (λ next. (tables : Tables) (inputs : Given) (functions : List FunctionCode) (vs : List Val) (e : Env ℕ) (s : State) (at : ℕ) → behind_labels passed (view_stmt of.entry.now) ≡ labelled at label.entry.now (view_stmt body.entry.now)
+        → next_plan tables inputs functions next vs e s ≡ label_step (planned tables inputs functions) (asking tables inputs functions) (carries_labels (view_stmt body.entry.now)) (passed_labels passed [] (view_stmt of.entry.now)) label.entry.now (view_stmt body.entry.now) e s) }
+    ensures values { IfOk result (λ next. values_of next ≡ 0) }
+    ensures lifts { IfOk result (λ next. lift next ≤ 2) }
+{
+    if carries_labels(body) {
+        match passed.checked_add(1) {
+            Some(passed) => Ok(Next::Named(of, passed)),
+            None => Err(OutOfMemory),
+        }
+    } else {
+        Ok(Next::Labelled(label, body))
+    }
+}
+
+/// A loop, a `switch` or a labelled statement behind so many labels.
+#[tactic(auto, using(js_ast::specs::declared::trees::ExprKind::TheViews::the_lemmas), unfolding(es_meaning::specs::Evaluation::named_step))]
+pub fn begin_named<'p, T: Copy>(
+    stack: &mut Stack<'p, T>,
+    of: &'p Stmt,
+    passed: u32,
+) -> Result<Next<'p>, OutOfMemory>
+    requires { length stack.old.loose ≡ 0 }
+    ensures goes_on { IfOk result (Begins (λ tables inputs functions env. named_step (planned tables inputs functions) (asking tables inputs functions) (passed_labels passed [] (view_stmt of.entry.now)) (behind_labels passed (view_stmt of.entry.now)) env) stack.old stack.new) }
+    ensures keeps { IfOk result (Keeps stack.old stack.new) }
+    ensures adds { IfOk result (Adds 5 stack.old stack.new) }
+{
+    let s = behind_labels(of, passed);
+    match &*s.kind {
+        StmtKind::DoWhile { .. } => Ok(Next::DoLoop(Round { of })),
+        StmtKind::While { .. } => Ok(Next::Loop(Round { of })),
+        StmtKind::For { first, .. } => begin_for(stack, first, Round { of }),
+        StmtKind::ForIn {
+            target,
+            object,
+            body,
+        } => begin_for_in(stack, Enumeration { of, target, body }, object),
+        StmtKind::Switch { value, clauses } => begin_switch(stack, of, value, clauses),
+        StmtKind::Labelled { label, body } => begin_labelled(of, passed, label, body),
+        _ => Ok(Next::Done),
+    }
 }
 
 /// A statement.
@@ -256,9 +465,9 @@ pub fn begin_statement<'p, T: Copy>(
     s: &'p Stmt,
 ) -> Result<Next<'p>, OutOfMemory>
     requires { length stack.old.loose ≡ 0 }
-    ensures goes_on { IfOk result (Begins (λ tables inputs env. stmt_step (planned tables inputs) (asking tables inputs) (view_stmt s.entry.now) env) stack.old stack.new) }
+    ensures goes_on { IfOk result (Begins (λ tables inputs functions env. stmt_step (planned tables inputs functions) (asking tables inputs functions) (view_stmt s.entry.now) env) stack.old stack.new) }
     ensures keeps { IfOk result (Keeps stack.old stack.new) }
-    ensures adds { IfOk result (Adds 5 stack.old stack.new) }
+    ensures adds { IfOk result (Adds 6 stack.old stack.new) }
 {
     match &*s.kind {
         StmtKind::Block(list) => begin_statements(stack, list.items()),
@@ -269,23 +478,19 @@ pub fn begin_statement<'p, T: Copy>(
             None => begin_if(stack, test, then),
             Some(other) => begin_if_else(stack, test, then, other),
         },
-        StmtKind::DoWhile { .. } => Ok(Next::DoLoop(Round { of: s })),
-        StmtKind::While { .. } => Ok(Next::Loop(Round { of: s })),
-        StmtKind::For { first, .. } => begin_for(stack, first, Round { of: s }),
-        StmtKind::ForIn {
-            target,
-            object,
-            body,
-        } => begin_for_in(stack, Enumeration { target, body }, object),
-        StmtKind::Continue { .. }
-        | StmtKind::Break { .. }
-        | StmtKind::Return { .. }
-        | StmtKind::Throw { .. }
+        StmtKind::Throw { value, .. } => begin_throw(stack, value),
+        StmtKind::Return { value, .. } => begin_return(stack, value),
+        StmtKind::Continue { label, .. } => Ok(Next::Break(true, label)),
+        StmtKind::Break { label, .. } => Ok(Next::Break(false, label)),
+        StmtKind::TryCatch { .. } | StmtKind::TryFinally { .. } | StmtKind::TryBoth { .. } => {
+            Ok(Next::Try(s))
+        }
+        StmtKind::Function(_) => Ok(Next::Done),
+        StmtKind::DoWhile { .. }
+        | StmtKind::While { .. }
+        | StmtKind::For { .. }
+        | StmtKind::ForIn { .. }
         | StmtKind::Switch { .. }
-        | StmtKind::Labelled { .. }
-        | StmtKind::TryCatch { .. }
-        | StmtKind::TryFinally { .. }
-        | StmtKind::TryBoth { .. }
-        | StmtKind::Function(_) => Ok(Next::Leave(Leaving::Unbuilt)),
+        | StmtKind::Labelled { .. } => begin_named(stack, s, 0),
     }
 }

@@ -24,7 +24,7 @@ pub fn begin_properties<'p, T: Copy>(
     count: u32,
 ) -> Result<Next<'p>, OutOfMemory>
     requires { length stack.old.loose ≡ count }
-    ensures goes_on { IfOk result (BeginsBehind (λ tables inputs vs e. properties (planned tables inputs) (asking tables inputs) (object_of (keys_of (view_properties (nodes_of list.entry.now)))) vs (view_properties (drop count (nodes_of list.entry.now))) e.place) stack.old stack.new) }
+    ensures goes_on { IfOk result (BeginsBehind (λ tables inputs functions vs e. properties (planned tables inputs functions) (asking tables inputs functions) (object_of (keys_of (view_properties (nodes_of list.entry.now)))) vs (view_properties (drop count (nodes_of list.entry.now))) e.place) stack.old stack.new) }
     ensures keeps { IfOk result (Keeps stack.old stack.new) }
     ensures adds { IfOk result (Adds 2 stack.old stack.new) }
 {
@@ -67,9 +67,9 @@ pub fn begin_member<'p, T: Copy>(
     name: &'p Text,
 ) -> Result<Next<'p>, OutOfMemory>
     requires { length stack.old.loose ≡ owns_use how }
-    ensures goes_on { IfOk result (BeginsBehind (λ tables inputs vs e. (planned tables inputs).bind Value Value ((asking tables inputs).expr (view_expr base.entry.now) e.place) (member_base (planned tables inputs) (asking tables inputs) (use_of how.entry vs) name.entry.now e.place)) stack.old stack.new) }
+    ensures goes_on { IfOk result (BeginsBehind (λ tables inputs functions vs e. (planned tables inputs functions).bind Value Value ((asking tables inputs functions).expr (view_expr base.entry.now) e.place) (member_base (planned tables inputs functions) (asking tables inputs functions) (use_of how.entry vs) name.entry.now e.place)) stack.old stack.new) }
     ensures keeps { IfOk result (Keeps stack.old stack.new) }
-    ensures adds { IfOk result (Adds 2 stack.old stack.new) }
+    ensures adds { IfOk result (Adds 3 stack.old stack.new) }
 {
     stack.push(Work::MemberBase(how, name))?;
     Ok(Next::Expr(base))
@@ -84,9 +84,9 @@ pub fn begin_index<'p, T: Copy>(
     index: &'p Expr,
 ) -> Result<Next<'p>, OutOfMemory>
     requires { length stack.old.loose ≡ owns_use how }
-    ensures goes_on { IfOk result (BeginsBehind (λ tables inputs vs e. (planned tables inputs).bind Value Value ((asking tables inputs).expr (view_expr base.entry.now) e.place) (index_base (planned tables inputs) (asking tables inputs) (use_of how.entry vs) (view_expr index.entry.now) e.place)) stack.old stack.new) }
+    ensures goes_on { IfOk result (BeginsBehind (λ tables inputs functions vs e. (planned tables inputs functions).bind Value Value ((asking tables inputs functions).expr (view_expr base.entry.now) e.place) (index_base (planned tables inputs functions) (asking tables inputs functions) (use_of how.entry vs) (view_expr index.entry.now) e.place)) stack.old stack.new) }
     ensures keeps { IfOk result (Keeps stack.old stack.new) }
-    ensures adds { IfOk result (Adds 2 stack.old stack.new) }
+    ensures adds { IfOk result (Adds 3 stack.old stack.new) }
 {
     stack.push(Work::IndexBase(how, index))?;
     Ok(Next::Expr(base))
@@ -101,7 +101,7 @@ pub fn index_base<'p, T: Copy>(
     requires { length stack.old.loose ≡ owns_use how + 1 }
     ensures goes_on { IfOk result (ResumesBehind (work.IndexBase how.entry index.entry) stack.old stack.new) }
     ensures keeps { IfOk result (Keeps stack.old stack.new) }
-    ensures adds { IfOk result (Adds 2 stack.old stack.new) }
+    ensures adds { IfOk result (Adds 3 stack.old stack.new) }
 {
     stack.push(Work::IndexKey(how))?;
     Ok(Next::Expr(index))

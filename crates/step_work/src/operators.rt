@@ -27,7 +27,7 @@ pub(crate) fn begin_binary<'p, T: Copy>(
     right: &'p Expr,
 ) -> Result<Next<'p>, OutOfMemory>
     requires { length stack.old.loose ≡ 0 }
-    ensures goes_on { IfOk result (Begins (λ tables inputs e. binary_step (planned tables inputs) (asking tables inputs) (view_expr left.entry.now) operator (view_expr right.entry.now) e.place) stack.old stack.new) }
+    ensures goes_on { IfOk result (Begins (λ tables inputs functions e. binary_step (planned tables inputs functions) (asking tables inputs functions) (view_expr left.entry.now) operator (view_expr right.entry.now) e.place) stack.old stack.new) }
     ensures keeps { IfOk result (Keeps stack.old stack.new) }
     ensures adds { IfOk result (Adds 2 stack.old stack.new) }
 {
@@ -58,7 +58,7 @@ fn begin_both<'p, T: Copy>(
 ) -> Result<Next<'p>, OutOfMemory>
     requires loose { length stack.old.loose ≡ 0 }
     requires both { evaluates_both operator ≡ true }
-    ensures goes_on { IfOk result (Begins (λ tables inputs e. binary_step (planned tables inputs) (asking tables inputs) (view_expr left.entry.now) operator (view_expr right.entry.now) e.place) stack.old stack.new) }
+    ensures goes_on { IfOk result (Begins (λ tables inputs functions e. binary_step (planned tables inputs functions) (asking tables inputs functions) (view_expr left.entry.now) operator (view_expr right.entry.now) e.place) stack.old stack.new) }
     ensures keeps { IfOk result (Keeps stack.old stack.new) }
     ensures adds { IfOk result (Adds 2 stack.old stack.new) }
 {
@@ -66,7 +66,7 @@ fn begin_both<'p, T: Copy>(
     Ok(Next::Expr(left))
 }
 
-/// An operator that may evaluate the left operand alone, or one that isn't built yet.
+/// `&&`, `||` and `instanceof`.
 #[tactic(auto, using(crate::proofs::Behind::behind_more, crate::proofs::Behind::env_more), unfolding(es_meaning::specs::Evaluation::binary_step))]
 fn begin_logical<'p, T: Copy>(
     stack: &mut Stack<'p, T>,
@@ -76,7 +76,7 @@ fn begin_logical<'p, T: Copy>(
 ) -> Result<Next<'p>, OutOfMemory>
     requires loose { length stack.old.loose ≡ 0 }
     requires one { evaluates_both operator ≡ false }
-    ensures goes_on { IfOk result (Begins (λ tables inputs e. binary_step (planned tables inputs) (asking tables inputs) (view_expr left.entry.now) operator (view_expr right.entry.now) e.place) stack.old stack.new) }
+    ensures goes_on { IfOk result (Begins (λ tables inputs functions e. binary_step (planned tables inputs functions) (asking tables inputs functions) (view_expr left.entry.now) operator (view_expr right.entry.now) e.place) stack.old stack.new) }
     ensures keeps { IfOk result (Keeps stack.old stack.new) }
     ensures adds { IfOk result (Adds 2 stack.old stack.new) }
 {
@@ -89,6 +89,11 @@ fn begin_logical<'p, T: Copy>(
             stack.push(Work::OrRight(right))?;
             Ok(Next::Expr(left))
         }
+        BinaryOperator::Instanceof => {
+            stack.push(Work::InstanceRight(right))?;
+            Ok(Next::Expr(left))
+        }
+        // no other evaluates so
         _ => Ok(Next::Leave(Leaving::Unbuilt)),
     }
 }
@@ -101,7 +106,7 @@ pub(crate) fn begin_unary<'p, T: Copy>(
     operand: &'p Expr,
 ) -> Result<Next<'p>, OutOfMemory>
     requires { length stack.old.loose ≡ 0 }
-    ensures goes_on { IfOk result (Begins (λ tables inputs e. unary_step (planned tables inputs) (asking tables inputs) operator (view_expr operand.entry.now) e.place) stack.old stack.new) }
+    ensures goes_on { IfOk result (Begins (λ tables inputs functions e. unary_step (planned tables inputs functions) (asking tables inputs functions) operator (view_expr operand.entry.now) e.place) stack.old stack.new) }
     ensures keeps { IfOk result (Keeps stack.old stack.new) }
     ensures adds { IfOk result (Adds 2 stack.old stack.new) }
 {
@@ -128,7 +133,7 @@ fn begin_value<'p, T: Copy>(
     operand: &'p Expr,
 ) -> Result<Next<'p>, OutOfMemory>
     requires { length stack.old.loose ≡ 0 }
-    ensures goes_on { IfOk result (Begins (λ tables inputs e. (planned tables inputs).bind Value Value ((asking tables inputs).expr (view_expr operand.entry.now) e.place) (unary_value (planned tables inputs) operator)) stack.old stack.new) }
+    ensures goes_on { IfOk result (Begins (λ tables inputs functions e. (planned tables inputs functions).bind Value Value ((asking tables inputs functions).expr (view_expr operand.entry.now) e.place) (unary_value (planned tables inputs functions) operator)) stack.old stack.new) }
     ensures keeps { IfOk result (Keeps stack.old stack.new) }
     ensures adds { IfOk result (Adds 2 stack.old stack.new) }
 {
@@ -143,7 +148,7 @@ fn begin_typeof<'p, T: Copy>(
     operand: &'p Expr,
 ) -> Result<Next<'p>, OutOfMemory>
     requires { length stack.old.loose ≡ 0 }
-    ensures goes_on { IfOk result (Begins (λ tables inputs e. typeof_step (planned tables inputs) (asking tables inputs) (is_name (view_expr operand.entry.now)) (view_expr operand.entry.now) e.place) stack.old stack.new) }
+    ensures goes_on { IfOk result (Begins (λ tables inputs functions e. typeof_step (planned tables inputs functions) (asking tables inputs functions) (is_name (view_expr operand.entry.now)) (view_expr operand.entry.now) e.place) stack.old stack.new) }
     ensures keeps { IfOk result (Keeps stack.old stack.new) }
     ensures adds { IfOk result (Adds 2 stack.old stack.new) }
 {
@@ -162,7 +167,7 @@ fn begin_delete<'p, T: Copy>(
     operand: &'p Expr,
 ) -> Result<Next<'p>, OutOfMemory>
     requires { length stack.old.loose ≡ 0 }
-    ensures goes_on { IfOk result (Begins (λ tables inputs e. delete_step (planned tables inputs) (asking tables inputs) (is_reference (view_expr operand.entry.now)) (view_expr operand.entry.now) e.place) stack.old stack.new) }
+    ensures goes_on { IfOk result (Begins (λ tables inputs functions e. delete_step (planned tables inputs functions) (asking tables inputs functions) (is_reference (view_expr operand.entry.now)) (view_expr operand.entry.now) e.place) stack.old stack.new) }
     ensures keeps { IfOk result (Keeps stack.old stack.new) }
     ensures adds { IfOk result (Adds 2 stack.old stack.new) }
 {
@@ -176,7 +181,7 @@ fn begin_delete<'p, T: Copy>(
 
 /// Whether it is a name or a property, also in parentheses.
 #[tactic(auto, unfolding(es_meaning::specs::Evaluation::is_reference))]
-fn is_reference(e: &Expr) -> bool
+pub(crate) fn is_reference(e: &Expr) -> bool
     ensures { result ≡ is_reference (view_expr e.now) }
 {
     match &*e.kind {
@@ -232,6 +237,21 @@ pub fn binary_right<'p, T: Copy>(
     ensures adds { IfOk result (Adds 1 stack.old stack.new) }
 {
     stack.push(Work::BinaryDone(operator))?;
+    Ok(Next::Expr(right))
+}
+
+/// Behind the left operand of `instanceof` the right one is evaluated.
+#[tactic(auto, using(crate::proofs::Behind::behind_more, crate::proofs::Behind::env_more), unfolding(es_meaning::specs::Evaluation::instance_right))]
+pub fn instance_right<'p, T: Copy>(
+    stack: &mut Stack<'p, T>,
+    right: &'p Expr,
+) -> Result<Next<'p>, OutOfMemory>
+    requires { length stack.old.loose ≡ 1 }
+    ensures goes_on { IfOk result (Resumes (work.InstanceRight right.entry) stack.old stack.new) }
+    ensures keeps { IfOk result (Keeps stack.old stack.new) }
+    ensures adds { IfOk result (Adds 1 stack.old stack.new) }
+{
+    stack.push(Work::InstanceDone)?;
     Ok(Next::Expr(right))
 }
 

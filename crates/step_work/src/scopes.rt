@@ -46,7 +46,7 @@ pub fn begin_loop<'p, L: Labels>(
 ) -> Result<Next<'p>, OutOfMemory>
     requires loose { length stack.old.loose ≡ 0 }
     requires belongs { Belong L.made L.meaning labels.old frames.old.frames }
-    ensures goes_on { IfOk result (BeginsIn L.made L.meaning labels.new (λ tables inputs e. loop (planned tables inputs) (asking tables inputs) (round_of round.entry) e) stack.old stack.new frames.old.frames frames.new.frames) }
+    ensures goes_on { IfOk result (BeginsIn L.made L.meaning labels.new (λ tables inputs functions e. loop (planned tables inputs functions) (asking tables inputs functions) (round_of round.entry) e) stack.old stack.new frames.old.frames frames.new.frames) }
     ensures opened { IfOk result (Opened stack.old stack.new frames.old.frames frames.new.frames) }
     ensures adds { IfOk result (Adds 2 stack.old stack.new) }
     ensures belongs { Belong L.made L.meaning labels.new frames.new.frames }
@@ -55,7 +55,7 @@ pub fn begin_loop<'p, L: Labels>(
     let depth = frames.len();
     let none = labels.bottom();
     enter(labels, frames, Kind::Loop, none)?;
-    stack.push(Work::EndRound(false, depth))?;
+    stack.push(Work::EndRound(false, depth, round.of))?;
     begin_test(stack, round)
 }
 
@@ -68,7 +68,7 @@ pub fn begin_do_loop<'p, L: Labels>(
 ) -> Result<Next<'p>, OutOfMemory>
     requires loose { length stack.old.loose ≡ 0 }
     requires belongs { Belong L.made L.meaning labels.old frames.old.frames }
-    ensures goes_on { IfOk result (BeginsIn L.made L.meaning labels.new (λ tables inputs e. (planned tables inputs).round false (None ∷ []) e ((asking tables inputs).turn (round_of round.entry))) stack.old stack.new frames.old.frames frames.new.frames) }
+    ensures goes_on { IfOk result (BeginsIn L.made L.meaning labels.new (λ tables inputs functions e. (planned tables inputs functions).round false (round_of round.entry).labels e ((asking tables inputs functions).turn (round_of round.entry))) stack.old stack.new frames.old.frames frames.new.frames) }
     ensures opened { IfOk result (Opened stack.old stack.new frames.old.frames frames.new.frames) }
     ensures adds { IfOk result (Adds 2 stack.old stack.new) }
     ensures belongs { Belong L.made L.meaning labels.new frames.new.frames }
@@ -77,7 +77,7 @@ pub fn begin_do_loop<'p, L: Labels>(
     let depth = frames.len();
     let none = labels.bottom();
     enter(labels, frames, Kind::Loop, none)?;
-    stack.push(Work::EndRound(false, depth))?;
+    stack.push(Work::EndRound(false, depth, round.of))?;
     Ok(Next::Turn(round))
 }
 
@@ -90,7 +90,7 @@ pub fn begin_turn<'p, L: Labels>(
 ) -> Result<Next<'p>, OutOfMemory>
     requires loose { length stack.old.loose ≡ 0 }
     requires belongs { Belong L.made L.meaning labels.old frames.old.frames }
-    ensures goes_on { IfOk result (BeginsIn L.made L.meaning labels.new (λ tables inputs e. turn_step (planned tables inputs) (asking tables inputs) (round_of round.entry) e) stack.old stack.new frames.old.frames frames.new.frames) }
+    ensures goes_on { IfOk result (BeginsIn L.made L.meaning labels.new (λ tables inputs functions e. turn_step (planned tables inputs functions) (asking tables inputs functions) (round_of round.entry) e) stack.old stack.new frames.old.frames frames.new.frames) }
     ensures opened { IfOk result (Opened stack.old stack.new frames.old.frames frames.new.frames) }
     ensures adds { IfOk result (Adds 2 stack.old stack.new) }
     ensures belongs { Belong L.made L.meaning labels.new frames.new.frames }
@@ -109,7 +109,7 @@ fn begin_body<'p, L: Labels>(
 ) -> Result<Next<'p>, OutOfMemory>
     requires loose { length stack.old.loose ≡ 0 }
     requires belongs { Belong L.made L.meaning labels.old frames.old.frames }
-    ensures goes_on { IfOk result (BeginsIn L.made L.meaning labels.new (λ tables inputs e. (planned tables inputs).round true (None ∷ []) e ((asking tables inputs).stmt (round_of round.entry).body)) stack.old stack.new frames.old.frames frames.new.frames) }
+    ensures goes_on { IfOk result (BeginsIn L.made L.meaning labels.new (λ tables inputs functions e. (planned tables inputs functions).round true (round_of round.entry).labels e ((asking tables inputs functions).stmt (round_of round.entry).body)) stack.old stack.new frames.old.frames frames.new.frames) }
     ensures opened { IfOk result (Opened stack.old stack.new frames.old.frames frames.new.frames) }
     ensures adds { IfOk result (Adds 1 stack.old stack.new) }
     ensures belongs { Belong L.made L.meaning labels.new frames.new.frames }
@@ -118,6 +118,6 @@ fn begin_body<'p, L: Labels>(
     let depth = frames.len();
     let none = labels.bottom();
     enter(labels, frames, Kind::Turn, none)?;
-    stack.push(Work::EndRound(true, depth))?;
+    stack.push(Work::EndRound(true, depth, round.of))?;
     Ok(Next::Stmt(round.body()))
 }

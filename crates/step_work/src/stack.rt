@@ -1,20 +1,25 @@
 //! Pending work, and the operands that it keeps.
 
 ghost use Rattle.std.specs.Prelude.{◌≡◌, ◌<◌, [], ◌∷◌, ◌++◌, ◌+◌, ◌-◌, length, take, OnOk, OnErr, IfNone, IfSome};
-ghost use Rattle.step_work.specs.Pending.{owns};
+ghost use Rattle.std.specs.Option.{option_map};
+ghost use Rattle.es_meaning.specs.Environments.{find_around};
+ghost use Rattle.step_work.specs.Going.{here};
+ghost use Rattle.step_work.specs.Pending.{env_above, owns};
 ghost use Rattle.step_work.specs.Loads.{weight, load};
 ghost use Rattle.step_work.specs.Kept.{Taken, operands_of, scope_of, scopes_of};
 
+use crate::aims::{innermost_call, reached};
 use crate::work::Work;
+use crate::works::Works;
 use flow_text::OutOfMemory;
-use js_values::Labelled;
+use js_values::{EnvId, Labelled};
 use std::alloc::Global;
 use std::marker::Model;
 
 /// Pending work, the last of which is done first, with the operands that it keeps, and above them values that no work keeps yet.
 #[derive(Drop)]
 pub struct Stack<'p, T> {
-    works: Vec<Work<'p>>,
+    works: Works<'p>,
     operands: Vec<Labelled<T>>,
 }
 
@@ -30,12 +35,13 @@ impl<'p, T> Model for Stack<'p, T> {
     ghost use Rattle.js_ast.specs.contracts.trees.Declaration as declaration;
     ghost use Rattle.js_ast.specs.contracts.trees.ForTarget as for_target;
     ghost use Rattle.js_ast.specs.contracts.trees.Property as property;
+    ghost use Rattle.js_ast.specs.contracts.trees.Clause as clause;
 
-    ghost coded = { Prim.hlevel (codes, expr_kind.the_row.coded, stmt_kind.the_row.coded, declaration.the_row.coded, for_target.the_row.coded, property.the_row.coded) };
+    ghost coded = { Prim.hlevel (codes, expr_kind.the_row.coded, stmt_kind.the_row.coded, declaration.the_row.coded, for_target.the_row.coded, property.the_row.coded, clause.the_row.coded) };
 
-    ghost view = { λ s. kept s.works.items s.operands.items };
+    ghost view = { λ s. kept s.works s.operands.items };
 
-    ghost invariant = { λ s. owned s.works.items ≤ length s.operands.items };
+    ghost invariant = { λ s. owned s.works ≤ length s.operands.items };
 }
 
 impl<'p, T: Copy> Stack<'p, T> {
@@ -44,7 +50,7 @@ impl<'p, T: Copy> Stack<'p, T> {
         ensures { result ≡ record { tasks = []; loose = [] } }
     {
         Stack {
-            works: Vec::new(alloc),
+            works: Works::new(alloc),
             operands: Vec::new(alloc),
         }
     }
@@ -101,6 +107,27 @@ impl<'p, T: Copy> Stack<'p, T> {
         ensures unchanged { IfNone result (self.new ≡ self.old) }
     {
         self.works.pop()
+    }
+
+    /// The record in which the part is evaluated. It is found at once.
+    pub fn place(&self) -> EnvId
+        ensures { (env_above self.now.tasks here).place ≡ result.0 }
+    {
+        self.works.place()
+    }
+
+    /// The depth of the frame of the call in which the part is evaluated, or 0 in the outermost code.
+    pub fn call(&self) -> usize
+        ensures { (env_above self.now.tasks here).call ≡ result }
+    {
+        innermost_call(self.works.items())
+    }
+
+    /// What a `break` ends, or a `continue` where `turn` says so, with its label or none: how much stands round it in its function, and the depth of its frame.
+    pub fn reached(&self, turn: bool, label: Option<&[u16]>) -> Option<(usize, usize)>
+        ensures { result ≡ find_around turn (option_map (λ text. text.now) label.entry) (env_above self.now.tasks here).around }
+    {
+        reached(self.works.items(), turn, label)
     }
 
     /// Takes the uppermost value away.

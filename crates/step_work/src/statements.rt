@@ -22,7 +22,7 @@ pub fn begin_statements<'p, T: Copy>(
     list: &'p [Stmt],
 ) -> Result<Next<'p>, OutOfMemory>
     requires { length stack.old.loose ≡ 0 }
-    ensures goes_on { IfOk result (Begins (λ tables inputs e. statements (planned tables inputs) (asking tables inputs) (view_stmts list.entry.now) e) stack.old stack.new) }
+    ensures goes_on { IfOk result (Begins (λ tables inputs functions e. statements (planned tables inputs functions) (asking tables inputs functions) (view_stmts list.entry.now) e) stack.old stack.new) }
     ensures keeps { IfOk result (Keeps stack.old stack.new) }
     ensures adds { IfOk result (Adds 1 stack.old stack.new) }
 {
@@ -68,7 +68,7 @@ pub fn begin_test<'p, T: Copy>(
     round: Round<'p>,
 ) -> Result<Next<'p>, OutOfMemory>
     requires { length stack.old.loose ≡ 0 }
-    ensures goes_on { IfOk result (Begins (λ tables inputs e. tested (planned tables inputs) (asking tables inputs) (round_of round.entry) e) stack.old stack.new) }
+    ensures goes_on { IfOk result (Begins (λ tables inputs functions e. tested (planned tables inputs functions) (asking tables inputs functions) (round_of round.entry) e) stack.old stack.new) }
     ensures keeps { IfOk result (Keeps stack.old stack.new) }
     ensures adds { IfOk result (Adds 1 stack.old stack.new) }
 {

@@ -1,9 +1,10 @@
 //! `for in` (ECMA-262 12.6.4): its frame, its turns, and what is evaluated in them.
 
-ghost use Rattle.std.specs.Prelude.{◌≡◌, ◌≤◌, ◌+◌, ℕ, [], ◌∷◌, length, IfOk};
+ghost use Rattle.std.specs.Prelude.{◌≡◌, ◌≤◌, ◌+◌, ℕ, List, [], ◌∷◌, length, IfOk};
 ghost use Rattle.origin_labels.specs.Stores.{IsKept};
 ghost use Rattle.flow_frames.specs.Held.{Belong};
 ghost use Rattle.flow_policy.specs.Inputs.{Given};
+ghost use Rattle.js_ast.specs.Functions.{FunctionCode};
 ghost use Rattle.flow_policy.specs.Policies.{Tables};
 ghost use Rattle.js_ast.specs.Views.{view_target};
 ghost use Rattle.es_meaning.specs.Environments.{Env};
@@ -44,7 +45,7 @@ pub fn begin_enumeration<'p, L: Labels>(
     let none = labels.bottom();
     enter(labels, frames, Kind::Loop, none)?;
     let object = stack.pop();
-    stack.push(Work::EndRound(false, depth))?;
+    stack.push(Work::EndRound(false, depth, enumeration.of))?;
     stack.lay(object)?;
     Ok(Next::Keys(enumeration))
 }
@@ -59,7 +60,7 @@ pub fn begin_visit<'p, L: Labels>(
 ) -> Result<Next<'p>, OutOfMemory>
     requires loose { length stack.old.loose ≡ count + 2 }
     requires belongs { Belong L.made L.meaning labels.old frames.old.frames }
-    ensures goes_on { IfOk result (BeginsBeside L.made L.meaning labels.new (λ tables inputs vs e. visit_step (planned tables inputs) (asking tables inputs) (visit_of enumeration.entry count vs) e) stack.old stack.new frames.old.frames frames.new.frames) }
+    ensures goes_on { IfOk result (BeginsBeside L.made L.meaning labels.new (λ tables inputs functions vs e. visit_step (planned tables inputs functions) (asking tables inputs functions) (visit_of enumeration.entry count vs) e) stack.old stack.new frames.old.frames frames.new.frames) }
     ensures opened { IfOk result (Opened stack.old stack.new frames.old.frames frames.new.frames) }
     ensures adds { IfOk result (Adds 6 stack.old stack.new) }
     ensures belongs { Belong L.made L.meaning labels.new frames.new.frames }
@@ -70,7 +71,7 @@ pub fn begin_visit<'p, L: Labels>(
     enter(labels, frames, Kind::Turn, none)?;
     let key = stack.pop();
     stack.push(Work::Visited(enumeration, count))?;
-    stack.push(Work::EndRound(true, depth))?;
+    stack.push(Work::EndRound(true, depth, enumeration.of))?;
     stack.push(Work::VisitBody(enumeration.body))?;
     stack.lay(key)?;
     Ok(given_key(enumeration.target))
@@ -78,7 +79,7 @@ pub fn begin_visit<'p, L: Labels>(
 
 // The target is given the text that no work keeps.
 fn given_key<'p>(target: &'p ForTarget) -> Next<'p>
-    ensures plan { (tables : Tables) (inputs : Given) (v : Val) (e : Env ℕ) (s : State) → next_plan tables inputs result (v ∷ []) e s ≡ target_step (planned tables inputs) (asking tables inputs) (view_target target.entry.now) (key_text v.value) e.place s }
+    ensures plan { (tables : Tables) (inputs : Given) (functions : List FunctionCode) (v : Val) (e : Env ℕ) (s : State) → next_plan tables inputs functions result (v ∷ []) e s ≡ target_step (planned tables inputs functions) (asking tables inputs functions) (view_target target.entry.now) (key_text v.value) e.place s }
     ensures value { values_of result ≡ 1 }
     ensures lifts { lift result ≤ 2 }
 {

@@ -1,16 +1,18 @@
 //! The parts of a script that a machine enters, and the work that waits for what they come to.
 
-ghost use Rattle.std.specs.Prelude.{◌≡◌};
+ghost use Rattle.std.specs.Prelude.{◌≡◌, [], ◌∷◌, IfNone, IfSome};
 ghost use Rattle.js_ast.specs.Views.{view_stmt};
-ghost use Rattle.step_work.specs.Pending.{owns, owns_use, owns_target};
-ghost use Rattle.step_work.specs.Shapes.{maybe_of, round_of};
+ghost use Rattle.step_work.specs.Kept.{place_of};
+ghost use Rattle.step_work.specs.Pending.{owns, owns_use, owns_target, owns_calling};
+ghost use Rattle.step_work.specs.Shapes.{inner_of, maybe_of, round_of};
 
 use flow_text::Text;
 use js_ast::{
-    BinaryOperator, Declaration, Declarations, Expr, ForTarget, Ident, PropertyList, Stmt,
-    StmtKind, UnaryOperator,
+    BinaryOperator, Clause, ClauseList, Declaration, Declarations, Expr, ForTarget, Function,
+    Ident, PropertyList, Stmt, StmtKind, UnaryOperator,
 };
 use js_number::Int;
+use js_values::EnvId;
 use step_world::{Leaving, Place};
 
 /// What is done with a reference.
@@ -32,6 +34,8 @@ pub enum Use<'p> {
     Deleted,
     /// It is given a text, which is an operand.
     GivenText,
+    /// Its value is called with these arguments.
+    Called(&'p [Expr]),
 }
 
 /// A reference with which work waits. A name that stands nowhere keeps the label of the walk to it, as that of an operand, and a property its
@@ -42,18 +46,30 @@ pub enum Target<'p> {
     Property,
 }
 
-/// A `for in`: what is given each key, and what is done then.
+/// A `for in`: the outermost statement behind whose labels it stands, what is given each key, and what is done then.
 #[derive(Clone, Copy)]
 pub struct Enumeration<'p> {
+    pub of: &'p Stmt,
     pub target: &'p ForTarget,
     pub body: &'p Stmt,
 }
 
-/// A loop of which a turn is evaluated, as one reference, since it is moved with each `Next` and `Work`. A statement
-/// that is no loop is its own body, and nothing else.
+/// A loop of which a turn is evaluated, as one reference, since it is moved with each `Next` and `Work`: the outermost statement
+/// behind whose labels it stands. A statement that is no loop is its own body, and nothing else.
 #[derive(Clone, Copy)]
 pub struct Round<'p> {
     pub of: &'p Stmt,
+}
+
+/// The statement behind all labels in front of it.
+#[tactic(auto, using(crate::proofs::LabelLaws::inner_body, crate::proofs::LabelLaws::inner_alone, js_ast::specs::declared::trees::ExprKind::TheViews::the_lemmas))]
+pub(crate) fn inner(s: &Stmt) -> &Stmt
+    ensures { view_stmt result.now ≡ inner_of (view_stmt s.entry.now) }
+{
+    match &*s.kind {
+        StmtKind::Labelled { body, .. } => inner(body),
+        _ => s,
+    }
 }
 
 impl<'p> Round<'p> {
@@ -61,11 +77,12 @@ impl<'p> Round<'p> {
     pub fn body(self) -> &'p Stmt
         ensures { view_stmt result.now ≡ (round_of self.entry).body }
     {
-        match &*self.of.kind {
+        let of = inner(self.of);
+        match &*of.kind {
             StmtKind::DoWhile { body, .. }
             | StmtKind::While { body, .. }
             | StmtKind::For { body, .. } => body,
-            _ => self.of,
+            _ => of,
         }
     }
 
@@ -73,7 +90,7 @@ impl<'p> Round<'p> {
     pub fn update(self) -> Option<&'p Expr>
         ensures { maybe_of result ≡ (round_of self.entry).update }
     {
-        match &*self.of.kind {
+        match &*inner(self.of).kind {
             StmtKind::For { update, .. } => update.as_ref(),
             _ => None,
         }
@@ -83,7 +100,7 @@ impl<'p> Round<'p> {
     pub fn test(self) -> Option<&'p Expr>
         ensures { maybe_of result ≡ (round_of self.entry).test }
     {
-        match &*self.of.kind {
+        match &*inner(self.of).kind {
             StmtKind::DoWhile { test, .. } | StmtKind::While { test, .. } => Some(test),
             StmtKind::For { test, .. } => test.as_ref(),
             _ => None,
@@ -106,6 +123,28 @@ pub enum Direct {
     Upge,
 }
 
+/// What is done with arguments.
+#[derive(Clone, Copy, Debug, PartialEq, Eq)]
+pub enum Calling {
+    /// A function of the product is asked.
+    Directly(Direct),
+    /// A value is called: it and its `this` lie below the arguments.
+    Calls,
+    /// A value makes an object: it lies below the arguments.
+    Constructs,
+}
+
+/// A jump that was allowed, and left the frames inside the one that it reaches. Its value lies beside it.
+#[derive(Clone, Copy, Debug, PartialEq, Eq)]
+pub enum Jump {
+    /// It goes to what catches it.
+    Throws,
+    /// It goes to the call in the frame at this depth.
+    Returns(usize),
+    /// It goes behind the loop, turn or statement that has so many round it, in the frame at this depth.
+    Leaves(usize, usize),
+}
+
 /// What waits for the completion of a part. Some of it keeps values beside it, its operands: `owns` tells how many.
 #[derive(Clone, Copy)]
 pub enum Work<'p> {
@@ -124,8 +163,16 @@ pub enum Work<'p> {
     AssignTo(Target<'p>),
     /// The value is the operand of a compound assignment. It keeps the old value behind what the reference keeps.
     CompoundDone(BinaryOperator, Target<'p>),
-    /// The value is an argument. It keeps those before it, and others stand behind.
-    Argument(Direct, u32, &'p [Expr]),
+    /// The value is an argument. It keeps what is called and the arguments before it, and others stand behind.
+    Argument(Calling, u32, &'p [Expr]),
+    /// The value is called with arguments, and no `this`.
+    Callee(&'p [Expr]),
+    /// The value makes an object with arguments.
+    Constructor(&'p [Expr]),
+    /// The value is the left operand of `instanceof`.
+    InstanceRight(&'p Expr),
+    /// The value is the right operand of `instanceof`. It keeps the left one.
+    InstanceDone,
     /// The value is the base of the property with this name.
     MemberBase(Use<'p>, &'p Text),
     /// The value is the base of a property, and its key is evaluated next.
@@ -136,6 +183,12 @@ pub enum Work<'p> {
     Property(&'p PropertyList, u32),
     /// The value is of no use.
     Discard,
+    /// The value is of no use, and behind it the directive is obeyed that the expression is.
+    Raise(&'p Expr),
+    /// The value is thrown.
+    Throw,
+    /// The value is returned.
+    Return,
     /// The value chooses the statement or nothing.
     ChooseStmt(&'p Stmt),
     /// The value chooses one of two statements.
@@ -160,10 +213,30 @@ pub enum Work<'p> {
     VisitBody(&'p Stmt),
     /// A turn of a `for in` is over. It keeps the object, and the keys that are left, of which the last is next.
     Visited(Enumeration<'p>, u32),
+    /// The value is that of a `switch` with these clauses, behind the labels of this statement.
+    Switched(&'p Stmt, &'p ClauseList),
+    /// The value is that of the case with this number. It keeps the value of the `switch`.
+    Compared(&'p ClauseList, u32),
+    /// A statement of the first clause was evaluated: those from this number on stand behind, and then the other clauses.
+    Falls(&'p [Clause], u32),
     /// The branch that stands in the frame at this depth is over. It has a value, or none.
     EndBranch(bool, usize),
-    /// The loop or the turn that stands in the frame at this depth is over.
-    EndRound(bool, usize),
+    /// The loop, the turn or the `switch` that stands in the frame at this depth is over, behind the labels of this statement.
+    EndRound(bool, usize, &'p Stmt),
+    /// The statement with this label, which is no loop and no `switch`, is over.
+    EndLabel(usize, &'p Text),
+    /// The call that stands in the frame at this depth, and began in this record, is over.
+    EndCall(EnvId, usize),
+    /// The same of a call that makes an object, which it keeps.
+    EndNew(EnvId, usize),
+    /// The block of this `try` statement, which stands in the frame at this depth, is over.
+    EndBlock(&'p Stmt, usize),
+    /// Its handler, which began in this record, is over.
+    EndHandler(&'p Stmt, EnvId, usize),
+    /// What it does last is over. It keeps the value of the jump that waited, if one did.
+    EndLast(Option<Jump>),
+    /// The whole `try` statement is over.
+    EndTry(usize),
 }
 
 impl Use<'_> {
@@ -174,6 +247,19 @@ impl Use<'_> {
         match self {
             Use::GivenText => 1,
             _ => 0,
+        }
+    }
+}
+
+impl Calling {
+    /// How many values lie below the arguments.
+    pub fn owns(self) -> usize
+        ensures { result ≡ owns_calling self }
+    {
+        match self {
+            Calling::Directly(_) => 0,
+            Calling::Calls => 2,
+            Calling::Constructs => 1,
         }
     }
 }
@@ -200,11 +286,25 @@ impl<'p> Work<'p> {
             Work::BinaryDone(_) => 1,
             Work::AssignTo(target) | Work::Variable(target, _) => target.owns(),
             Work::CompoundDone(_, target) => target.owns() + 1,
-            Work::Argument(_, count, _) | Work::Property(_, count) => count as usize,
+            Work::InstanceDone | Work::Compared(_, _) | Work::EndNew(_, _) => 1,
+            Work::EndLast(waiting) => waiting.is_some() as usize,
+            Work::Argument(calling, count, _) => calling.owns() + count as usize,
+            Work::Property(_, count) => count as usize,
             Work::MemberBase(how, _) | Work::IndexBase(how, _) => how.owns(),
             Work::IndexKey(how) => how.owns() + 1,
             Work::Visited(_, count) => count as usize + 1,
             _ => 0,
+        }
+    }
+
+    /// The record in which the call or the handler began that it ends.
+    pub(crate) fn place(self) -> Option<EnvId>
+        ensures none { IfNone result (place_of self.entry ≡ []) }
+        ensures some { IfSome result (λ own. place_of self.entry ≡ own.0 ∷ []) }
+    {
+        match self {
+            Work::EndCall(own, _) | Work::EndNew(own, _) | Work::EndHandler(_, own, _) => Some(own),
+            _ => None,
         }
     }
 }
@@ -214,8 +314,8 @@ impl<'p> Work<'p> {
 pub enum Next<'p> {
     /// The part has come to the value that lies uppermost among the operands.
     Value,
-    /// The value that lies uppermost among the operands is thrown.
-    Throws,
+    /// A jump goes on, with the value that lies uppermost among the operands.
+    Jumps(Jump),
     /// The part has come to its end without a value.
     Done,
     /// The part has come to a value that stands in the script.
@@ -238,12 +338,28 @@ pub enum Next<'p> {
     Visits(Enumeration<'p>, u32),
     /// The part comes to what a function of the product makes of the values that no work keeps.
     Direct(Direct, u32),
+    /// A value is called with so many arguments: it, its `this` and they are the values that no work keeps.
+    Call(u32),
+    /// A value makes an object with so many arguments: it and they are the values that no work keeps.
+    Construct(u32),
+    /// The part comes to a function.
+    Function(&'p Function),
+    /// A loop or a statement is left, or a turn of it, by its label or none.
+    Break(bool, &'p Option<Ident>),
+    /// A function is left without a value.
+    Return,
+    /// A statement with this label, which is no loop and no `switch`.
+    Labelled(&'p Text, &'p Stmt),
+    /// A `try` statement.
+    Try(&'p Stmt),
     /// An expression is evaluated.
     Expr(&'p Expr),
     /// A reference, or its parentheses, is evaluated for a use.
     Use(Use<'p>, &'p Expr),
     /// A statement is evaluated.
     Stmt(&'p Stmt),
+    /// A loop, a `switch` or a labelled statement is evaluated that stands behind so many labels of this statement.
+    Named(&'p Stmt, u32),
     /// Variables are given their first values, where they have one.
     Variables(&'p Declarations),
     /// A turn of a loop, and those behind it.

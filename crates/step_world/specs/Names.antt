@@ -1,8 +1,6 @@
 -- The machine's words for references and for why a run leaves, as the meaning has them.
 use Rattle.std.specs.Prelude.{ℕ, List}
 use Rattle.origin_labels.specs.Label.{Label}
-use Rattle.js_values.specs.declared.value.Labelled.{Labelled}
-use Rattle.js_values.specs.Readings.{read_value}
 use Rattle.es_meaning.specs.Plain as plain
 use Rattle.es_meaning.specs.Operators.{leaves_numbers, leaves_strings, not_built}
 use Rattle.flow_meaning.specs.Scopes.{Val}

@@ -6,15 +6,15 @@ use Rattle.es_meaning.specs.Evaluation.{loop}
 use Rattle.step_work.specs.Kept.{scopes_of}
 use Rattle.step_work.specs.Pending.{env_above, next_plan}
 use Rattle.step_work.specs.Shapes.{round_of}
-use Rattle.step_core.specs.Outlook.{here}
+use Rattle.step_work.specs.Going.{here}
 use Rattle.step_core.proofs.Begun.{comes_in}
 use Rattle.step_core.proofs.Stood.{standing_opened, standing_whole}
 use Rattle.step_core.proofs.entering.begin_loop_of.Goals as goal
 
 pub returns-clause-begins : goal.returns-clause-begins
-returns-clause-begins g c tables inputs =
-    comes_in g.L.Labels.made g.L.Labels.meaning c.begin_loop.new.labels tables inputs (λ tables inputs e. loop (planned tables inputs) (asking tables inputs) (round_of c.args.round) e)
-    (λ reading s. next_plan tables inputs (next.Loop c.args.round) (map (read_value reading) c.args.stack.now.loose) (env_above c.args.stack.now.tasks here) s) c.args.stack.now c.begin_loop.new.stack c.args.world.now c.begin_loop.new.frames c.in_ok-next.next (λ reading s. refl) c.requires.standing.values c.in_ok-next.ensures.goes_on
+returns-clause-begins g c tables inputs functions =
+    comes_in g.L.Labels.made g.L.Labels.meaning c.begin_loop.new.labels tables inputs functions (λ tables inputs functions e. loop (planned tables inputs functions) (asking tables inputs functions) (round_of c.args.round) e)
+    (λ reading s. next_plan tables inputs functions (next.Loop c.args.round) (map (read_value reading) c.args.stack.now.loose) (env_above c.args.stack.now.tasks here) s) c.args.stack.now c.begin_loop.new.stack c.args.world.now c.begin_loop.new.frames c.in_ok-next.next (λ reading s. refl) c.requires.standing.values c.in_ok-next.ensures.goes_on
 
 pub returns-clause-standing : goal.returns-clause-standing
 returns-clause-standing g c =

@@ -3,15 +3,15 @@ use Rattle.js_values.specs.Readings.{read_value}
 use Rattle.step_work.specs.declared.work.Next.TheVariants as next
 use Rattle.step_work.specs.Kept.{scopes_of}
 use Rattle.step_work.specs.Pending.{env_above, next_plan}
-use Rattle.step_core.specs.Outlook.{here}
+use Rattle.step_work.specs.Going.{here}
 use Rattle.step_core.proofs.Begun.{comes_anywhere}
 use Rattle.step_core.proofs.Stood.{standing_stays, standing_whole}
 use Rattle.step_core.proofs.entering.begin_number.Goals as goal
 
 pub returns-clause-begins : goal.returns-clause-begins
-returns-clause-begins g c tables inputs =
-    comes_anywhere g.L.Labels.made g.L.Labels.meaning c.args.labels.now tables inputs (λ tables inputs e. next_plan tables inputs (next.Number c.args.n) [] e)
-    (λ reading s. next_plan tables inputs (next.Number c.args.n) (map (read_value reading) c.args.stack.now.loose) (env_above c.args.stack.now.tasks here) s) c.args.stack.now c.number.new.stack c.args._world.now c.in_ok-next.next (λ reading s. refl) c.in_ok-next.ensures.goes_on
+returns-clause-begins g c tables inputs functions =
+    comes_anywhere g.L.Labels.made g.L.Labels.meaning c.args.labels.now tables inputs functions (λ tables inputs functions e. next_plan tables inputs functions (next.Number c.args.n) [] e)
+    (λ reading s. next_plan tables inputs functions (next.Number c.args.n) (map (read_value reading) c.args.stack.now.loose) (env_above c.args.stack.now.tasks here) s) c.args.stack.now c.number.new.stack c.args._world.now c.in_ok-next.next (λ reading s. refl) c.in_ok-next.ensures.goes_on
 
 pub returns-clause-standing : goal.returns-clause-standing
 returns-clause-standing g c =

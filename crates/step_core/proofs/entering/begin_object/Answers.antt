@@ -2,7 +2,7 @@ use Rattle.std.proofs.Common.{arith}
 use Rattle.js_values.specs.Readings.{HasValue}
 use Rattle.step_work.specs.declared.work.Next.TheVariants as next
 use Rattle.step_work.specs.Kept.{kept_operands, scopes_of}
-use Rattle.step_core.specs.Outlook.{here}
+use Rattle.step_work.specs.Going.{here}
 use Rattle.step_core.proofs.Begun.{lowers}
 use Rattle.step_core.proofs.Parts.{behind_all}
 use Rattle.step_core.proofs.Stood.{standing_acts, standing_whole}
@@ -12,7 +12,7 @@ pub object-requires-clause-made : goal.object-requires-clause-made
 object-requires-clause-made g c = behind_all (HasValue (g.L.Labels.made c.args.labels.now)) (kept_operands c.args.stack.now.tasks) c.args.stack.now.loose c.requires.standing.operands
 
 pub returns-clause-begins : goal.returns-clause-begins
-returns-clause-begins g c tables inputs reading told turns read = c.object.ensures.goes_on tables inputs reading here told turns read
+returns-clause-begins g c tables inputs functions reading told turns read = c.object.ensures.goes_on tables inputs functions reading here told turns read
 
 pub returns-clause-standing : goal.returns-clause-standing
 returns-clause-standing g c =

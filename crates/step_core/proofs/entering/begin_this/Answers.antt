@@ -1,14 +1,13 @@
 use Rattle.std.proofs.Common.{arith}
 use Rattle.step_work.specs.declared.work.Next.TheVariants as next
 use Rattle.step_work.specs.Kept.{scopes_of}
-use Rattle.step_core.specs.Outlook.{here}
+use Rattle.step_work.specs.Going.{here}
 use Rattle.step_core.proofs.Begun.{lowers}
 use Rattle.step_core.proofs.Stood.{standing_acts, standing_whole}
-use Rattle.step_core.proofs.Taking.{env_place}
 use Rattle.step_core.proofs.entering.begin_this.Goals as goal
 
 pub returns-clause-begins : goal.returns-clause-begins
-returns-clause-begins g c tables inputs reading told turns read = c.this.ensures.goes_on tables inputs reading here told turns read (env_place c.args.stack.now.tasks here)
+returns-clause-begins g c tables inputs functions reading told turns read = c.this.ensures.goes_on tables inputs functions reading here told turns read c.in_ok-place.ensures.place
 
 pub returns-clause-standing : goal.returns-clause-standing
 returns-clause-standing g c =

@@ -5,17 +5,17 @@ use Rattle.step_work.specs.declared.work.Next.TheVariants as next
 use Rattle.step_work.specs.Kept.{scopes_of}
 use Rattle.step_work.specs.Pending.{env_above}
 use Rattle.step_work.specs.Shapes.{round_of}
-use Rattle.step_core.specs.Outlook.{here}
+use Rattle.step_work.specs.Going.{here}
 use Rattle.step_core.proofs.Begun.{comes_in, entered_by}
 use Rattle.step_core.proofs.Stood.{standing_opened, standing_whole}
 use Rattle.step_core.proofs.entering.enter_turn.Goals as goal
 
 pub returns-clause-enters : goal.returns-clause-enters
 unfolding plan
-returns-clause-enters g c tables inputs part is =
-    entered_by g.L.Labels.made g.L.Labels.meaning c.begin_turn.new.labels tables inputs c.args.stack.now c.begin_turn.new.stack c.args.world.now (record c.args.world.now { frames = c.begin_turn.new.frames }) (next.Turn c.args.round) (λ reading. a_turn (round_of c.args.round) (env_above c.args.stack.now.tasks here)) part (Ok c.in_ok-next.next) (λ reading. refl) is
-    (comes_in g.L.Labels.made g.L.Labels.meaning c.begin_turn.new.labels tables inputs (λ tables inputs e. turn_step (planned tables inputs) (asking tables inputs) (round_of c.args.round) e)
-    (λ reading s. plan tables inputs (a_turn (round_of c.args.round) (env_above c.args.stack.now.tasks here)) s) c.args.stack.now c.begin_turn.new.stack c.args.world.now c.begin_turn.new.frames c.in_ok-next.next (λ reading s. refl) c.requires.standing.values c.in_ok-next.ensures.goes_on)
+returns-clause-enters g c tables inputs functions part is =
+    entered_by g.L.Labels.made g.L.Labels.meaning c.begin_turn.new.labels tables inputs functions c.args.stack.now c.begin_turn.new.stack c.args.world.now (record c.args.world.now { frames = c.begin_turn.new.frames }) (next.Turn c.args.round) (λ reading. a_turn (round_of c.args.round) (env_above c.args.stack.now.tasks here)) part (Ok c.in_ok-next.next) (λ reading. refl) is
+    (comes_in g.L.Labels.made g.L.Labels.meaning c.begin_turn.new.labels tables inputs functions (λ tables inputs functions e. turn_step (planned tables inputs functions) (asking tables inputs functions) (round_of c.args.round) e)
+    (λ reading s. plan tables inputs functions (a_turn (round_of c.args.round) (env_above c.args.stack.now.tasks here)) s) c.args.stack.now c.begin_turn.new.stack c.args.world.now c.begin_turn.new.frames c.in_ok-next.next (λ reading s. refl) c.requires.standing.values c.in_ok-next.ensures.goes_on)
 
 pub returns-clause-standing : goal.returns-clause-standing
 returns-clause-standing g c =

@@ -6,11 +6,10 @@ use Rattle.step_work.specs.declared.work.Next.TheVariants as next
 use Rattle.step_work.specs.Kept.{kept_operands, scopes_of}
 use Rattle.step_work.specs.Pending.{env_above}
 use Rattle.step_work.specs.Shapes.{use_of}
-use Rattle.step_core.specs.Outlook.{here}
+use Rattle.step_work.specs.Going.{here}
 use Rattle.step_core.proofs.Begun.{adds_more, entered_by}
 use Rattle.step_core.proofs.Parts.{behind_all}
 use Rattle.step_core.proofs.Stood.{standing_acts, standing_whole}
-use Rattle.step_core.proofs.Taking.{env_place}
 use Rattle.step_core.proofs.entering.enter_use.Goals as goal
 
 pub begin_use-requires-clause-made : goal.begin_use-requires-clause-made
@@ -18,11 +17,11 @@ begin_use-requires-clause-made g c = behind_all (HasValue (g.L.Labels.made c.arg
 
 pub returns-clause-enters : goal.returns-clause-enters
 unfolding plan
-returns-clause-enters g c tables inputs part is =
+returns-clause-enters g c tables inputs functions part is =
     let stack = c.args.stack.now in
-    entered_by g.L.Labels.made g.L.Labels.meaning c.begin_use.new.labels tables inputs stack c.begin_use.new.stack c.args.world.now c.begin_use.new.world (next.Use c.args.how c.args.target)
+    entered_by g.L.Labels.made g.L.Labels.meaning c.begin_use.new.labels tables inputs functions stack c.begin_use.new.stack c.args.world.now c.begin_use.new.world (next.Use c.args.how c.args.target)
     (λ reading. a_use (use_of c.args.how (map (read_value reading) stack.loose)) (view_expr c.args.target.now) (env_above stack.tasks here).place) part c.begin_use.result (λ reading. refl) is
-    (λ reading told turns read. c.begin_use.ensures.goes_on tables inputs reading here told turns read (env_place stack.tasks here))
+    (λ reading told turns read. c.begin_use.ensures.goes_on tables inputs functions reading here told turns read c.in_ok-place.ensures.place)
 
 pub returns-clause-standing : goal.returns-clause-standing
 returns-clause-standing g c =
@@ -30,4 +29,4 @@ returns-clause-standing g c =
     (standing_whole g.L.Labels.made g.L.Labels.meaning c.args.labels.now c.args.stack.now c.args.world.now (scopes_of c.args.stack.now.tasks) (next.Use c.args.how c.args.target) (λ frames scopes whole. whole) c.requires.standing) c.begin_use.ensures.rests c.begin_use.ensures.stands c.begin_use.ensures.belongs c.begin_use.ensures.grows
 
 pub returns-clause-adds : goal.returns-clause-adds
-returns-clause-adds g c = adds_more c.args.stack.now c.begin_use.new.stack 2 6 c.begin_use.result (omega arith) c.begin_use.ensures.adds
+returns-clause-adds g c = adds_more c.args.stack.now c.begin_use.new.stack 3 6 c.begin_use.result (omega arith) c.begin_use.ensures.adds

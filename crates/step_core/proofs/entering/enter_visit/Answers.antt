@@ -5,18 +5,18 @@ use Rattle.step_world.specs.Worlds.{state_of}
 use Rattle.step_work.specs.declared.work.Next.TheVariants as next
 use Rattle.step_work.specs.Kept.{scopes_of}
 use Rattle.step_work.specs.Pending.{env_above, visit_of}
-use Rattle.step_core.specs.Outlook.{here}
+use Rattle.step_work.specs.Going.{here}
 use Rattle.step_core.proofs.Begun.{entered_by}
 use Rattle.step_core.proofs.Stood.{standing_opened, standing_whole}
 use Rattle.step_core.proofs.entering.enter_visit.Goals as goal
 
 pub returns-clause-enters : goal.returns-clause-enters
 unfolding plan
-returns-clause-enters g c tables inputs part is =
+returns-clause-enters g c tables inputs functions part is =
     let stack = c.args.stack.now in
-    entered_by g.L.Labels.made g.L.Labels.meaning c.begin_visit.new.labels tables inputs stack c.begin_visit.new.stack c.args.world.now (record c.args.world.now { frames = c.begin_visit.new.frames }) (next.Visit c.args.enumeration c.args.count)
+    entered_by g.L.Labels.made g.L.Labels.meaning c.begin_visit.new.labels tables inputs functions stack c.begin_visit.new.stack c.args.world.now (record c.args.world.now { frames = c.begin_visit.new.frames }) (next.Visit c.args.enumeration c.args.count)
     (λ reading. a_visit (visit_of c.args.enumeration c.args.count (map (read_value reading) stack.loose)) (env_above stack.tasks here)) part (Ok c.in_ok-next.next) (λ reading. refl) is
-    (λ reading told turns read. c.in_ok-next.ensures.goes_on tables inputs reading here (state_of reading c.args.world.now told turns) read)
+    (λ reading told turns read. c.in_ok-next.ensures.goes_on tables inputs functions reading here (state_of reading c.args.world.now told turns) read)
 
 pub returns-clause-standing : goal.returns-clause-standing
 returns-clause-standing g c =

@@ -5,8 +5,8 @@ use Rattle.js_values.proofs.ReadingLaws.{HasHeap-kept, HasRecords-kept}
 use Rattle.step_world.specs.Worlds.{state_of}
 use Rattle.step_work.specs.Kept.{kept_operands}
 use Rattle.step_work.specs.Pending.{owns}
-use Rattle.step_core.specs.Outlook.{here}
-use Rattle.step_core.specs.Standing.{awaits}
+use Rattle.step_work.specs.Going.{here}
+use Rattle.step_work.specs.Standing.{awaits}
 use Rattle.step_core.proofs.Continued.{goes_acting, goes_alone, goes_in}
 use Rattle.step_core.proofs.Parts.{behind_all}
 use Rattle.step_core.proofs.Resumed.{at_depth, stands_acting, stands_alone, stands_in}
@@ -22,8 +22,8 @@ pub go_on_in_frames-requires-clause-ends : goal.go_on_in_frames-requires-clause-
 go_on_in_frames-requires-clause-ends g c depth is = at_depth g.L.Labels.made g.L.Labels.meaning c.args.labels.now c.args.work c.args.stack.now c.args.world.now (owns c.args.work + awaits c.args.work) c.requires.standing depth is
 
 pub returns-then-acts-clause-resumes : goal.returns-then-acts-clause-resumes
-returns-then-acts-clause-resumes g c tables inputs reading told turns read =
-    goes_acting g.L.Labels.made g.L.Labels.meaning c.act.new.labels c.args.work c.args.stack.now c.act.new.stack c.args.world.now c.act.new.world c.act.result (sym c.if-acts.ensures) c.requires.standing.values c.act.ensures.goes_on tables inputs reading told turns read
+returns-then-acts-clause-resumes g c tables inputs functions reading told turns read =
+    goes_acting g.L.Labels.made g.L.Labels.meaning c.act.new.labels c.args.work c.args.stack.now c.act.new.stack c.args.world.now c.act.new.world c.act.result (sym c.if-acts.ensures) c.requires.standing.values c.act.ensures.goes_on tables inputs functions reading told turns read
 
 pub returns-then-acts-clause-standing : goal.returns-then-acts-clause-standing
 returns-then-acts-clause-standing g c =
@@ -31,9 +31,9 @@ returns-then-acts-clause-standing g c =
     (sym c.if-acts.ensures) c.requires.standing c.act.ensures.belongs c.act.ensures.grows.records c.act.ensures.rests c.act.ensures.stands
 
 pub returns-in_ok-next-clause-resumes : goal.returns-in_ok-next-clause-resumes
-returns-in_ok-next-clause-resumes g c tables inputs reading told turns read =
+returns-in_ok-next-clause-resumes g c tables inputs functions reading told turns read =
     goes_in g.L.Labels.made g.L.Labels.meaning c.go_on_in_frames.new.labels c.args.work c.args.stack.now c.go_on_in_frames.new.stack c.args.world.now.frames.frames c.go_on_in_frames.new.frames.frames c.in_ok-next.next
-    (sym c.if-scoped.ensures) c.requires.standing.values c.in_ok-next.ensures.goes_on tables inputs reading here (state_of reading c.args.world.now told turns) read
+    (sym c.if-scoped.ensures) c.requires.standing.values c.in_ok-next.ensures.goes_on tables inputs functions reading here (state_of reading c.args.world.now told turns) read
 
 pub returns-in_ok-next-clause-standing : goal.returns-in_ok-next-clause-standing
 returns-in_ok-next-clause-standing g c =
@@ -52,11 +52,11 @@ returns-in_ok-next-clause-standing g c =
     (omega arith) c.in_ok-next.ensures.leaves c.go_on_in_frames.ensures.still c.in_ok-next.ensures.made
 
 pub returns-in_ok-next-2-clause-resumes : goal.returns-in_ok-next-2-clause-resumes
-returns-in_ok-next-2-clause-resumes g c tables inputs reading told turns read =
-    goes_alone c.args.work c.args.stack.now c.go_on_alone.new.stack c.in_ok-next-2.next (sym c.if-acts.ensures) (sym c.if-scoped.ensures) c.requires.standing.values c.in_ok-next-2.ensures.goes_on tables inputs reading here (state_of reading c.args.world.now told turns)
+returns-in_ok-next-2-clause-resumes g c tables inputs functions reading told turns read =
+    goes_alone c.args.work c.args.stack.now c.go_on_alone.new.stack c.in_ok-next-2.next (sym c.if-acts.ensures) (sym c.if-scoped.ensures) (sym c.if-leads.ensures) c.requires.obeys c.requires.standing.values c.in_ok-next-2.ensures.goes_on tables inputs functions reading here (state_of reading c.args.world.now told turns)
 
 pub returns-in_ok-next-2-clause-standing : goal.returns-in_ok-next-2-clause-standing
 returns-in_ok-next-2-clause-standing g c =
     let kept = IsKept-refl g.L.Labels.made g.L.Labels.meaning g.L.Labels.room g.L.Labels.firm c.args.labels.now in
     stands_alone g.L.Labels.made g.L.Labels.meaning g.L.Labels.room g.L.Labels.firm c.args.labels.now c.args.labels.now kept c.args.work c.args.stack.now c.go_on_alone.new.stack c.args.world.now c.args.world.now (owns c.args.work + awaits c.args.work) c.in_ok-next-2.next
-    c.requires.standing c.requires.standing.belongs (omega arith) (sym c.if-scoped.ensures) refl c.in_ok-next-2.ensures.keeps
+    c.requires.standing c.requires.standing.belongs (omega arith) (sym c.if-scoped.ensures) (sym c.if-leads.ensures) refl c.in_ok-next-2.ensures.keeps

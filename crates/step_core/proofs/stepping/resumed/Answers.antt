@@ -4,16 +4,17 @@ use Rattle.step_world.specs.Worlds.{state_of}
 use Rattle.step_work.specs.declared.work.Next.TheVariants as next
 use Rattle.step_work.specs.Loads.{weight}
 use Rattle.step_work.specs.Pending.{after, behind, env_above, owns}
-use Rattle.step_core.specs.Outlook.{ahead, here}
+use Rattle.step_core.specs.Outlook.{ahead}
+use Rattle.step_work.specs.Going.{here}
 use Rattle.step_core.specs.Stepping.{completion_above}
 use Rattle.step_core.proofs.StepLaws.{moved_steps, lowers_by}
 use Rattle.step_core.proofs.stepping.resumed.Goals as goal
 
 pub returns-clause-stepped : goal.returns-clause-stepped
-returns-clause-stepped g c tables inputs =
+returns-clause-stepped g c tables inputs functions =
     let old = c.args.machine.now in
     let w = c.args.work in
-    moved_steps g.L.Labels.made g.L.Labels.meaning c.resume-moved.new.labels tables inputs
-    (λ reading told turns. behind tables inputs reading old.stack.tasks here (after tables inputs w (map (read_value reading) (take (owns w) old.stack.loose)) (env_above old.stack.tasks here) (completion_above tables inputs reading old w) (state_of reading old.world told turns)))
+    moved_steps g.L.Labels.made g.L.Labels.meaning c.resume-moved.new.labels tables inputs functions
+    (λ reading told turns. behind tables inputs functions reading old.stack.tasks here (after tables inputs functions w (map (read_value reading) (take (owns w) old.stack.loose)) (env_above old.stack.tasks here) (completion_above tables inputs functions reading old w) (state_of reading old.world told turns)))
     (record { world = c.resume-moved.new.world; stack = c.resume-moved.new.stack; turns = old.turns }) (ahead old next.Value + weight w) c.resume-moved.result c.step_of.result c.step_of.ensures
-    (c.resume-moved.ensures.resumes tables inputs) c.resume-moved.ensures.standing (lowers_by old.stack c.resume-moved.new.stack (weight w) old.turns c.resume-moved.result c.resume-moved.ensures.adds) c.resume-moved.ensures.stopped
+    (c.resume-moved.ensures.resumes tables inputs functions) c.resume-moved.ensures.standing (lowers_by old.stack c.resume-moved.new.stack (weight w) old.turns c.resume-moved.result c.resume-moved.ensures.adds) c.resume-moved.ensures.stopped

@@ -31,10 +31,10 @@ settle-requires-clause-loose g c = ap length c.take_reference-reference.ensures.
 pub returns-clause-goes_on : goal.returns-clause-goes_on
 returns-clause-goes_on g c =
     let r = c.take_reference-reference.result in
-    resumed_act g.L.Labels.made g.L.Labels.meaning c.assign_to-answer.new.labels (work.AssignTo c.args.target) (λ tables inputs reading. assign_to (labelled tables inputs) (refers reading r) (read_value reading c.pop-value.result))
+    resumed_act g.L.Labels.made g.L.Labels.meaning c.assign_to-answer.new.labels (work.AssignTo c.args.target) (λ tables inputs functions reading. assign_to (labelled tables inputs functions) (refers reading r) (read_value reading c.pop-value.result))
     c.args.stack.now c.take_reference-reference.new.stack c.settle.new.stack c.pop-value.result c.pop-value.new.self.loose c.args.world.now c.assign_to-answer.new.world c.assign_to-answer.result c.settle.result c.pop-value.ensures.top (c.take_reference-reference.ensures.tasks ∙ c.pop-value.ensures.tasks)
-    (λ tables inputs reading f s read. ap (λ n. assign_to (planned tables inputs) n (read_value reading c.pop-value.result) s) (sym (c.take_reference-reference.ensures.refers reading (IsReading-earlier g.L.Labels.made g.L.Labels.meaning g.L.Labels.room g.L.Labels.firm c.args.labels.now c.assign_to-answer.new.labels reading c.assign_to-answer.ensures.kept read)))
-    ∙ assign_as tables inputs (refers reading r) (read_value reading c.pop-value.result) s)
+    (λ tables inputs functions reading f s read. ap (λ n. assign_to (planned tables inputs functions) n (read_value reading c.pop-value.result) s) (sym (c.take_reference-reference.ensures.refers reading (IsReading-earlier g.L.Labels.made g.L.Labels.meaning g.L.Labels.room g.L.Labels.firm c.args.labels.now c.assign_to-answer.new.labels reading c.assign_to-answer.ensures.kept read)))
+    ∙ assign_as tables inputs functions (refers reading r) (read_value reading c.pop-value.result) s)
     c.assign_to-answer.ensures.acts c.settle.ensures.settles
 
 pub returns-clause-rests : goal.returns-clause-rests
@@ -44,5 +44,5 @@ pub returns-clause-stands : goal.returns-clause-stands
 returns-clause-stands g c =
     let r = c.take_reference-reference.result in
     let reading = g.L.Labels.meaning c.assign_to-answer.new.labels in
-    c.settle.ensures.stands c.args.world.now c.assign_to-answer.new.world (stands_by g.L.Labels.made g.L.Labels.meaning c.assign_to-answer.new.labels (λ reading. read_value reading) (λ reading. assign_to (labelled no_tables []) (refers reading r) (read_value reading c.pop-value.result)) c.args.world.now c.assign_to-answer.new.world
-    (λ s. assign_stands no_tables [] (refers reading r) (read_value reading c.pop-value.result) s) c.assign_to-answer.result (c.assign_to-answer.ensures.acts no_tables []))
+    c.settle.ensures.stands c.args.world.now c.assign_to-answer.new.world (stands_by g.L.Labels.made g.L.Labels.meaning c.assign_to-answer.new.labels (λ reading. read_value reading) (λ reading. assign_to (labelled no_tables [] []) (refers reading r) (read_value reading c.pop-value.result)) c.args.world.now c.assign_to-answer.new.world
+    (λ s. assign_stands no_tables [] [] (refers reading r) (read_value reading c.pop-value.result) s) c.assign_to-answer.result (c.assign_to-answer.ensures.acts no_tables [] []))

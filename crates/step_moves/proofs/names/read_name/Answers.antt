@@ -22,14 +22,14 @@ get_name-answer-requires-clause-belongs g c = Belongs-later g.L.Labels.made g.L.
 pub returns-clause-goes_on : goal.returns-clause-goes_on
 returns-clause-goes_on g c =
     let n = c.in_ok-named.named in
-    begun_at g.L.Labels.made g.L.Labels.meaning c.resolve.new.labels Value (λ tables inputs reading i. evaluation.read_value (planned tables inputs) (asking tables inputs)) c.args.name.now c.args.at.0 n g.L.Labels.room g.L.Labels.firm c.get_name-answer.new.labels c.get_name-answer.ensures.kept
+    begun_at g.L.Labels.made g.L.Labels.meaning c.resolve.new.labels Value (λ tables inputs functions reading i. evaluation.read_value (planned tables inputs functions) (asking tables inputs functions)) c.args.name.now c.args.at.0 n g.L.Labels.room g.L.Labels.firm c.get_name-answer.new.labels c.get_name-answer.ensures.kept
     c.args.stack.now c.settle.new.stack c.args.world.now c.get_name-answer.new.world c.settle.result c.in_ok-named.ensures.resolved
-    (begun g.L.Labels.made g.L.Labels.meaning c.get_name-answer.new.labels (λ tables inputs reading e. evaluation.read_value (planned tables inputs) (asking tables inputs) (reference_of reading n)) (λ tables inputs reading. (labelled tables inputs).get_value (reference_of reading n) (enters (labelled tables inputs)))
-    c.args.stack.now c.args.stack.now c.settle.new.stack c.args.world.now c.get_name-answer.new.world c.get_name-answer.result c.settle.result (λ tables inputs reading f s. named_as tables inputs (reference_of reading n) s) refl c.get_name-answer.ensures.acts c.settle.ensures.settles)
+    (begun g.L.Labels.made g.L.Labels.meaning c.get_name-answer.new.labels (λ tables inputs functions reading e. evaluation.read_value (planned tables inputs functions) (asking tables inputs functions) (reference_of reading n)) (λ tables inputs functions reading. (labelled tables inputs functions).get_value (reference_of reading n) (enters (labelled tables inputs functions)))
+    c.args.stack.now c.args.stack.now c.settle.new.stack c.args.world.now c.get_name-answer.new.world c.get_name-answer.result c.settle.result (λ tables inputs functions reading f s. named_as tables inputs functions (reference_of reading n) s) refl c.get_name-answer.ensures.acts c.settle.ensures.settles)
 
 pub returns-clause-stands : goal.returns-clause-stands
 returns-clause-stands g c =
     let n = c.in_ok-named.named in
     let reading = g.L.Labels.meaning c.get_name-answer.new.labels in
-    c.settle.ensures.stands c.args.world.now c.get_name-answer.new.world (stands_by g.L.Labels.made g.L.Labels.meaning c.get_name-answer.new.labels (λ reading. read_value reading) (λ reading. (labelled no_tables []).get_value (reference_of reading n) (enters (labelled no_tables []))) c.args.world.now c.get_name-answer.new.world
-    (λ s. get_stands no_tables [] (reference_of reading n) s) c.get_name-answer.result (c.get_name-answer.ensures.acts no_tables []))
+    c.settle.ensures.stands c.args.world.now c.get_name-answer.new.world (stands_by g.L.Labels.made g.L.Labels.meaning c.get_name-answer.new.labels (λ reading. read_value reading) (λ reading. (labelled no_tables [] []).get_value (reference_of reading n) (enters (labelled no_tables [] []))) c.args.world.now c.get_name-answer.new.world
+    (λ s. get_stands no_tables [] [] (reference_of reading n) s) c.get_name-answer.result (c.get_name-answer.ensures.acts no_tables [] []))

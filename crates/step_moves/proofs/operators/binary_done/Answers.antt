@@ -26,9 +26,9 @@ pub returns-clause-goes_on : goal.returns-clause-goes_on
 returns-clause-goes_on g c =
     let o = c.args.operator in
     let size = (size_below c.pop-right.new.self.loose c.args.stack.now.loose c.pop-right.result 1 c.pop-right.ensures.top c.requires.loose) in
-    resumed_act g.L.Labels.made g.L.Labels.meaning c.operated-answer.new.labels (work.BinaryDone o) (λ tables inputs reading. binary_values (labelled tables inputs) o (read_value reading c.pop-left.result) (read_value reading c.pop-right.result))
+    resumed_act g.L.Labels.made g.L.Labels.meaning c.operated-answer.new.labels (work.BinaryDone o) (λ tables inputs functions reading. binary_values (labelled tables inputs functions) o (read_value reading c.pop-left.result) (read_value reading c.pop-right.result))
     c.args.stack.now c.pop-left.new.self c.settle.new.stack c.pop-right.result c.pop-right.new.self.loose c.args.world.now c.operated-answer.new.world c.operated-answer.result c.settle.result c.pop-right.ensures.top (c.pop-left.ensures.tasks ∙ c.pop-right.ensures.tasks)
-    (λ tables inputs reading f s read. ap (λ u. binary_values (planned tables inputs) o u (read_value reading c.pop-right.result) s) (first_alone reading c.pop-left.new.self.loose c.pop-right.new.self.loose c.pop-left.result c.pop-left.ensures.top size) ∙ binary_as tables inputs o (read_value reading c.pop-left.result) (read_value reading c.pop-right.result) s)
+    (λ tables inputs functions reading f s read. ap (λ u. binary_values (planned tables inputs functions) o u (read_value reading c.pop-right.result) s) (first_alone reading c.pop-left.new.self.loose c.pop-right.new.self.loose c.pop-left.result c.pop-left.ensures.top size) ∙ binary_as tables inputs functions o (read_value reading c.pop-left.result) (read_value reading c.pop-right.result) s)
     c.operated-answer.ensures.acts c.settle.ensures.settles
 
 pub returns-clause-rests : goal.returns-clause-rests
@@ -38,4 +38,4 @@ pub returns-clause-stands : goal.returns-clause-stands
 returns-clause-stands g c =
     let o = c.args.operator in
     let reading = g.L.Labels.meaning c.operated-answer.new.labels in
-    c.settle.ensures.stands c.args.world.now c.operated-answer.new.world (stands_by g.L.Labels.made g.L.Labels.meaning c.operated-answer.new.labels (λ reading. read_value reading) (λ reading. binary_values (labelled no_tables []) o (read_value reading c.pop-left.result) (read_value reading c.pop-right.result)) c.args.world.now c.operated-answer.new.world (λ s. binary_stands no_tables [] o (read_value reading c.pop-left.result) (read_value reading c.pop-right.result) s) c.operated-answer.result (c.operated-answer.ensures.acts no_tables []))
+    c.settle.ensures.stands c.args.world.now c.operated-answer.new.world (stands_by g.L.Labels.made g.L.Labels.meaning c.operated-answer.new.labels (λ reading. read_value reading) (λ reading. binary_values (labelled no_tables [] []) o (read_value reading c.pop-left.result) (read_value reading c.pop-right.result)) c.args.world.now c.operated-answer.new.world (λ s. binary_stands no_tables [] [] o (read_value reading c.pop-left.result) (read_value reading c.pop-right.result) s) c.operated-answer.result (c.operated-answer.ensures.acts no_tables [] []))

@@ -41,13 +41,13 @@ returns-clause-goes_on g c =
     let t = c.args.target in
     let r = c.take_reference-reference.result in
     let size = (size_below c.pop-old.new.self.loose c.pop-operand.new.self.loose c.pop-old.result (owns_target t) c.pop-old.ensures.top (more_below c.pop-operand.new.self.loose c.args.stack.now.loose c.pop-operand.result (owns_target t) c.pop-operand.ensures.top c.requires.loose)) in
-    resumed_act g.L.Labels.made g.L.Labels.meaning c.compound_value-answer.new.labels (work.CompoundDone o t) (λ tables inputs reading. compound_done (labelled tables inputs) (eval (timed tables inputs) 0) o (refers reading r) (read_value reading c.pop-old.result) (read_value reading c.pop-operand.result))
+    resumed_act g.L.Labels.made g.L.Labels.meaning c.compound_value-answer.new.labels (work.CompoundDone o t) (λ tables inputs functions reading. compound_done (labelled tables inputs functions) (eval (timed tables inputs functions) 0) o (refers reading r) (read_value reading c.pop-old.result) (read_value reading c.pop-operand.result))
     c.args.stack.now c.take_reference-reference.new.stack c.settle.new.stack c.pop-operand.result c.pop-operand.new.self.loose c.args.world.now c.compound_value-answer.new.world c.compound_value-answer.result c.settle.result c.pop-operand.ensures.top (c.take_reference-reference.ensures.tasks ∙ c.pop-old.ensures.tasks ∙ c.pop-operand.ensures.tasks)
-    (λ tables inputs reading f s read. ap₂ (λ n u. compound_done (planned tables inputs) (asking tables inputs) o n u (read_value reading c.pop-operand.result) s)
+    (λ tables inputs functions reading f s read. ap₂ (λ n u. compound_done (planned tables inputs functions) (asking tables inputs functions) o n u (read_value reading c.pop-operand.result) s)
     (target_below reading c.pop-old.new.self.loose c.pop-operand.new.self.loose c.pop-old.result c.pop-old.ensures.top t size ∙ sym (c.take_reference-reference.ensures.refers reading (IsReading-earlier g.L.Labels.made g.L.Labels.meaning g.L.Labels.room g.L.Labels.firm c.args.labels.now c.compound_value-answer.new.labels reading c.compound_value-answer.ensures.kept read)))
     (value_above reading c.pop-old.new.self.loose c.pop-operand.new.self.loose c.pop-old.result c.pop-old.ensures.top (owns_target t) size)
-    ∙ compound_as tables inputs (asking tables inputs) (eval (timed tables inputs) 0) o (refers reading r) (read_value reading c.pop-old.result) (read_value reading c.pop-operand.result) s)
-    (λ tables inputs. c.compound_value-answer.ensures.acts tables inputs (eval (timed tables inputs) 0)) c.settle.ensures.settles
+    ∙ compound_as tables inputs functions (asking tables inputs functions) (eval (timed tables inputs functions) 0) o (refers reading r) (read_value reading c.pop-old.result) (read_value reading c.pop-operand.result) s)
+    (λ tables inputs functions. c.compound_value-answer.ensures.acts tables inputs functions (eval (timed tables inputs functions) 0)) c.settle.ensures.settles
 
 pub returns-clause-rests : goal.returns-clause-rests
 returns-clause-rests g c = rests_popped (g.L.Labels.made c.compound_value-answer.new.labels) c.args.stack.now c.take_reference-reference.new.stack c.settle.new.stack c.settle.result (c.take_reference-reference.ensures.tasks ∙ c.pop-old.ensures.tasks ∙ c.pop-operand.ensures.tasks) c.settle.ensures.rests
@@ -56,7 +56,7 @@ pub returns-clause-stands : goal.returns-clause-stands
 returns-clause-stands g c =
     let o = c.args.operator in
     let r = c.take_reference-reference.result in
-    let R = eval (timed no_tables []) 0 in
+    let R = eval (timed no_tables [] []) 0 in
     let reading = g.L.Labels.meaning c.compound_value-answer.new.labels in
-    c.settle.ensures.stands c.args.world.now c.compound_value-answer.new.world (stands_by g.L.Labels.made g.L.Labels.meaning c.compound_value-answer.new.labels (λ reading. read_value reading) (λ reading. compound_done (labelled no_tables []) R o (refers reading r) (read_value reading c.pop-old.result) (read_value reading c.pop-operand.result)) c.args.world.now c.compound_value-answer.new.world
-    (λ s. compound_stands no_tables [] R o (refers reading r) (read_value reading c.pop-old.result) (read_value reading c.pop-operand.result) s) c.compound_value-answer.result (c.compound_value-answer.ensures.acts no_tables [] R))
+    c.settle.ensures.stands c.args.world.now c.compound_value-answer.new.world (stands_by g.L.Labels.made g.L.Labels.meaning c.compound_value-answer.new.labels (λ reading. read_value reading) (λ reading. compound_done (labelled no_tables [] []) R o (refers reading r) (read_value reading c.pop-old.result) (read_value reading c.pop-operand.result)) c.args.world.now c.compound_value-answer.new.world
+    (λ s. compound_stands no_tables [] [] R o (refers reading r) (read_value reading c.pop-old.result) (read_value reading c.pop-operand.result) s) c.compound_value-answer.result (c.compound_value-answer.ensures.acts no_tables [] [] R))

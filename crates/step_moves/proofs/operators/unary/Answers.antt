@@ -15,10 +15,10 @@ settle-requires-clause-made g c = label_belongs (g.L.Labels.made c.args.labels.n
 
 pub returns-clause-goes_on : goal.returns-clause-goes_on
 returns-clause-goes_on g c =
-    resumed_act g.L.Labels.made g.L.Labels.meaning c.args.labels.now (work.Unary c.args.operator) (λ tables inputs reading. unary_value (labelled tables inputs) c.args.operator (read_value reading c.pop-value.result))
+    resumed_act g.L.Labels.made g.L.Labels.meaning c.args.labels.now (work.Unary c.args.operator) (λ tables inputs functions reading. unary_value (labelled tables inputs functions) c.args.operator (read_value reading c.pop-value.result))
     c.args.stack.now c.pop-value.new.self c.settle.new.stack c.pop-value.result c.pop-value.new.self.loose c.args.world.now c.args.world.now c.unary_value-answer.result c.settle.result c.pop-value.ensures.top c.pop-value.ensures.tasks
-    (λ tables inputs reading f s read. unary_as tables inputs c.args.operator (read_value reading c.pop-value.result) s)
-    (λ tables inputs. Acts-computes g.L.Labels.made g.L.Labels.meaning c.args.labels.now (λ reading. read_value reading) (λ reading. unary_value (labelled tables inputs) c.args.operator (read_value reading c.pop-value.result)) c.args.world.now c.unary_value-answer.result (c.unary_value-answer.ensures.computes tables inputs))
+    (λ tables inputs functions reading f s read. unary_as tables inputs functions c.args.operator (read_value reading c.pop-value.result) s)
+    (λ tables inputs functions. Acts-computes g.L.Labels.made g.L.Labels.meaning c.args.labels.now (λ reading. read_value reading) (λ reading. unary_value (labelled tables inputs functions) c.args.operator (read_value reading c.pop-value.result)) c.args.world.now c.unary_value-answer.result (c.unary_value-answer.ensures.computes tables inputs functions))
     c.settle.ensures.settles
 
 pub returns-clause-rests : goal.returns-clause-rests

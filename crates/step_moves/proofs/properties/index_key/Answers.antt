@@ -40,9 +40,9 @@ returns-clause-goes_on g c =
     let start = c.requires.loose in
     let whole : length c.args.stack.now.loose ≡ owns_use c.args.how + 1 + 1 = omega (arith, start) in
     let size = (size_below c.pop-base.new.self.loose c.pop-key.new.self.loose c.pop-base.result (owns_use c.args.how) c.pop-base.ensures.top (size_below c.pop-key.new.self.loose c.args.stack.now.loose c.pop-key.result (owns_use c.args.how + 1) c.pop-key.ensures.top whole)) in
-    resumed g.L.Labels.made g.L.Labels.meaning c.use_property.new.labels (work.IndexKey how) (λ tables inputs reading e. index_key (planned tables inputs) (asking tables inputs) (use_of how (map (read_value reading) c.pop-base.new.self.loose)) e.place (read_value reading c.pop-base.result) (read_value reading c.pop-key.result))
+    resumed g.L.Labels.made g.L.Labels.meaning c.use_property.new.labels (work.IndexKey how) (λ tables inputs functions reading e. index_key (planned tables inputs functions) (asking tables inputs functions) (use_of how (map (read_value reading) c.pop-base.new.self.loose)) e.place (read_value reading c.pop-base.result) (read_value reading c.pop-key.result))
     c.args.stack.now c.pop-base.new.self c.use_property.new.stack c.pop-key.result c.pop-key.new.self.loose c.args.world.now c.use_property.new.world c.use_property.result c.pop-key.ensures.top (c.pop-base.ensures.tasks ∙ c.pop-key.ensures.tasks)
-    (λ tables inputs reading f s read. ap₂ (λ u b. index_key (planned tables inputs) (asking tables inputs) u f.place b (read_value reading c.pop-key.result) s)
+    (λ tables inputs functions reading f s read. ap₂ (λ u b. index_key (planned tables inputs functions) (asking tables inputs functions) u f.place b (read_value reading c.pop-key.result) s)
     (use_below reading c.pop-base.new.self.loose c.pop-key.new.self.loose c.pop-base.result c.pop-base.ensures.top how size) (value_above reading c.pop-base.new.self.loose c.pop-key.new.self.loose c.pop-base.result c.pop-base.ensures.top (owns_use how) size))
     c.use_property.ensures.goes_on
 
@@ -50,4 +50,4 @@ pub returns-clause-rests : goal.returns-clause-rests
 returns-clause-rests g c = rests_popped (g.L.Labels.made c.use_property.new.labels) c.args.stack.now c.pop-base.new.self c.use_property.new.stack c.use_property.result (c.pop-base.ensures.tasks ∙ c.pop-key.ensures.tasks) c.use_property.ensures.rests
 
 pub returns-clause-adds : goal.returns-clause-adds
-returns-clause-adds g c = adds_popped 1 c.args.stack.now c.pop-base.new.self c.use_property.new.stack c.use_property.result (c.pop-base.ensures.tasks ∙ c.pop-key.ensures.tasks) c.use_property.ensures.adds
+returns-clause-adds g c = adds_popped 3 c.args.stack.now c.pop-base.new.self c.use_property.new.stack c.use_property.result (c.pop-base.ensures.tasks ∙ c.pop-key.ensures.tasks) c.use_property.ensures.adds

@@ -28,9 +28,9 @@ pub returns-clause-goes_on : goal.returns-clause-goes_on
 returns-clause-goes_on g c =
     let how = c.args.how in
     let l = c.bottom.result in
-    resumed g.L.Labels.made g.L.Labels.meaning c.use_property.new.labels (work.MemberBase how c.args.name) (λ tables inputs reading e. index_key (planned tables inputs) (asking tables inputs) (use_of how (map (read_value reading) c.pop-base.new.self.loose)) e.place (read_value reading c.pop-base.result) (record { value = value.Primitive (Str c.in_ok-text.text); label = reading l }))
+    resumed g.L.Labels.made g.L.Labels.meaning c.use_property.new.labels (work.MemberBase how c.args.name) (λ tables inputs functions reading e. index_key (planned tables inputs functions) (asking tables inputs functions) (use_of how (map (read_value reading) c.pop-base.new.self.loose)) e.place (read_value reading c.pop-base.result) (record { value = value.Primitive (Str c.in_ok-text.text); label = reading l }))
     c.args.stack.now c.pop-base.new.self c.use_property.new.stack c.pop-base.result c.pop-base.new.self.loose c.args.world.now c.use_property.new.world c.use_property.result c.pop-base.ensures.top c.pop-base.ensures.tasks
-    (λ tables inputs reading f s read. member_as tables inputs (use_of how (map (read_value reading) c.pop-base.new.self.loose)) c.args.name.now c.in_ok-text.text f.place (read_value reading c.pop-base.result) (reading l) s c.in_ok-text.ensures
+    (λ tables inputs functions reading f s read. member_as tables inputs functions (use_of how (map (read_value reading) c.pop-base.new.self.loose)) c.args.name.now c.in_ok-text.text f.place (read_value reading c.pop-base.result) (reading l) s c.in_ok-text.ensures
     ((IsReading-earlier g.L.Labels.made g.L.Labels.meaning g.L.Labels.room g.L.Labels.firm c.args.labels.now c.use_property.new.labels reading c.use_property.ensures.kept read).agrees l c.bottom.ensures.made ∙ c.bottom.ensures.meaning))
     c.use_property.ensures.goes_on
 
@@ -38,4 +38,4 @@ pub returns-clause-rests : goal.returns-clause-rests
 returns-clause-rests g c = rests_popped (g.L.Labels.made c.use_property.new.labels) c.args.stack.now c.pop-base.new.self c.use_property.new.stack c.use_property.result c.pop-base.ensures.tasks c.use_property.ensures.rests
 
 pub returns-clause-adds : goal.returns-clause-adds
-returns-clause-adds g c = adds_popped 1 c.args.stack.now c.pop-base.new.self c.use_property.new.stack c.use_property.result c.pop-base.ensures.tasks c.use_property.ensures.adds
+returns-clause-adds g c = adds_popped 3 c.args.stack.now c.pop-base.new.self c.use_property.new.stack c.use_property.result c.pop-base.ensures.tasks c.use_property.ensures.adds

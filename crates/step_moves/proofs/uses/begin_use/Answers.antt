@@ -28,28 +28,28 @@ pub returns-in_ok-named-in-Name-clause-goes_on : goal.returns-in_ok-named-in-Nam
 unfolding use_step
 returns-in_ok-named-in-Name-clause-goes_on g c =
     let is : view_expr c.args.target.now ≡ name c.args.target.now.at c.in-Name.name = search (rules, the_lemmas, c.in-Name.is) in
-    begins_same g.L.Labels.made g.L.Labels.meaning c.use_reference.new.labels c.args.at.0 (λ tables inputs reading e. (planned tables inputs).resolve Value e.place c.in-Name.name (used (planned tables inputs) (asking tables inputs) (use_of c.args.how (map (read_value reading) c.args.stack.now.loose)) e.place)) (λ tables inputs reading e. use_step (planned tables inputs) (asking tables inputs) (use_of c.args.how (map (read_value reading) c.args.stack.now.loose)) (view_expr c.args.target.now) e.place)
-    c.args.stack.now c.use_reference.new.stack c.args.world.now c.use_reference.new.world c.use_reference.result (λ tables inputs reading f s. sym (ap (λ x. use_step (planned tables inputs) (asking tables inputs) (use_of c.args.how (map (read_value reading) c.args.stack.now.loose)) x f.place s) is))
-    (begun_at g.L.Labels.made g.L.Labels.meaning c.resolve.new.labels Value (λ tables inputs reading i. used (planned tables inputs) (asking tables inputs) (use_of c.args.how (map (read_value reading) c.args.stack.now.loose)) i) c.in-Name.name c.args.at.0 c.in_ok-named-in-Name.named g.L.Labels.room g.L.Labels.firm c.use_reference.new.labels c.use_reference.ensures.kept
+    begins_same g.L.Labels.made g.L.Labels.meaning c.use_reference.new.labels c.args.at.0 (λ tables inputs functions reading e. (planned tables inputs functions).resolve Value e.place c.in-Name.name (used (planned tables inputs functions) (asking tables inputs functions) (use_of c.args.how (map (read_value reading) c.args.stack.now.loose)) e.place)) (λ tables inputs functions reading e. use_step (planned tables inputs functions) (asking tables inputs functions) (use_of c.args.how (map (read_value reading) c.args.stack.now.loose)) (view_expr c.args.target.now) e.place)
+    c.args.stack.now c.use_reference.new.stack c.args.world.now c.use_reference.new.world c.use_reference.result (λ tables inputs functions reading f s. sym (ap (λ x. use_step (planned tables inputs functions) (asking tables inputs functions) (use_of c.args.how (map (read_value reading) c.args.stack.now.loose)) x f.place s) is))
+    (begun_at g.L.Labels.made g.L.Labels.meaning c.resolve.new.labels Value (λ tables inputs functions reading i. used (planned tables inputs functions) (asking tables inputs functions) (use_of c.args.how (map (read_value reading) c.args.stack.now.loose)) i) c.in-Name.name c.args.at.0 c.in_ok-named-in-Name.named g.L.Labels.room g.L.Labels.firm c.use_reference.new.labels c.use_reference.ensures.kept
     c.args.stack.now c.use_reference.new.stack c.args.world.now c.use_reference.new.world c.use_reference.result c.in_ok-named-in-Name.ensures.resolved c.use_reference.ensures.goes_on)
 
 pub returns-in_ok-next-in-Member-clause-goes_on : goal.returns-in_ok-next-in-Member-clause-goes_on
 unfolding use_step
 returns-in_ok-next-in-Member-clause-goes_on g c =
     let is : view_expr c.args.target.now ≡ member c.args.target.now.at (view_expr c.in-Member.base) c.in-Member.name = search (rules, the_lemmas, c.in-Member.is) in
-    begins_same g.L.Labels.made g.L.Labels.meaning c.args.labels.now c.args.at.0 (λ tables inputs reading e. (planned tables inputs).bind Value Value ((asking tables inputs).expr (view_expr c.in-Member.base) e.place) (member_base (planned tables inputs) (asking tables inputs) (use_of c.args.how (map (read_value reading) c.args.stack.now.loose)) c.in-Member.name e.place)) (λ tables inputs reading e. use_step (planned tables inputs) (asking tables inputs) (use_of c.args.how (map (read_value reading) c.args.stack.now.loose)) (view_expr c.args.target.now) e.place)
-    c.args.stack.now c.begin_member.new.stack c.args.world.now c.args.world.now (Ok c.in_ok-next-in-Member.next) (λ tables inputs reading f s. sym (ap (λ x. use_step (planned tables inputs) (asking tables inputs) (use_of c.args.how (map (read_value reading) c.args.stack.now.loose)) x f.place s) is))
-    (begins_here g.L.Labels.made g.L.Labels.meaning c.args.labels.now c.args.at.0 (λ tables inputs reading e. (planned tables inputs).bind Value Value ((asking tables inputs).expr (view_expr c.in-Member.base) e.place) (member_base (planned tables inputs) (asking tables inputs) (use_of c.args.how (map (read_value reading) c.args.stack.now.loose)) c.in-Member.name e.place)) c.args.stack.now c.begin_member.new.stack c.args.world.now c.args.world.now (Ok c.in_ok-next-in-Member.next)
-    (begins_alone g.L.Labels.made g.L.Labels.meaning c.args.labels.now (λ tables inputs vs e. (planned tables inputs).bind Value Value ((asking tables inputs).expr (view_expr c.in-Member.base) e.place) (member_base (planned tables inputs) (asking tables inputs) (use_of c.args.how vs) c.in-Member.name e.place)) c.args.stack.now c.begin_member.new.stack c.args.world.now c.in_ok-next-in-Member.next c.in_ok-next-in-Member.ensures.goes_on))
+    begins_same g.L.Labels.made g.L.Labels.meaning c.args.labels.now c.args.at.0 (λ tables inputs functions reading e. (planned tables inputs functions).bind Value Value ((asking tables inputs functions).expr (view_expr c.in-Member.base) e.place) (member_base (planned tables inputs functions) (asking tables inputs functions) (use_of c.args.how (map (read_value reading) c.args.stack.now.loose)) c.in-Member.name e.place)) (λ tables inputs functions reading e. use_step (planned tables inputs functions) (asking tables inputs functions) (use_of c.args.how (map (read_value reading) c.args.stack.now.loose)) (view_expr c.args.target.now) e.place)
+    c.args.stack.now c.begin_member.new.stack c.args.world.now c.args.world.now (Ok c.in_ok-next-in-Member.next) (λ tables inputs functions reading f s. sym (ap (λ x. use_step (planned tables inputs functions) (asking tables inputs functions) (use_of c.args.how (map (read_value reading) c.args.stack.now.loose)) x f.place s) is))
+    (begins_here g.L.Labels.made g.L.Labels.meaning c.args.labels.now c.args.at.0 (λ tables inputs functions reading e. (planned tables inputs functions).bind Value Value ((asking tables inputs functions).expr (view_expr c.in-Member.base) e.place) (member_base (planned tables inputs functions) (asking tables inputs functions) (use_of c.args.how (map (read_value reading) c.args.stack.now.loose)) c.in-Member.name e.place)) c.args.stack.now c.begin_member.new.stack c.args.world.now c.args.world.now (Ok c.in_ok-next-in-Member.next)
+    (begins_alone g.L.Labels.made g.L.Labels.meaning c.args.labels.now (λ tables inputs functions vs e. (planned tables inputs functions).bind Value Value ((asking tables inputs functions).expr (view_expr c.in-Member.base) e.place) (member_base (planned tables inputs functions) (asking tables inputs functions) (use_of c.args.how vs) c.in-Member.name e.place)) c.args.stack.now c.begin_member.new.stack c.args.world.now c.in_ok-next-in-Member.next c.in_ok-next-in-Member.ensures.goes_on))
 
 pub returns-in_ok-next-in-Index-clause-goes_on : goal.returns-in_ok-next-in-Index-clause-goes_on
 unfolding use_step
 returns-in_ok-next-in-Index-clause-goes_on g c =
     let is : view_expr c.args.target.now ≡ index c.args.target.now.at (view_expr c.in-Index.base) (view_expr c.in-Index.index) = search (rules, the_lemmas, c.in-Index.is) in
-    begins_same g.L.Labels.made g.L.Labels.meaning c.args.labels.now c.args.at.0 (λ tables inputs reading e. (planned tables inputs).bind Value Value ((asking tables inputs).expr (view_expr c.in-Index.base) e.place) (index_base (planned tables inputs) (asking tables inputs) (use_of c.args.how (map (read_value reading) c.args.stack.now.loose)) (view_expr c.in-Index.index) e.place)) (λ tables inputs reading e. use_step (planned tables inputs) (asking tables inputs) (use_of c.args.how (map (read_value reading) c.args.stack.now.loose)) (view_expr c.args.target.now) e.place)
-    c.args.stack.now c.begin_index.new.stack c.args.world.now c.args.world.now (Ok c.in_ok-next-in-Index.next) (λ tables inputs reading f s. sym (ap (λ x. use_step (planned tables inputs) (asking tables inputs) (use_of c.args.how (map (read_value reading) c.args.stack.now.loose)) x f.place s) is))
-    (begins_here g.L.Labels.made g.L.Labels.meaning c.args.labels.now c.args.at.0 (λ tables inputs reading e. (planned tables inputs).bind Value Value ((asking tables inputs).expr (view_expr c.in-Index.base) e.place) (index_base (planned tables inputs) (asking tables inputs) (use_of c.args.how (map (read_value reading) c.args.stack.now.loose)) (view_expr c.in-Index.index) e.place)) c.args.stack.now c.begin_index.new.stack c.args.world.now c.args.world.now (Ok c.in_ok-next-in-Index.next)
-    (begins_alone g.L.Labels.made g.L.Labels.meaning c.args.labels.now (λ tables inputs vs e. (planned tables inputs).bind Value Value ((asking tables inputs).expr (view_expr c.in-Index.base) e.place) (index_base (planned tables inputs) (asking tables inputs) (use_of c.args.how vs) (view_expr c.in-Index.index) e.place)) c.args.stack.now c.begin_index.new.stack c.args.world.now c.in_ok-next-in-Index.next c.in_ok-next-in-Index.ensures.goes_on))
+    begins_same g.L.Labels.made g.L.Labels.meaning c.args.labels.now c.args.at.0 (λ tables inputs functions reading e. (planned tables inputs functions).bind Value Value ((asking tables inputs functions).expr (view_expr c.in-Index.base) e.place) (index_base (planned tables inputs functions) (asking tables inputs functions) (use_of c.args.how (map (read_value reading) c.args.stack.now.loose)) (view_expr c.in-Index.index) e.place)) (λ tables inputs functions reading e. use_step (planned tables inputs functions) (asking tables inputs functions) (use_of c.args.how (map (read_value reading) c.args.stack.now.loose)) (view_expr c.args.target.now) e.place)
+    c.args.stack.now c.begin_index.new.stack c.args.world.now c.args.world.now (Ok c.in_ok-next-in-Index.next) (λ tables inputs functions reading f s. sym (ap (λ x. use_step (planned tables inputs functions) (asking tables inputs functions) (use_of c.args.how (map (read_value reading) c.args.stack.now.loose)) x f.place s) is))
+    (begins_here g.L.Labels.made g.L.Labels.meaning c.args.labels.now c.args.at.0 (λ tables inputs functions reading e. (planned tables inputs functions).bind Value Value ((asking tables inputs functions).expr (view_expr c.in-Index.base) e.place) (index_base (planned tables inputs functions) (asking tables inputs functions) (use_of c.args.how (map (read_value reading) c.args.stack.now.loose)) (view_expr c.in-Index.index) e.place)) c.args.stack.now c.begin_index.new.stack c.args.world.now c.args.world.now (Ok c.in_ok-next-in-Index.next)
+    (begins_alone g.L.Labels.made g.L.Labels.meaning c.args.labels.now (λ tables inputs functions vs e. (planned tables inputs functions).bind Value Value ((asking tables inputs functions).expr (view_expr c.in-Index.base) e.place) (index_base (planned tables inputs functions) (asking tables inputs functions) (use_of c.args.how vs) (view_expr c.in-Index.index) e.place)) c.args.stack.now c.begin_index.new.stack c.args.world.now c.in_ok-next-in-Index.next c.in_ok-next-in-Index.ensures.goes_on))
 
 pub returns-in_ok-next-in-Member-clause-rests : goal.returns-in_ok-next-in-Member-clause-rests
 returns-in_ok-next-in-Member-clause-rests g c = rests_keeping (g.L.Labels.made c.args.labels.now) c.args.stack.now c.begin_member.new.stack c.in_ok-next-in-Member.next c.requires.made c.in_ok-next-in-Member.ensures.keeps

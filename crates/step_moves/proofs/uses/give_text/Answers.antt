@@ -28,13 +28,13 @@ settle-requires-clause-loose g c = ap length (none_in_front c.pop.new.self.loose
 pub returns-clause-goes_on : goal.returns-clause-goes_on
 returns-clause-goes_on g c =
     let free = unlabelled (value.Primitive (Str c.in_ok-text.text)) in
-    begun g.L.Labels.made g.L.Labels.meaning c.assign_to-answer.new.labels (λ tables inputs reading e. used (planned tables inputs) (asking tables inputs) (use_of use_as.GivenText (map (read_value reading) c.args.stack.now.loose)) e.place (refers reading c.args.reference)) (λ tables inputs reading. assign_to (labelled tables inputs) (refers reading c.args.reference) free)
+    begun g.L.Labels.made g.L.Labels.meaning c.assign_to-answer.new.labels (λ tables inputs functions reading e. used (planned tables inputs functions) (asking tables inputs functions) (use_of use_as.GivenText (map (read_value reading) c.args.stack.now.loose)) e.place (refers reading c.args.reference)) (λ tables inputs functions reading. assign_to (labelled tables inputs functions) (refers reading c.args.reference) free)
     c.args.stack.now c.pop.new.self c.settle.new.stack c.args.world.now c.assign_to-answer.new.world c.assign_to-answer.result c.settle.result
-    (λ tables inputs reading f s. ap (λ vs. used (planned tables inputs) (asking tables inputs) (use_of use_as.GivenText (map (read_value reading) vs)) f.place (refers reading c.args.reference) s) (lone c.pop.new.self.loose c.args.stack.now.loose c.pop.result c.pop.ensures.top c.requires.loose) ∙ ap (λ u. used (planned tables inputs) (asking tables inputs) (given_text u) f.place (refers reading c.args.reference) s) (sym c.in_ok-text.ensures) ∙ given_as tables inputs f.place (refers reading c.args.reference) c.in_ok-text.text s)
+    (λ tables inputs functions reading f s. ap (λ vs. used (planned tables inputs functions) (asking tables inputs functions) (use_of use_as.GivenText (map (read_value reading) vs)) f.place (refers reading c.args.reference) s) (lone c.pop.new.self.loose c.args.stack.now.loose c.pop.result c.pop.ensures.top c.requires.loose) ∙ ap (λ u. used (planned tables inputs functions) (asking tables inputs functions) (given_text u) f.place (refers reading c.args.reference) s) (sym c.in_ok-text.ensures) ∙ given_as tables inputs functions f.place (refers reading c.args.reference) c.in_ok-text.text s)
     c.pop.ensures.tasks
-    (λ tables inputs. Acts-as g.L.Labels.made g.L.Labels.meaning c.assign_to-answer.new.labels (λ reading. read_value reading) (λ reading. assign_to (labelled tables inputs) (refers reading c.args.reference) (read_value reading (record { value = value.Primitive (Str c.in_ok-text.text); label = c.bottom.result }))) (λ reading. assign_to (labelled tables inputs) (refers reading c.args.reference) free) c.args.world.now c.assign_to-answer.new.world c.assign_to-answer.result
-    (λ reading read told turns. ap (λ m. assign_to (labelled tables inputs) (refers reading c.args.reference) (record { value = value.Primitive (Str c.in_ok-text.text); label = m }) (state_of reading c.args.world.now told turns)) (sym ((IsReading-earlier g.L.Labels.made g.L.Labels.meaning g.L.Labels.room g.L.Labels.firm c.args.labels.now c.assign_to-answer.new.labels reading c.assign_to-answer.ensures.kept read).agrees c.bottom.result c.bottom.ensures.made ∙ c.bottom.ensures.meaning)))
-    (c.assign_to-answer.ensures.acts tables inputs))
+    (λ tables inputs functions. Acts-as g.L.Labels.made g.L.Labels.meaning c.assign_to-answer.new.labels (λ reading. read_value reading) (λ reading. assign_to (labelled tables inputs functions) (refers reading c.args.reference) (read_value reading (record { value = value.Primitive (Str c.in_ok-text.text); label = c.bottom.result }))) (λ reading. assign_to (labelled tables inputs functions) (refers reading c.args.reference) free) c.args.world.now c.assign_to-answer.new.world c.assign_to-answer.result
+    (λ reading read told turns. ap (λ m. assign_to (labelled tables inputs functions) (refers reading c.args.reference) (record { value = value.Primitive (Str c.in_ok-text.text); label = m }) (state_of reading c.args.world.now told turns)) (sym ((IsReading-earlier g.L.Labels.made g.L.Labels.meaning g.L.Labels.room g.L.Labels.firm c.args.labels.now c.assign_to-answer.new.labels reading c.assign_to-answer.ensures.kept read).agrees c.bottom.result c.bottom.ensures.made ∙ c.bottom.ensures.meaning)))
+    (c.assign_to-answer.ensures.acts tables inputs functions))
     c.settle.ensures.settles
 
 pub returns-clause-rests : goal.returns-clause-rests
@@ -43,5 +43,5 @@ returns-clause-rests g c = rests_popped (g.L.Labels.made c.assign_to-answer.new.
 pub returns-clause-stands : goal.returns-clause-stands
 returns-clause-stands g c =
     let reading = g.L.Labels.meaning c.assign_to-answer.new.labels in
-    c.settle.ensures.stands c.args.world.now c.assign_to-answer.new.world (stands_by g.L.Labels.made g.L.Labels.meaning c.assign_to-answer.new.labels (λ reading. read_value reading) (λ reading. assign_to (labelled no_tables []) (refers reading c.args.reference) (read_value reading (record { value = value.Primitive (Str c.in_ok-text.text); label = c.bottom.result }))) c.args.world.now c.assign_to-answer.new.world
-    (λ s. assign_stands no_tables [] (refers reading c.args.reference) (read_value reading (record { value = value.Primitive (Str c.in_ok-text.text); label = c.bottom.result })) s) c.assign_to-answer.result (c.assign_to-answer.ensures.acts no_tables []))
+    c.settle.ensures.stands c.args.world.now c.assign_to-answer.new.world (stands_by g.L.Labels.made g.L.Labels.meaning c.assign_to-answer.new.labels (λ reading. read_value reading) (λ reading. assign_to (labelled no_tables [] []) (refers reading c.args.reference) (read_value reading (record { value = value.Primitive (Str c.in_ok-text.text); label = c.bottom.result }))) c.args.world.now c.assign_to-answer.new.world
+    (λ s. assign_stands no_tables [] [] (refers reading c.args.reference) (read_value reading (record { value = value.Primitive (Str c.in_ok-text.text); label = c.bottom.result })) s) c.assign_to-answer.result (c.assign_to-answer.ensures.acts no_tables [] []))

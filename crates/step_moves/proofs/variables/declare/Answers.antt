@@ -17,15 +17,15 @@ returns-in-Some-clause-goes_on g c =
     let others = nodes_of (out-Declarations l).others in
     let v : Variable = ((out-Declaration d).name.text, view_expr c.in-Some.value, view_other_declarations c.items.result.now) in
     let is : first_given (view_other_declarations (d ∷ others)) ≡ Some v = given_here d others c.in-Some.value c.in-Some.is ∙ ap (λ ys. Some ((out-Declaration d).name.text, view_expr c.in-Some.value, view_other_declarations ys)) (sym c.items.ensures) in
-    begins_same g.L.Labels.made g.L.Labels.meaning c.initialise.new.labels c.args.at.0 (λ tables inputs reading e. initialised tables inputs v e.place) (λ tables inputs reading e. declarations (planned tables inputs) (asking tables inputs) (view_declarations l) e.place)
+    begins_same g.L.Labels.made g.L.Labels.meaning c.initialise.new.labels c.args.at.0 (λ tables inputs functions reading e. initialised tables inputs functions v e.place) (λ tables inputs functions reading e. declarations (planned tables inputs functions) (asking tables inputs functions) (view_declarations l) e.place)
     c.args.stack.now c.initialise.new.stack c.args.world.now c.args.world.now c.initialise.result
-    (λ tables inputs reading f s. sym (ap (λ ds. variables (planned tables inputs) (asking tables inputs) ds f.place s) (declared l) ∙ variables_given tables inputs f.place s (view_other_declarations (d ∷ others)) v is)) c.initialise.ensures.goes_on
+    (λ tables inputs functions reading f s. sym (ap (λ ds. variables (planned tables inputs functions) (asking tables inputs functions) ds f.place s) (declared l) ∙ variables_given tables inputs functions f.place s (view_other_declarations (d ∷ others)) v is)) c.initialise.ensures.goes_on
 
 pub returns-in-None-clause-goes_on : goal.returns-in-None-clause-goes_on
 returns-in-None-clause-goes_on g c =
     let l = c.args.list.now in
     let d = (out-Declarations l).first in
     let others = nodes_of (out-Declarations l).others in
-    begins_same g.L.Labels.made g.L.Labels.meaning c.declare_others.new.labels c.args.at.0 (λ tables inputs reading e. variables (planned tables inputs) (asking tables inputs) (view_other_declarations c.items-in-None.result.now) e.place) (λ tables inputs reading e. declarations (planned tables inputs) (asking tables inputs) (view_declarations l) e.place)
+    begins_same g.L.Labels.made g.L.Labels.meaning c.declare_others.new.labels c.args.at.0 (λ tables inputs functions reading e. variables (planned tables inputs functions) (asking tables inputs functions) (view_other_declarations c.items-in-None.result.now) e.place) (λ tables inputs functions reading e. declarations (planned tables inputs functions) (asking tables inputs functions) (view_declarations l) e.place)
     c.args.stack.now c.declare_others.new.stack c.args.world.now c.args.world.now c.declare_others.result
-    (λ tables inputs reading f s. sym (ap (λ ds. variables (planned tables inputs) (asking tables inputs) ds f.place s) (declared l) ∙ variables_behind tables inputs f.place s d others c.in-None.is ∙ ap (λ ys. variables (planned tables inputs) (asking tables inputs) (view_other_declarations ys) f.place s) (sym c.items-in-None.ensures))) c.declare_others.ensures.goes_on
+    (λ tables inputs functions reading f s. sym (ap (λ ds. variables (planned tables inputs functions) (asking tables inputs functions) ds f.place s) (declared l) ∙ variables_behind tables inputs functions f.place s d others c.in-None.is ∙ ap (λ ys. variables (planned tables inputs functions) (asking tables inputs functions) (view_other_declarations ys) f.place s) (sym c.items-in-None.ensures))) c.declare_others.ensures.goes_on

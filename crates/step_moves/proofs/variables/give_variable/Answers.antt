@@ -17,5 +17,5 @@ give_text-requires-clause-belongs g c = Belongs-later g.L.Labels.made g.L.Labels
 
 pub returns-clause-goes_on : goal.returns-clause-goes_on
 returns-clause-goes_on g c =
-    begun_at g.L.Labels.made g.L.Labels.meaning c.resolve.new.labels Value (λ tables inputs reading i. used (planned tables inputs) (asking tables inputs) (use_of use_as.GivenText (map (read_value reading) c.args.stack.now.loose)) i) c.args.variable.now.text c.args.at.0 c.in_ok-named.named g.L.Labels.room g.L.Labels.firm c.give_text.new.labels c.give_text.ensures.kept
+    begun_at g.L.Labels.made g.L.Labels.meaning c.resolve.new.labels Value (λ tables inputs functions reading i. used (planned tables inputs functions) (asking tables inputs functions) (use_of use_as.GivenText (map (read_value reading) c.args.stack.now.loose)) i) c.args.variable.now.text c.args.at.0 c.in_ok-named.named g.L.Labels.room g.L.Labels.firm c.give_text.new.labels c.give_text.ensures.kept
     c.args.stack.now c.give_text.new.stack c.args.world.now c.give_text.new.world c.give_text.result c.in_ok-named.ensures.resolved c.give_text.ensures.goes_on

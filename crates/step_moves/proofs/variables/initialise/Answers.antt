@@ -37,11 +37,11 @@ returns-clause-goes_on g c =
     let ds = view_other_declarations c.args.rest.now in
     let r = (reference.Name c.in_ok-named.named) in
     let lies = laid_first c.args.stack.now.loose c.lay_reference.new.stack.loose (laid_for r) c.requires.loose c.in_ok-target.ensures.laid ∙ sym (append-nil (laid_for r)) in
-    begun_at g.L.Labels.made g.L.Labels.meaning c.resolve.new.labels One (λ tables inputs reading i m. (planned tables inputs).bind Value One ((asking tables inputs).expr e i) (more_variables (planned tables inputs) (asking tables inputs) m ds i)) c.args.name.now c.args.at.0 c.in_ok-named.named g.L.Labels.room g.L.Labels.firm c.resolve.new.labels (IsKept-refl g.L.Labels.made g.L.Labels.meaning g.L.Labels.room g.L.Labels.firm c.resolve.new.labels)
+    begun_at g.L.Labels.made g.L.Labels.meaning c.resolve.new.labels One (λ tables inputs functions reading i m. (planned tables inputs functions).bind Value One ((asking tables inputs functions).expr e i) (more_variables (planned tables inputs functions) (asking tables inputs functions) m ds i)) c.args.name.now c.args.at.0 c.in_ok-named.named g.L.Labels.room g.L.Labels.firm c.resolve.new.labels (IsKept-refl g.L.Labels.made g.L.Labels.meaning g.L.Labels.room g.L.Labels.firm c.resolve.new.labels)
     c.args.stack.now c.push.new.self c.args.world.now c.args.world.now (Ok (next.Expr c.args.value)) c.in_ok-named.ensures.resolved
-    (begun_pushed g.L.Labels.made g.L.Labels.meaning c.resolve.new.labels (λ tables inputs reading f. (planned tables inputs).bind Value One ((asking tables inputs).expr e f.place) (more_variables (planned tables inputs) (asking tables inputs) (reference_of reading c.in_ok-named.named) ds f.place)) (work.Variable c.in_ok-target.target c.args.rest) (next.Expr c.args.value)
+    (begun_pushed g.L.Labels.made g.L.Labels.meaning c.resolve.new.labels (λ tables inputs functions reading f. (planned tables inputs functions).bind Value One ((asking tables inputs functions).expr e f.place) (more_variables (planned tables inputs functions) (asking tables inputs functions) (reference_of reading c.in_ok-named.named) ds f.place)) (work.Variable c.in_ok-target.target c.args.rest) (next.Expr c.args.value)
     c.args.stack.now c.lay_reference.new.stack c.push.new.self c.args.world.now c.lay_reference.ensures.tasks c.in_ok-push.ensures.ok
-    (λ tables inputs reading f s. initialised_alike tables inputs (target_of c.in_ok-target.target (map (read_value reading) c.lay_reference.new.stack.loose)) (reference_of reading c.in_ok-named.named) (laid_alike reading r c.in_ok-target.target c.lay_reference.new.stack.loose [] c.in_ok-target.ensures.target lies) e ds f.place s))
+    (λ tables inputs functions reading f s. initialised_alike tables inputs functions (target_of c.in_ok-target.target (map (read_value reading) c.lay_reference.new.stack.loose)) (reference_of reading c.in_ok-named.named) (laid_alike reading r c.in_ok-target.target c.lay_reference.new.stack.loose [] c.in_ok-target.ensures.target lies) e ds f.place s))
 
 pub push-requires : goal.push-requires
 push-requires g c = let r = (reference.Name c.in_ok-named.named) in let size = laid_size r c.in_ok-target.target c.lay_reference.new.stack.loose [] c.in_ok-target.ensures.target (laid_first c.args.stack.now.loose c.lay_reference.new.stack.loose (laid_for r) c.requires.loose c.in_ok-target.ensures.laid ∙ sym (append-nil (laid_for r))) in omega (arith, size)

@@ -1,4 +1,3 @@
-use Rattle.std.proofs.Common.{Result, Ok, Err, IfOk, OnOk, ◌≡◌}
 use Rattle.step_objects.proofs.VisitingLaws.{raised_if}
 use Rattle.step_objects.proofs.visiting.raise.Goals as goal
 

@@ -15,35 +15,35 @@ pub told-requires-clause-declared : goal.told-requires-clause-declared
 told-requires-clause-declared g c =
     let L = g.L.Labels in
     let reading = L.meaning c.put_lines.new.labels in
-    let starts = c.in-Ok.ensures.starts c.args.inputs.now reading (IsReading-earlier L.made L.meaning L.room L.firm c.begin.new.labels c.put_lines.new.labels reading c.put_lines.ensures.kept (record { agrees = λ label m. refl })) in
+    let starts = c.in-Ok-begin.ensures.starts c.args.inputs.now reading (IsReading-earlier L.made L.meaning L.room L.firm c.begin.new.labels c.put_lines.new.labels reading c.put_lines.ensures.kept (record { agrees = λ label m. refl })) in
     let puts = c.in-Ok-put_lines.ensures.puts reading (record { agrees = λ label m. refl }) in
     let run = c.declared.ensures c.args.policy.now c.args.inputs.now (view_program c.args.program.now) c.args.turns c.origins-formed.ensures.formed in
-    stop_declared (length c.args.policy.now.origins) c.args.policy.now c.args.inputs.now reading c.put_lines.new.machine c.in-Ok-put_lines.ending
+    stop_declared (length c.args.policy.now.origins) reading c.put_lines.new.machine c.in-Ok-put_lines.ending
     (subst (EndsDeclared (length c.args.policy.now.origins)) (ap (λ (r : Run). r.ending) (sym starts) ∙ puts.0) run.ending)
 
 pub returns-in-Ok-put_lines-clause-ran : goal.returns-in-Ok-put_lines-clause-ran
 returns-in-Ok-put_lines-clause-ran g c =
     let L = g.L.Labels in
     let reading = L.meaning c.put_lines.new.labels in
-    let starts = c.in-Ok.ensures.starts c.args.inputs.now reading (IsReading-earlier L.made L.meaning L.room L.firm c.begin.new.labels c.put_lines.new.labels reading c.put_lines.ensures.kept (record { agrees = λ label m. refl })) in
-    let ends = ending_of c.args.policy.now c.args.inputs.now reading c.put_lines.new.machine in
+    let starts = c.in-Ok-begin.ensures.starts c.args.inputs.now reading (IsReading-earlier L.made L.meaning L.room L.firm c.begin.new.labels c.put_lines.new.labels reading c.put_lines.ensures.kept (record { agrees = λ label m. refl })) in
+    let ends = ending_of reading c.put_lines.new.machine in
     let old = g.K.Sink.taken c.args.sink.now in
     let new = g.K.Sink.taken c.put_lines.new.sink in
     let puts = subst (λ (r : Run). PutsRun c.args.show.now c.args.policy.now r ends old new (Ok c.in-Ok-put_lines.ending)) starts (c.in-Ok-put_lines.ensures.puts reading (record { agrees = λ label m. refl })) in
-    ran_ended c.args.policy.now c.args.show.now (tracked_run c.args.policy.now c.args.inputs.now (view_program c.args.program.now) c.args.turns) old new ends c.in-Ok-put_lines.ending c.told.result puts (c.told.ensures c.args.inputs.now)
+    ran_ended c.args.policy.now c.args.show.now (tracked_run c.args.policy.now c.args.inputs.now (view_program c.args.program.now) c.args.turns) old new ends c.in-Ok-put_lines.ending c.told.result puts c.told.ensures
 
 pub returns-in-Ok-put_lines-clause-shut : goal.returns-in-Ok-put_lines-clause-shut
-returns-in-Ok-put_lines-clause-shut g c = c.in-Ok-put_lines.ensures.shut ∙ sym (tells_no_fault _ c.told.result (c.told.ensures c.args.inputs.now))
+returns-in-Ok-put_lines-clause-shut g c = c.in-Ok-put_lines.ensures.shut ∙ sym (tells_no_fault _ c.told.result c.told.ensures)
 
 pub returns-in-Ok-put_lines-clause-failed : goal.returns-in-Ok-put_lines-clause-failed
-returns-in-Ok-put_lines-clause-failed g c = λ is. absurd (false≢true (sym (tells_no_fault _ c.told.result (c.told.ensures c.args.inputs.now)) ∙ ap is_write_fault is))
+returns-in-Ok-put_lines-clause-failed g c = λ is. absurd (false≢true (sym (tells_no_fault _ c.told.result c.told.ensures) ∙ ap is_write_fault is))
 
 pub returns-in-Err-WriteFault-clause-ran : goal.returns-in-Err-WriteFault-clause-ran
 returns-in-Err-WriteFault-clause-ran g c =
     let L = g.L.Labels in
     let reading = L.meaning c.put_lines.new.labels in
-    let starts = c.in-Ok.ensures.starts c.args.inputs.now reading (IsReading-earlier L.made L.meaning L.room L.firm c.begin.new.labels c.put_lines.new.labels reading c.put_lines.ensures.kept (record { agrees = λ label m. refl })) in
-    let ends = ending_of c.args.policy.now c.args.inputs.now reading c.put_lines.new.machine in
+    let starts = c.in-Ok-begin.ensures.starts c.args.inputs.now reading (IsReading-earlier L.made L.meaning L.room L.firm c.begin.new.labels c.put_lines.new.labels reading c.put_lines.ensures.kept (record { agrees = λ label m. refl })) in
+    let ends = ending_of reading c.put_lines.new.machine in
     subst (λ (r : Run). PutsRun c.args.show.now c.args.policy.now r ends (g.K.Sink.taken c.args.sink.now) (g.K.Sink.taken c.put_lines.new.sink) (Err cut.WriteFault)) starts (c.in-Err-WriteFault.ensures.puts reading (record { agrees = λ label m. refl }))
 
 pub returns-in-Err-WriteFault-clause-failed : goal.returns-in-Err-WriteFault-clause-failed
@@ -53,6 +53,6 @@ pub returns-clause-ran : goal.returns-clause-ran
 returns-clause-ran g c =
     let L = g.L.Labels in
     let reading = L.meaning c.put_lines.new.labels in
-    let starts = c.in-Ok.ensures.starts c.args.inputs.now reading (IsReading-earlier L.made L.meaning L.room L.firm c.begin.new.labels c.put_lines.new.labels reading c.put_lines.ensures.kept (record { agrees = λ label m. refl })) in
-    let ends = ending_of c.args.policy.now c.args.inputs.now reading c.put_lines.new.machine in
+    let starts = c.in-Ok-begin.ensures.starts c.args.inputs.now reading (IsReading-earlier L.made L.meaning L.room L.firm c.begin.new.labels c.put_lines.new.labels reading c.put_lines.ensures.kept (record { agrees = λ label m. refl })) in
+    let ends = ending_of reading c.put_lines.new.machine in
     subst (λ (r : Run). PutsRun c.args.show.now c.args.policy.now r ends (g.K.Sink.taken c.args.sink.now) (g.K.Sink.taken c.put_lines.new.sink) (Err cut.OutOfMemory)) starts (c.in-Err-OutOfMemory.ensures.puts reading (record { agrees = λ label m. refl }))

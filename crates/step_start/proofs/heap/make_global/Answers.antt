@@ -1,5 +1,6 @@
 use Rattle.std.proofs.Common.{◌∙◌, Some, None}
 use Rattle.js_values.specs.declared.inner.Class.TheVariants as class
+use Rattle.js_values.specs.declared.inner.Inner.TheVariants.{Plain}
 use Rattle.step_start.proofs.FirstLaws.{made_belongs, none_belong, global_made}
 use Rattle.step_start.proofs.heap.make_global.Goals as goal
 
@@ -7,8 +8,8 @@ pub add_property-requires-clause-belongs : goal.add_property-requires-clause-bel
 add_property-requires-clause-belongs g c =
     let made = g.L.Labels.made c.args.labels.now in
     let none = c.bottom-none.result in
-    made_belongs made class.Object (Some c.in_ok-proto.proto) none c.new_object.new.self c.new_object-2.new.self c.in_ok-global.ensures.ok c.bottom-none.ensures.made
-    (made_belongs made class.Object None none c.new-heap.result c.new_object.new.self c.in_ok-proto.ensures.ok c.bottom-none.ensures.made (none_belong made c.new-heap.result c.new-heap.ensures))
+    made_belongs made class.Object Plain (Some c.in_ok-proto.proto) none c.new_object.new.self c.new_object-2.new.self tt c.in_ok-global.ensures.ok c.bottom-none.ensures.made
+    (made_belongs made class.Object Plain None none c.new-heap.result c.new_object.new.self tt c.in_ok-proto.ensures.ok c.bottom-none.ensures.made (none_belong made c.new-heap.result c.new-heap.ensures))
 
 pub returns-clause-makes : goal.returns-clause-makes
 returns-clause-makes g c =

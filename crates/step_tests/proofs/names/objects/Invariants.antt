@@ -6,4 +6,4 @@ abbrev pub invariant-more : goal.invariant-more
 invariant-more g l = HasHeap (g.L.Labels.made l.labels) l.heap
 
 abbrev pub decreases-more : goal.decreases-more
-decreases-more g l = 9 - length l.heap
+decreases-more g l = 10 - length l.heap

@@ -24,7 +24,7 @@ returns-clause-belongs g c = c.belonging_lasts.ensures.belongs c.args.labels.now
 
 pub returns-clause-goes_on : goal.returns-clause-goes_on
 unfolding end_branch popped
-returns-clause-goes_on g c tables inputs reading e s value read loose =
+returns-clause-goes_on g c tables inputs functions reading e s value read loose =
     let before = c.args.stack.now in
     let popped = c.pop-value.result in
     let frames_old = c.args.frames.now.frames in
@@ -38,7 +38,7 @@ returns-clause-goes_on g c tables inputs reading e s value read loose =
     read.agrees c.in_ok-label.label c.in_ok-label.ensures.made ∙ c.in_ok-label.ensures.meaning ∙ ap₂ union (sym (earlier.agrees popped.label was)) (sym (earlier.agrees c.leave-chosen.result c.leave-chosen.ensures.made)) in
     let given : Labelled _ = record { value = popped.value; label = c.in_ok-label.label } in
     let lies : c.lay.new.self.loose ≡ given ∷ [] = c.in_ok-lay.ensures.laid ∙ ap (λ vs. vs ++ given ∷ []) none in
-    ap (λ ts. behind tables inputs reading ts e (next_plan tables inputs next.Value (map (read_value reading) c.lay.new.self.loose) (env_above ts e) (with_frames reading frames_new s))) (c.lay.ensures.tasks ∙ c.pop-value.ensures.tasks)
-    ∙ ap (λ vs. behind tables inputs reading before.tasks e (Give (gave (first_or_undefined (map (read_value reading) vs))) (with_frames reading frames_new s))) lies
-    ∙ ap₂ (λ l fs. behind tables inputs reading before.tasks e (Give (gave (record { value = popped.value; label = l })) (record s { frames = fs }))) (means ∙ ap (λ k. union (reading popped.label) k) (sym (c.leave-chosen.ensures.label reading))) (c.leave-chosen.ensures.outside reading)
-    ∙ ap (λ (v : Labelled _). behind tables inputs reading before.tasks e (after tables inputs (work.EndBranch Bool.true c.args.depth) [] f (gave (read_value reading v)) (with_frames reading frames_old s))) same
+    ap (λ ts. behind tables inputs functions reading ts e (next_plan tables inputs functions next.Value (map (read_value reading) c.lay.new.self.loose) (env_above ts e) (with_frames reading frames_new s))) (c.lay.ensures.tasks ∙ c.pop-value.ensures.tasks)
+    ∙ ap (λ vs. behind tables inputs functions reading before.tasks e (Give (gave (first_or_undefined (map (read_value reading) vs))) (with_frames reading frames_new s))) lies
+    ∙ ap₂ (λ l fs. behind tables inputs functions reading before.tasks e (Give (gave (record { value = popped.value; label = l })) (record s { frames = fs }))) (means ∙ ap (λ k. union (reading popped.label) k) (sym (c.leave-chosen.ensures.label reading))) (c.leave-chosen.ensures.outside reading)
+    ∙ ap (λ (v : Labelled _). behind tables inputs functions reading before.tasks e (after tables inputs functions (work.EndBranch Bool.true c.args.depth) [] f (gave (read_value reading v)) (with_frames reading frames_old s))) same

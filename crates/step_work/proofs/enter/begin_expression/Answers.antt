@@ -1,11 +1,11 @@
 use Rattle.std.proofs.Common.{rules, sym, ap, ◌∙◌, ◌≡◌, drop}
 use Rattle.js_ast.specs.Nodes.{nodes_of}
-use Rattle.js_ast.specs.Trees.{name, object, call, conditional, comma, member, index}
+use Rattle.js_ast.specs.Trees.{new_with, object, call, conditional, comma, member, index}
 use Rattle.js_ast.specs.Views.{view_expr, view_exprs, view_properties}
 use Rattle.js_ast.proofs.ViewLaws.{held_exprs, held_properties}
 use Rattle.js_ast.specs.declared.trees.ExprKind.TheViews.{the_lemmas}
 use Rattle.es_meaning.specs.Operations.{Value, object_of}
-use Rattle.es_meaning.specs.Evaluation.{expr_step, call_step, direct_of, index_base, keys_of, member_base, properties}
+use Rattle.es_meaning.specs.Evaluation.{expr_step, index_base, keys_of, member_base, properties}
 use Rattle.step_work.specs.Shapes.{use_of}
 use Rattle.step_work.specs.declared.work.Use.TheVariants.{Valued}
 use Rattle.flow_meaning.specs.Planned.{planned, asking}
@@ -16,36 +16,42 @@ pub returns-in-Comma-clause-goes_on : goal.returns-in-Comma-clause-goes_on
 unfolding expr_step
 returns-in-Comma-clause-goes_on g c =
     let is : view_expr c.args.e.now ≡ comma c.args.e.now.at (view_expr c.in-Comma.left) (view_expr c.in-Comma.right) = search (rules, the_lemmas, c.in-Comma.is) in
-    begins_as _ _ _ _ _ (λ tables inputs e s. sym (ap (λ x. expr_step (planned tables inputs) (asking tables inputs) x e.place s) is)) c.begin_comma.ensures.goes_on
+    begins_as _ _ _ _ _ (λ tables inputs functions e s. sym (ap (λ x. expr_step (planned tables inputs functions) (asking tables inputs functions) x e.place s) is)) c.begin_comma.ensures.goes_on
 
 pub returns-in-Conditional-clause-goes_on : goal.returns-in-Conditional-clause-goes_on
 unfolding expr_step
 returns-in-Conditional-clause-goes_on g c =
     let is : view_expr c.args.e.now ≡ conditional c.args.e.now.at (view_expr c.in-Conditional.test) (view_expr c.in-Conditional.then) (view_expr c.in-Conditional.other) = search (rules, the_lemmas, c.in-Conditional.is) in
-    begins_as _ _ _ _ _ (λ tables inputs e s. sym (ap (λ x. expr_step (planned tables inputs) (asking tables inputs) x e.place s) is)) c.begin_choice.ensures.goes_on
+    begins_as _ _ _ _ _ (λ tables inputs functions e s. sym (ap (λ x. expr_step (planned tables inputs functions) (asking tables inputs functions) x e.place s) is)) c.begin_choice.ensures.goes_on
 
-pub returns-in-Name-deref-clause-goes_on : goal.returns-in-Name-deref-clause-goes_on
+pub returns-in-Call-clause-goes_on : goal.returns-in-Call-clause-goes_on
 unfolding expr_step
-returns-in-Name-deref-clause-goes_on g c =
+returns-in-Call-clause-goes_on g c =
     let is : view_expr c.args.e.now ≡ call c.args.e.now.at (view_expr c.in-Call.callee) (view_exprs (nodes_of c.in-Call.args)) = search (rules, held_exprs, the_lemmas, c.in-Call.is) in
-    let named : view_expr c.in-Call.callee ≡ name c.in-Call.callee.at c.in-Name-deref.name = search (rules, the_lemmas, c.in-Name-deref.is) in
-    let whole = is ∙ ap (λ x. call c.args.e.now.at x (view_exprs (nodes_of c.in-Call.args))) named ∙ ap (λ es. call c.args.e.now.at (name c.in-Call.callee.at c.in-Name-deref.name) (view_exprs es)) (sym c.items.ensures) in
-    begins_as (λ tables inputs e. call_step (planned tables inputs) (asking tables inputs) (direct_of c.in-Name-deref.name) (view_exprs c.items.result.now) e.place) _ _ _ _ (λ tables inputs e s. sym (ap (λ x. expr_step (planned tables inputs) (asking tables inputs) x e.place s) whole)) c.begin_call.ensures.goes_on
+    let whole = is ∙ ap (λ es. call c.args.e.now.at (view_expr c.in-Call.callee) (view_exprs es)) (sym c.items.ensures) in
+    begins_as _ _ _ _ _ (λ tables inputs functions e s. sym (ap (λ x. expr_step (planned tables inputs functions) (asking tables inputs functions) x e.place s) whole)) c.begin_call.ensures.goes_on
 
 pub returns-in-Member-clause-goes_on : goal.returns-in-Member-clause-goes_on
 unfolding expr_step
 returns-in-Member-clause-goes_on g c =
     let is : view_expr c.args.e.now ≡ member c.args.e.now.at (view_expr c.in-Member.base) c.in-Member.name = search (rules, the_lemmas, c.in-Member.is) in
-    begins_as _ _ _ _ _ (λ tables inputs e s. sym (ap (λ x. expr_step (planned tables inputs) (asking tables inputs) x e.place s) is)) (begins_alone (λ tables inputs vs e. (planned tables inputs).bind Value Value ((asking tables inputs).expr (view_expr c.in-Member.base) e.place) (member_base (planned tables inputs) (asking tables inputs) (use_of Valued vs) c.in-Member.name e.place)) _ _ _ c.begin_member.ensures.goes_on)
+    begins_as _ _ _ _ _ (λ tables inputs functions e s. sym (ap (λ x. expr_step (planned tables inputs functions) (asking tables inputs functions) x e.place s) is)) (begins_alone (λ tables inputs functions vs e. (planned tables inputs functions).bind Value Value ((asking tables inputs functions).expr (view_expr c.in-Member.base) e.place) (member_base (planned tables inputs functions) (asking tables inputs functions) (use_of Valued vs) c.in-Member.name e.place)) _ _ _ c.begin_member.ensures.goes_on)
 
 pub returns-in-Index-clause-goes_on : goal.returns-in-Index-clause-goes_on
 unfolding expr_step
 returns-in-Index-clause-goes_on g c =
     let is : view_expr c.args.e.now ≡ index c.args.e.now.at (view_expr c.in-Index.base) (view_expr c.in-Index.index) = search (rules, the_lemmas, c.in-Index.is) in
-    begins_as _ _ _ _ _ (λ tables inputs e s. sym (ap (λ x. expr_step (planned tables inputs) (asking tables inputs) x e.place s) is)) (begins_alone (λ tables inputs vs e. (planned tables inputs).bind Value Value ((asking tables inputs).expr (view_expr c.in-Index.base) e.place) (index_base (planned tables inputs) (asking tables inputs) (use_of Valued vs) (view_expr c.in-Index.index) e.place)) _ _ _ c.begin_index.ensures.goes_on)
+    begins_as _ _ _ _ _ (λ tables inputs functions e s. sym (ap (λ x. expr_step (planned tables inputs functions) (asking tables inputs functions) x e.place s) is)) (begins_alone (λ tables inputs functions vs e. (planned tables inputs functions).bind Value Value ((asking tables inputs functions).expr (view_expr c.in-Index.base) e.place) (index_base (planned tables inputs functions) (asking tables inputs functions) (use_of Valued vs) (view_expr c.in-Index.index) e.place)) _ _ _ c.begin_index.ensures.goes_on)
 
 pub returns-in-Object-clause-goes_on : goal.returns-in-Object-clause-goes_on
 unfolding expr_step
 returns-in-Object-clause-goes_on g c =
     let is : view_expr c.args.e.now ≡ object c.args.e.now.at (view_properties (nodes_of c.in-Object.properties)) c.in-Object.comma = search (rules, held_properties, the_lemmas, c.in-Object.is) in
-    begins_as _ _ _ _ _ (λ tables inputs e s. sym (ap (λ x. expr_step (planned tables inputs) (asking tables inputs) x e.place s) is)) (begins_alone (λ tables inputs vs e. properties (planned tables inputs) (asking tables inputs) (object_of (keys_of (view_properties (nodes_of c.in-Object.properties)))) vs (view_properties (drop 0 (nodes_of c.in-Object.properties))) e.place) _ _ _ c.begin_properties.ensures.goes_on)
+    begins_as _ _ _ _ _ (λ tables inputs functions e s. sym (ap (λ x. expr_step (planned tables inputs functions) (asking tables inputs functions) x e.place s) is)) (begins_alone (λ tables inputs functions vs e. properties (planned tables inputs functions) (asking tables inputs functions) (object_of (keys_of (view_properties (nodes_of c.in-Object.properties)))) vs (view_properties (drop 0 (nodes_of c.in-Object.properties))) e.place) _ _ _ c.begin_properties.ensures.goes_on)
+
+pub returns-in-Some-clause-goes_on : goal.returns-in-Some-clause-goes_on
+unfolding expr_step
+returns-in-Some-clause-goes_on g c =
+    let is : view_expr c.args.e.now ≡ new_with c.args.e.now.at (view_expr c.in-New.callee) (view_exprs (nodes_of c.in-Some.args)) = search (rules, held_exprs, the_lemmas, c.in-New.is, c.in-Some.is) in
+    let whole = is ∙ ap (λ es. new_with c.args.e.now.at (view_expr c.in-New.callee) (view_exprs es)) (sym c.items-in-Some.ensures) in
+    begins_as _ _ _ _ _ (λ tables inputs functions e s. sym (ap (λ x. expr_step (planned tables inputs functions) (asking tables inputs functions) x e.place s) whole)) c.begin_new-in-Some.ensures.goes_on

@@ -23,4 +23,4 @@ pub returns-in-Getter-clause-goes_on : goal.returns-in-Getter-clause-goes_on
 returns-in-Getter-clause-goes_on g c =
     let p = c.in-Some.property.now in
     let here = property_here c.items.result.now c.args.list.now c.args.count p c.items.ensures (ltb-true c.args.count (length c.items.result.now) (sym c.in-Some.ensures.lookup.0)) c.in-Some.ensures.lookup.1 in
-    object_begins c.args.list c.args.count c.args.stack.now _ here (λ tables inputs act vs i s. unbuilt_left tables inputs act vs p (view_properties (drop (c.args.count + 1) (nodes_of c.args.list.now))) i s c.in-Getter.is)
+    object_begins c.args.list c.args.count c.args.stack.now _ here (λ tables inputs functions act vs i s. unbuilt_left tables inputs functions act vs p (view_properties (drop (c.args.count + 1) (nodes_of c.args.list.now))) i s c.in-Getter.is)

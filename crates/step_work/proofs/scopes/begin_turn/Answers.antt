@@ -13,9 +13,9 @@ pub returns-clause-goes_on : goal.returns-clause-goes_on
 returns-clause-goes_on g c =
     let round = round_of c.args.round in
     work_begins g.L.Labels.made g.L.Labels.meaning c.begin_body.new.labels
-    (λ tables inputs e. (planned tables inputs).round true (None ∷ []) e ((asking tables inputs).stmt round.body)) (λ tables inputs e. turn_step (planned tables inputs) (asking tables inputs) round e) (work.Turned c.args.round)
+    (λ tables inputs functions e. (planned tables inputs functions).round true round.labels e ((asking tables inputs functions).stmt round.body)) (λ tables inputs functions e. turn_step (planned tables inputs functions) (asking tables inputs functions) round e) (work.Turned c.args.round)
     c.args.stack.now c.push.new.self c.begin_body.new.stack c.args.frames.now.frames c.begin_body.new.frames.frames c.begin_body.result
-    (λ tables inputs f s. turn_parts tables inputs round f s) (nil_from_length c.args.stack.now.loose c.requires.loose) c.in_ok-push.ensures.ok c.begin_body.ensures.goes_on
+    (λ tables inputs functions f s. turn_parts tables inputs functions round f s) (nil_from_length c.args.stack.now.loose c.requires.loose) c.in_ok-push.ensures.ok c.begin_body.ensures.goes_on
 
 pub returns-clause-opened : goal.returns-clause-opened
 returns-clause-opened g c =

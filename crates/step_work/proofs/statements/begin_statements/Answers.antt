@@ -8,7 +8,7 @@ use Rattle.step_work.proofs.Steps.{statements_none, nothing_first}
 use Rattle.step_work.proofs.statements.begin_statements.Goals as goal
 
 pub returns-in-None-clause-goes_on : goal.returns-in-None-clause-goes_on
-returns-in-None-clause-goes_on g c tables inputs reading e s loose =
+returns-in-None-clause-goes_on g c tables inputs functions reading e s loose =
     let none : view_stmts c.args.list.now ≡ no_statements = nothing_first c.args.list.now c.split_first.result c.split_first.ensures.variant.1 c.in-None.is in
     let e_in = env_above c.args.stack.now.tasks e in
-    ap (λ p. behind tables inputs reading c.args.stack.now.tasks e p) (sym (ap (λ ss. statements (planned tables inputs) (asking tables inputs) ss e_in s) none ∙ statements_none tables inputs e_in s))
+    ap (λ p. behind tables inputs functions reading c.args.stack.now.tasks e p) (sym (ap (λ ss. statements (planned tables inputs functions) (asking tables inputs functions) ss e_in s) none ∙ statements_none tables inputs functions e_in s))

@@ -1,0 +1,21 @@
+//! What a value is for a call.
+
+use js_ast::Function;
+use js_values::EnvId;
+
+/// What a value is for a call (ECMA-262 13.2.1, 13.2.2, 15.3.4).
+#[derive(Clone, Copy)]
+pub enum Callee<'p> {
+    /// It isn't a function.
+    NotCallable,
+    /// The prototype of functions: it gives undefined, and constructs nothing.
+    Empty,
+    /// A function of the script, with its number and the record that it closes over.
+    Script {
+        number: u32,
+        function: &'p Function,
+        place: EnvId,
+    },
+    /// Built-in functions and bound ones aren't built yet.
+    Unbuilt,
+}

@@ -1,0 +1,317 @@
+-- Acts of a labelled run that enter no function keep a state of declared origins.
+use Rattle.std.proofs.Common.{ℕ, zero, suc, Bool, true, false, List, [], ◌∷◌, Option, Some, None, Result, Ok, Err, slice_get}
+use Rattle.origin_labels.specs.Label.{Label, bottom, union}
+use Rattle.flow_frames.specs.declared.faults.Rule.{Rule}
+use Rattle.flow_frames.specs.declared.faults.Rule.TheVariants.{W1}
+use Rattle.flow_frames.specs.Frames.{context}
+use Rattle.js_number.specs.declared.primitive.Primitive.{Primitive}
+use Rattle.js_number.specs.declared.primitive.Primitive.TheVariants as prims
+use Rattle.js_values.specs.declared.value.Value.{Value}
+use Rattle.js_values.specs.declared.value.Value.TheVariants as value
+use Rattle.js_values.specs.declared.property.Body.{Body}
+use Rattle.js_values.specs.declared.property.Body.TheVariants.{Data, Accessor}
+use Rattle.js_values.specs.declared.property.Slot.{Slot}
+use Rattle.js_values.specs.Objects.{Object, own}
+use Rattle.js_values.specs.Records.{Binding}
+use Rattle.js_values.specs.Walks.{Found, find, object_chain}
+use Rattle.object_heap.specs.Acts.{Acted}
+use Rattle.prototype_walk.specs.declared.plan.PutPlan.{PutPlan}
+use Rattle.prototype_walk.specs.declared.plan.PutPlan.TheVariants.{Write, Add, Setter, Refused}
+use Rattle.prototype_walk.specs.Answers.{walk_of}
+use Rattle.prototype_walk.specs.Plans.{can_put}
+use Rattle.prototype_walk.specs.KeyLists.{Keys}
+use Rattle.es_meaning.specs.Outcomes.{Outcome}
+use Rattle.es_meaning.specs.Operations.{Ty, One, Res, Act, object_of, base_needed, object_needed, has_key, refused_declaration}
+use Rattle.es_meaning.specs.Start.{global_object}
+use Rattle.es_meaning.specs.Plain.{others, Place, in_record, on_global, nowhere, binding_at, prototype_name}
+use Rattle.flow_meaning.specs.Scopes.{Val, joined, Halt, State, Jump, L}
+use Rattle.flow_meaning.specs.Tracked.{given, unless_object, Reference, of_name, of_property, walk_from, bound, held, found_globally, found, property_of, named, get_value, typeof_value, assigned, assigned_to, acted, put_by, put_on, is_element_of, put, put_property, put_named, put_value, removed_if, removed_own, removed_in, remove_property, remove, make_object, needed, has, key_list, with_list, act, spend, argument, labels_of, is_instance, instance_of, instance_if, base_of}
+use Rattle.low_equal.proofs.DeclaredLabels as labels
+use Rattle.low_equal.proofs.DeclaredLabels.{Each, IfThere, each_push, each_at, own_bottom, own_union, own_context}
+use Rattle.low_equal.proofs.DeclaredHeaps as heaps
+use Rattle.low_equal.proofs.DeclaredHeaps.{own_own, own_defined_all, own_write, own_remove, own_add, own_chain, own_find, own_can_put, own_keys, own_slots, own_linked}
+use Rattle.low_equal.proofs.DeclaredRecords.{own_binding, own_assigned}
+use Rattle.low_equal.proofs.DeclaredStates as states
+use Rattle.low_equal.proofs.DeclaredStates.{bind_keeping, under_keeps, throw_keeps, raise_keeping, goes, ends_in}
+
+module _ (count : ℕ) where
+  abbrev Own : Label → Type 0
+  Own label = labels.Own count label
+
+  abbrev OwnSlot : Slot Label → Type 0
+  OwnSlot s = heaps.OwnSlot count s
+
+  abbrev OwnObject : Object Label → Type 0
+  OwnObject p = heaps.OwnObject count p
+
+  abbrev OwnHeap : List (Object Label) → Type 0
+  OwnHeap heap = heaps.OwnHeap count heap
+
+  abbrev OwnFound : Found → Type 0
+  OwnFound f = heaps.OwnFound count f
+
+  abbrev OwnActed : {X : Type 0} → (X → Type 0) → Acted X → Type 0
+  OwnActed Q a = heaps.OwnActed count Q a
+
+  abbrev OwnState : State → Type 0
+  OwnState s = states.OwnState count s
+
+  abbrev Keeps : {X : Type 0} → (X → Type 0) → Outcome Halt Jump X State → Type 0
+  Keeps Q o = states.Keeps count Q o
+
+  abbrev Keeping : {X : Type 0} → (X → Type 0) → L X → Type 0
+  Keeping Q m = states.Keeping count Q m
+
+  abbrev OwnVal : Val → Type 0
+  OwnVal v = labels.Own count v.label
+
+  abbrev OwnResult : (t : Ty) → Res Val t → Type 0
+  OwnResult t a = states.OwnResult count t a
+
+  -- ---- acts
+
+  -- an operator's value
+  pub given_keeping : (label : Label) (r : Result Primitive (List ℕ)) → Own label → Keeping OwnVal (given label r)
+  unfolding given
+  given_keeping label (Ok v) q = record { keeps = λ s h. goes q h }
+  given_keeping label (Err name) q = record { keeps = λ s h. ends_in tt h }
+
+  -- a value that isn't to be converted
+  pub unless_keeping : (b : Bool) (v : Val) → OwnVal v → Keeping OwnVal (unless_object b v)
+  unfolding unless_object
+  unless_keeping true v q = record { keeps = λ s h. ends_in tt h }
+  unless_keeping false v q = record { keeps = λ s h. goes q h }
+
+  -- the value of a binding
+  bound_keeps : (o : Option (Binding Val)) (s : State) → IfThere (λ b. Own b.value.label) o → OwnState s → Keeps OwnVal (bound o s)
+  unfolding bound
+  bound_keeps (Some b) s q h = goes q h
+  bound_keeps None s q h = throw_keeps count OwnVal _ _ s (own_bottom count) h
+
+  -- what a property holds
+  held_keeps : (label : Label) (body : Body) (s : State) → Own label → OwnState s → Keeps OwnVal (held label body s)
+  unfolding held
+  held_keeps label (Data v) s q h = goes q h
+  held_keeps label (Accessor get set) s q h = ends_in tt h
+
+  globally_keeps : (walk : Label) (f : Option (ℕ × Slot Label)) (s : State) → Own walk → IfThere (λ x. OwnSlot x.1) f → OwnState s → Keeps OwnVal (found_globally walk f s)
+  unfolding found_globally
+  globally_keeps walk (Some f) s p q h = held_keeps _ f.1.body s (own_union count walk f.1.label p q.0) h
+  globally_keeps walk None s p q h = throw_keeps count OwnVal _ _ s p h
+
+  found_keeps : (place : Label) (f : Option (ℕ × Slot Label)) (s : State) → Own place → IfThere (λ x. OwnSlot x.1) f → OwnState s → Keeps OwnVal (found place f s)
+  unfolding found
+  found_keeps place (Some f) s p q h = held_keeps _ f.1.body s (own_union count place f.1.label p q.0) h
+  found_keeps place None s p q h = goes p h
+
+  -- the walk along an object
+  pub own_walk_to : (key : List ℕ) (o : ℕ) (s : State) → OwnState s → OwnFound (find key (object_chain s.heap o))
+  own_walk_to key o s h = own_find count key (object_chain s.heap o) (own_chain count s.heap o h.heap)
+
+  property_keeps : (label : Label) (v : Value) (key : List ℕ) (s : State) → Own label → OwnState s → Keeps OwnVal (property_of label v key s)
+  unfolding property_of
+  property_keeps label (value.Primitive p) key s q h = ends_in tt h
+  property_keeps label (value.Object o) key s q h = let w = own_walk_to key o.0 s h in found_keeps _ _ s (own_union count label _ q w.walk) w.at h
+
+  named_keeps : (place : Place) (walk : Label) (x : List ℕ) (s : State) → Own walk → OwnState s → Keeps OwnVal (named place walk x s)
+  unfolding named
+  named_keeps (in_record i) walk x s q h = bound_keeps (binding_at s.records i x) s (own_binding count s.records i x h.records) h
+  named_keeps on_global walk x s q h = let w = own_walk_to x global_object.0 s h in globally_keeps _ _ s (own_union count walk _ q w.walk) w.at h
+  named_keeps nowhere walk x s q h = throw_keeps count OwnVal _ _ s q h
+
+  -- ---- references
+
+  -- the labels on which a reference depends
+  abbrev pub OwnReference : Reference → Type 0
+  OwnReference (of_name x place walk) = Own walk
+  OwnReference (of_property base key label) = OwnVal base × Own label
+
+  -- what a call has as `this`
+  pub own_base : (n : Reference) → OwnReference n → OwnVal (base_of n)
+  own_base (of_name x place walk) q = own_bottom count
+  own_base (of_property v key label) q = q.0
+
+  -- a name that is resolved
+  pub own_walk_from : (i : Option ℕ) (walk : Label) → Own walk → Own (walk_from i walk)
+  own_walk_from (Some i) walk q = own_bottom count
+  own_walk_from None walk q = q
+
+  pub value_keeps : (n : Reference) (s : State) → OwnReference n → OwnState s → Keeps OwnVal (get_value n s)
+  unfolding get_value
+  value_keeps (of_name x place walk) s q h = named_keeps place walk x s q h
+  value_keeps (of_property v key label) s q h = property_keeps _ v.value key s (own_union count v.label label q.0 q.1) h
+
+  pub typeof_keeps : (n : Reference) (s : State) → OwnReference n → OwnState s → Keeps OwnVal (typeof_value n s)
+  unfolding typeof_value
+  typeof_keeps (of_name x (in_record i) walk) s q h = value_keeps (of_name x (in_record i) walk) s q h
+  typeof_keeps (of_name x on_global walk) s q h = value_keeps (of_name x on_global walk) s q h
+  typeof_keeps (of_name x nowhere walk) s q h = goes q h
+  typeof_keeps (of_property v key label) s q h = value_keeps (of_property v key label) s q h
+
+  -- a value for a binding
+  assigned_keeps : (mutable : Bool) (have : Label) (name : List ℕ) (i : ℕ) (v : Val) (s : State) → Own have → OwnVal v → OwnState s → Keeps (OwnResult One) (assigned mutable have name i v s)
+  unfolding assigned
+  assigned_keeps true have name i v s p q h =
+      let here = own_context count s.frames h.frames in
+      under_keeps count (OwnResult One) W1 _ have _ s here p h
+      (goes tt (record { frames = h.frames; heap = h.heap; records = own_assigned count name (joined (context s.frames) v) s.records i (own_union count v.label (context s.frames) q here) h.records; lines = h.lines }))
+  assigned_keeps false have name i v s p q h = throw_keeps count (OwnResult One) _ _ s (own_bottom count) h
+
+  -- or for what may be one
+  assigned_to_keeps : (o : Option (Binding Val)) (name : List ℕ) (i : ℕ) (v : Val) (s : State) → IfThere (λ b. Own b.value.label) o → OwnVal v → OwnState s → Keeps (OwnResult One) (assigned_to o name i v s)
+  unfolding assigned_to
+  assigned_to_keeps (Some b) name i v s p q h = assigned_keeps b.mutable b.value.label name i v s p q h
+  assigned_to_keeps None name i v s p q h = throw_keeps count (OwnResult One) _ _ s (own_bottom count) h
+
+  -- what an act on the heap comes to
+  pub acted_keeps : {X : Type 0} (Q : X → Type 0) (x : X) (a : Acted (List (Object Label))) (s : State) → Q x → OwnActed OwnHeap a → OwnState s → Keeps Q (acted x a s)
+  unfolding acted
+  acted_keeps Q x (Ok heap) s q k h = goes q (record { frames = h.frames; heap = k; records = h.records; lines = h.lines })
+  acted_keeps Q x (Err stop) s q k h = ends_in k h
+
+  -- the context, and what is needed besides
+  pub own_need : (label : Label) (s : State) → Own label → OwnState s → Own (union (context s.frames) label)
+  own_need label s q h = own_union count (context s.frames) label (own_context count s.frames h.frames) q
+
+  -- a put
+  put_by_keeps : (plan : PutPlan Label) (rule : Rule) (o : ℕ) (key : List ℕ) (label : Label) (v : Val) (s : State) → Own (walk_of plan) → Own label → OwnVal v → OwnState s → Keeps (OwnResult One) (put_by plan rule o key label v s)
+  unfolding put_by
+  put_by_keeps (Write walk) rule o key label v s w p q h = acted_keeps (OwnResult One) tt _ s tt (own_write count rule o key _ v s.heap (own_need _ s (own_union count label walk p w) h) q h.heap) h
+  put_by_keeps (Add walk) rule o key label v s w p q h = acted_keeps (OwnResult One) tt _ s tt (own_add count o key _ (Data v.value) v.label _ s.heap (own_need _ s (own_union count label walk p w) h) q h.heap) h
+  put_by_keeps (Refused walk) rule o key label v s w p q h = throw_keeps count (OwnResult One) _ _ s (own_union count label walk p w) h
+  put_by_keeps (Setter at walk) rule o key label v s w p q h = ends_in tt h
+
+  put_on_keeps : (element : Bool) (rule : Rule) (o : ℕ) (key : List ℕ) (label : Label) (v : Val) (s : State) → Own label → OwnVal v → OwnState s → Keeps (OwnResult One) (put_on element rule o key label v s)
+  unfolding put_on
+  put_on_keeps true rule o key label v s p q h = ends_in tt h
+  put_on_keeps false rule o key label v s p q h = put_by_keeps (can_put key (object_chain s.heap o)) rule o key label v s (own_can_put count key (object_chain s.heap o) (own_chain count s.heap o h.heap)) p q h
+
+  put_object_keeps : (rule : Rule) (o : ℕ) (key : List ℕ) (label : Label) (v : Val) (s : State) → Own label → OwnVal v → OwnState s → Keeps (OwnResult One) (put rule o key label v s)
+  unfolding put
+  put_object_keeps rule o key label v s p q h = put_on_keeps (is_element_of (slice_get s.heap o) key) rule o key label v s p q h
+
+  put_property_keeps : (label : Label) (base : Value) (key : List ℕ) (v : Val) (s : State) → Own label → OwnVal v → OwnState s → Keeps (OwnResult One) (put_property label base key v s)
+  unfolding put_property
+  put_property_keeps label (value.Primitive b) key v s p q h = ends_in tt h
+  put_property_keeps label (value.Object o) key v s p q h = put_object_keeps _ o.0 key label v s p q h
+
+  put_named_keeps : (place : Place) (walk : Label) (x : List ℕ) (v : Val) (s : State) → Own walk → OwnVal v → OwnState s → Keeps (OwnResult One) (put_named place walk x v s)
+  unfolding put_named
+  put_named_keeps (in_record i) walk x v s p q h = assigned_to_keeps (binding_at s.records i x) x i v s (own_binding count s.records i x h.records) q h
+  put_named_keeps on_global walk x v s p q h = put_object_keeps _ _ x bottom v s (own_bottom count) q h
+  put_named_keeps nowhere walk x v s p q h = throw_keeps count (OwnResult One) _ _ s p h
+
+  pub put_keeps : (n : Reference) (v : Val) (s : State) → OwnReference n → OwnVal v → OwnState s → Keeps (OwnResult One) (put_value n v s)
+  unfolding put_value
+  put_keeps (of_name x place walk) v s p q h = put_named_keeps place walk x v s p q h
+  put_keeps (of_property base key label) v s p q h = put_property_keeps _ base.value key v s (own_union count base.label label p.0 p.1) q h
+
+  -- a deletion
+  removed_if_keeps : (b : Bool) (place : Label) (o : ℕ) (key : List ℕ) (s : State) → Own place → OwnState s → Keeps OwnVal (removed_if b place o key s)
+  unfolding removed_if
+  removed_if_keeps true place o key s q h = acted_keeps OwnVal _ _ s q (own_remove count o key _ s.heap (own_need place s q h) h.heap) h
+  removed_if_keeps false place o key s q h = throw_keeps count OwnVal _ _ s q h
+
+  removed_own_keeps : (p : Option (Slot Label)) (label structure : Label) (o : ℕ) (key : List ℕ) (s : State) → IfThere OwnSlot p → Own label → Own structure → OwnState s → Keeps OwnVal (removed_own p label structure o key s)
+  unfolding removed_own
+  removed_own_keeps None label structure o key s k p q h = goes (own_union count label structure p q) h
+  removed_own_keeps (Some x) label structure o key s k p q h = removed_if_keeps x.marks.configurable _ o key s (own_union count label x.existence p k.1) h
+
+  removed_in_keeps : (p : Option (Object Label)) (label : Label) (o : ℕ) (key : List ℕ) (s : State) → IfThere OwnObject p → Own label → OwnState s → Keeps OwnVal (removed_in p label o key s)
+  unfolding removed_in
+  removed_in_keeps None label o key s k q h = goes q h
+  removed_in_keeps (Some p) label o key s k q h = removed_own_keeps (own key p.rows) label p.structure o key s (own_own count key p.rows k.rows) q k.structure h
+
+  remove_property_keeps : (label : Label) (base : Value) (key : List ℕ) (s : State) → Own label → OwnState s → Keeps OwnVal (remove_property label base key s)
+  unfolding remove_property
+  remove_property_keeps label (value.Primitive p) key s q h = ends_in tt h
+  remove_property_keeps label (value.Object o) key s q h = removed_in_keeps (slice_get s.heap o.0) label o.0 key s (each_at OwnObject s.heap o.0 h.heap) q h
+
+  pub remove_keeps : (n : Reference) (s : State) → OwnReference n → OwnState s → Keeps OwnVal (remove n s)
+  unfolding remove
+  remove_keeps (of_name x place walk) s q h = ends_in tt h
+  remove_keeps (of_property base key label) s q h = remove_property_keeps _ base.value key s (own_union count base.label label q.0 q.1) h
+
+  -- ---- acts that enter no function
+
+  needed_keeps : (b : Bool) (v : Val) (s : State) → OwnVal v → OwnState s → Keeps OwnVal (needed b v s)
+  unfolding needed
+  needed_keeps true v s q h = goes q h
+  needed_keeps false v s q h = throw_keeps count OwnVal _ _ s q h
+
+  has_keeps : (label : Label) (key : List ℕ) (v : Value) (s : State) → Own label → OwnState s → Keeps OwnVal (has label key v s)
+  unfolding has
+  has_keeps label key (value.Primitive p) s q h = ends_in tt h
+  has_keeps label key (value.Object o) s q h = goes (own_union count label _ q (own_walk_to key o.0 s h).walk) h
+
+  make_keeps : (keys : List (List ℕ)) (vs : List Val) (s : State) → Each OwnVal vs → OwnState s → Keeps OwnVal (make_object keys vs s)
+  unfolding make_object
+  make_keeps keys vs s q h =
+      let here = own_context count s.frames h.frames in
+      goes (own_bottom count) (record { frames = h.frames; heap = each_push OwnObject s.heap _ h.heap (record { link = here; structure = here; rows = own_defined_all count keys _ [] (own_slots count (context s.frames) vs here q) tt }); records = h.records; lines = h.lines })
+
+  -- the keys of a value
+  pub own_list : (heap : List (Object Label)) (v : Value) → OwnHeap heap → IfThere (λ k. Own k.walk) (key_list heap v)
+  own_list heap (value.Object o) h = own_keys count (object_chain heap o.0) (own_chain count heap o.0 h)
+  own_list heap (value.Primitive prims.Undefined) h = own_bottom count
+  own_list heap (value.Primitive prims.Null) h = own_bottom count
+  own_list heap (value.Primitive (prims.Bool b)) h = tt
+  own_list heap (value.Primitive (prims.Num n)) h = tt
+  own_list heap (value.Primitive (prims.Str t)) h = tt
+
+  pub list_keeps : (list : Option Keys) (label : Label) (next : List (List ℕ) → L (Unit {0})) (s : State) → IfThere (λ k. Own k.walk) list → Own label → ((keys : List (List ℕ)) → Keeping (OwnResult One) (next keys)) → OwnState s
+      → Keeps (OwnResult One) (with_list list label next s)
+  unfolding with_list
+  list_keeps None label next s p q k h = ends_in tt h
+  list_keeps (Some list) label next s p q k h = (bind_keeping count (OwnResult One) (OwnResult One) _ (raise_keeping count _ (own_union count label list.walk q p)) (λ u r. k list.keys)).keeps s h
+
+  -- a turn is spent
+  pub spend_keeps : (n : ℕ) (s : State) → OwnState s → Keeps (OwnResult One) (spend n s)
+  unfolding spend
+  spend_keeps zero s h = ends_in tt h
+  spend_keeps (suc n) s h = goes tt (record { frames = h.frames; heap = h.heap; records = h.records; lines = h.lines })
+
+  -- an argument
+  pub own_argument : (n : ℕ) (vs : List Val) → Each OwnVal vs → OwnVal (argument n vs)
+  own_argument n [] h = own_bottom count
+  own_argument zero (v ∷ vs) h = h.0
+  own_argument (suc n) (v ∷ vs) h = own_argument n vs h.1
+
+  -- the labels of arguments
+  pub own_labels : (vs : List Val) → Each OwnVal vs → Own (labels_of vs)
+  own_labels [] h = own_bottom count
+  own_labels (v ∷ vs) h = own_union count v.label (labels_of vs) h.0 (own_labels vs h.1)
+
+  -- those behind the first
+  pub own_others : (vs : List Val) → Each OwnVal vs → Each OwnVal (others vs)
+  own_others [] h = tt
+  own_others (v ∷ vs) h = h.1
+
+  pub act_keeping : (a : Act) (vs : List Val) → Each OwnVal vs → Keeping OwnVal (act a vs)
+  unfolding act
+  act_keeping (object_of keys) vs q = record { keeps = λ s h. make_keeps keys vs s q h }
+  act_keeping base_needed vs q = record { keeps = λ s h. needed_keeps _ _ s (own_argument 0 vs q) h }
+  act_keeping object_needed vs q = record { keeps = λ s h. needed_keeps _ _ s (own_argument 0 vs q) h }
+  act_keeping refused_declaration vs q = record { keeps = λ s h. throw_keeps count OwnVal _ _ s (own_bottom count) h }
+  act_keeping has_key vs q = record { keeps = λ s h. has_keeps _ _ _ s (own_union count _ _ (own_argument 0 vs q) (own_argument 1 vs q)) h }
+
+  -- ---- `instanceof`
+
+  -- whether an object is among the prototypes of another
+  is_instance_keeps : (label : Label) (o : ℕ) (v : Value) (s : State) → Own label → OwnState s → Keeps OwnVal (is_instance label o v s)
+  unfolding is_instance
+  is_instance_keeps label o (value.Primitive p) s q h = throw_keeps count OwnVal _ _ s q h
+  is_instance_keeps label o (value.Object proto) s q h = goes (own_union count label _ q (own_linked count proto.0 (object_chain s.heap o) (own_chain count s.heap o h.heap))) h
+
+  -- or the one that a function gives
+  instance_of_keeps : (v : Val) (base : Value) (f : Val) (s : State) → OwnVal v → OwnVal f → OwnState s → Keeps OwnVal (instance_of v base f s)
+  unfolding instance_of
+  instance_of_keeps v (value.Primitive p) f s q r h = goes (own_union count v.label f.label q r) h
+  instance_of_keeps v (value.Object o) f s q r h = (bind_keeping count OwnVal OwnVal _ (record { keeps = λ s h. property_keeps f.label f.value prototype_name s r h })
+      (λ proto p. record { keeps = λ s h. is_instance_keeps _ o.0 proto.value s (own_union count v.label _ q (own_union count f.label proto.label r p)) h })).keeps s h
+
+  -- of a value that may be no function
+  pub instance_keeps : (b : Bool) (v f : Val) (s : State) → OwnVal v → OwnVal f → OwnState s → Keeps OwnVal (instance_if b v f s)
+  unfolding instance_if
+  instance_keeps true v f s q r h = instance_of_keeps v v.value f s q r h
+  instance_keeps false v f s q r h = throw_keeps count OwnVal _ _ s r h

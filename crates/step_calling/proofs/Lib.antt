@@ -1,0 +1,4 @@
+pub mod CallLaws
+pub mod StandingLaws
+pub mod ThrowLaws
+pub mod ValueLaws

@@ -1,0 +1,14 @@
+//! Calls, constructions and functions (ECMA-262 11.2.2, 11.2.3, 13): what is called stands in a frame of its own, and what it is decides there.
+#![tactic(auto)]
+
+mod calls;
+mod constructions;
+mod entries;
+mod making;
+mod refusals;
+mod values;
+
+pub use calls::call;
+pub use constructions::construct;
+pub use making::function;
+pub use values::{callee, constructor};

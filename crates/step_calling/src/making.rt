@@ -1,0 +1,50 @@
+//! Functions as values (ECMA-262 13).
+
+ghost use Rattle.std.specs.Prelude.{◌≡◌, IfErr, IfOk};
+ghost use Rattle.origin_labels.specs.Stores.{IsKept};
+ghost use Rattle.flow_frames.specs.Stops.{IfStop};
+ghost use Rattle.flow_policy.specs.Policies.{Tables};
+ghost use Rattle.flow_policy.specs.Inputs.{Given};
+ghost use Rattle.function_table.specs.Tables.{table};
+ghost use Rattle.step_world.specs.Worlds.{Grows};
+ghost use Rattle.step_work.specs.declared.work.Next.TheVariants as next;
+ghost use Rattle.step_work.specs.Going.{Begins, Lowers, here};
+ghost use Rattle.step_work.specs.Kept.{scopes_of};
+ghost use Rattle.step_work.specs.Pending.{env_above, values_of};
+ghost use Rattle.step_work.specs.Standing.{Standing};
+ghost use Rattle.step_work.specs.Stops.{HasStop};
+
+use crate::entries::reference;
+use flow_frames::FlowFault;
+use function_table::Functions;
+use js_ast::Function;
+use js_values::EnvId;
+use origin_labels::Labels;
+use std::alloc::Global;
+use step_entries::make_function;
+use step_work::{Next, Stack};
+use step_world::World;
+
+/// A function of the script comes to a value, which closes over the present record. It depends on nothing.
+pub fn function<'p, L: Labels>(
+    alloc: Global,
+    labels: &mut L,
+    world: &mut World<L::Label>,
+    functions: &Functions<'p>,
+    stack: &mut Stack<'p, L::Label>,
+    place: EnvId,
+    f: &'p Function,
+) -> Result<Next<'p>, FlowFault<L::Label>>
+    requires place { (env_above stack.old.tasks here).place ≡ place.0 }
+    requires standing { Standing L.made L.meaning labels.old stack.old world.old (values_of (next.Function f)) (scopes_of stack.old.tasks) (next.Function f) }
+    ensures begins { (tables : Tables) (inputs : Given) → Begins L.made L.meaning labels.new tables inputs (table functions.now) stack.old stack.new world.old world.new (next.Function f.entry) result }
+    ensures standing { IfOk result (λ move. Standing L.made L.meaning labels.new stack.new world.new (values_of move) (scopes_of stack.new.tasks) move) }
+    ensures lowers { IfOk result (λ move. Lowers stack.old (next.Function f.entry) stack.new move) }
+    ensures stopped { IfErr result (IfStop (HasStop (L.made labels.new))) }
+    ensures grows { Grows world.old world.new }
+    ensures kept { IsKept L.made L.meaning L.room L.firm labels.old labels.new }
+{
+    let made = make_function(alloc, labels, world, functions, f, place)?;
+    stack.lay(reference(labels, made))?;
+    Ok(Next::Value)
+}

@@ -1,0 +1,106 @@
+//! The value that is called, before its arguments, and the values of a call.
+
+ghost use Rattle.std.specs.Prelude.{◌≡◌, ◌≤◌, ◌+◌, ◌++◌, length, drop, IfErr, IfOk};
+ghost use Rattle.origin_labels.specs.Stores.{IsKept};
+ghost use Rattle.flow_frames.specs.Stops.{IfStop};
+ghost use Rattle.flow_policy.specs.Policies.{Tables};
+ghost use Rattle.flow_policy.specs.Inputs.{Given};
+ghost use Rattle.js_ast.specs.Functions.{FunctionCode};
+ghost use Rattle.std.specs.Prelude.{List};
+ghost use Rattle.step_world.specs.Worlds.{Grows};
+ghost use Rattle.step_work.specs.declared.work.Next.TheVariants as next;
+ghost use Rattle.step_work.specs.declared.work.Work.TheVariants as work;
+ghost use Rattle.step_work.specs.Going.{Resumes};
+ghost use Rattle.step_work.specs.Kept.{scope_of, scopes_of};
+ghost use Rattle.step_work.specs.Loads.{Adds, weight};
+ghost use Rattle.step_work.specs.Pending.{owns, values_of};
+ghost use Rattle.step_work.specs.Standing.{Standing};
+ghost use Rattle.step_work.specs.Stops.{HasStop};
+ghost use Rattle.step_calling.specs.Calling.{Leads, object_in};
+
+use flow_frames::FlowFault;
+use flow_text::OutOfMemory;
+use js_ast::Expr;
+use js_number::Primitive;
+use js_values::{Labelled, ObjId, Value};
+use origin_labels::Labels;
+use std::alloc::Global;
+use step_work::{Calling, Next, Stack, begin_arguments};
+use step_world::World;
+
+/// The value is called with these arguments (ECMA-262 11.2.3). It is no reference, and `this` is undefined.
+pub fn callee<'p, L: Labels>(
+    labels: &mut L,
+    world: &mut World<L::Label>,
+    stack: &mut Stack<'p, L::Label>,
+    args: &'p [Expr],
+) -> Result<Next<'p>, FlowFault<L::Label>>
+    requires standing { Standing L.made L.meaning labels.old stack.old world.old (owns (work.Callee args) + 1) (scopes_of stack.old.tasks ++ scope_of (work.Callee args)) next.Value }
+    ensures resumes { (tables : Tables) (inputs : Given) (functions : List FunctionCode) → Resumes L.made L.meaning labels.new tables inputs functions (work.Callee args.entry) stack.old stack.new world.old world.new result }
+    ensures standing { IfOk result (λ move. Standing L.made L.meaning labels.new stack.new world.new (values_of move) (scopes_of stack.new.tasks) move) }
+    ensures adds { IfOk result (Adds (weight (work.Callee args.entry)) stack.old stack.new) }
+    ensures stopped { IfErr result (IfStop (HasStop (L.made labels.new))) }
+    ensures grows { Grows world.old world.new }
+    ensures kept { IsKept L.made L.meaning L.room L.firm labels.old labels.new }
+{
+    let _world = &*world;
+    stack.lay(Labelled {
+        value: Value::Primitive(Primitive::Undefined),
+        label: labels.bottom(),
+    })?;
+    let next = begin_arguments(stack, Calling::Calls, 0, args)?;
+    Ok(next)
+}
+
+/// The value makes an object with these arguments (ECMA-262 11.2.2).
+pub fn constructor<'p, L: Labels>(
+    labels: &mut L,
+    world: &mut World<L::Label>,
+    stack: &mut Stack<'p, L::Label>,
+    args: &'p [Expr],
+) -> Result<Next<'p>, FlowFault<L::Label>>
+    requires standing { Standing L.made L.meaning labels.old stack.old world.old (owns (work.Constructor args) + 1) (scopes_of stack.old.tasks ++ scope_of (work.Constructor args)) next.Value }
+    ensures resumes { (tables : Tables) (inputs : Given) (functions : List FunctionCode) → Resumes L.made L.meaning labels.new tables inputs functions (work.Constructor args.entry) stack.old stack.new world.old world.new result }
+    ensures standing { IfOk result (λ move. Standing L.made L.meaning labels.new stack.new world.new (values_of move) (scopes_of stack.new.tasks) move) }
+    ensures adds { IfOk result (Adds (weight (work.Constructor args.entry)) stack.old stack.new) }
+    ensures stopped { IfErr result (IfStop (HasStop (L.made labels.new))) }
+    ensures grows { Grows world.old world.new }
+    ensures kept { IsKept L.made L.meaning L.room L.firm labels.old labels.new }
+{
+    let _labels = &*labels;
+    let _world = &*world;
+    let next = begin_arguments(stack, Calling::Constructs, 0, args)?;
+    Ok(next)
+}
+
+/// What is called, or constructs.
+pub(crate) fn leading<'s, T: Copy>(stack: &'s Stack<'_, T>, count: usize) -> &'s Labelled<T>
+    requires count { count ≡ length stack.now.loose }
+    requires enough { 1 ≤ count }
+    ensures { Leads stack.now.loose result.now }
+{
+    &stack.loose(count)[0]
+}
+
+/// The `this` of a call.
+pub(crate) fn this_of<T: Copy>(
+    alloc: Global,
+    stack: &Stack<'_, T>,
+    count: usize,
+) -> Result<Labelled<T>, OutOfMemory>
+    requires count { count ≡ length stack.now.loose }
+    requires enough { 2 ≤ count }
+    ensures { IfOk result (Leads (drop 1 stack.now.loose)) }
+{
+    stack.loose(count)[1].copy(alloc)
+}
+
+/// The object that a value is, if it is one.
+pub(crate) fn object_in(value: &Value) -> Option<ObjId>
+    ensures { result ≡ object_in value.now }
+{
+    match value {
+        Value::Object(object) => Some(*object),
+        Value::Primitive(_) => None,
+    }
+}

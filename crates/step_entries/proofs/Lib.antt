@@ -1,0 +1,9 @@
+pub mod ArgumentLaws
+pub mod BindingLaws
+pub mod CalleeLaws
+pub mod DeclaringLaws
+pub mod EnterLaws
+pub mod EntryLaws
+pub mod FunctionLaws
+pub mod MakingLaws
+pub mod WorldLaws

@@ -1,0 +1,148 @@
+//! Throws, returns, breaks and continues (ECMA-262 12.7 to 12.9, 12.13).
+
+ghost use Rattle.std.specs.Prelude.{◌≡◌, ◌+◌, ◌++◌, List, [], length, IfErr, IfOk, OnOk};
+ghost use Rattle.origin_labels.specs.Stores.{IsKept};
+ghost use Rattle.flow_frames.specs.Stops.{IfStop};
+ghost use Rattle.flow_policy.specs.Policies.{Tables};
+ghost use Rattle.flow_policy.specs.Inputs.{Given};
+ghost use Rattle.js_ast.specs.Functions.{FunctionCode};
+ghost use Rattle.js_ast.specs.Views.{view_name};
+ghost use Rattle.es_meaning.specs.Environments.{find_around};
+ghost use Rattle.es_meaning.specs.Evaluation.{text_of_label};
+ghost use Rattle.step_world.specs.Worlds.{Grows};
+ghost use Rattle.step_work.specs.declared.work.Next.TheVariants as next;
+ghost use Rattle.step_work.specs.declared.work.Work.TheVariants as work;
+ghost use Rattle.step_work.specs.Going.{Begins, Resumes, here};
+ghost use Rattle.step_work.specs.Kept.{operands_of, scope_of, scopes_of};
+ghost use Rattle.step_work.specs.Loads.{Adds, lift, weight};
+ghost use Rattle.step_work.specs.Pending.{env_above, owns, values_of};
+ghost use Rattle.step_work.specs.Standing.{Standing};
+ghost use Rattle.step_work.specs.Stops.{HasStop};
+ghost use Rattle.step_jumps.specs.Issuing.{IsNothing, IssuesAt};
+
+use crate::again::jump_again;
+use flow_frames::FlowFault;
+use flow_text::OutOfMemory;
+use js_ast::Ident;
+use js_number::Primitive;
+use js_values::{Labelled, Value};
+use origin_labels::Labels;
+use step_work::{Jump, Next, Stack};
+use step_world::World;
+
+/// A jump is issued whose value lies loose.
+fn issue<'p, L: Labels>(
+    labels: &mut L,
+    world: &mut World<L::Label>,
+    stack: &Stack<'p, L::Label>,
+    jump: Jump,
+) -> Result<Next<'p>, FlowFault<L::Label>>
+    requires standing { Standing L.made L.meaning labels.old stack.now world.old 1 (scopes_of stack.now.tasks ++ []) next.Value }
+    ensures issues { (tables : Tables) (inputs : Given) (functions : List FunctionCode) → IssuesAt L.made L.meaning labels.new tables inputs functions jump stack.now world.old world.new result }
+    ensures standing { IfOk result (λ move. Standing L.made L.meaning labels.new stack.now world.new (values_of move) (scopes_of stack.now.tasks) move) }
+    ensures adds { IfOk result (Adds 1 stack.now stack.now) }
+    ensures stopped { IfErr result (IfStop (HasStop (L.made labels.new))) }
+    ensures grows { Grows world.old world.new }
+    ensures kept { IsKept L.made L.meaning L.room L.firm labels.old labels.new }
+{
+    let _stack = stack;
+    jump_again(labels, &mut world.frames, jump)?;
+    Ok(Next::Jumps(jump))
+}
+
+/// `throw` (ECMA-262 12.13): its value goes to what catches it, or ends the run.
+pub fn throw_value<'p, L: Labels>(
+    labels: &mut L,
+    world: &mut World<L::Label>,
+    stack: &mut Stack<'p, L::Label>,
+) -> Result<Next<'p>, FlowFault<L::Label>>
+    requires standing { Standing L.made L.meaning labels.old stack.old world.old (owns work.Throw + 1) (scopes_of stack.old.tasks ++ scope_of work.Throw) next.Value }
+    ensures resumes { (tables : Tables) (inputs : Given) (functions : List FunctionCode) → Resumes L.made L.meaning labels.new tables inputs functions work.Throw stack.old stack.new world.old world.new result }
+    ensures standing { IfOk result (λ move. Standing L.made L.meaning labels.new stack.new world.new (values_of move) (scopes_of stack.new.tasks) move) }
+    ensures adds { IfOk result (Adds (weight work.Throw) stack.old stack.new) }
+    ensures stopped { IfErr result (IfStop (HasStop (L.made labels.new))) }
+    ensures grows { Grows world.old world.new }
+    ensures kept { IsKept L.made L.meaning L.room L.firm labels.old labels.new }
+{
+    issue(labels, world, stack, Jump::Throws)
+}
+
+/// `return` with a value (ECMA-262 12.9), to the call in the frame at a depth.
+pub fn return_value<'p, L: Labels>(
+    labels: &mut L,
+    world: &mut World<L::Label>,
+    stack: &mut Stack<'p, L::Label>,
+    to: usize,
+) -> Result<Next<'p>, FlowFault<L::Label>>
+    requires aim { (env_above stack.old.tasks here).call ≡ to }
+    requires standing { Standing L.made L.meaning labels.old stack.old world.old (owns work.Return + 1) (scopes_of stack.old.tasks ++ scope_of work.Return) next.Value }
+    ensures resumes { (tables : Tables) (inputs : Given) (functions : List FunctionCode) → Resumes L.made L.meaning labels.new tables inputs functions work.Return stack.old stack.new world.old world.new result }
+    ensures standing { IfOk result (λ move. Standing L.made L.meaning labels.new stack.new world.new (values_of move) (scopes_of stack.new.tasks) move) }
+    ensures adds { IfOk result (Adds (weight work.Return) stack.old stack.new) }
+    ensures stopped { IfErr result (IfStop (HasStop (L.made labels.new))) }
+    ensures grows { Grows world.old world.new }
+    ensures kept { IsKept L.made L.meaning L.room L.firm labels.old labels.new }
+{
+    issue(labels, world, stack, Jump::Returns(to))
+}
+
+/// Lays undefined, which depends on nothing.
+fn lay_nothing<'p, L: Labels>(
+    labels: &L,
+    stack: &mut Stack<'p, L::Label>,
+) -> Result<(), OutOfMemory>
+    requires loose { length stack.old.loose ≡ 0 }
+    ensures tasks { stack.new.tasks ≡ stack.old.tasks }
+    ensures laid { OnOk result (IsNothing L.made L.meaning labels.now stack.new.loose) }
+{
+    stack.lay(Labelled {
+        value: Value::Primitive(Primitive::Undefined),
+        label: labels.bottom(),
+    })?;
+    Ok(())
+}
+
+/// `return` without a value (ECMA-262 12.9).
+pub fn return_nothing<'p, L: Labels>(
+    labels: &mut L,
+    world: &mut World<L::Label>,
+    stack: &mut Stack<'p, L::Label>,
+    to: usize,
+) -> Result<Next<'p>, FlowFault<L::Label>>
+    requires aim { (env_above stack.old.tasks here).call ≡ to }
+    requires standing { Standing L.made L.meaning labels.old stack.old world.old (values_of next.Return) (scopes_of stack.old.tasks) next.Return }
+    ensures begins { (tables : Tables) (inputs : Given) (functions : List FunctionCode) → Begins L.made L.meaning labels.new tables inputs functions stack.old stack.new world.old world.new next.Return result }
+    ensures standing { IfOk result (λ move. Standing L.made L.meaning labels.new stack.new world.new (values_of move) (scopes_of stack.new.tasks) move) }
+    ensures adds { IfOk result (Adds 1 stack.old stack.new) }
+    ensures stopped { IfErr result (IfStop (HasStop (L.made labels.new))) }
+    ensures grows { Grows world.old world.new }
+    ensures kept { IsKept L.made L.meaning L.room L.firm labels.old labels.new }
+{
+    lay_nothing(labels, stack)?;
+    issue(labels, world, stack, Jump::Returns(to))
+}
+
+/// `break` and `continue` (ECMA-262 12.7, 12.8): behind the loop, the turn or the statement that is ended, of which is known how many are round it and in the frame at which depth it stands. Where there is none, nothing is left.
+pub fn leave_by<'p, L: Labels>(
+    labels: &mut L,
+    world: &mut World<L::Label>,
+    stack: &mut Stack<'p, L::Label>,
+    turn: bool,
+    label: &'p Option<Ident>,
+    aim: Option<(usize, usize)>,
+) -> Result<Next<'p>, FlowFault<L::Label>>
+    requires aim { aim ≡ find_around turn (text_of_label (view_name label.now)) (env_above stack.old.tasks here).around }
+    requires standing { Standing L.made L.meaning labels.old stack.old world.old (values_of (next.Break turn label)) (scopes_of stack.old.tasks) (next.Break turn label) }
+    ensures begins { (tables : Tables) (inputs : Given) (functions : List FunctionCode) → Begins L.made L.meaning labels.new tables inputs functions stack.old stack.new world.old world.new (next.Break turn label.entry) result }
+    ensures standing { IfOk result (λ move. Standing L.made L.meaning labels.new stack.new world.new (values_of move) (scopes_of stack.new.tasks) move) }
+    ensures adds { IfOk result (Adds 1 stack.old stack.new) }
+    ensures stopped { IfErr result (IfStop (HasStop (L.made labels.new))) }
+    ensures grows { Grows world.old world.new }
+    ensures kept { IsKept L.made L.meaning L.room L.firm labels.old labels.new }
+{
+    let Some((count, to)) = aim else {
+        return Ok(Next::Done);
+    };
+    lay_nothing(labels, stack)?;
+    issue(labels, world, stack, Jump::Leaves(count, to))
+}

@@ -1,0 +1,25 @@
+use Rattle.js_values.specs.Readings.{read_value}
+use Rattle.es_meaning.specs.Operations.{Value}
+use Rattle.origin_labels.proofs.StoreLaws.{IsKept-trans}
+use Rattle.step_world.proofs.ActLaws.{Belongs-later}
+use Rattle.step_names.proofs.MeansLaws.{means_later}
+use Rattle.step_objects.proofs.InstanceLaws.{labels_joined, instance_among, instance_refused}
+use Rattle.step_objects.proofs.instances.is_instance.Goals as goal
+
+pub returns-in_err-read-clause-belongs : goal.returns-in_err-read-clause-belongs
+returns-in_err-read-clause-belongs g c = Belongs-later g.L.Labels.made g.L.Labels.meaning g.L.Labels.room g.L.Labels.firm c.args.labels.now c.join.new.labels (c.join.ensures.kept) g.met.L.Labels.rising c.args.world.now c.requires.belongs
+
+pub returns-in_err-label-clause-belongs : goal.returns-in_err-label-clause-belongs
+returns-in_err-label-clause-belongs g c = Belongs-later g.L.Labels.made g.L.Labels.meaning g.L.Labels.room g.L.Labels.firm c.args.labels.now c.join-2.new.labels (IsKept-trans _ _ _ _ _ _ _ c.join.ensures.kept c.join-2.ensures.kept) g.met.L.Labels.rising c.args.world.now c.requires.belongs
+
+pub throw_error-requires-clause-belongs : goal.throw_error-requires-clause-belongs
+throw_error-requires-clause-belongs g c = Belongs-later g.L.Labels.made g.L.Labels.meaning g.L.Labels.room g.L.Labels.firm c.args.labels.now c.join-2.new.labels (IsKept-trans _ _ _ _ _ _ _ c.in_ok-read.ensures.kept c.in_ok-label.ensures.kept) g.met.L.Labels.rising c.args.world.now c.requires.belongs
+
+pub returns-in_default-clause-acts : goal.returns-in_default-clause-acts
+returns-in_default-clause-acts g c = instance_refused g.L.Labels.made g.L.Labels.meaning c.throw_error.new.labels c.args.world.now c.throw_error.new.world c.args.o.0 c.args.value c.args.function c.args.proto c.in_ok-label.label (means_later g.L.Labels.made g.L.Labels.meaning g.L.Labels.room g.L.Labels.firm c.join-2.new.labels c.throw_error.new.labels (c.throw_error.ensures.kept) c.in_ok-label.label _ (labels_joined g.L.Labels.made g.L.Labels.meaning g.L.Labels.room g.L.Labels.firm c.join.new.labels c.join-2.new.labels c.in_ok-label.ensures.kept c.args.value c.args.function c.args.proto.label c.in_ok-read.read c.in_ok-label.label c.in_ok-read.ensures.means c.in_ok-label.ensures.means)) c.in_default.field-0 c.in_default.is c.throw_error.result (c.throw_error.ensures.acts Value (λ reading. read_value reading))
+
+pub has_prototype-requires-clause-belongs : goal.has_prototype-requires-clause-belongs
+has_prototype-requires-clause-belongs g c = Belongs-later g.L.Labels.made g.L.Labels.meaning g.L.Labels.room g.L.Labels.firm c.args.labels.now c.join-2.new.labels (IsKept-trans _ _ _ _ _ _ _ c.in_ok-read.ensures.kept c.in_ok-label.ensures.kept) g.met.L.Labels.rising c.args.world.now c.requires.belongs
+
+pub returns-clause-acts : goal.returns-clause-acts
+returns-clause-acts g c = instance_among g.L.Labels.made g.L.Labels.meaning c.has_prototype.new.labels c.args.world.now c.args.o.0 c.args.value c.args.function c.args.proto c.in_ok-label.label (means_later g.L.Labels.made g.L.Labels.meaning g.L.Labels.room g.L.Labels.firm c.join-2.new.labels c.has_prototype.new.labels (c.has_prototype.ensures.kept) c.in_ok-label.label _ (labels_joined g.L.Labels.made g.L.Labels.meaning g.L.Labels.room g.L.Labels.firm c.join.new.labels c.join-2.new.labels c.in_ok-label.ensures.kept c.args.value c.args.function c.args.proto.label c.in_ok-read.read c.in_ok-label.label c.in_ok-read.ensures.means c.in_ok-label.ensures.means)) c.in-Object.p c.in-Object.is c.has_prototype.result c.has_prototype.ensures.acts

@@ -1,0 +1,18 @@
+use Rattle.std.proofs.Common.{◌≡◌, ◌∙◌, ap, subst, Some}
+use Rattle.js_values.specs.Readings.{read_value}
+use Rattle.std.proofs.Common.{map}
+use Rattle.step_work.specs.declared.work.Next.TheVariants as next
+use Rattle.step_work.specs.declared.work.Work.TheVariants as work
+use Rattle.step_work.specs.Pending.{behind, env_above, first_or_undefined}
+use Rattle.step_switches.specs.Clauses.{found_test, testing}
+use Rattle.step_switches.proofs.Pushed.{pushed_plan}
+use Rattle.step_switches.proofs.testing.test_from.Goals as goal
+
+pub returns-clause-goes_on : goal.returns-clause-goes_on
+returns-clause-goes_on g c = λ tables inputs functions reading e s.
+    let f = env_above c.args.stack.now.tasks e in
+    let v = first_or_undefined (map (read_value reading) c.args.stack.now.loose) in
+    pushed_plan tables inputs functions reading (work.Compared c.args.all c.in-Some.test.number) (next.Expr c.in-Some.test.test) c.args.stack.now c.push.new.self e s c.in_ok-push.ensures.ok
+    ∙ ap (behind tables inputs functions reading c.args.stack.now.tasks e)
+    (subst (λ xs. found_test tables inputs functions xs (Some c.in-Some.test) v f s ≡ testing tables inputs functions xs c.args.from v f s) c.items.ensures
+    (subst (λ o. found_test tables inputs functions c.items.result.now o v f s ≡ testing tables inputs functions c.items.result.now c.args.from v f s) c.in-Some.is (c.in_ok-test.ensures tables inputs functions v f s)))

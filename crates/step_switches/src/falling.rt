@@ -1,0 +1,37 @@
+//! The statements of clauses, one behind the other.
+
+ghost use Rattle.std.specs.Prelude.{◌≡◌, ◌+◌, length, IfOk};
+ghost use Rattle.step_work.specs.Loads.{Adds};
+ghost use Rattle.step_work.specs.Resuming.{Begins, Keeps};
+ghost use Rattle.step_switches.specs.Clauses.{falling};
+
+use crate::clauses::next_statement;
+use flow_text::OutOfMemory;
+use js_ast::Clause;
+use step_work::{Next, Stack, Work};
+
+/// The statements of the first clause from a number on, and then those of the other clauses.
+pub(crate) fn fall<'p, T: Copy>(
+    stack: &mut Stack<'p, T>,
+    clauses: &'p [Clause],
+    number: u32,
+) -> Result<Next<'p>, OutOfMemory>
+    requires loose { length stack.old.loose ≡ 0 }
+    ensures goes_on { IfOk result (Begins (λ tables inputs functions e. falling tables inputs functions number clauses.entry.now e) stack.old stack.new) }
+    ensures keeps { IfOk result (Keeps stack.old stack.new) }
+    ensures adds { IfOk result (Adds 1 stack.old stack.new) }
+{
+    let Some(found) = next_statement(clauses, number) else {
+        return Ok(Next::Done);
+    };
+    let behind = one_more(found.number)?;
+    stack.push(Work::Falls(found.clauses, behind))?;
+    Ok(Next::Stmt(found.statement))
+}
+
+/// The next number.
+pub(crate) fn one_more(number: u32) -> Result<u32, OutOfMemory>
+    ensures { IfOk result (λ next. next ≡ number + 1) }
+{
+    number.checked_add(1).ok_or(OutOfMemory)
+}

@@ -1,0 +1,402 @@
+//! `try` statements (ECMA-262 12.14): the block, the handler and what is done last, all in one frame.
+
+ghost use Rattle.std.specs.Prelude.{◌≡◌, ◌+◌, ◌++◌, ◌∷◌, [], List, Some, Ok, true, length, drop, IfErr, IfOk, OnOk};
+ghost use Rattle.origin_labels.specs.Label.{Label};
+ghost use Rattle.origin_labels.specs.Stores.{IsKept};
+ghost use Rattle.flow_policy.specs.Policies.{Tables};
+ghost use Rattle.flow_policy.specs.Inputs.{Given};
+ghost use Rattle.flow_frames.specs.Held.{Belong, CatchByTry};
+ghost use Rattle.flow_frames.specs.Stops.{IfStop};
+ghost use Rattle.js_ast.specs.Functions.{FunctionCode};
+ghost use Rattle.js_ast.specs.Views.{view_block, view_ident, view_stmt};
+ghost use Rattle.js_values.specs.declared.value.Labelled.{Labelled as LabelledOf};
+ghost use Rattle.es_meaning.specs.Evaluation.{statements as statements_meant, stmt_step};
+ghost use Rattle.es_meaning.specs.Environments.{with_place};
+ghost use Rattle.es_meaning.specs.Operations.{One};
+ghost use Rattle.es_meaning.specs.Outcomes.{ret};
+ghost use Rattle.es_meaning.specs.Plain.{choose, undefined};
+ghost use Rattle.flow_meaning.specs.Erased.{unlabelled};
+ghost use Rattle.flow_meaning.specs.Planned.{and_plan, as_plan, asking, end_handler as end_handler_meant, end_last as end_last_meant, gave, planned, Give};
+ghost use Rattle.flow_meaning.specs.Scopes.{State, quiet};
+ghost use Rattle.step_world.specs.Worlds.{Belongs, Grows};
+ghost use Rattle.step_work.specs.declared.work.Next.TheVariants as next;
+ghost use Rattle.step_work.specs.declared.work.Work.TheVariants as work;
+ghost use Rattle.step_work.specs.Going.{Begins as BeginsHere, Passes, Resumes, here};
+ghost use Rattle.step_work.specs.Kept.{operands_of, scope_of, scopes_of};
+ghost use Rattle.step_work.specs.Loads.{Adds, lift, weight};
+ghost use Rattle.step_work.specs.Moving.{BeginsAt, BeginsWith};
+ghost use Rattle.step_work.specs.Pending.{env_above, last_of, owns, owns_waiting, values_of};
+ghost use Rattle.step_work.specs.Resuming.{BeginsBehind, Keeps, with_frames};
+ghost use Rattle.step_work.specs.Shapes.{finishes as finishes_meant, waiting_of};
+ghost use Rattle.step_work.specs.Standing.{Standing};
+ghost use Rattle.step_work.specs.Stops.{HasStop};
+ghost use Rattle.step_tries.specs.Parts.{is_try, statements_in, tried_in};
+ghost use Rattle.step_tries.specs.Trying.{EndsAt, catching_plan, ending_plan, last_plan, reacting_plan, trying_plan};
+
+use crate::parts::{caught, finishes, last, statements, tried};
+use crate::quieting::quiet_last;
+use flow_frames::{FlowFault, Frames, Kind};
+use flow_text::OutOfMemory;
+use js_ast::{Block, Ident, Stmt};
+use js_values::EnvId;
+use origin_labels::Labels;
+use std::alloc::Global;
+use step_entries::bind_name;
+use step_jumps::jump_again;
+use step_work::{Jump, Next, Stack, Work, begin_statements};
+use step_world::World;
+
+// ---- what is done last
+
+/// The statements that are done last, and behind them the jump that waits.
+fn begin_last<'p, T: Copy>(
+    stack: &mut Stack<'p, T>,
+    block: &'p Block,
+    waiting: Option<Jump>,
+) -> Result<Next<'p>, OutOfMemory>
+    requires { length stack.old.loose ≡ owns_waiting waiting }
+    ensures goes_on { IfOk result (BeginsBehind (λ tables inputs functions vs e s. and_plan (statements_meant (planned tables inputs functions) (asking tables inputs functions) (statements_in (view_block block.entry.now)) e s) (end_last_meant (waiting_of waiting vs))) stack.old stack.new) }
+    ensures keeps { IfOk result (Keeps stack.old stack.new) }
+    ensures adds { IfOk result (Adds 2 stack.old stack.new) }
+{
+    stack.push(Work::EndLast(waiting))?;
+    begin_statements(stack, statements(block))
+}
+
+/// Nothing is left to be done in the frame but the jump that waits, which is issued again.
+fn leave<'p, L: Labels>(
+    labels: &mut L,
+    world: &mut World<L::Label>,
+    stack: &mut Stack<'p, L::Label>,
+    waiting: Option<Jump>,
+) -> Result<Next<'p>, FlowFault<L::Label>>
+    requires standing { Standing L.made L.meaning labels.old stack.old world.old (owns_waiting waiting) (scopes_of stack.old.tasks) next.Value }
+    ensures begins { BeginsWith L.made L.meaning labels.new (ending_plan waiting stack.old.loose) stack.old stack.new world.old world.new result }
+    ensures standing { IfOk result (λ move. Standing L.made L.meaning labels.new stack.new world.new (values_of move) (scopes_of stack.new.tasks) move) }
+    ensures adds { IfOk result (Adds 1 stack.old stack.new) }
+    ensures stopped { IfErr result (IfStop (HasStop (L.made labels.new))) }
+    ensures grows { Grows world.old world.new }
+    ensures kept { IsKept L.made L.meaning L.room L.firm labels.old labels.new }
+{
+    let _waiting = &*stack;
+    match waiting {
+        None => Ok(Next::Done),
+        Some(jump) => {
+            jump_again(labels, &mut world.frames, jump)?;
+            Ok(Next::Jumps(jump))
+        }
+    }
+}
+
+/// The frame catches no longer, and what is done last is done.
+fn finish<'p, L: Labels>(
+    labels: &mut L,
+    world: &mut World<L::Label>,
+    stack: &mut Stack<'p, L::Label>,
+    s: &'p Stmt,
+    waiting: Option<Jump>,
+) -> Result<Next<'p>, FlowFault<L::Label>>
+    requires standing { Standing L.made L.meaning labels.old stack.old world.old (owns_waiting waiting) (scopes_of stack.old.tasks) next.Value }
+    ensures begins { BeginsWith L.made L.meaning labels.new (last_plan (view_stmt s.entry.now) waiting stack.old.loose) stack.old stack.new world.old world.new result }
+    ensures standing { IfOk result (λ move. Standing L.made L.meaning labels.new stack.new world.new (values_of move) (scopes_of stack.new.tasks) move) }
+    ensures adds { IfOk result (Adds 2 stack.old stack.new) }
+    ensures stopped { IfErr result (IfStop (HasStop (L.made labels.new))) }
+    ensures grows { Grows world.old world.new }
+    ensures kept { IsKept L.made L.meaning L.room L.firm labels.old labels.new }
+{
+    quiet_last(labels, &mut world.frames);
+    match last(s) {
+        Some(block) => {
+            let next = begin_last(stack, block, waiting)?;
+            Ok(next)
+        }
+        None => leave(labels, world, stack, waiting),
+    }
+}
+
+/// What is done last is over: the jump that waited is issued again, if one did.
+pub fn end_last<'p, L: Labels>(
+    labels: &mut L,
+    world: &mut World<L::Label>,
+    stack: &mut Stack<'p, L::Label>,
+    waiting: Option<Jump>,
+) -> Result<Next<'p>, FlowFault<L::Label>>
+    requires standing { Standing L.made L.meaning labels.old stack.old world.old (owns (work.EndLast waiting)) (scopes_of stack.old.tasks ++ scope_of (work.EndLast waiting)) next.Value }
+    ensures resumes { (tables : Tables) (inputs : Given) (functions : List FunctionCode) → Resumes L.made L.meaning labels.new tables inputs functions (work.EndLast waiting) stack.old stack.new world.old world.new result }
+    ensures standing { IfOk result (λ move. Standing L.made L.meaning labels.new stack.new world.new (values_of move) (scopes_of stack.new.tasks) move) }
+    ensures adds { IfOk result (Adds (weight (work.EndLast waiting)) stack.old stack.new) }
+    ensures stopped { IfErr result (IfStop (HasStop (L.made labels.new))) }
+    ensures grows { Grows world.old world.new }
+    ensures kept { IsKept L.made L.meaning L.room L.firm labels.old labels.new }
+{
+    leave(labels, world, stack, waiting)
+}
+
+// ---- the handler
+
+/// The statements of the handler, whose record was made.
+fn begin_handler<'p, T: Copy>(
+    stack: &mut Stack<'p, T>,
+    s: &'p Stmt,
+    own: EnvId,
+    depth: usize,
+    block: &'p Block,
+) -> Result<Next<'p>, OutOfMemory>
+    requires { length stack.old.loose ≡ 0 }
+    ensures goes_on { IfOk result (BeginsBehind (λ tables inputs functions vs e t. and_plan (statements_meant (planned tables inputs functions) (asking tables inputs functions) (statements_in (view_block block.entry.now)) (with_place own.0 e) t) (end_handler_meant (finishes_meant (view_stmt s.entry.now)) (last_of tables inputs functions (view_stmt s.entry.now) e) depth)) stack.old stack.new) }
+    ensures keeps { IfOk result (Keeps stack.old stack.new) }
+    ensures adds { IfOk result (Adds 3 stack.old stack.new) }
+{
+    stack.push(Work::EndHandler(s, own, depth))?;
+    begin_statements(stack, statements(block))
+}
+
+/// What lies loose is caught: it has a name in the handler, in a record of its own.
+fn catch_value<'p, L: Labels>(
+    alloc: Global,
+    labels: &mut L,
+    world: &mut World<L::Label>,
+    stack: &mut Stack<'p, L::Label>,
+    place: EnvId,
+    s: &'p Stmt,
+    depth: usize,
+    ident: &'p Ident,
+    block: &'p Block,
+) -> Result<Next<'p>, OutOfMemory>
+    requires standing { Standing L.made L.meaning labels.old stack.old world.old 1 (scopes_of stack.old.tasks) next.Value }
+    ensures begins { IfOk result (λ move. BeginsAt L.made L.meaning labels.new place.0 (catching_plan (view_stmt s.entry.now) depth (view_ident ident.entry.now) (view_block block.entry.now) stack.old.loose) stack.old stack.new world.old world.new (Ok move)) }
+    ensures standing { IfOk result (λ move. Standing L.made L.meaning labels.new stack.new world.new (values_of move) (scopes_of stack.new.tasks) move) }
+    ensures adds { IfOk result (Adds 3 stack.old stack.new) }
+    ensures grows { Grows world.old world.new }
+    ensures kept { IsKept L.made L.meaning L.room L.firm labels.old labels.new }
+{
+    let value = stack.pop();
+    let own = bind_name(alloc, labels, world, place, &ident.text, value)?;
+    begin_handler(stack, s, own, depth, block)
+}
+
+/// The frame catches no longer, unless something is done last.
+fn quiet_unless<L: Labels>(labels: &L, frames: &mut Frames<L::Label>, stays: bool)
+    requires { Belong L.made L.meaning labels.now frames.old.frames }
+    ensures quiets { (reading : L.Label → Label) (t : State) → as_plan One (choose stays (ret tt) quiet (with_frames reading frames.old.frames t)) ≡ Give (gave (unlabelled undefined)) (with_frames reading frames.new.frames t) }
+    ensures length { length frames.new.frames ≡ length frames.old.frames }
+    ensures belongs { Belong L.made L.meaning labels.now frames.new.frames }
+    ensures catch { CatchByTry frames.new.frames }
+{
+    let _all = frames.len();
+    if stays {
+        return;
+    }
+    quiet_last(labels, frames);
+}
+
+/// A jump has reached the block: what is thrown is handled, if there is a handler, and else what is done last is done.
+fn react<'p, L: Labels>(
+    alloc: Global,
+    labels: &mut L,
+    world: &mut World<L::Label>,
+    stack: &mut Stack<'p, L::Label>,
+    place: EnvId,
+    jump: Jump,
+    s: &'p Stmt,
+    depth: usize,
+) -> Result<Next<'p>, FlowFault<L::Label>>
+    requires standing { Standing L.made L.meaning labels.old stack.old world.old 1 (scopes_of stack.old.tasks) next.Value }
+    ensures begins { BeginsAt L.made L.meaning labels.new place.0 (reacting_plan (view_stmt s.entry.now) depth jump stack.old.loose) stack.old stack.new world.old world.new result }
+    ensures standing { IfOk result (λ move. Standing L.made L.meaning labels.new stack.new world.new (values_of move) (scopes_of stack.new.tasks) move) }
+    ensures adds { IfOk result (Adds 3 stack.old stack.new) }
+    ensures stopped { IfErr result (IfStop (HasStop (L.made labels.new))) }
+    ensures grows { Grows world.old world.new }
+    ensures kept { IsKept L.made L.meaning L.room L.firm labels.old labels.new }
+{
+    match caught(jump, s) {
+        Some((ident, block)) => {
+            quiet_unless(labels, &mut world.frames, finishes(s));
+            let next = catch_value(alloc, labels, world, stack, place, s, depth, ident, block)?;
+            Ok(next)
+        }
+        None => finish(labels, world, stack, s, Some(jump)),
+    }
+}
+
+// ---- the ends of the block and of the handler
+
+/// Whether the scope that ends next is that of the `try` statement in the frame at this depth. No invariant of the stack says so yet.
+fn stands_at<'p, T: Copy>(stack: &mut Stack<'p, T>, depth: usize) -> Result<(), OutOfMemory>
+    requires { length stack.old.loose ≡ 1 }
+    ensures same { OnOk result (stack.new ≡ stack.old) }
+    ensures last { OnOk result (EndsAt depth (scopes_of stack.old.tasks)) }
+{
+    let value = stack.pop();
+    let Some(work) = stack.next_work() else {
+        return Err(OutOfMemory);
+    };
+    let Work::EndTry(at) = work else {
+        return Err(OutOfMemory);
+    };
+    if at != depth {
+        return Err(OutOfMemory);
+    }
+    stack.push(Work::EndTry(at))?;
+    stack.lay(value)?;
+    Ok(())
+}
+
+/// The block is over, by its end.
+pub fn end_block<'p, L: Labels>(
+    labels: &mut L,
+    world: &mut World<L::Label>,
+    stack: &mut Stack<'p, L::Label>,
+    s: &'p Stmt,
+    depth: usize,
+) -> Result<Next<'p>, FlowFault<L::Label>>
+    requires standing { Standing L.made L.meaning labels.old stack.old world.old (owns (work.EndBlock s depth)) (scopes_of stack.old.tasks ++ scope_of (work.EndBlock s depth)) next.Value }
+    ensures resumes { (tables : Tables) (inputs : Given) (functions : List FunctionCode) → Resumes L.made L.meaning labels.new tables inputs functions (work.EndBlock s.entry depth) stack.old stack.new world.old world.new result }
+    ensures standing { IfOk result (λ move. Standing L.made L.meaning labels.new stack.new world.new (values_of move) (scopes_of stack.new.tasks) move) }
+    ensures adds { IfOk result (Adds (weight (work.EndBlock s.entry depth)) stack.old stack.new) }
+    ensures stopped { IfErr result (IfStop (HasStop (L.made labels.new))) }
+    ensures grows { Grows world.old world.new }
+    ensures kept { IsKept L.made L.meaning L.room L.firm labels.old labels.new }
+{
+    let _depth = depth;
+    finish(labels, world, stack, s, None)
+}
+
+/// The handler is over, by its end.
+pub fn end_handler<'p, L: Labels>(
+    labels: &mut L,
+    world: &mut World<L::Label>,
+    stack: &mut Stack<'p, L::Label>,
+    s: &'p Stmt,
+    own: EnvId,
+    depth: usize,
+) -> Result<Next<'p>, FlowFault<L::Label>>
+    requires standing { Standing L.made L.meaning labels.old stack.old world.old (owns (work.EndHandler s own depth)) (scopes_of stack.old.tasks ++ scope_of (work.EndHandler s own depth)) next.Value }
+    ensures resumes { (tables : Tables) (inputs : Given) (functions : List FunctionCode) → Resumes L.made L.meaning labels.new tables inputs functions (work.EndHandler s.entry own depth) stack.old stack.new world.old world.new result }
+    ensures standing { IfOk result (λ move. Standing L.made L.meaning labels.new stack.new world.new (values_of move) (scopes_of stack.new.tasks) move) }
+    ensures adds { IfOk result (Adds (weight (work.EndHandler s.entry own depth)) stack.old stack.new) }
+    ensures stopped { IfErr result (IfStop (HasStop (L.made labels.new))) }
+    ensures grows { Grows world.old world.new }
+    ensures kept { IsKept L.made L.meaning L.room L.firm labels.old labels.new }
+{
+    let _ended = (own, depth);
+    finish(labels, world, stack, s, None)
+}
+
+/// A jump comes to the end of the block, in this record. If the frame was left before, it passes.
+pub fn pass_block<'p, L: Labels>(
+    alloc: Global,
+    labels: &mut L,
+    world: &mut World<L::Label>,
+    stack: &mut Stack<'p, L::Label>,
+    place: EnvId,
+    jump: Jump,
+    s: &'p Stmt,
+    depth: usize,
+) -> Result<Next<'p>, FlowFault<L::Label>>
+    requires standing { Standing L.made L.meaning labels.old stack.old world.old (owns (work.EndBlock s depth) + 1) (scopes_of stack.old.tasks ++ scope_of (work.EndBlock s depth)) (next.Jumps jump) }
+    requires place { (env_above stack.old.tasks here).place ≡ place.0 }
+    ensures passes { (tables : Tables) (inputs : Given) (functions : List FunctionCode) (value : LabelledOf L.Label) → drop (owns (work.EndBlock s.entry depth)) stack.old.loose ≡ value ∷ [] → Passes L.made L.meaning labels.new tables inputs functions jump (work.EndBlock s.entry depth) value stack.old stack.new world.old world.new result }
+    ensures standing { IfOk result (λ move. Standing L.made L.meaning labels.new stack.new world.new (values_of move) (scopes_of stack.new.tasks) move) }
+    ensures adds { IfOk result (Adds (weight (work.EndBlock s.entry depth)) stack.old stack.new) }
+    ensures stopped { IfErr result (IfStop (HasStop (L.made labels.new))) }
+    ensures grows { Grows world.old world.new }
+    ensures kept { IsKept L.made L.meaning L.room L.firm labels.old labels.new }
+{
+    if world.frames.len() <= depth {
+        return Ok(Next::Jumps(jump));
+    }
+    stands_at(stack, depth)?;
+    react(alloc, labels, world, stack, place, jump, s, depth)
+}
+
+/// A jump comes to the end of the handler. If the frame was left before, it passes.
+pub fn pass_handler<'p, L: Labels>(
+    labels: &mut L,
+    world: &mut World<L::Label>,
+    stack: &mut Stack<'p, L::Label>,
+    jump: Jump,
+    s: &'p Stmt,
+    own: EnvId,
+    depth: usize,
+) -> Result<Next<'p>, FlowFault<L::Label>>
+    requires standing { Standing L.made L.meaning labels.old stack.old world.old (owns (work.EndHandler s own depth) + 1) (scopes_of stack.old.tasks ++ scope_of (work.EndHandler s own depth)) (next.Jumps jump) }
+    ensures passes { (tables : Tables) (inputs : Given) (functions : List FunctionCode) (value : LabelledOf L.Label) → drop (owns (work.EndHandler s.entry own depth)) stack.old.loose ≡ value ∷ [] → Passes L.made L.meaning labels.new tables inputs functions jump (work.EndHandler s.entry own depth) value stack.old stack.new world.old world.new result }
+    ensures standing { IfOk result (λ move. Standing L.made L.meaning labels.new stack.new world.new (values_of move) (scopes_of stack.new.tasks) move) }
+    ensures adds { IfOk result (Adds (weight (work.EndHandler s.entry own depth)) stack.old stack.new) }
+    ensures stopped { IfErr result (IfStop (HasStop (L.made labels.new))) }
+    ensures grows { Grows world.old world.new }
+    ensures kept { IsKept L.made L.meaning L.room L.firm labels.old labels.new }
+{
+    let _ended = own;
+    if world.frames.len() <= depth {
+        return Ok(Next::Jumps(jump));
+    }
+    stands_at(stack, depth)?;
+    finish(labels, world, stack, s, Some(jump))
+}
+
+// ---- the beginning
+
+/// The work of a `try` statement in the frame at this depth, and the statements of its block.
+fn begin_block<'p, T: Copy>(
+    stack: &mut Stack<'p, T>,
+    s: &'p Stmt,
+    depth: usize,
+    block: &'p Block,
+) -> Result<Next<'p>, OutOfMemory>
+    requires { length stack.old.loose ≡ 0 }
+    ensures goes_on { IfOk result (BeginsBehind (λ tables inputs functions vs e t. trying_plan tables inputs functions (view_stmt s.entry.now) depth (statements_in (view_block block.entry.now)) e t) stack.old stack.new) }
+    ensures values { IfOk result (λ move. length stack.new.loose ≡ values_of move) }
+    ensures scopes { IfOk result (λ move. scopes_of stack.new.tasks ≡ scopes_of stack.old.tasks ++ depth ∷ []) }
+    ensures operands { IfOk result (λ move. operands_of stack.new ≡ operands_of stack.old) }
+    ensures adds { IfOk result (Adds 5 stack.old stack.new) }
+{
+    stack.push(Work::EndTry(depth))?;
+    stack.push(Work::EndBlock(s, depth))?;
+    begin_statements(stack, statements(block))
+}
+
+/// Enters the frame of a `try` statement with this block.
+fn enter_try<'p, L: Labels>(
+    labels: &mut L,
+    world: &mut World<L::Label>,
+    stack: &mut Stack<'p, L::Label>,
+    s: &'p Stmt,
+    block: &'p Block,
+) -> Result<Next<'p>, OutOfMemory>
+    requires standing { Standing L.made L.meaning labels.old stack.old world.old 0 (scopes_of stack.old.tasks) (next.Try s) }
+    requires block { tried_in (view_stmt s.now) ≡ Some (view_block block.now) }
+    ensures begins { IfOk result (λ move. BeginsWith L.made L.meaning labels.new (λ tables inputs functions reading e. stmt_step (planned tables inputs functions) (asking tables inputs functions) (view_stmt s.entry.now) e) stack.old stack.new world.old world.new (Ok move)) }
+    ensures standing { IfOk result (λ move. Standing L.made L.meaning labels.new stack.new world.new (values_of move) (scopes_of stack.new.tasks) move) }
+    ensures adds { IfOk result (Adds 5 stack.old stack.new) }
+    ensures grows { Grows world.old world.new }
+    ensures kept { IsKept L.made L.meaning L.room L.firm labels.old labels.new }
+{
+    let depth = world.frames.len();
+    let none = labels.bottom();
+    world.frames.push(labels, Kind::Try, none)?;
+    let _deeper = world.frames.len();
+    begin_block(stack, s, depth, block)
+}
+
+/// A `try` statement: its block, in a frame that catches.
+pub fn begin_try<'p, L: Labels>(
+    labels: &mut L,
+    world: &mut World<L::Label>,
+    stack: &mut Stack<'p, L::Label>,
+    s: &'p Stmt,
+) -> Result<Next<'p>, FlowFault<L::Label>>
+    requires standing { Standing L.made L.meaning labels.old stack.old world.old (values_of (next.Try s)) (scopes_of stack.old.tasks) (next.Try s) }
+    requires tries { is_try (view_stmt s.now) ≡ true }
+    ensures begins { (tables : Tables) (inputs : Given) (functions : List FunctionCode) → BeginsHere L.made L.meaning labels.new tables inputs functions stack.old stack.new world.old world.new (next.Try s.entry) result }
+    ensures standing { IfOk result (λ move. Standing L.made L.meaning labels.new stack.new world.new (values_of move) (scopes_of stack.new.tasks) move) }
+    ensures adds { IfOk result (Adds (lift (next.Try s.entry)) stack.old stack.new) }
+    ensures lower { IfOk result (Adds 5 stack.old stack.new) }
+    ensures stopped { IfErr result (IfStop (HasStop (L.made labels.new))) }
+    ensures grows { Grows world.old world.new }
+    ensures kept { IsKept L.made L.meaning L.room L.firm labels.old labels.new }
+{
+    let next = enter_try(labels, world, stack, s, tried(s))?;
+    Ok(next)
+}

@@ -1,0 +1,54 @@
+-- What it means that a call goes on as a machine's plan says.
+use Rattle.std.specs.Prelude.{◌≡◌, ℕ, List, map, take, drop, Result, ◌<◌, ◌+◌}
+use Rattle.origin_labels.specs.Label.{Label}
+use Rattle.flow_policy.specs.Policies.{Tables}
+use Rattle.flow_policy.specs.Inputs.{Given}
+use Rattle.flow_frames.specs.declared.faults.FlowFault.{FlowFault}
+use Rattle.js_ast.specs.Functions.{FunctionCode}
+use Rattle.js_values.specs.declared.value.Labelled.{Labelled}
+use Rattle.js_values.specs.Readings.{IsReading, read_value}
+use Rattle.es_meaning.specs.Environments.{Env}
+use Rattle.es_meaning.specs.Plain.{outermost_env}
+use Rattle.flow_meaning.specs.Scopes.{LabelledLine}
+use Rattle.flow_meaning.specs.Planned.{Plan, Completion, gave, jumped}
+use Rattle.step_world.specs.declared.world.World.{World}
+use Rattle.step_world.specs.Worlds.{state_of}
+use Rattle.step_work.specs.declared.work.Work.{Work}
+use Rattle.step_work.specs.declared.work.Jump.{Jump}
+use Rattle.step_work.specs.declared.work.Next.{Next}
+use Rattle.step_work.specs.Kept.{Kept}
+use Rattle.step_work.specs.Loads.{load, lift}
+use Rattle.step_work.specs.Moving.{Moves}
+use Rattle.step_work.specs.Pending.{owns, env_above, after, behind, first_or_undefined}
+use Rattle.step_work.specs.Resuming.{coming}
+use Rattle.step_work.specs.Shapes.{jump_of}
+
+-- the outermost code, in which no jump reaches anything round it
+abbrev pub here : Env ℕ
+here = outermost_env 0
+
+module _ {S T : Type 0} (made : S → T → Type 0) (meaning : S → T → Label) (store : S) (tables : Tables) (inputs : Given) (functions : List FunctionCode) where
+  -- a call comes to a plan that is made of the state before it, in each reading that agrees with the store, whatever was printed and however many turns are left
+  abbrev pub ComesTo : ((T → Label) → List LabelledLine → ℕ → Plan) → Kept T → World T → Result Next (FlowFault T) → Type 0
+  ComesTo p stack world result = (reading : T → Label) (told : List LabelledLine) (turns : ℕ) → IsReading made meaning store reading
+      → Moves tables inputs functions reading stack here (state_of reading world told turns) (p reading told turns) result
+
+  -- it goes on as the next move says
+  abbrev pub Begins : Kept T → Kept T → World T → World T → Next → Result Next (FlowFault T) → Type 0
+  Begins old new world_old world_new move = ComesTo (λ reading told turns. coming tables inputs functions reading old move here (state_of reading world_old told turns)) new world_new
+
+  -- what work does with a completion that was taken from the others, with the operands that lie undermost
+  abbrev pub Continues : ((T → Label) → Completion) → Work → Kept T → Kept T → World T → World T → Result Next (FlowFault T) → Type 0
+  Continues completion w old new world_old world_new = ComesTo (λ reading told turns. behind tables inputs functions reading old.tasks here (after tables inputs functions w (map (read_value reading) (take (owns w) old.loose)) (env_above old.tasks here) (completion reading) (state_of reading world_old told turns))) new world_new
+
+  -- with what lies above the operands: a value, or the end of a part
+  abbrev pub Resumes : Work → Kept T → Kept T → World T → World T → Result Next (FlowFault T) → Type 0
+  Resumes w old = Continues (λ reading. gave (first_or_undefined (map (read_value reading) (drop (owns w) old.loose)))) w old
+
+  -- with a jump, whose value lies there
+  abbrev pub Passes : Jump → Work → Labelled T → Kept T → Kept T → World T → World T → Result Next (FlowFault T) → Type 0
+  Passes j w value = Continues (λ reading. jumped (jump_of j (read_value reading value))) w
+
+-- less is to be done before a further part is entered
+abbrev pub Lowers : {T : Type 0} → Kept T → Next → Kept T → Next → Type 0
+Lowers old move new next = load new.tasks + lift next < load old.tasks + lift move

@@ -1,0 +1,4 @@
+function welcome() { print("door", "Welcome"); }
+function thanks() { print("door", "Thank you"); }
+var chosen = read("ballot") === "yes" ? welcome : thanks;
+chosen();

@@ -1,0 +1,11 @@
+function said(ballot) {
+  "flow ret voter";
+  try {
+    "flow exc voter";
+    if (ballot === "yes") return "Somebody said yes";
+  } finally {
+    print("count", "Counted");
+  }
+  return "Nobody said yes";
+}
+print("count", said(read("ballot")));

@@ -1,0 +1,6 @@
+function said(ballot) {
+  "flow ret voter";
+  if (ballot === "yes") return "Somebody said yes";
+  return "Nobody said yes";
+}
+print("count", said(read("ballot")));

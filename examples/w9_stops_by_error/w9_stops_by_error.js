@@ -1,0 +1,2 @@
+var rooms = { no: { name: "the hall" } };
+print("count", "Go to " + rooms[read("ballot")].name);

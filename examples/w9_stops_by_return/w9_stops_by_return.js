@@ -1,0 +1,5 @@
+function said(ballot) {
+  if (ballot === "yes") return "Somebody said yes";
+  return "Nobody said yes";
+}
+print("count", said(read("ballot")));

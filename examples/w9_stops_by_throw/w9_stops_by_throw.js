@@ -1,0 +1,6 @@
+try {
+  if (read("ballot") === "yes") throw "yes";
+} catch (answer) {
+  print("count", "Somebody said " + answer);
+}
+print("door", "Voted");
