@@ -1,6 +1,6 @@
 -- Whatever a machine's pending work is: performing its plan only adds lines, behind those that the state has.
-use Rattle.std.proofs.Common.{ℕ, ◌+◌, List, [], ◌∷◌, ◌++◌, Option, None, Some, false, map, drop, codes, subst}
-use Rattle.origin_labels.specs.Label.{Label, bottom}
+use Rattle.std.proofs.Common.{ℕ, ◌+◌, List, [], ◌∷◌, Option, Some, false, map, drop, codes, subst}
+use Rattle.origin_labels.specs.Label.{Label}
 use Rattle.flow_policy.specs.Policies.{Tables}
 use Rattle.flow_policy.specs.Inputs.{Given}
 use Rattle.js_ast.specs.Functions.{FunctionCode}

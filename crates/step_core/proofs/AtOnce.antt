@@ -29,10 +29,10 @@ use Rattle.step_work.specs.Pending.{behind, env_above, first_or_undefined}
 use Rattle.step_moves.proofs.Settled.{rests_laid, rests_same}
 use Rattle.step_numbers.specs.Assigned.{Finishes, Gives, Rebinds}
 use Rattle.step_numbers.specs.Evaluated.{Evaluates}
-use Rattle.step_core.specs.declared.machine.Machine.{Machine}
+use Rattle.step_core.specs.declared.progress.Progress.{Progress}
 use Rattle.flow_text.specs.declared.memory.OutOfMemory.{OutOfMemory}
-use Rattle.step_core.specs.declared.steps.Step.{Step}
-use Rattle.step_core.specs.declared.steps.Step.TheVariants as step
+use Rattle.step_core.specs.declared.steps.Advance.{Advance}
+use Rattle.step_core.specs.declared.steps.Advance.TheVariants as advance
 use Rattle.step_core.specs.Outlook.{ahead, outlook}
 use Rattle.step_work.specs.Going.{here}
 use Rattle.step_work.specs.Standing.{Standing}
@@ -41,7 +41,7 @@ use Rattle.step_core.proofs.Performed.{perform_behind}
 use Rattle.step_core.proofs.Parts.{later_values}
 use Rattle.step_core.proofs.Stood.{standing_rests, standing_whole}
 
-module _ {T : Type 0} (tables : Tables) (inputs : Given) (functions : List FunctionCode) (reading : T → Label) (told : List LabelledLine) (m : Machine T) (at : ℕ) (place : (env_above m.stack.tasks here).place ≡ at) (new : World T) (left : ℕ) where
+module _ {T : Type 0} (tables : Tables) (inputs : Given) (functions : List FunctionCode) (reading : T → Label) (told : List LabelledLine) (m : Progress T) (at : ℕ) (place : (env_above m.stack.tasks here).place ≡ at) (new : World T) (left : ℕ) where
   -- its value is handed on, with so many turns left
   handed_on : (x : Bor Expr) (stack : Kept T) (v : Labelled T) → m.stack.loose ≡ [] → stack.tasks ≡ m.stack.tasks → stack.loose ≡ m.stack.loose ++ v ∷ []
       → meaning tables inputs functions (an_expr (view_expr x.now) at) (state_of reading m.world told m.turns) ≡ Goes (read_value reading v) (state_of reading new told left)
@@ -83,9 +83,9 @@ module _ {S T : Type 0} (made : S → T → Type 0) (meaning_of : S → T → La
   }
 
   -- a step that hands its value on
-  pub evaluated_steps : (tables : Tables) (inputs : Given) (functions : List FunctionCode) (m : Machine T) (at : ℕ) (place : (env_above m.stack.tasks here).place ≡ at) (x : Bor Expr) (stack : Kept T) (v : Labelled T) (left : ℕ) → Standing made meaning_of earlier m.stack m.world 0 (scopes_of m.stack.tasks) (next.Expr x)
+  pub evaluated_steps : (tables : Tables) (inputs : Given) (functions : List FunctionCode) (m : Progress T) (at : ℕ) (place : (env_above m.stack.tasks here).place ≡ at) (x : Bor Expr) (stack : Kept T) (v : Labelled T) (left : ℕ) → Standing made meaning_of earlier m.stack m.world 0 (scopes_of m.stack.tasks) (next.Expr x)
       → stack.tasks ≡ m.stack.tasks → stack.loose ≡ m.stack.loose ++ v ∷ [] → Evaluates made meaning_of later (view_expr x.now) at m.world m.turns v left
-      → Stepped made meaning_of later tables inputs functions (λ reading. outlook tables inputs functions reading m (next.Expr x)) (ahead m (next.Expr x)) (record { world = m.world; stack = stack; turns = left }) (step.Goes next.Value)
+      → Stepped made meaning_of later tables inputs functions (λ reading. outlook tables inputs functions reading m (next.Expr x)) (ahead m (next.Expr x)) (record { world = m.world; stack = stack; turns = left }) (advance.Goes next.Value)
   evaluated_steps tables inputs functions m at place x stack v left stands tasks laid evaluates = record {
     comes = λ reading told read. handed_on tables inputs functions reading told m at place m.world left x stack v (nil_from_length m.stack.loose stands.values) tasks laid (evaluates.comes tables inputs functions reading told read);
     standing = standing_rests made meaning_of room firm earlier later kept m.stack stack m.world m.world next.Value
@@ -97,9 +97,9 @@ module _ {S T : Type 0} (made : S → T → Type 0) (meaning_of : S → T → La
   }
 
   -- a step that hands on what was assigned
-  pub assigned_steps : (tables : Tables) (inputs : Given) (functions : List FunctionCode) (m : Machine T) (at : ℕ) (place : (env_above m.stack.tasks here).place ≡ at) (new : World T) (x : Bor Expr) (stack : Kept T) (v : Labelled T) (left : ℕ) → Standing made meaning_of earlier m.stack m.world 0 (scopes_of m.stack.tasks) (next.Expr x)
+  pub assigned_steps : (tables : Tables) (inputs : Given) (functions : List FunctionCode) (m : Progress T) (at : ℕ) (place : (env_above m.stack.tasks here).place ≡ at) (new : World T) (x : Bor Expr) (stack : Kept T) (v : Labelled T) (left : ℕ) → Standing made meaning_of earlier m.stack m.world 0 (scopes_of m.stack.tasks) (next.Expr x)
       → stack.tasks ≡ m.stack.tasks → stack.loose ≡ m.stack.loose ++ v ∷ [] → Gives made meaning_of later (view_expr x.now) at m.world new m.turns v left → Rebinds made meaning_of later m.world new
-      → Stepped made meaning_of later tables inputs functions (λ reading. outlook tables inputs functions reading m (next.Expr x)) (ahead m (next.Expr x)) (record { world = new; stack = stack; turns = left }) (step.Goes next.Value)
+      → Stepped made meaning_of later tables inputs functions (λ reading. outlook tables inputs functions reading m (next.Expr x)) (ahead m (next.Expr x)) (record { world = new; stack = stack; turns = left }) (advance.Goes next.Value)
   assigned_steps tables inputs functions m at place new x stack v left stands tasks laid gives rebinds = record {
     comes = λ reading told read. handed_on tables inputs functions reading told m at place new left x stack v (nil_from_length m.stack.loose stands.values) tasks laid (gives.comes tables inputs functions reading told read);
     standing = standing_rests made meaning_of room firm earlier later kept m.stack stack m.world new next.Value
@@ -111,9 +111,9 @@ module _ {S T : Type 0} (made : S → T → Type 0) (meaning_of : S → T → La
   }
 
   -- a step by which a statement comes to its end
-  pub finished_steps : (tables : Tables) (inputs : Given) (functions : List FunctionCode) (m : Machine T) (at : ℕ) (place : (env_above m.stack.tasks here).place ≡ at) (new : World T) (x : Bor Stmt) (left : ℕ) → Standing made meaning_of earlier m.stack m.world 0 (scopes_of m.stack.tasks) (next.Stmt x)
+  pub finished_steps : (tables : Tables) (inputs : Given) (functions : List FunctionCode) (m : Progress T) (at : ℕ) (place : (env_above m.stack.tasks here).place ≡ at) (new : World T) (x : Bor Stmt) (left : ℕ) → Standing made meaning_of earlier m.stack m.world 0 (scopes_of m.stack.tasks) (next.Stmt x)
       → Finishes made meaning_of later (view_stmt x.now) at m.world new m.turns left → Rebinds made meaning_of later m.world new
-      → Stepped made meaning_of later tables inputs functions (λ reading. outlook tables inputs functions reading m (next.Stmt x)) (ahead m (next.Stmt x)) (record { world = new; stack = m.stack; turns = left }) (step.Goes next.Done)
+      → Stepped made meaning_of later tables inputs functions (λ reading. outlook tables inputs functions reading m (next.Stmt x)) (ahead m (next.Stmt x)) (record { world = new; stack = m.stack; turns = left }) (advance.Goes next.Done)
   finished_steps tables inputs functions m at place new x left stands finishes rebinds = record {
     comes = λ reading told read. finished_on tables inputs functions reading told m at place new left x (finishes.comes tables inputs functions (env_above m.stack.tasks here) reading told place read);
     standing = standing_rests made meaning_of room firm earlier later kept m.stack m.stack m.world new next.Done
@@ -129,7 +129,7 @@ module _ {S T : Type 0} (made : S → T → Type 0) (meaning_of : S → T → La
   stands_unchanged stack world same pending count move is stands = subst (λ w. Standing made meaning_of later stack w count pending move) (sym is) (stands_later stack world pending count move stands)
 
 -- the machine is the same where its world is
-pub unchanged_steps : {S T : Type 0} (made : S → T → Type 0) (meaning_of : S → T → Label) (store : S) (tables : Tables) (inputs : Given) (functions : List FunctionCode) (m new : Machine T) (same : World T) (move : Next) (result : Result (Step T) OutOfMemory) → same ≡ m.world
+pub unchanged_steps : {S T : Type 0} (made : S → T → Type 0) (meaning_of : S → T → Label) (store : S) (tables : Tables) (inputs : Given) (functions : List FunctionCode) (m new : Progress T) (same : World T) (move : Next) (result : Result (Advance T) OutOfMemory) → same ≡ m.world
     → IfOk result (Stepped made meaning_of store tables inputs functions (λ reading. outlook tables inputs functions reading (record { world = same; stack = m.stack; turns = m.turns }) move) (ahead (record { world = same; stack = m.stack; turns = m.turns }) move) new)
     → IfOk result (Stepped made meaning_of store tables inputs functions (λ reading. outlook tables inputs functions reading m move) (ahead m move) new)
 unchanged_steps made meaning_of store tables inputs functions m new same move result is stepped =

@@ -25,9 +25,9 @@ use Rattle.step_work.specs.declared.work.Next.TheVariants as next
 use Rattle.step_work.specs.Kept.{Kept, scopes_of, kept_operands}
 use Rattle.step_work.specs.Pending.{values_of}
 use Rattle.step_work.specs.Resuming.{StandsAt}
-use Rattle.step_core.specs.declared.machine.Machine.{Machine}
-use Rattle.step_core.specs.declared.steps.Step.{Step}
-use Rattle.step_core.specs.declared.steps.Step.TheVariants as step
+use Rattle.step_core.specs.declared.progress.Progress.{Progress}
+use Rattle.step_core.specs.declared.steps.Advance.{Advance}
+use Rattle.step_core.specs.declared.steps.Advance.TheVariants as advance
 use Rattle.step_core.specs.declared.steps.Ending.TheVariants as ending
 use Rattle.step_core.specs.Outlook.{ahead, outlook}
 use Rattle.step_work.specs.Going.{here}
@@ -36,11 +36,11 @@ use Rattle.step_core.specs.Stepping.{Prints, Stepped}
 use Rattle.step_core.proofs.Depths.{framed_at}
 use Rattle.step_core.proofs.Parts.{front_all, later_values}
 
-module _ {S T : Type 0} (made : S → T → Type 0) (meaning_of : S → T → Label) (store : S) (tables : Tables) (inputs : Given) (functions : List FunctionCode) (f : Direct) (count : ℕ) (old new : Machine T) (same : new.turns ≡ old.turns) where
+module _ {S T : Type 0} (made : S → T → Type 0) (meaning_of : S → T → Label) (store : S) (tables : Tables) (inputs : Given) (functions : List FunctionCode) (f : Direct) (count : ℕ) (old new : Progress T) (same : new.turns ≡ old.turns) where
   -- the value that a function gives, or what it throws, comes next
   pub called_goes : (n : Next) (most : ℕ) → Calls made meaning_of store tables inputs f old.stack new.stack old.world new.world (Ok (n, None))
       → Standing made meaning_of store new.stack new.world (values_of n) (scopes_of new.stack.tasks) n → ahead new n < most
-      → Stepped made meaning_of store tables inputs functions (λ reading told. outlook tables inputs functions reading old (next.Direct f count) told) most new (step.Goes n)
+      → Stepped made meaning_of store tables inputs functions (λ reading told. outlook tables inputs functions reading old (next.Direct f count) told) most new (advance.Goes n)
   called_goes n most calls standing lowers = record {
     comes = λ reading told read. ap (perform (meaning tables inputs functions)) (sym (calls functions reading here told old.turns read)) ∙ ap (λ turns. outlook tables inputs functions reading (record new { turns = turns }) n told) (sym same);
     standing = standing;
@@ -50,13 +50,13 @@ module _ {S T : Type 0} (made : S → T → Type 0) (meaning_of : S → T → La
   }
 
   -- behind the line that it printed
-  pub called_line : (n : Next) (p : Printed T) (most : ℕ) (result : Result (Step T) OutOfMemory) → IfOk result (Prints p n) → Calls made meaning_of store tables inputs f old.stack new.stack old.world new.world (Ok (n, Some p))
+  pub called_line : (n : Next) (p : Printed T) (most : ℕ) (result : Result (Advance T) OutOfMemory) → IfOk result (Prints p n) → Calls made meaning_of store tables inputs f old.stack new.stack old.world new.world (Ok (n, Some p))
       → Standing made meaning_of store new.stack new.world (values_of n) (scopes_of new.stack.tasks) n → ahead new n < most → IsPrinted (made store) (length tables.outputs) p
       → IfOk result (Stepped made meaning_of store tables inputs functions (λ reading told. outlook tables inputs functions reading old (next.Direct f count) told) most new)
   called_line n p most (Err wanted) prints calls standing lowers printed = tt
-  called_line n p most (Ok (step.Goes m)) prints calls standing lowers printed = absurd prints
-  called_line n p most (Ok (step.Ends e)) prints calls standing lowers printed = absurd prints
-  called_line n p most (Ok (step.Line b m)) prints calls standing lowers printed = record {
+  called_line n p most (Ok (advance.Goes m)) prints calls standing lowers printed = absurd prints
+  called_line n p most (Ok (advance.Ends e)) prints calls standing lowers printed = absurd prints
+  called_line n p most (Ok (advance.Line b m)) prints calls standing lowers printed = record {
     comes = λ reading told read. ap (perform (meaning tables inputs functions)) (sym (calls functions reading here told old.turns read)) ∙ ap (λ turns. outlook tables inputs functions reading (record new { turns = turns }) n (told ++ line_of tables reading p ∷ [])) (sym same)
         ∙ ap₂ (λ (q : Printed T) (k : Next). outlook tables inputs functions reading new k (told ++ line_of tables reading q ∷ [])) (sym prints.0) (sym prints.1);
     standing = subst (λ (k : Next). Standing made meaning_of store new.stack new.world (values_of k) (scopes_of new.stack.tasks) k) (sym prints.1) standing;
@@ -67,7 +67,7 @@ module _ {S T : Type 0} (made : S → T → Type 0) (meaning_of : S → T → La
 
   -- or a rule stops it
   pub called_stop : (stop : FlowStop T) (most : ℕ) → Calls made meaning_of store tables inputs f old.stack new.stack old.world new.world (Err (fault.Stop stop)) → HasStop (made store) stop
-      → Stepped made meaning_of store tables inputs functions (λ reading told. outlook tables inputs functions reading old (next.Direct f count) told) most new (step.Ends (ending.Stopped stop))
+      → Stepped made meaning_of store tables inputs functions (λ reading told. outlook tables inputs functions reading old (next.Direct f count) told) most new (advance.Ends (ending.Stopped stop))
   unfolding perform
   called_stop stop most calls has = record {
     comes = λ reading told read. ap (λ q. performed_run (perform (meaning tables inputs functions) q)) (sym (calls functions reading here told old.turns read));

@@ -12,3 +12,4 @@ pub mod StartLaws
 pub mod CallLaws
 pub mod AtOnce
 pub mod Refused
+pub mod MachineLaws

@@ -1,5 +1,5 @@
 -- What is thrown where a function may not be declared: from the state in which a run starts no rule stops it.
-use Rattle.std.proofs.Common.{refl, ap, sym, ◌≡◌, ◌∙◌, ℕ, Bool, true, false, [], length}
+use Rattle.std.proofs.Common.{refl, ap, sym, ◌≡◌, ◌∙◌, ℕ, Bool, true, false, length}
 use Rattle.std.proofs.lemmas.Bool.{false≢true}
 use Rattle.origin_labels.specs.Label.{bottom, union, within}
 use Rattle.flow_frames.specs.Frames.{context}

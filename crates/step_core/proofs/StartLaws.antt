@@ -19,12 +19,11 @@ use Rattle.step_work.specs.Resuming.{Begins, Keeps, coming}
 use Rattle.step_work.specs.Going.{here}
 use Rattle.step_work.specs.Standing.{Standing, depths}
 use Rattle.step_core.proofs.Depths.{framed}
-use Rattle.std.proofs.Common.{ap₂, ◌≤◌, ◌<◌, ◌∷◌}
+use Rattle.std.proofs.Common.{ap₂, ◌<◌, ◌∷◌}
 use Rattle.std.proofs.lemmas.List.Elements.{All-cons}
 use Rattle.origin_labels.specs.Label.{bottom}
 use Rattle.js_ast.specs.Functions.{functions_of}
 use Rattle.js_values.specs.declared.value.Labelled.{Labelled}
-use Rattle.es_meaning.specs.Evaluation.{begun}
 use Rattle.es_meaning.specs.Outcomes.{Jumps}
 use Rattle.es_meaning.specs.Plain.{may_declare}
 use Rattle.es_meaning.specs.Start.{type_error}

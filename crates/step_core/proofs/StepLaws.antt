@@ -45,9 +45,9 @@ use Rattle.step_work.proofs.Loads.{load_more}
 use Rattle.step_work.specs.Shapes.{behind_labels, jump_of, passed_labels, use_of, round_of}
 use Rattle.step_work.specs.declared.work.Jump.{Jump}
 use Rattle.step_work.specs.declared.work.Jump.TheVariants as jump
-use Rattle.step_core.specs.declared.machine.Machine.{Machine}
-use Rattle.step_core.specs.declared.steps.Step.{Step}
-use Rattle.step_core.specs.declared.steps.Step.TheVariants as step
+use Rattle.step_core.specs.declared.progress.Progress.{Progress}
+use Rattle.step_core.specs.declared.steps.Advance.{Advance}
+use Rattle.step_core.specs.declared.steps.Advance.TheVariants as advance
 use Rattle.step_core.specs.declared.steps.Ending.{Ending}
 use Rattle.step_work.specs.Going.{ComesTo, Lowers}
 use Rattle.step_core.specs.Going.{part_in}
@@ -60,7 +60,7 @@ use Rattle.step_core.proofs.Taking.{taken_goes_on}
 
 module _ {S T : Type 0} (made : S → T → Type 0) (meaning_of : S → T → Label) (store : S) (tables : Tables) (inputs : Given) (functions : List FunctionCode) where
   -- a step that comes to the same, with less to be done than is now said
-  pub stepped_as : (ran other : (T → Label) → List LabelledLine → Ran) (most more : ℕ) (m : Machine T) (result : Result (Step T) OutOfMemory)
+  pub stepped_as : (ran other : (T → Label) → List LabelledLine → Ran) (most more : ℕ) (m : Progress T) (result : Result (Advance T) OutOfMemory)
       → ((reading : T → Label) (told : List LabelledLine) → IsReading made meaning_of store reading → ran reading told ≡ other reading told) → most ≡ more
       → IfOk result (Stepped made meaning_of store tables inputs functions ran most m) → IfOk result (Stepped made meaning_of store tables inputs functions other more m)
   stepped_as ran other most more m (Err e) same is stepped = tt
@@ -73,7 +73,7 @@ module _ {S T : Type 0} (made : S → T → Type 0) (meaning_of : S → T → La
   }
 
   -- a move that comes to a plan is a step that comes to what the plan comes to
-  pub moved_steps : (p : (T → Label) → List LabelledLine → ℕ → Plan) (m : Machine T) (most : ℕ) (moved : Result Next (FlowFault T)) (result : Result (Step T) OutOfMemory) → result ≡ step_of moved
+  pub moved_steps : (p : (T → Label) → List LabelledLine → ℕ → Plan) (m : Progress T) (most : ℕ) (moved : Result Next (FlowFault T)) (result : Result (Advance T) OutOfMemory) → result ≡ step_of moved
       → ComesTo made meaning_of store tables inputs functions p m.stack m.world moved
       → IfOk moved (λ n. Standing made meaning_of store m.stack m.world (values_of n) (scopes_of m.stack.tasks) n)
       → IfOk moved (λ n. ahead m n < most)
@@ -97,9 +97,9 @@ module _ {S T : Type 0} (made : S → T → Type 0) (meaning_of : S → T → La
   moved_steps p m most (Err fault.OutOfMemory) result is comes standing lowers stopped = subst (λ r. IfOk r (Stepped made meaning_of store tables inputs functions (λ reading told. perform (meaning tables inputs functions) (p reading told m.turns)) most m)) (sym is) tt
 
   -- a move alone
-  pub goes_steps : (p : (T → Label) → List LabelledLine → ℕ → Plan) (m : Machine T) (most : ℕ) (n : Next)
+  pub goes_steps : (p : (T → Label) → List LabelledLine → ℕ → Plan) (m : Progress T) (most : ℕ) (n : Next)
       → ComesTo made meaning_of store tables inputs functions p m.stack m.world (Ok n) → Standing made meaning_of store m.stack m.world (values_of n) (scopes_of m.stack.tasks) n → ahead m n < most
-      → Stepped made meaning_of store tables inputs functions (λ reading told. perform (meaning tables inputs functions) (p reading told m.turns)) most m (step.Goes n)
+      → Stepped made meaning_of store tables inputs functions (λ reading told. perform (meaning tables inputs functions) (p reading told m.turns)) most m (advance.Goes n)
   goes_steps p m most n comes standing lowers = record {
     comes = λ reading told read. ap (perform (meaning tables inputs functions)) (sym (comes reading told m.turns read));
     standing = standing;
@@ -109,8 +109,8 @@ module _ {S T : Type 0} (made : S → T → Type 0) (meaning_of : S → T → La
   }
 
   -- the end of a run
-  pub ends_steps : (ran : (T → Label) → List LabelledLine → Ran) (m : Machine T) (most : ℕ) (e : Ending T) → IfStopped (HasStop (made store)) (step.Ends e)
-      → ((reading : T → Label) (told : List LabelledLine) → Comes tables inputs functions reading m told (ran reading told) (step.Ends e)) → Stepped made meaning_of store tables inputs functions ran most m (step.Ends e)
+  pub ends_steps : (ran : (T → Label) → List LabelledLine → Ran) (m : Progress T) (most : ℕ) (e : Ending T) → IfStopped (HasStop (made store)) (advance.Ends e)
+      → ((reading : T → Label) (told : List LabelledLine) → Comes tables inputs functions reading m told (ran reading told) (advance.Ends e)) → Stepped made meaning_of store tables inputs functions ran most m (advance.Ends e)
   ends_steps ran m most e stopped comes = record { comes = λ reading told read. comes reading told; standing = tt; lowers = tt; printed = tt; stopped = stopped }
 
 -- ---- parts
@@ -131,7 +131,7 @@ module _ (tables : Tables) (inputs : Given) (functions : List FunctionCode) wher
   asks_for (next.Visit x count) e h = record { part = λ vs. a_visit (visit_of x count vs) e; is = λ vs. refl; asks = λ vs s. refl }
   asks_for _ e h = absurd (cc h)
 
-module _ {T : Type 0} (tables : Tables) (inputs : Given) (functions : List FunctionCode) (reading : T → Label) (m : Machine T) (move : Next) (asks : AsksFor tables inputs functions move (env_above m.stack.tasks here)) (told : List LabelledLine) where
+module _ {T : Type 0} (tables : Tables) (inputs : Given) (functions : List FunctionCode) (reading : T → Label) (m : Progress T) (move : Next) (asks : AsksFor tables inputs functions move (env_above m.stack.tasks here)) (told : List LabelledLine) where
   -- for a turn the part is entered
   pub entered_after : (turns : ℕ) → m.turns ≡ suc turns → perform (meaning tables inputs functions) (behind tables inputs functions reading m.stack.tasks here (plan tables inputs functions (asks.part (map (read_value reading) m.stack.loose)) (state_of reading m.world told turns))) ≡ outlook tables inputs functions reading m move told
   entered_after turns is =
@@ -205,18 +205,18 @@ value_of_jump (jump.Leaves n to) v = refl
 
 module _ {T : Type 0} (tables : Tables) (inputs : Given) (functions : List FunctionCode) (reading : T → Label) where
   -- without work a value, or an end, is the end of the run
-  pub done_alone : (m : Machine T) (gave : Bool) (told : List LabelledLine) → m.stack.tasks ≡ []
+  pub done_alone : (m : Progress T) (gave : Bool) (told : List LabelledLine) → m.stack.tasks ≡ []
       → performed_run (outlook tables inputs functions reading m (handed gave) told) ≡ record { lines = told; ending = done }
   unfolding perform completed behind
   done_alone m true told none = ap (λ ts. performed_run (perform (meaning tables inputs functions) (behind tables inputs functions reading ts here (next_plan tables inputs functions (handed true) (map (read_value reading) m.stack.loose) (env_above ts here) (state_of reading m.world told m.turns))))) none
   done_alone m false told none = ap (λ ts. performed_run (perform (meaning tables inputs functions) (behind tables inputs functions reading ts here (next_plan tables inputs functions (handed false) (map (read_value reading) m.stack.loose) (env_above ts here) (state_of reading m.world told m.turns))))) none
 
   -- a move that leaves the language ends it, whatever waits
-  pub left_alone : (m : Machine T) (why : Leaving) (told : List LabelledLine) → performed_run (outlook tables inputs functions reading m (next.Leave why) told) ≡ record { lines = told; ending = halted (as_plain (left (leaving_name why))) }
+  pub left_alone : (m : Progress T) (why : Leaving) (told : List LabelledLine) → performed_run (outlook tables inputs functions reading m (next.Leave why) told) ≡ record { lines = told; ending = halted (as_plain (left (leaving_name why))) }
   left_alone m why told = ap performed_run (ended tables inputs functions reading m.stack.tasks here (as_plain (left (leaving_name why))) (state_of reading m.world told m.turns))
 
   -- and a jump leaves the script
-  pub left_by_jump : (j : Jump) (m : Machine T) (value : Labelled T) (told : List LabelledLine) → m.stack.tasks ≡ [] → m.stack.loose ≡ value ∷ []
+  pub left_by_jump : (j : Jump) (m : Progress T) (value : Labelled T) (told : List LabelledLine) → m.stack.tasks ≡ [] → m.stack.loose ≡ value ∷ []
       → performed_run (outlook tables inputs functions reading m (next.Jumps j) told) ≡ record { lines = told; ending = threw (shown (erased_heap (read_heap reading m.world.heap)) value.value) }
   unfolding perform completed behind
   left_by_jump j m value told none alone =
@@ -225,11 +225,11 @@ module _ {T : Type 0} (tables : Tables) (inputs : Given) (functions : List Funct
       ∙ ap (λ (v : Val). record { lines = told; ending = threw (shown (erased_heap (read_heap reading m.world.heap)) v.value) }) (value_of_jump j (read_value reading value))
 
   -- work that is taken goes on with the completion that a move is
-  pub taken_after : (m : Machine T) (taken : Kept T) (w : Work) (c : Completion) (told : List LabelledLine) → Taken m.stack taken w
+  pub taken_after : (m : Progress T) (taken : Kept T) (w : Work) (c : Completion) (told : List LabelledLine) → Taken m.stack taken w
       → outlook_after tables inputs functions reading (record m { stack = taken }) w c told ≡ perform (meaning tables inputs functions) (behind tables inputs functions reading m.stack.tasks here (Give c (state_of reading m.world told m.turns)))
   taken_after m taken w c told took = ap (perform (meaning tables inputs functions)) (sym (taken_goes_on tables inputs functions reading here m.stack taken w c (state_of reading m.world told m.turns) took))
 
-  pub resumed_after : (m : Machine T) (taken : Kept T) (w : Work) (gave : Bool) (told : List LabelledLine) → length m.stack.loose ≡ given gave → Taken m.stack taken w
+  pub resumed_after : (m : Progress T) (taken : Kept T) (w : Work) (gave : Bool) (told : List LabelledLine) → length m.stack.loose ≡ given gave → Taken m.stack taken w
       → outlook_after tables inputs functions reading (record m { stack = taken }) w (completion_above tables inputs functions reading (record m { stack = taken }) w) told ≡ outlook tables inputs functions reading m (handed gave) told
   resumed_after m taken w true told values took =
       ap (λ vs. outlook_after tables inputs functions reading (record m { stack = taken }) w (gave (first_or_undefined (map (read_value reading) vs))) told) took.rest
@@ -239,7 +239,7 @@ module _ {T : Type 0} (tables : Tables) (inputs : Given) (functions : List Funct
       ∙ taken_after m taken w (gave (unlabelled undefined)) told took
 
   -- with a jump
-  pub passed_after : (j : Jump) (m : Machine T) (taken : Kept T) (w : Work) (value : Labelled T) (told : List LabelledLine) → m.stack.loose ≡ value ∷ [] → Taken m.stack taken w
+  pub passed_after : (j : Jump) (m : Progress T) (taken : Kept T) (w : Work) (value : Labelled T) (told : List LabelledLine) → m.stack.loose ≡ value ∷ [] → Taken m.stack taken w
       → outlook_after tables inputs functions reading (record m { stack = taken }) w (jumped (jump_of j (read_value reading value))) told ≡ outlook tables inputs functions reading m (next.Jumps j) told
   passed_after j m taken w value told alone took =
       taken_after m taken w (jumped (jump_of j (read_value reading value))) told took

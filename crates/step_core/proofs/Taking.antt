@@ -1,5 +1,5 @@
 -- The work that is done first, taken from the others, goes on with a completion.
-use Rattle.std.proofs.Common.{refl, ap, ◌∙◌, ◌≡◌, ℕ, List, [], ◌∷◌, map, take}
+use Rattle.std.proofs.Common.{ap, ◌∙◌, ◌≡◌, ℕ, List, map, take}
 use Rattle.origin_labels.specs.Label.{Label}
 use Rattle.flow_policy.specs.Policies.{Tables}
 use Rattle.flow_policy.specs.Inputs.{Given}
@@ -10,7 +10,7 @@ use Rattle.flow_meaning.specs.Scopes.{State}
 use Rattle.flow_meaning.specs.Planned.{Completion, Give}
 use Rattle.step_work.specs.declared.work.Work.{Work}
 use Rattle.step_work.specs.Kept.{Kept, Taken}
-use Rattle.step_work.specs.Pending.{Task, owns, env_above, after, behind}
+use Rattle.step_work.specs.Pending.{owns, env_above, after, behind}
 use Rattle.step_work.proofs.Behind.{behind_more}
 
 module _ {T : Type 0} where

@@ -2,3 +2,4 @@ pub mod Outlook
 pub mod Going
 pub mod Continuing
 pub mod Stepping
+pub mod Machines

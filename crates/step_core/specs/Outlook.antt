@@ -20,19 +20,19 @@ use Rattle.step_work.specs.declared.work.Next.{Next}
 use Rattle.step_work.specs.Loads.{load, lift}
 use Rattle.step_work.specs.Going.{here}
 use Rattle.step_work.specs.Resuming.{coming}
-use Rattle.step_core.specs.declared.machine.Machine.{Machine}
-use Rattle.step_core.specs.declared.steps.Step.{Step}
-use Rattle.step_core.specs.declared.steps.Step.TheVariants as step
+use Rattle.step_core.specs.declared.progress.Progress.{Progress}
+use Rattle.step_core.specs.declared.steps.Advance.{Advance}
+use Rattle.step_core.specs.declared.steps.Advance.TheVariants as advance
 use Rattle.step_core.specs.declared.steps.Ending as code
 use Rattle.step_core.specs.declared.steps.Ending.TheVariants as ending
 
 -- how much a machine does before its run ends: each part that it enters costs a turn, and the work of less than seven steps
-abbrev pub ahead : {T : Type 0} → Machine T → Next → ℕ
+abbrev pub ahead : {T : Type 0} → Progress T → Next → ℕ
 ahead m next = 7 * m.turns + load m.stack.tasks + lift next
 
 module _ {T : Type 0} (reading : T → Label) where
   -- how a run ended
-  abbrev pub ending_of : Machine T → code.Ending T → Ending Halt
+  abbrev pub ending_of : Progress T → code.Ending T → Ending Halt
   ending_of m ending.Done = done
   ending_of m (ending.Threw v) = threw (shown (erased_heap (read_heap reading m.world.heap)) v.value)
   ending_of m (ending.Stopped stop) = halted (stopped stop.rule (reading stop.need) (reading stop.have))
@@ -41,29 +41,29 @@ module _ {T : Type 0} (reading : T → Label) where
 
 module _ {T : Type 0} (tables : Tables) (inputs : Given) (functions : List FunctionCode) (reading : T → Label) where
   -- the plan of what is done next and of the work that waits, where these lines were printed
-  abbrev pub plan_of : Machine T → Next → List LabelledLine → Plan
+  abbrev pub plan_of : Progress T → Next → List LabelledLine → Plan
   plan_of m next told = coming tables inputs functions reading m.stack next here (state_of reading m.world told m.turns)
 
   -- what it comes to
-  abbrev pub outlook : Machine T → Next → List LabelledLine → Ran
+  abbrev pub outlook : Progress T → Next → List LabelledLine → Ran
   outlook m next told = perform (meaning tables inputs functions) (plan_of m next told)
 
   -- a step comes to the same: it goes on, it goes on behind a line that it printed, or the run ended so
-  abbrev pub Comes : Machine T → List LabelledLine → Ran → Step T → Type 0
-  Comes m told ran (step.Goes next) = ran ≡ outlook m next told
-  Comes m told ran (step.Line p next) = ran ≡ outlook m next (told ++ line_of tables reading p.value ∷ [])
-  Comes m told ran (step.Ends e) = performed_run ran ≡ record { lines = told; ending = ending_of reading m e }
+  abbrev pub Comes : Progress T → List LabelledLine → Ran → Advance T → Type 0
+  Comes m told ran (advance.Goes next) = ran ≡ outlook m next told
+  Comes m told ran (advance.Line p next) = ran ≡ outlook m next (told ++ line_of tables reading p.value ∷ [])
+  Comes m told ran (advance.Ends e) = performed_run ran ≡ record { lines = told; ending = ending_of reading m e }
 
 -- facts for a step that goes on, for one that prints, and for one at which a rule stops the run
-abbrev pub IfGoes : {T : Type 0} → (Next → Type 0) → Step T → Type 0
-IfGoes P (step.Goes next) = P next
-IfGoes P (step.Line p next) = P next
-IfGoes P (step.Ends e) = Unit {0}
+abbrev pub IfGoes : {T : Type 0} → (Next → Type 0) → Advance T → Type 0
+IfGoes P (advance.Goes next) = P next
+IfGoes P (advance.Line p next) = P next
+IfGoes P (advance.Ends e) = Unit {0}
 
-abbrev pub IfLine : {T : Type 0} → (Printed T → Type 0) → Step T → Type 0
-IfLine P (step.Line p next) = P p.value
+abbrev pub IfLine : {T : Type 0} → (Printed T → Type 0) → Advance T → Type 0
+IfLine P (advance.Line p next) = P p.value
 IfLine P _ = Unit {0}
 
-abbrev pub IfStopped : {T : Type 0} → (FlowStop T → Type 0) → Step T → Type 0
-IfStopped P (step.Ends (ending.Stopped stop)) = P stop
+abbrev pub IfStopped : {T : Type 0} → (FlowStop T → Type 0) → Advance T → Type 0
+IfStopped P (advance.Ends (ending.Stopped stop)) = P stop
 IfStopped P _ = Unit {0}

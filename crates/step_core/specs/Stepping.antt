@@ -19,9 +19,9 @@ use Rattle.step_work.specs.declared.work.Next.{Next}
 use Rattle.step_work.specs.declared.work.Next.TheVariants as next
 use Rattle.step_work.specs.Kept.{scopes_of}
 use Rattle.step_work.specs.Pending.{owns, env_above, after, behind, first_or_undefined, values_of}
-use Rattle.step_core.specs.declared.machine.Machine.{Machine}
-use Rattle.step_core.specs.declared.steps.Step.{Step}
-use Rattle.step_core.specs.declared.steps.Step.TheVariants as step
+use Rattle.step_core.specs.declared.progress.Progress.{Progress}
+use Rattle.step_core.specs.declared.steps.Advance.{Advance}
+use Rattle.step_core.specs.declared.steps.Advance.TheVariants as advance
 use Rattle.step_core.specs.declared.steps.Ending.TheVariants as ending
 use Rattle.step_core.specs.Outlook.{Comes, IfGoes, IfLine, IfStopped, ahead}
 use Rattle.step_work.specs.Going.{here}
@@ -29,7 +29,7 @@ use Rattle.step_work.specs.Standing.{Standing}
 
 module _ {S T : Type 0} (made : S → T → Type 0) (meaning_of : S → T → Label) (store : S) (tables : Tables) (inputs : Given) (functions : List FunctionCode) where
   -- a step comes to what a run comes to, leaves a machine that stands, and less is to be done than so much
-  pub record Stepped (ran : (T → Label) → List LabelledLine → Ran) (most : ℕ) (new : Machine T) (s : Step T) : Type 0 where
+  pub record Stepped (ran : (T → Label) → List LabelledLine → Ran) (most : ℕ) (new : Progress T) (s : Advance T) : Type 0 where
     pub comes : (reading : T → Label) (told : List LabelledLine) → IsReading made meaning_of store reading → Comes tables inputs functions reading new told (ran reading told) s
     pub standing : IfGoes (λ n. Standing made meaning_of store new.stack new.world (values_of n) (scopes_of new.stack.tasks) n) s
     pub lowers : IfGoes (λ n. ahead new n < most) s
@@ -37,23 +37,23 @@ module _ {S T : Type 0} (made : S → T → Type 0) (meaning_of : S → T → La
     pub stopped : IfStopped (HasStop (made store)) s
 
 -- the step that a move, or its fault, is
-abbrev pub step_of : {T : Type 0} → Result Next (FlowFault T) → Result (Step T) OutOfMemory
-step_of (Ok next) = Ok (step.Goes next)
-step_of (Err (fault.Stop stop)) = Ok (step.Ends (ending.Stopped stop))
+abbrev pub step_of : {T : Type 0} → Result Next (FlowFault T) → Result (Advance T) OutOfMemory
+step_of (Ok next) = Ok (advance.Goes next)
+step_of (Err (fault.Stop stop)) = Ok (advance.Ends (ending.Stopped stop))
 step_of (Err fault.OutOfMemory) = Err (record {})
 
 -- the step is that this line was printed and the run goes on with this
-abbrev pub Prints : {T : Type 0} → Printed T → Next → Step T → Type 0
-Prints line move (step.Line p next) = (p.value ≡ line) × (next ≡ move)
+abbrev pub Prints : {T : Type 0} → Printed T → Next → Advance T → Type 0
+Prints line move (advance.Line p next) = (p.value ≡ line) × (next ≡ move)
 Prints line move _ = ⊥
 
 module _ {T : Type 0} (tables : Tables) (inputs : Given) (functions : List FunctionCode) (reading : T → Label) where
   -- what a run comes to whose next work was taken and goes on with a completion
-  abbrev pub outlook_after : Machine T → Work → Completion → List LabelledLine → Ran
+  abbrev pub outlook_after : Progress T → Work → Completion → List LabelledLine → Ran
   outlook_after m w c told = perform (meaning tables inputs functions) (behind tables inputs functions reading m.stack.tasks here (after tables inputs functions w (map (read_value reading) (take (owns w) m.stack.loose)) (env_above m.stack.tasks here) c (state_of reading m.world told m.turns)))
 
   -- with what lies above its operands
-  abbrev pub completion_above : Machine T → Work → Completion
+  abbrev pub completion_above : Progress T → Work → Completion
   completion_above m w = gave (first_or_undefined (map (read_value reading) (drop (owns w) m.stack.loose)))
 
 -- the move behind a part that gave a value, or came to its end

@@ -1,4 +1,4 @@
-//! A machine that has done nothing yet.
+//! A run that has done nothing yet.
 
 ghost use Rattle.std.specs.Prelude.{◌≡◌, [], IfOk, length};
 ghost use Rattle.origin_labels.specs.Label.{Label};
@@ -24,7 +24,7 @@ ghost use Rattle.function_table.specs.Tables.{table};
 ghost use Rattle.step_world.specs.Acts.{thrown};
 ghost use Rattle.step_world.specs.Worlds.{Belongs, Grows, state_of};
 
-use crate::machine::Machine;
+use crate::progress::Progress;
 use flow_frames::FlowFault;
 use flow_policy::Policy;
 use flow_text::OutOfMemory;
@@ -38,15 +38,15 @@ use step_start::start;
 use step_work::{Jump, Next, Stack, begin_statements};
 use step_world::{Came, World};
 
-/// A machine in front of a program, and what it does first: the program's statements, or where a function may not be declared, the throw of a TypeError.
-pub fn begin<'p, L: Labels>(
+/// A run in front of a program, and what it does first: the program's statements, or where a function may not be declared, the throw of a TypeError.
+pub(crate) fn begin<'p, L: Labels>(
     alloc: Global,
     labels: &mut L,
     program: &'p Program,
     functions: &Functions<'_>,
     policy: &Policy,
     turns: u64,
-) -> Result<(Machine<'p, L::Label>, Next<'p>), OutOfMemory>
+) -> Result<(Progress<'p, L::Label>, Next<'p>), OutOfMemory>
     requires functions { table functions.now ≡ functions_of (view_program program.now) }
     ensures starts { IfOk result (λ b. (inputs : Given) (reading : L.Label → Label) → IsReading L.made L.meaning labels.new reading → performed_run (outlook policy.now inputs (table functions.now) reading b.0 b.1 []) ≡ tracked_run policy.now inputs (view_program program.entry.now) turns) }
     ensures standing { IfOk result (λ b. Standing L.made L.meaning labels.new b.0.stack b.0.world (values_of b.1) (scopes_of b.0.stack.tasks) b.1) }
@@ -60,12 +60,12 @@ pub fn begin<'p, L: Labels>(
     }
     let mut stack = Stack::new(alloc);
     let next = begin_statements(&mut stack, program.body.items())?;
-    let machine = Machine {
+    let progress = Progress {
         world: started.world,
         stack,
         turns,
     };
-    Ok((machine, next))
+    Ok((progress, next))
 }
 
 /// The throw where a function may not be declared. Nothing decided it, so no flow rule stops it.
@@ -77,7 +77,7 @@ fn refuse<'p, L: Labels>(
     _policy: &Policy,
     world: World<L::Label>,
     turns: u64,
-) -> Result<(Machine<'p, L::Label>, Next<'p>), OutOfMemory>
+) -> Result<(Progress<'p, L::Label>, Next<'p>), OutOfMemory>
     requires functions { table _functions.now ≡ functions_of (view_program _program.now) }
     requires starts { (inputs : Given) (reading : L.Label → Label) → IsReading L.made L.meaning labels.old reading → (turns : ℕ) → state_of reading world [] turns ≡ start _policy.now inputs (view_program _program.now) turns }
     requires refused { may_declare (view_program _program.now) ≡ false }
@@ -93,12 +93,12 @@ fn refuse<'p, L: Labels>(
     let value = thrown(labels, &mut world)?;
     let mut stack = Stack::new(alloc);
     stack.lay(value)?;
-    let machine = Machine {
+    let progress = Progress {
         world,
         stack,
         turns,
     };
-    Ok((machine, Next::Jumps(Jump::Throws)))
+    Ok((progress, Next::Jumps(Jump::Throws)))
 }
 
 /// The TypeError that is thrown. Want of memory alone is handed on: a throw can't go on, and nothing stops one that nothing decided.

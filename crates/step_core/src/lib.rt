@@ -6,12 +6,12 @@ mod entering;
 mod laws;
 mod machine;
 mod passing;
+mod progress;
 mod resuming;
 mod stepping;
 mod steps;
 
-pub use beginning::begin;
 pub use laws::only_adds;
 pub use machine::Machine;
-pub use stepping::step;
+pub use progress::Progress;
 pub use steps::{Ending, Step};

@@ -1,13 +1,119 @@
-//! A machine: what a run holds in its middle.
+//! A machine: a run in its middle, with what it borrows and what it does next.
 
-use step_work::Stack;
-use step_world::World;
+ghost use Rattle.std.specs.Prelude.{◌≡◌, ◌≤◌, ◌<◌, [], List, IfOk, IsOk, OnOk, OnErr, length};
+ghost use Rattle.origin_labels.specs.Label.{Label};
+ghost use Rattle.origin_labels.specs.Stores.{IsKept};
+ghost use Rattle.flow_policy.specs.Inputs.{IsGivenTo};
+ghost use Rattle.js_ast.specs.IsMarked.{IsMarked};
+ghost use Rattle.js_ast.specs.Views.{view_program};
+ghost use Rattle.js_values.specs.Readings.{IsReading};
+ghost use Rattle.flow_meaning.specs.Laws.{performed_run};
+ghost use Rattle.flow_meaning.specs.Scopes.{LabelledLine};
+ghost use Rattle.flow_meaning.specs.Tracked.{tracked_run};
+ghost use Rattle.step_calls.specs.Calling.{IsPrinted};
+ghost use Rattle.step_work.specs.Stops.{HasStop};
+ghost use Rattle.step_core.specs.Machines.{Comes, IfOn, IfPrinted, IfStopped, IsMoved, IsReserved, Runs, ahead, comes_to};
 
-/// A run in its middle, but for what it does next.
+use crate::beginning::begin;
+use crate::progress::Progress;
+use crate::stepping::stepped;
+use crate::steps::{Advance, Step};
+use flow_policy::{Inputs, Policy};
+use flow_text::OutOfMemory;
+use function_table::Functions;
+use js_ast::Program;
+use origin_labels::Labels;
+use std::alloc::Global;
+use step_work::Next;
+
+/// A run in its middle. It goes on step by step, and holds no store of labels.
 #[derive(Drop)]
 pub struct Machine<'p, T> {
-    pub world: World<T>,
-    pub stack: Stack<'p, T>,
-    /// How many further parts of the script it may enter.
-    pub turns: u64,
+    pub alloc: Global,
+    pub policy: &'p Policy,
+    pub inputs: &'p Inputs,
+    /// Those of the program.
+    pub functions: Functions<'p>,
+    pub progress: Progress<'p, T>,
+    /// What it does next.
+    pub next: Next<'p>,
+}
+
+impl<'p, T: Copy> Machine<'p, T> {
+    /// A machine in front of a program.
+    pub fn new<L: Labels<Label = T>>(
+        alloc: Global,
+        program: &'p Program,
+        policy: &'p Policy,
+        inputs: &'p Inputs,
+        turns: u64,
+        labels: &mut L,
+    ) -> Result<Machine<'p, T>, OutOfMemory>
+        requires marked { IsMarked program.now }
+        requires room { length policy.now.origins ≤ L.room labels.old }
+        requires given { IsGivenTo policy.now inputs.now }
+        ensures starts { IfOk result (λ m. (reading : T → Label) → IsReading L.made L.meaning labels.new reading → performed_run (comes_to reading m []) ≡ tracked_run policy.entry.now inputs.entry.now (view_program program.entry.now) turns) }
+        ensures runs { IfOk result (Runs L.made L.meaning L.room labels.new) }
+        ensures policy { IfOk result (λ m. m.policy.now ≡ policy.entry.now) }
+        ensures kept { IsKept L.made L.meaning L.room L.firm labels.old labels.new }
+    {
+        let functions = Functions::of(alloc, program)?;
+        let (progress, next) = begin(alloc, labels, program, &functions, policy, turns)?;
+        Ok(Machine {
+            alloc,
+            policy,
+            inputs,
+            functions,
+            progress,
+            next,
+        })
+    }
+
+    /// Makes the room for one step's frame, so that the step needs no more for it. What a step lays on the stack grows as it is laid. No reading of the
+    /// machine sees a change.
+    pub fn reserve(&mut self) -> Result<(), OutOfMemory>
+        ensures reserved { IsReserved self.old self.new }
+        ensures comes { (reading : T → Label) (told : List LabelledLine) → comes_to reading self.new told ≡ comes_to reading self.old told }
+        ensures ahead { ahead self.new ≡ ahead self.old }
+        ensures spare { OnOk result (1 ≤ self.new.progress.world.frames.spare) }
+        ensures unchanged { OnErr result (self.new ≡ self.old) }
+        ensures enough { 1 ≤ self.old.progress.world.frames.spare → IsOk result }
+    {
+        self.progress.world.frames.reserve()?;
+        Ok(())
+    }
+
+    /// Does what is next, where no earlier step ended the run. Want of memory ends it, whatever is left of the machine.
+    pub fn step<L: Labels<Label = T>>(&mut self, labels: &mut L) -> Result<Step<T>, OutOfMemory>
+        requires runs { Runs L.made L.meaning L.room labels.old self.old }
+        ensures comes { IfOk result (λ s. (reading : T → Label) (told : List LabelledLine) → IsReading L.made L.meaning labels.new reading → Comes reading self.new told (comes_to reading self.old told) s) }
+        ensures runs { IfOk result (IfOn (Runs L.made L.meaning L.room labels.new self.new)) }
+        ensures lowers { IfOk result (IfOn (ahead self.new < ahead self.old)) }
+        ensures printed { IfOk result (IfPrinted (IsPrinted (L.made labels.new) (length self.old.policy.now.outputs))) }
+        ensures stopped { IfOk result (IfStopped (HasStop (L.made labels.new))) }
+        ensures moved { IsMoved self.old self.new }
+        ensures positions { length self.new.progress.world.positions.items ≡ length self.old.policy.now.inputs }
+        ensures kept { IsKept L.made L.meaning L.room L.firm labels.old labels.new }
+    {
+        let came = stepped(
+            self.alloc,
+            labels,
+            self.policy,
+            self.inputs,
+            &self.functions,
+            &mut self.progress,
+            self.next,
+        )?;
+        match came {
+            Advance::Goes(next) => {
+                self.next = next;
+                Ok(Step::Goes)
+            }
+            Advance::Line(line, next) => {
+                self.next = next;
+                Ok(Step::Line(line))
+            }
+            Advance::Ends(ending) => Ok(Step::Ends(ending)),
+        }
+    }
 }

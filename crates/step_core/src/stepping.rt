@@ -1,36 +1,33 @@
-//! One step of a machine.
+//! One step of a run.
 
-ghost use Rattle.std.specs.Prelude.{◌≡◌, ◌≤◌, ◌<◌, ◌+◌, ◌++◌, ◌∷◌, [], ℕ, Bool, true, false, List, IfOk, drop, length};
+ghost use Rattle.std.specs.Prelude.{◌≡◌, ◌≤◌, ◌<◌, ◌+◌, ◌++◌, ◌∷◌, [], Bool, true, false, List, IfOk, drop, length};
 ghost use Rattle.origin_labels.specs.Label.{Label};
 ghost use Rattle.origin_labels.specs.Stores.{IsKept};
 ghost use Rattle.flow_policy.specs.Policies.{Tables};
 ghost use Rattle.flow_policy.specs.Inputs.{Given, IsGivenTo};
 ghost use Rattle.js_ast.specs.Functions.{FunctionCode};
 ghost use Rattle.js_values.specs.declared.value.Labelled.{Labelled};
-ghost use Rattle.js_values.specs.Readings.{IsReading, read_value};
+ghost use Rattle.js_values.specs.Readings.{read_value};
 ghost use Rattle.flow_meaning.specs.Planned.{jumped};
-ghost use Rattle.flow_meaning.specs.Scopes.{LabelledLine};
-ghost use Rattle.step_calls.specs.Calling.{IsPrinted};
 ghost use Rattle.function_table.specs.Tables.{table};
-ghost use Rattle.step_work.specs.Stops.{HasStop};
 ghost use Rattle.step_work.specs.Shapes.{jump_of};
 ghost use Rattle.step_world.specs.Worlds.{Grows};
 ghost use Rattle.step_work.specs.declared.work.Next.TheVariants as next;
 ghost use Rattle.step_work.specs.declared.work.Work.TheVariants as work;
 ghost use Rattle.step_core.specs.Continuing.{raises};
 ghost use Rattle.step_work.specs.Kept.{scope_of, scopes_of};
-ghost use Rattle.step_work.specs.Loads.{load, weight};
+ghost use Rattle.step_work.specs.Loads.{weight};
 ghost use Rattle.step_work.specs.Pending.{owns, values_of};
-ghost use Rattle.step_core.specs.Outlook.{Comes, IfGoes, IfLine, IfStopped, ahead, outlook};
+ghost use Rattle.step_core.specs.Outlook.{ahead, outlook};
 ghost use Rattle.step_work.specs.Standing.{Standing, given};
 ghost use Rattle.step_core.specs.Stepping.{begins_work, calls_function};
 ghost use Rattle.step_core.specs.Stepping.{Stepped, handed, completion_above, enters_part, outlook_after};
 
 use crate::entering::{begin_calling, begin_move, enter, present};
-use crate::machine::Machine;
 use crate::passing::pass_work;
+use crate::progress::Progress;
 use crate::resuming::{raise_on, resume};
-use crate::steps::{Ending, Step, line_step, step_of};
+use crate::steps::{Advance, Ending, line_step, step_of};
 use flow_frames::FlowFault;
 use flow_policy::{Inputs, Policy};
 use flow_text::OutOfMemory;
@@ -42,64 +39,39 @@ use step_calls::call;
 use step_numbers::{assign, evaluate, finish};
 use step_work::{Direct, Jump, Next, Work};
 
-/// Does what is next. Want of memory ends the run, whatever is left of the machine.
-pub fn step<'p, L: Labels>(
+/// Does what is next. Want of memory ends the run, whatever is left of it.
+pub(crate) fn stepped<'p, L: Labels>(
     alloc: Global,
     labels: &mut L,
     policy: &Policy,
     inputs: &Inputs,
     functions: &Functions<'p>,
-    machine: &mut Machine<'p, L::Label>,
+    progress: &mut Progress<'p, L::Label>,
     next: Next<'p>,
-) -> Result<Step<'p, L::Label>, OutOfMemory>
-    requires standing { Standing L.made L.meaning labels.old machine.old.stack machine.old.world (values_of next) (scopes_of machine.old.stack.tasks) next }
+) -> Result<Advance<'p, L::Label>, OutOfMemory>
+    requires standing { Standing L.made L.meaning labels.old progress.old.stack progress.old.world (values_of next) (scopes_of progress.old.stack.tasks) next }
     requires room { length policy.now.origins ≤ L.room labels.old }
     requires given { IsGivenTo policy.now inputs.now }
-    requires positions { length machine.old.world.positions.items ≡ length policy.now.inputs }
-    ensures comes { IfOk result (λ s. (reading : L.Label → Label) (told : List LabelledLine) → IsReading L.made L.meaning labels.new reading → Comes policy.now inputs.now (table functions.now) reading machine.new told (outlook policy.now inputs.now (table functions.now) reading machine.old next.entry told) s) }
-    ensures standing { IfOk result (IfGoes (λ n. Standing L.made L.meaning labels.new machine.new.stack machine.new.world (values_of n) (scopes_of machine.new.stack.tasks) n)) }
-    ensures lowers { IfOk result (IfGoes (λ n. ahead machine.new n < ahead machine.old next.entry)) }
-    ensures printed { IfOk result (IfLine (IsPrinted (L.made labels.new) (length policy.now.outputs))) }
-    ensures stopped { IfOk result (IfStopped (HasStop (L.made labels.new))) }
-    ensures positions { length machine.new.world.positions.items ≡ length policy.now.inputs }
-    ensures kept { IsKept L.made L.meaning L.room L.firm labels.old labels.new }
-{
-    stepped(alloc, labels, policy, inputs, functions, machine, next)
-}
-
-// The same, as one record.
-fn stepped<'p, L: Labels>(
-    alloc: Global,
-    labels: &mut L,
-    policy: &Policy,
-    inputs: &Inputs,
-    functions: &Functions<'p>,
-    machine: &mut Machine<'p, L::Label>,
-    next: Next<'p>,
-) -> Result<Step<'p, L::Label>, OutOfMemory>
-    requires standing { Standing L.made L.meaning labels.old machine.old.stack machine.old.world (values_of next) (scopes_of machine.old.stack.tasks) next }
-    requires room { length policy.now.origins ≤ L.room labels.old }
-    requires given { IsGivenTo policy.now inputs.now }
-    requires positions { length machine.old.world.positions.items ≡ length policy.now.inputs }
-    ensures stepped { IfOk result (Stepped L.made L.meaning labels.new policy.now inputs.now (table functions.now) (λ reading. outlook policy.now inputs.now (table functions.now) reading machine.old next.entry) (ahead machine.old next.entry) machine.new) }
-    ensures grows { Grows machine.old.world machine.new.world }
+    requires positions { length progress.old.world.positions.items ≡ length policy.now.inputs }
+    ensures stepped { IfOk result (Stepped L.made L.meaning labels.new policy.now inputs.now (table functions.now) (λ reading. outlook policy.now inputs.now (table functions.now) reading progress.old next.entry) (ahead progress.old next.entry) progress.new) }
+    ensures grows { Grows progress.old.world progress.new.world }
     ensures kept { IsKept L.made L.meaning L.room L.firm labels.old labels.new }
 {
     match next {
-        Next::Leave(why) => Ok(Step::Ends(Ending::Left(why))),
-        Next::Value => go_on(alloc, labels, policy, machine, true),
-        Next::Done => go_on(alloc, labels, policy, machine, false),
-        Next::Jumps(jump) => jump_on(alloc, labels, machine, jump),
+        Next::Leave(why) => Ok(Advance::Ends(Ending::Left(why))),
+        Next::Value => go_on(alloc, labels, policy, progress, true),
+        Next::Done => go_on(alloc, labels, policy, progress, false),
+        Next::Jumps(jump) => jump_on(alloc, labels, progress, jump),
         Next::Direct(function, count) => {
-            call_function(alloc, labels, policy, inputs, machine, function, count)
+            call_function(alloc, labels, policy, inputs, progress, function, count)
         }
         Next::Call(_) | Next::Construct(_) | Next::Function(_) => {
-            begin_call(alloc, labels, functions, machine, next)
+            begin_call(alloc, labels, functions, progress, next)
         }
-        Next::Expr(e) => begin_expr(alloc, labels, machine, e),
-        Next::Stmt(s) => begin_stmt(alloc, labels, machine, s),
+        Next::Expr(e) => begin_expr(alloc, labels, progress, e),
+        Next::Stmt(s) => begin_stmt(alloc, labels, progress, s),
         Next::Use(_, _) | Next::Named(_, _) | Next::Turn(_) | Next::Visit(_, _) => {
-            enter_part(alloc, labels, machine, next)
+            enter_part(alloc, labels, progress, next)
         }
         Next::Null
         | Next::Bool(_)
@@ -117,7 +89,7 @@ fn stepped<'p, L: Labels>(
         | Next::Break(_, _)
         | Next::Return
         | Next::Labelled(_, _)
-        | Next::Try(_) => begin_work(alloc, labels, machine, next),
+        | Next::Try(_) => begin_work(alloc, labels, progress, next),
     }
 }
 
@@ -126,18 +98,18 @@ fn go_on<'p, L: Labels>(
     alloc: Global,
     labels: &mut L,
     policy: &Policy,
-    machine: &mut Machine<'p, L::Label>,
+    progress: &mut Progress<'p, L::Label>,
     gave: bool,
-) -> Result<Step<'p, L::Label>, OutOfMemory>
-    requires standing { Standing L.made L.meaning labels.old machine.old.stack machine.old.world (given gave) (scopes_of machine.old.stack.tasks) (handed gave) }
+) -> Result<Advance<'p, L::Label>, OutOfMemory>
+    requires standing { Standing L.made L.meaning labels.old progress.old.stack progress.old.world (given gave) (scopes_of progress.old.stack.tasks) (handed gave) }
     requires room { length policy.now.origins ≤ L.room labels.old }
-    ensures stepped { (inputs : Given) (functions : List FunctionCode) → IfOk result (Stepped L.made L.meaning labels.new policy.now inputs functions (λ reading. outlook policy.now inputs functions reading machine.old (handed gave)) (ahead machine.old (handed gave)) machine.new) }
-    ensures grows { Grows machine.old.world machine.new.world }
+    ensures stepped { (inputs : Given) (functions : List FunctionCode) → IfOk result (Stepped L.made L.meaning labels.new policy.now inputs functions (λ reading. outlook policy.now inputs functions reading progress.old (handed gave)) (ahead progress.old (handed gave)) progress.new) }
+    ensures grows { Grows progress.old.world progress.new.world }
     ensures kept { IsKept L.made L.meaning L.room L.firm labels.old labels.new }
 {
-    match machine.stack.next_work() {
-        None => Ok(Step::Ends(Ending::Done)),
-        Some(work) => proceed(alloc, labels, policy, machine, work, gave),
+    match progress.stack.next_work() {
+        None => Ok(Advance::Ends(Ending::Done)),
+        Some(work) => proceed(alloc, labels, policy, progress, work, gave),
     }
 }
 
@@ -146,19 +118,19 @@ fn proceed<'p, L: Labels>(
     alloc: Global,
     labels: &mut L,
     policy: &Policy,
-    machine: &mut Machine<'p, L::Label>,
+    progress: &mut Progress<'p, L::Label>,
     work: Work<'p>,
     gave: bool,
-) -> Result<Step<'p, L::Label>, OutOfMemory>
-    requires standing { Standing L.made L.meaning labels.old machine.old.stack machine.old.world (owns work + given gave) (scopes_of machine.old.stack.tasks ++ scope_of work) next.Value }
+) -> Result<Advance<'p, L::Label>, OutOfMemory>
+    requires standing { Standing L.made L.meaning labels.old progress.old.stack progress.old.world (owns work + given gave) (scopes_of progress.old.stack.tasks ++ scope_of work) next.Value }
     requires room { length policy.now.origins ≤ L.room labels.old }
-    ensures stepped { (inputs : Given) (functions : List FunctionCode) → IfOk result (Stepped L.made L.meaning labels.new policy.now inputs functions (λ reading. outlook_after policy.now inputs functions reading machine.old work.entry (completion_above policy.now inputs functions reading machine.old work.entry)) (ahead machine.old next.Value + weight work.entry) machine.new) }
-    ensures grows { Grows machine.old.world machine.new.world }
+    ensures stepped { (inputs : Given) (functions : List FunctionCode) → IfOk result (Stepped L.made L.meaning labels.new policy.now inputs functions (λ reading. outlook_after policy.now inputs functions reading progress.old work.entry (completion_above policy.now inputs functions reading progress.old work.entry)) (ahead progress.old next.Value + weight work.entry) progress.new) }
+    ensures grows { Grows progress.old.world progress.new.world }
     ensures kept { IsKept L.made L.meaning L.room L.firm labels.old labels.new }
 {
     match work {
-        Work::Raise(e) => raised(alloc, labels, policy, machine, e, gave),
-        other => resumed(alloc, labels, machine, other, gave),
+        Work::Raise(e) => raised(alloc, labels, policy, progress, e, gave),
+        other => resumed(alloc, labels, progress, other, gave),
     }
 }
 
@@ -167,18 +139,18 @@ fn raised<'p, L: Labels>(
     alloc: Global,
     labels: &mut L,
     policy: &Policy,
-    machine: &mut Machine<'p, L::Label>,
+    progress: &mut Progress<'p, L::Label>,
     e: &'p Expr,
     gave: bool,
-) -> Result<Step<'p, L::Label>, OutOfMemory>
-    requires standing { Standing L.made L.meaning labels.old machine.old.stack machine.old.world (given gave) (scopes_of machine.old.stack.tasks) next.Value }
+) -> Result<Advance<'p, L::Label>, OutOfMemory>
+    requires standing { Standing L.made L.meaning labels.old progress.old.stack progress.old.world (given gave) (scopes_of progress.old.stack.tasks) next.Value }
     requires room { length policy.now.origins ≤ L.room labels.old }
-    ensures stepped { (inputs : Given) (functions : List FunctionCode) → IfOk result (Stepped L.made L.meaning labels.new policy.now inputs functions (λ reading. outlook_after policy.now inputs functions reading machine.old (work.Raise e.entry) (completion_above policy.now inputs functions reading machine.old (work.Raise e.entry))) (ahead machine.old next.Value + 1) machine.new) }
-    ensures grows { Grows machine.old.world machine.new.world }
+    ensures stepped { (inputs : Given) (functions : List FunctionCode) → IfOk result (Stepped L.made L.meaning labels.new policy.now inputs functions (λ reading. outlook_after policy.now inputs functions reading progress.old (work.Raise e.entry) (completion_above policy.now inputs functions reading progress.old (work.Raise e.entry))) (ahead progress.old next.Value + 1) progress.new) }
+    ensures grows { Grows progress.old.world progress.new.world }
     ensures kept { IsKept L.made L.meaning L.room L.firm labels.old labels.new }
 {
-    let world = &mut machine.world;
-    let stack = &mut machine.stack;
+    let world = &mut progress.world;
+    let stack = &mut progress.stack;
     let moved = raise_on(alloc, labels, policy, world, stack, e, gave);
     step_of(moved)
 }
@@ -187,18 +159,18 @@ fn raised<'p, L: Labels>(
 fn resumed<'p, L: Labels>(
     alloc: Global,
     labels: &mut L,
-    machine: &mut Machine<'p, L::Label>,
+    progress: &mut Progress<'p, L::Label>,
     work: Work<'p>,
     gave: bool,
-) -> Result<Step<'p, L::Label>, OutOfMemory>
+) -> Result<Advance<'p, L::Label>, OutOfMemory>
     requires obeys { raises work ≡ false }
-    requires standing { Standing L.made L.meaning labels.old machine.old.stack machine.old.world (owns work + given gave) (scopes_of machine.old.stack.tasks ++ scope_of work) next.Value }
-    ensures stepped { (tables : Tables) (inputs : Given) (functions : List FunctionCode) → IfOk result (Stepped L.made L.meaning labels.new tables inputs functions (λ reading. outlook_after tables inputs functions reading machine.old work.entry (completion_above tables inputs functions reading machine.old work.entry)) (ahead machine.old next.Value + weight work.entry) machine.new) }
-    ensures grows { Grows machine.old.world machine.new.world }
+    requires standing { Standing L.made L.meaning labels.old progress.old.stack progress.old.world (owns work + given gave) (scopes_of progress.old.stack.tasks ++ scope_of work) next.Value }
+    ensures stepped { (tables : Tables) (inputs : Given) (functions : List FunctionCode) → IfOk result (Stepped L.made L.meaning labels.new tables inputs functions (λ reading. outlook_after tables inputs functions reading progress.old work.entry (completion_above tables inputs functions reading progress.old work.entry)) (ahead progress.old next.Value + weight work.entry) progress.new) }
+    ensures grows { Grows progress.old.world progress.new.world }
     ensures kept { IsKept L.made L.meaning L.room L.firm labels.old labels.new }
 {
-    let world = &mut machine.world;
-    let stack = &mut machine.stack;
+    let world = &mut progress.world;
+    let stack = &mut progress.stack;
     let moved = resume(alloc, labels, world, stack, work, gave);
     step_of(moved)
 }
@@ -207,17 +179,17 @@ fn resumed<'p, L: Labels>(
 fn jump_on<'p, L: Labels>(
     alloc: Global,
     labels: &mut L,
-    machine: &mut Machine<'p, L::Label>,
+    progress: &mut Progress<'p, L::Label>,
     jump: Jump,
-) -> Result<Step<'p, L::Label>, OutOfMemory>
-    requires standing { Standing L.made L.meaning labels.old machine.old.stack machine.old.world 1 (scopes_of machine.old.stack.tasks) (next.Jumps jump) }
-    ensures stepped { (tables : Tables) (inputs : Given) (functions : List FunctionCode) → IfOk result (Stepped L.made L.meaning labels.new tables inputs functions (λ reading. outlook tables inputs functions reading machine.old (next.Jumps jump)) (ahead machine.old (next.Jumps jump)) machine.new) }
-    ensures grows { Grows machine.old.world machine.new.world }
+) -> Result<Advance<'p, L::Label>, OutOfMemory>
+    requires standing { Standing L.made L.meaning labels.old progress.old.stack progress.old.world 1 (scopes_of progress.old.stack.tasks) (next.Jumps jump) }
+    ensures stepped { (tables : Tables) (inputs : Given) (functions : List FunctionCode) → IfOk result (Stepped L.made L.meaning labels.new tables inputs functions (λ reading. outlook tables inputs functions reading progress.old (next.Jumps jump)) (ahead progress.old (next.Jumps jump)) progress.new) }
+    ensures grows { Grows progress.old.world progress.new.world }
     ensures kept { IsKept L.made L.meaning L.room L.firm labels.old labels.new }
 {
-    match machine.stack.next_work() {
-        None => Ok(Step::Ends(Ending::Threw(machine.stack.pop()))),
-        Some(work) => passed(alloc, labels, machine, jump, work),
+    match progress.stack.next_work() {
+        None => Ok(Advance::Ends(Ending::Threw(progress.stack.pop()))),
+        Some(work) => passed(alloc, labels, progress, jump, work),
     }
 }
 
@@ -225,20 +197,20 @@ fn jump_on<'p, L: Labels>(
 fn passed<'p, L: Labels>(
     alloc: Global,
     labels: &mut L,
-    machine: &mut Machine<'p, L::Label>,
+    progress: &mut Progress<'p, L::Label>,
     jump: Jump,
     work: Work<'p>,
-) -> Result<Step<'p, L::Label>, OutOfMemory>
-    requires standing { Standing L.made L.meaning labels.old machine.old.stack machine.old.world (owns work + 1) (scopes_of machine.old.stack.tasks ++ scope_of work) (next.Jumps jump) }
-    ensures stepped { (tables : Tables) (inputs : Given) (functions : List FunctionCode) (value : Labelled L.Label) → drop (owns work.entry) machine.old.stack.loose ≡ value ∷ [] → IfOk result (Stepped L.made L.meaning labels.new tables inputs functions (λ reading. outlook_after tables inputs functions reading machine.old work.entry (jumped (jump_of jump (read_value reading value)))) (ahead machine.old (next.Jumps jump) + weight work.entry) machine.new) }
-    ensures grows { Grows machine.old.world machine.new.world }
+) -> Result<Advance<'p, L::Label>, OutOfMemory>
+    requires standing { Standing L.made L.meaning labels.old progress.old.stack progress.old.world (owns work + 1) (scopes_of progress.old.stack.tasks ++ scope_of work) (next.Jumps jump) }
+    ensures stepped { (tables : Tables) (inputs : Given) (functions : List FunctionCode) (value : Labelled L.Label) → drop (owns work.entry) progress.old.stack.loose ≡ value ∷ [] → IfOk result (Stepped L.made L.meaning labels.new tables inputs functions (λ reading. outlook_after tables inputs functions reading progress.old work.entry (jumped (jump_of jump (read_value reading value)))) (ahead progress.old (next.Jumps jump) + weight work.entry) progress.new) }
+    ensures grows { Grows progress.old.world progress.new.world }
     ensures kept { IsKept L.made L.meaning L.room L.firm labels.old labels.new }
 {
     let moved = pass_work(
         alloc,
         labels,
-        &mut machine.world,
-        &mut machine.stack,
+        &mut progress.world,
+        &mut progress.stack,
         jump,
         work,
     );
@@ -249,19 +221,19 @@ fn passed<'p, L: Labels>(
 fn begin_expr<'p, L: Labels>(
     alloc: Global,
     labels: &mut L,
-    machine: &mut Machine<'p, L::Label>,
+    progress: &mut Progress<'p, L::Label>,
     e: &'p Expr,
-) -> Result<Step<'p, L::Label>, OutOfMemory>
-    requires standing { Standing L.made L.meaning labels.old machine.old.stack machine.old.world 0 (scopes_of machine.old.stack.tasks) (next.Expr e) }
-    ensures stepped { (tables : Tables) (inputs : Given) (functions : List FunctionCode) → IfOk result (Stepped L.made L.meaning labels.new tables inputs functions (λ reading. outlook tables inputs functions reading machine.old (next.Expr e.entry)) (ahead machine.old (next.Expr e.entry)) machine.new) }
-    ensures grows { Grows machine.old.world machine.new.world }
+) -> Result<Advance<'p, L::Label>, OutOfMemory>
+    requires standing { Standing L.made L.meaning labels.old progress.old.stack progress.old.world 0 (scopes_of progress.old.stack.tasks) (next.Expr e) }
+    ensures stepped { (tables : Tables) (inputs : Given) (functions : List FunctionCode) → IfOk result (Stepped L.made L.meaning labels.new tables inputs functions (λ reading. outlook tables inputs functions reading progress.old (next.Expr e.entry)) (ahead progress.old (next.Expr e.entry)) progress.new) }
+    ensures grows { Grows progress.old.world progress.new.world }
     ensures kept { IsKept L.made L.meaning L.room L.firm labels.old labels.new }
 {
     match &*e.kind {
         ExprKind::Assign { .. } | ExprKind::Postfix { .. } => {
-            begin_assignment(alloc, labels, machine, e)
+            begin_assignment(alloc, labels, progress, e)
         }
-        _ => begin_value(alloc, labels, machine, e),
+        _ => begin_value(alloc, labels, progress, e),
     }
 }
 
@@ -269,82 +241,88 @@ fn begin_expr<'p, L: Labels>(
 fn begin_value<'p, L: Labels>(
     alloc: Global,
     labels: &mut L,
-    machine: &mut Machine<'p, L::Label>,
+    progress: &mut Progress<'p, L::Label>,
     e: &'p Expr,
-) -> Result<Step<'p, L::Label>, OutOfMemory>
-    requires standing { Standing L.made L.meaning labels.old machine.old.stack machine.old.world 0 (scopes_of machine.old.stack.tasks) (next.Expr e) }
-    ensures stepped { (tables : Tables) (inputs : Given) (functions : List FunctionCode) → IfOk result (Stepped L.made L.meaning labels.new tables inputs functions (λ reading. outlook tables inputs functions reading machine.old (next.Expr e.entry)) (ahead machine.old (next.Expr e.entry)) machine.new) }
-    ensures grows { Grows machine.old.world machine.new.world }
+) -> Result<Advance<'p, L::Label>, OutOfMemory>
+    requires standing { Standing L.made L.meaning labels.old progress.old.stack progress.old.world 0 (scopes_of progress.old.stack.tasks) (next.Expr e) }
+    ensures stepped { (tables : Tables) (inputs : Given) (functions : List FunctionCode) → IfOk result (Stepped L.made L.meaning labels.new tables inputs functions (λ reading. outlook tables inputs functions reading progress.old (next.Expr e.entry)) (ahead progress.old (next.Expr e.entry)) progress.new) }
+    ensures grows { Grows progress.old.world progress.new.world }
     ensures kept { IsKept L.made L.meaning L.room L.firm labels.old labels.new }
 {
-    let place = present(&machine.world, &machine.stack)?;
-    let Some(found) = evaluate(labels, &machine.world, place, machine.turns, e) else {
-        return enter_part(alloc, labels, machine, Next::Expr(e));
+    let place = present(&progress.world, &progress.stack)?;
+    let Some(found) = evaluate(labels, &progress.world, place, progress.turns, e) else {
+        return enter_part(alloc, labels, progress, Next::Expr(e));
     };
-    machine.turns = found.turns;
-    machine.stack.lay(found.value)?;
-    Ok(Step::Goes(Next::Value))
+    progress.turns = found.turns;
+    progress.stack.lay(found.value)?;
+    Ok(Advance::Goes(Next::Value))
 }
 
 // An assignment of a number to a name is done at once, and any other is entered.
 fn begin_assignment<'p, L: Labels>(
     alloc: Global,
     labels: &mut L,
-    machine: &mut Machine<'p, L::Label>,
+    progress: &mut Progress<'p, L::Label>,
     e: &'p Expr,
-) -> Result<Step<'p, L::Label>, OutOfMemory>
-    requires standing { Standing L.made L.meaning labels.old machine.old.stack machine.old.world 0 (scopes_of machine.old.stack.tasks) (next.Expr e) }
-    ensures stepped { (tables : Tables) (inputs : Given) (functions : List FunctionCode) → IfOk result (Stepped L.made L.meaning labels.new tables inputs functions (λ reading. outlook tables inputs functions reading machine.old (next.Expr e.entry)) (ahead machine.old (next.Expr e.entry)) machine.new) }
-    ensures grows { Grows machine.old.world machine.new.world }
+) -> Result<Advance<'p, L::Label>, OutOfMemory>
+    requires standing { Standing L.made L.meaning labels.old progress.old.stack progress.old.world 0 (scopes_of progress.old.stack.tasks) (next.Expr e) }
+    ensures stepped { (tables : Tables) (inputs : Given) (functions : List FunctionCode) → IfOk result (Stepped L.made L.meaning labels.new tables inputs functions (λ reading. outlook tables inputs functions reading progress.old (next.Expr e.entry)) (ahead progress.old (next.Expr e.entry)) progress.new) }
+    ensures grows { Grows progress.old.world progress.new.world }
     ensures kept { IsKept L.made L.meaning L.room L.firm labels.old labels.new }
 {
-    let place = present(&machine.world, &machine.stack)?;
-    let Some(found) = assign(labels, &mut machine.world, place, machine.turns, e) else {
-        return enter_part(alloc, labels, machine, Next::Expr(e));
+    let place = present(&progress.world, &progress.stack)?;
+    let Some(found) = assign(labels, &mut progress.world, place, progress.turns, e) else {
+        return enter_part(alloc, labels, progress, Next::Expr(e));
     };
-    machine.turns = found.turns;
-    machine.stack.lay(found.value)?;
-    Ok(Step::Goes(Next::Value))
+    progress.turns = found.turns;
+    progress.stack.lay(found.value)?;
+    Ok(Advance::Goes(Next::Value))
 }
 
 // A statement that is such an assignment is done at once, and any other is entered.
 fn begin_stmt<'p, L: Labels>(
     alloc: Global,
     labels: &mut L,
-    machine: &mut Machine<'p, L::Label>,
+    progress: &mut Progress<'p, L::Label>,
     s: &'p Stmt,
-) -> Result<Step<'p, L::Label>, OutOfMemory>
-    requires standing { Standing L.made L.meaning labels.old machine.old.stack machine.old.world 0 (scopes_of machine.old.stack.tasks) (next.Stmt s) }
-    ensures stepped { (tables : Tables) (inputs : Given) (functions : List FunctionCode) → IfOk result (Stepped L.made L.meaning labels.new tables inputs functions (λ reading. outlook tables inputs functions reading machine.old (next.Stmt s.entry)) (ahead machine.old (next.Stmt s.entry)) machine.new) }
-    ensures grows { Grows machine.old.world machine.new.world }
+) -> Result<Advance<'p, L::Label>, OutOfMemory>
+    requires standing { Standing L.made L.meaning labels.old progress.old.stack progress.old.world 0 (scopes_of progress.old.stack.tasks) (next.Stmt s) }
+    ensures stepped { (tables : Tables) (inputs : Given) (functions : List FunctionCode) → IfOk result (Stepped L.made L.meaning labels.new tables inputs functions (λ reading. outlook tables inputs functions reading progress.old (next.Stmt s.entry)) (ahead progress.old (next.Stmt s.entry)) progress.new) }
+    ensures grows { Grows progress.old.world progress.new.world }
     ensures kept { IsKept L.made L.meaning L.room L.firm labels.old labels.new }
 {
-    let place = present(&machine.world, &machine.stack)?;
-    let Some(left) = finish(labels, &mut machine.world, place, machine.turns, s) else {
-        return enter_part(alloc, labels, machine, Next::Stmt(s));
+    let place = present(&progress.world, &progress.stack)?;
+    let Some(left) = finish(labels, &mut progress.world, place, progress.turns, s) else {
+        return enter_part(alloc, labels, progress, Next::Stmt(s));
     };
-    machine.turns = left;
-    Ok(Step::Goes(Next::Done))
+    progress.turns = left;
+    Ok(Advance::Goes(Next::Done))
 }
 
 // A part of the script is entered, which costs a turn, and without one the run ends.
 fn enter_part<'p, L: Labels>(
     alloc: Global,
     labels: &mut L,
-    machine: &mut Machine<'p, L::Label>,
+    progress: &mut Progress<'p, L::Label>,
     next: Next<'p>,
-) -> Result<Step<'p, L::Label>, OutOfMemory>
+) -> Result<Advance<'p, L::Label>, OutOfMemory>
     requires enters { enters_part next ≡ true }
-    requires standing { Standing L.made L.meaning labels.old machine.old.stack machine.old.world (values_of next) (scopes_of machine.old.stack.tasks) next }
-    ensures stepped { (tables : Tables) (inputs : Given) (functions : List FunctionCode) → IfOk result (Stepped L.made L.meaning labels.new tables inputs functions (λ reading. outlook tables inputs functions reading machine.old next.entry) (ahead machine.old next.entry) machine.new) }
-    ensures grows { Grows machine.old.world machine.new.world }
+    requires standing { Standing L.made L.meaning labels.old progress.old.stack progress.old.world (values_of next) (scopes_of progress.old.stack.tasks) next }
+    ensures stepped { (tables : Tables) (inputs : Given) (functions : List FunctionCode) → IfOk result (Stepped L.made L.meaning labels.new tables inputs functions (λ reading. outlook tables inputs functions reading progress.old next.entry) (ahead progress.old next.entry) progress.new) }
+    ensures grows { Grows progress.old.world progress.new.world }
     ensures kept { IsKept L.made L.meaning L.room L.firm labels.old labels.new }
 {
-    if machine.turns == 0 {
-        return Ok(Step::Ends(Ending::OutOfTurns));
+    if progress.turns == 0 {
+        return Ok(Advance::Ends(Ending::OutOfTurns));
     }
-    machine.turns -= 1;
-    let moved = enter(alloc, labels, &mut machine.world, &mut machine.stack, next);
+    progress.turns -= 1;
+    let moved = enter(
+        alloc,
+        labels,
+        &mut progress.world,
+        &mut progress.stack,
+        next,
+    );
     step_of(moved)
 }
 
@@ -352,16 +330,22 @@ fn enter_part<'p, L: Labels>(
 fn begin_work<'p, L: Labels>(
     alloc: Global,
     labels: &mut L,
-    machine: &mut Machine<'p, L::Label>,
+    progress: &mut Progress<'p, L::Label>,
     next: Next<'p>,
-) -> Result<Step<'p, L::Label>, OutOfMemory>
+) -> Result<Advance<'p, L::Label>, OutOfMemory>
     requires begins { begins_work next ≡ true }
-    requires standing { Standing L.made L.meaning labels.old machine.old.stack machine.old.world (values_of next) (scopes_of machine.old.stack.tasks) next }
-    ensures stepped { (tables : Tables) (inputs : Given) (functions : List FunctionCode) → IfOk result (Stepped L.made L.meaning labels.new tables inputs functions (λ reading. outlook tables inputs functions reading machine.old next.entry) (ahead machine.old next.entry) machine.new) }
-    ensures grows { Grows machine.old.world machine.new.world }
+    requires standing { Standing L.made L.meaning labels.old progress.old.stack progress.old.world (values_of next) (scopes_of progress.old.stack.tasks) next }
+    ensures stepped { (tables : Tables) (inputs : Given) (functions : List FunctionCode) → IfOk result (Stepped L.made L.meaning labels.new tables inputs functions (λ reading. outlook tables inputs functions reading progress.old next.entry) (ahead progress.old next.entry) progress.new) }
+    ensures grows { Grows progress.old.world progress.new.world }
     ensures kept { IsKept L.made L.meaning L.room L.firm labels.old labels.new }
 {
-    let moved = begin_move(alloc, labels, &mut machine.world, &mut machine.stack, next);
+    let moved = begin_move(
+        alloc,
+        labels,
+        &mut progress.world,
+        &mut progress.stack,
+        next,
+    );
     step_of(moved)
 }
 
@@ -370,21 +354,21 @@ fn begin_call<'p, L: Labels>(
     alloc: Global,
     labels: &mut L,
     functions: &Functions<'p>,
-    machine: &mut Machine<'p, L::Label>,
+    progress: &mut Progress<'p, L::Label>,
     next: Next<'p>,
-) -> Result<Step<'p, L::Label>, OutOfMemory>
+) -> Result<Advance<'p, L::Label>, OutOfMemory>
     requires calls { calls_function next ≡ true }
-    requires standing { Standing L.made L.meaning labels.old machine.old.stack machine.old.world (values_of next) (scopes_of machine.old.stack.tasks) next }
-    ensures stepped { (tables : Tables) (inputs : Given) → IfOk result (Stepped L.made L.meaning labels.new tables inputs (table functions.now) (λ reading. outlook tables inputs (table functions.now) reading machine.old next.entry) (ahead machine.old next.entry) machine.new) }
-    ensures grows { Grows machine.old.world machine.new.world }
+    requires standing { Standing L.made L.meaning labels.old progress.old.stack progress.old.world (values_of next) (scopes_of progress.old.stack.tasks) next }
+    ensures stepped { (tables : Tables) (inputs : Given) → IfOk result (Stepped L.made L.meaning labels.new tables inputs (table functions.now) (λ reading. outlook tables inputs (table functions.now) reading progress.old next.entry) (ahead progress.old next.entry) progress.new) }
+    ensures grows { Grows progress.old.world progress.new.world }
     ensures kept { IsKept L.made L.meaning L.room L.firm labels.old labels.new }
 {
     let moved = begin_calling(
         alloc,
         labels,
-        &mut machine.world,
+        &mut progress.world,
         functions,
-        &mut machine.stack,
+        &mut progress.stack,
         next,
     );
     step_of(moved)
@@ -396,24 +380,24 @@ fn call_function<'p, L: Labels>(
     labels: &mut L,
     policy: &Policy,
     inputs: &Inputs,
-    machine: &mut Machine<'p, L::Label>,
+    progress: &mut Progress<'p, L::Label>,
     function: Direct,
     count: u32,
-) -> Result<Step<'p, L::Label>, OutOfMemory>
-    requires standing { Standing L.made L.meaning labels.old machine.old.stack machine.old.world count (scopes_of machine.old.stack.tasks) (next.Direct function count) }
+) -> Result<Advance<'p, L::Label>, OutOfMemory>
+    requires standing { Standing L.made L.meaning labels.old progress.old.stack progress.old.world count (scopes_of progress.old.stack.tasks) (next.Direct function count) }
     requires room { length policy.now.origins ≤ L.room labels.old }
     requires given { IsGivenTo policy.now inputs.now }
-    requires positions { length machine.old.world.positions.items ≡ length policy.now.inputs }
-    ensures stepped { (functions : List FunctionCode) → IfOk result (Stepped L.made L.meaning labels.new policy.now inputs.now functions (λ reading. outlook policy.now inputs.now functions reading machine.old (next.Direct function count)) (ahead machine.old (next.Direct function count)) machine.new) }
-    ensures grows { Grows machine.old.world machine.new.world }
+    requires positions { length progress.old.world.positions.items ≡ length policy.now.inputs }
+    ensures stepped { (functions : List FunctionCode) → IfOk result (Stepped L.made L.meaning labels.new policy.now inputs.now functions (λ reading. outlook policy.now inputs.now functions reading progress.old (next.Direct function count)) (ahead progress.old (next.Direct function count)) progress.new) }
+    ensures grows { Grows progress.old.world progress.new.world }
     ensures kept { IsKept L.made L.meaning L.room L.firm labels.old labels.new }
 {
-    let world = &mut machine.world;
-    let stack = &mut machine.stack;
+    let world = &mut progress.world;
+    let stack = &mut progress.stack;
     match call(alloc, labels, world, policy, inputs, stack, function, count) {
-        Ok((next, None)) => Ok(Step::Goes(next)),
+        Ok((next, None)) => Ok(Advance::Goes(next)),
         Ok((next, Some(line))) => line_step(alloc, line, next),
-        Err(FlowFault::Stop(stop)) => Ok(Step::Ends(Ending::Stopped(stop))),
+        Err(FlowFault::Stop(stop)) => Ok(Advance::Ends(Ending::Stopped(stop))),
         Err(FlowFault::OutOfMemory) => Err(OutOfMemory),
     }
 }

@@ -26,12 +26,23 @@ pub enum Ending<T> {
     OutOfTurns,
 }
 
-/// What a step comes to.
+/// What a step of a machine comes to.
 #[derive(Drop)]
-pub enum Step<'p, T> {
+pub enum Step<T> {
+    /// The run goes on.
+    Goes,
+    /// It printed a line, and goes on. The line lies in a box, since steps are moved and few of them print.
+    Line(Box<Printed<T>>),
+    /// It ended.
+    Ends(Ending<T>),
+}
+
+/// What a step comes to, with what is next.
+#[derive(Drop)]
+pub(crate) enum Advance<'p, T> {
     /// It goes on with this.
     Goes(Next<'p>),
-    /// It printed a line, and goes on with this. The line lies in a box, since steps are moved and few of them print.
+    /// It printed a line, and goes on with this.
     Line(Box<Printed<T>>, Next<'p>),
     /// The run ended.
     Ends(Ending<T>),
@@ -40,12 +51,12 @@ pub enum Step<'p, T> {
 /// The step that a move is, or the rule that stopped it.
 pub(crate) fn step_of<'p, T>(
     moved: Result<Next<'p>, FlowFault<T>>,
-) -> Result<Step<'p, T>, OutOfMemory>
+) -> Result<Advance<'p, T>, OutOfMemory>
     ensures { result ≡ step_of moved.entry }
 {
     match moved {
-        Ok(next) => Ok(Step::Goes(next)),
-        Err(FlowFault::Stop(stop)) => Ok(Step::Ends(Ending::Stopped(stop))),
+        Ok(next) => Ok(Advance::Goes(next)),
+        Err(FlowFault::Stop(stop)) => Ok(Advance::Ends(Ending::Stopped(stop))),
         Err(FlowFault::OutOfMemory) => Err(OutOfMemory),
     }
 }
@@ -55,9 +66,9 @@ pub(crate) fn line_step<'p, T: Copy>(
     alloc: Global,
     line: Printed<T>,
     next: Next<'p>,
-) -> Result<Step<'p, T>, OutOfMemory>
+) -> Result<Advance<'p, T>, OutOfMemory>
     ensures { IfOk result (Prints line next.entry) }
 {
     let line = Box::new(alloc, line)?;
-    Ok(Step::Line(line, next))
+    Ok(Advance::Line(line, next))
 }

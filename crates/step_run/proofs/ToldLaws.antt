@@ -24,7 +24,7 @@ use Rattle.step_core.specs.declared.machine.Machine.{Machine}
 use Rattle.step_core.specs.declared.steps.Ending as core
 use Rattle.step_core.specs.declared.steps.Ending.TheVariants as machine
 use Rattle.step_core.specs.declared.steps.Step.TheVariants.{Ends}
-use Rattle.step_core.specs.Outlook.{IfStopped, ending_of}
+use Rattle.step_core.specs.Machines.{IfStopped, ending_of}
 use Rattle.step_run.specs.declared.ending.Show.{Show}
 use Rattle.step_run.specs.declared.ending.Ending as code
 use Rattle.step_run.specs.declared.ending.Ending.TheVariants as ending

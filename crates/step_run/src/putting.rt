@@ -1,31 +1,27 @@
 //! Lines go to a sink as they are printed.
 
-ghost use Rattle.std.specs.Prelude.{◌≡◌, ◌≤◌, ◌<◌, false, Err, IfOk, [], length};
+ghost use Rattle.std.specs.Prelude.{◌≡◌, ◌≤◌, ◌<◌, false, Err, IfOk, List, [], length};
 ghost use Rattle.origin_labels.specs.Label.{Label};
 ghost use Rattle.origin_labels.specs.Stores.{IsKept};
 ghost use Rattle.flow_io.specs.Files.{Rose};
-ghost use Rattle.flow_policy.specs.Inputs.{IsGivenTo};
 ghost use Rattle.js_values.specs.Readings.{IsReading};
 ghost use Rattle.flow_meaning.specs.Laws.{performed_run};
+ghost use Rattle.flow_meaning.specs.Scopes.{LabelledLine};
+ghost use Rattle.step_calls.specs.Calling.{IsPrinted};
 ghost use Rattle.step_work.specs.Stops.{HasStop};
 ghost use Rattle.step_channels.specs.Answers.{line_of};
-ghost use Rattle.step_work.specs.Kept.{scopes_of};
-ghost use Rattle.step_work.specs.Pending.{values_of};
-ghost use Rattle.function_table.specs.Tables.{table};
-ghost use Rattle.step_core.specs.Outlook.{IfStopped, ending_of, outlook};
-ghost use Rattle.step_work.specs.Standing.{Standing};
+ghost use Rattle.step_core.specs.Machines.{Comes, IfOn, IfPrinted, IfStopped, Runs, ahead, comes_to, ending_of};
 ghost use Rattle.step_run.specs.Puts.{PutsLine, PutsRun, is_cut_by_write};
 
 use crate::ending::Show;
 use crate::lines::{is_shown, line_bytes};
 use flow_io::{Failed, Sink};
-use flow_policy::{Inputs, Policy};
-use function_table::Functions;
+use flow_policy::Policy;
+use flow_text::OutOfMemory;
 use origin_labels::Labels;
 use std::alloc::Global;
 use step_channels::Printed;
-use step_core::{Ending, Machine, Step, only_adds, step};
-use step_work::Next;
+use step_core::{Ending, Machine, Step, only_adds};
 
 /// What cut a run off.
 #[derive(Clone, Copy)]
@@ -39,19 +35,14 @@ pub(crate) fn put_lines<'p, L: Labels, K: Sink>(
     alloc: Global,
     labels: &mut L,
     policy: &Policy,
-    inputs: &Inputs,
-    functions: &Functions<'p>,
     show: &Show,
     machine: &mut Machine<'p, L::Label>,
-    first: Next<'p>,
     sink: &mut K,
 ) -> Result<Ending<L::Label>, Cut>
-    requires standing { Standing L.made L.meaning labels.old machine.old.stack machine.old.world (values_of first) (scopes_of machine.old.stack.tasks) first }
-    requires room { length policy.now.origins ≤ L.room labels.old }
-    requires given { IsGivenTo policy.now inputs.now }
-    requires positions { length machine.old.world.positions.items ≡ length policy.now.inputs }
+    requires runs { Runs L.made L.meaning L.room labels.old machine.old }
+    requires policy { machine.old.policy.now ≡ policy.now }
     requires open { K.shut sink.old ≡ false }
-    ensures puts { (reading : L.Label → Label) → IsReading L.made L.meaning labels.new reading → PutsRun show.now policy.now (performed_run (outlook policy.now inputs.now (table functions.now) reading machine.old first.entry [])) (ending_of reading machine.new) (K.taken sink.old) (K.taken sink.new) result }
+    ensures puts { (reading : L.Label → Label) → IsReading L.made L.meaning labels.new reading → PutsRun show.now policy.now (performed_run (comes_to reading machine.old [])) (ending_of reading machine.new) (K.taken sink.old) (K.taken sink.new) result }
     ensures stop { IfOk result (λ e. IfStopped (HasStop (L.made labels.new)) (Step.Ends e)) }
     ensures kept { IsKept L.made L.meaning L.room L.firm labels.old labels.new }
     ensures shut { K.shut sink.new ≡ is_cut_by_write result }
@@ -59,20 +50,38 @@ pub(crate) fn put_lines<'p, L: Labels, K: Sink>(
     ensures failed { result ≡ Err Cut.WriteFault → Rose (K.faults sink.old) (K.faults sink.new) }
 {
     only_adds::<L>();
-    let mut next = first;
     'steps: loop {
-        let Ok(came) = step(alloc, labels, policy, inputs, functions, machine, next) else {
+        let Ok(came) = go_on(labels, machine) else {
             return Err(Cut::OutOfMemory);
         };
         match came {
-            Step::Goes(on) => next = on,
-            Step::Line(printed, on) => match put_line(alloc, policy, show, &printed, sink) {
-                Ok(()) => next = on,
+            Step::Goes => {}
+            Step::Line(printed) => match put_line(alloc, policy, show, &printed, sink) {
+                Ok(()) => {}
                 Err(cut) => return Err(cut),
             },
             Step::Ends(ending) => return Ok(ending),
         }
     }
+}
+
+/// Makes the room for a step, and takes it.
+fn go_on<'p, L: Labels>(
+    labels: &mut L,
+    machine: &mut Machine<'p, L::Label>,
+) -> Result<Step<L::Label>, OutOfMemory>
+    requires runs { Runs L.made L.meaning L.room labels.old machine.old }
+    ensures comes { IfOk result (λ s. (reading : L.Label → Label) (told : List LabelledLine) → IsReading L.made L.meaning labels.new reading → Comes reading machine.new told (comes_to reading machine.old told) s) }
+    ensures runs { IfOk result (IfOn (Runs L.made L.meaning L.room labels.new machine.new)) }
+    ensures lowers { IfOk result (IfOn (ahead machine.new < ahead machine.old)) }
+    ensures printed { IfOk result (IfPrinted (IsPrinted (L.made labels.new) (length machine.old.policy.now.outputs))) }
+    ensures stopped { IfOk result (IfStopped (HasStop (L.made labels.new))) }
+    ensures policy { IfOk result (λ s. machine.new.policy ≡ machine.old.policy) }
+    ensures kept { IsKept L.made L.meaning L.room L.firm labels.old labels.new }
+{
+    machine.reserve()?;
+    let came = machine.step(labels)?;
+    Ok(came)
 }
 
 /// Puts a line, if it is shown.

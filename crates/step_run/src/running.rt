@@ -14,12 +14,11 @@ use crate::putting::{Cut, put_lines};
 use crate::telling::told;
 use flow_io::Sink;
 use flow_policy::{Inputs, Policy};
-use function_table::Functions;
 use js_ast::Program;
 use low_equal::{declared, erasure, two_runs};
 use origin_labels::Labels;
 use std::alloc::Global;
-use step_core::begin;
+use step_core::Machine;
 
 /// Runs a program under a policy with an input, with so many turns, and puts each shown line with one put. It writes no report.
 pub fn run<L: Labels, K: Sink>(
@@ -75,23 +74,10 @@ fn put_run<L: Labels, K: Sink>(
 {
     declared();
     let _formed = policy.origins();
-    let Ok(functions) = Functions::of(alloc, program) else {
+    let Ok(mut machine) = Machine::new(alloc, program, policy, inputs, turns, labels) else {
         return Ending::OutOfMemory;
     };
-    let Ok((mut machine, next)) = begin(alloc, labels, program, &functions, policy, turns) else {
-        return Ending::OutOfMemory;
-    };
-    match put_lines(
-        alloc,
-        labels,
-        policy,
-        inputs,
-        &functions,
-        show,
-        &mut machine,
-        next,
-        sink,
-    ) {
+    match put_lines(alloc, labels, policy, show, &mut machine, sink) {
         Ok(ending) => told(alloc, labels, policy, &machine, ending),
         Err(Cut::WriteFault) => Ending::WriteFault,
         Err(Cut::OutOfMemory) => Ending::OutOfMemory,

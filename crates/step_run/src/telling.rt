@@ -10,7 +10,7 @@ ghost use Rattle.flow_meaning.specs.Erased.{erased_heap};
 ghost use Rattle.flow_meaning.specs.Scopes as meaning;
 ghost use Rattle.step_work.specs.Stops.{HasStop};
 ghost use Rattle.step_core.specs.declared.steps.Step.TheVariants.{Ends};
-ghost use Rattle.step_core.specs.Outlook.{IfStopped, ending_of};
+ghost use Rattle.step_core.specs.Machines.{IfStopped, ending_of};
 ghost use Rattle.step_run.specs.Puts.{NeedsDeclared, Tells};
 
 use crate::ending::Ending;
@@ -39,7 +39,7 @@ pub(crate) fn told<'p, L: Labels>(
 {
     match ending {
         step_core::Ending::Done => Ending::Done,
-        step_core::Ending::Threw(value) => thrown(alloc, &machine.world.heap, &value.value),
+        step_core::Ending::Threw(value) => thrown(alloc, &machine.progress.world.heap, &value.value),
         step_core::Ending::Stopped(stop) => stopped(alloc, labels, policy, stop),
         step_core::Ending::Left(why) => Ending::Left(why),
         step_core::Ending::OutOfTurns => Ending::OutOfTurns,

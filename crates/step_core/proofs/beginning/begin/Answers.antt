@@ -1,4 +1,4 @@
-use Rattle.std.proofs.Common.{[], subst, sym, ◌≡◌, ◌∙◌, Bool, true, false, refl}
+use Rattle.std.proofs.Common.{[], subst, sym, ◌≡◌, ◌∙◌}
 use Rattle.js_ast.specs.Functions.{functions_of}
 use Rattle.js_ast.specs.Views.{view_program, view_stmts}
 use Rattle.es_meaning.specs.Evaluation.{statements}

@@ -1,5 +1,4 @@
 use Rattle.std.proofs.Common.{arith, ap, refl, subst, sym, ◌≡◌, ◌∙◌, ◌++◌, ◌∷◌, []}
-use Rattle.js_ast.specs.Functions.{functions_of}
 use Rattle.js_ast.specs.Views.{view_program}
 use Rattle.js_values.proofs.ReadingLaws.{IsReading-earlier}
 use Rattle.flow_meaning.specs.Laws.{performed_run}

@@ -1,4 +1,4 @@
-use Rattle.std.proofs.Common.{refl, [], map, Bool, None, ◌∷◌}
+use Rattle.std.proofs.Common.{refl, map, Bool}
 use Rattle.js_values.specs.Readings.{read_value}
 use Rattle.flow_meaning.specs.Planned.{asking, planned}
 use Rattle.step_work.specs.declared.work.Next.TheVariants as next

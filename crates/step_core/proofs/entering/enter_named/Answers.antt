@@ -1,7 +1,7 @@
 use Rattle.std.proofs.Common.{refl, Ok}
 use Rattle.js_ast.specs.Views.{view_stmt}
-use Rattle.es_meaning.specs.Evaluation.{named_step, stmt_step}
-use Rattle.flow_meaning.specs.Planned.{a_named, a_stmt, asking, plan, planned}
+use Rattle.es_meaning.specs.Evaluation.{named_step}
+use Rattle.flow_meaning.specs.Planned.{a_named, asking, plan, planned}
 use Rattle.step_work.specs.declared.work.Next.TheVariants as next
 use Rattle.step_work.specs.Kept.{scopes_of}
 use Rattle.step_work.specs.Pending.{env_above}

@@ -1,4 +1,5 @@
 use Rattle.std.proofs.Common.{map}
+use Rattle.function_table.specs.Tables.{table}
 use Rattle.js_values.specs.Readings.{read_value}
 use Rattle.step_world.specs.Worlds.{state_of}
 use Rattle.step_work.specs.Pending.{env_above}
@@ -7,5 +8,6 @@ use Rattle.step_core.proofs.Adding.{adds_lines}
 use Rattle.step_core.proofs.laws.only_adds.Goals as goal
 
 pub returns : goal.returns
-returns g c = λ tables inputs functions reading m next told.
-    adds_lines tables inputs functions reading m.stack.tasks here (env_above m.stack.tasks here) next (map (read_value reading) m.stack.loose) (state_of reading m.world told m.turns)
+returns g c = λ reading m told.
+    let stack = m.progress.stack in
+    adds_lines m.policy.now m.inputs.now (table m.functions) reading stack.tasks here (env_above stack.tasks here) m.next (map (read_value reading) stack.loose) (state_of reading m.progress.world told m.progress.turns)

@@ -12,7 +12,7 @@ use Rattle.step_core.proofs.stepping.go_on.Goals as goal
 
 pub proceed-requires : goal.proceed-requires
 proceed-requires g c =
-    let old = c.args.machine.now in
+    let old = c.args.progress.now in
     record {
       room = c.requires.room;
       standing = standing_handed g.L.Labels.made g.L.Labels.meaning c.args.labels.now c.next_work.new.self old.world (owns c.in-Some.work + given c.args.gave) (scopes_of c.next_work.new.self.tasks ++ scope_of c.in-Some.work) c.args.gave
@@ -21,15 +21,15 @@ proceed-requires g c =
 
 pub returns-in-None-clause-stepped : goal.returns-in-None-clause-stepped
 returns-in-None-clause-stepped g c inputs functions =
-    let old = c.args.machine.now in
+    let old = c.args.progress.now in
     ends_steps g.L.Labels.made g.L.Labels.meaning c.args.labels.now c.args.policy.now inputs functions (λ reading told. outlook c.args.policy.now inputs functions reading old (handed c.args.gave) told) (record old { stack = c.next_work.new.self }) (ahead old (handed c.args.gave)) ending.Done tt
     (λ reading told. done_alone c.args.policy.now inputs functions reading old c.args.gave told c.in-None.ensures.none)
 
 pub returns-in-Some-clause-stepped : goal.returns-in-Some-clause-stepped
 returns-in-Some-clause-stepped g c inputs functions =
-    let old = c.args.machine.now in
+    let old = c.args.progress.now in
     let taken = record old { stack = c.next_work.new.self } in
     let w = c.in-Some.work in
     stepped_as g.L.Labels.made g.L.Labels.meaning c.proceed.new.labels c.args.policy.now inputs functions (λ reading told. outlook_after c.args.policy.now inputs functions reading taken w (completion_above c.args.policy.now inputs functions reading taken w) told) (λ reading told. outlook c.args.policy.now inputs functions reading old (handed c.args.gave) told)
-    (ahead taken next.Value + weight w) (ahead old (handed c.args.gave)) c.proceed.new.machine c.proceed.result
+    (ahead taken next.Value + weight w) (ahead old (handed c.args.gave)) c.proceed.new.progress c.proceed.result
     (λ reading told read. resumed_after c.args.policy.now inputs functions reading old c.next_work.new.self w c.args.gave told c.requires.standing.values c.in-Some.ensures.taken) (ahead_handed old.stack c.next_work.new.self w c.args.gave old.turns c.in-Some.ensures.taken) (c.proceed.ensures.stepped inputs functions)

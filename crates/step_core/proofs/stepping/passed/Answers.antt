@@ -13,7 +13,7 @@ use Rattle.step_core.proofs.stepping.passed.Goals as goal
 
 pub returns-clause-stepped : goal.returns-clause-stepped
 returns-clause-stepped g c tables inputs functions value alone =
-    let old = c.args.machine.now in
+    let old = c.args.progress.now in
     let w = c.args.work in
     moved_steps g.L.Labels.made g.L.Labels.meaning c.pass_work-moved.new.labels tables inputs functions
     (λ reading told turns. behind tables inputs functions reading old.stack.tasks here (after tables inputs functions w (map (read_value reading) (take (owns w) old.stack.loose)) (env_above old.stack.tasks here) (jumped (jump_of c.args.jump (read_value reading value))) (state_of reading old.world told turns)))

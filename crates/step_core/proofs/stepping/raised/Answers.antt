@@ -13,7 +13,7 @@ use Rattle.step_core.proofs.stepping.raised.Goals as goal
 
 pub returns-clause-stepped : goal.returns-clause-stepped
 returns-clause-stepped g c inputs functions =
-    let old = c.args.machine.now in
+    let old = c.args.progress.now in
     let w = work.Raise c.args.e in
     moved_steps g.L.Labels.made g.L.Labels.meaning c.raise_on-moved.new.labels c.args.policy.now inputs functions
     (λ reading told turns. behind c.args.policy.now inputs functions reading old.stack.tasks here (after c.args.policy.now inputs functions w (map (read_value reading) (take (owns w) old.stack.loose)) (env_above old.stack.tasks here) (completion_above c.args.policy.now inputs functions reading old w) (state_of reading old.world told turns)))

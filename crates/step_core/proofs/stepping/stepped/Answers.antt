@@ -7,7 +7,7 @@ use Rattle.step_core.proofs.stepping.stepped.Goals as goal
 
 pub returns-in-Leave-clause-stepped : goal.returns-in-Leave-clause-stepped
 returns-in-Leave-clause-stepped g c =
-    let old = c.args.machine.now in
+    let old = c.args.progress.now in
     rw c.in-Leave.is (ends_steps g.L.Labels.made g.L.Labels.meaning c.args.labels.now c.args.policy.now c.args.inputs.now (table c.args.functions.now) (λ reading told. outlook c.args.policy.now c.args.inputs.now (table c.args.functions.now) reading old (next.Leave c.in-Leave.why) told) old (ahead old (next.Leave c.in-Leave.why)) (ending.Left c.in-Leave.why) tt
     (λ reading told. left_alone c.args.policy.now c.args.inputs.now (table c.args.functions.now) reading old c.in-Leave.why told))
 

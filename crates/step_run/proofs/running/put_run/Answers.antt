@@ -4,7 +4,7 @@ use Rattle.js_ast.specs.Views.{view_program}
 use Rattle.js_values.proofs.ReadingLaws.{IsReading-earlier}
 use Rattle.flow_meaning.specs.Tracked.{Run, tracked_run}
 use Rattle.low_equal.specs.Declared.{EndsDeclared}
-use Rattle.step_core.specs.Outlook.{ending_of}
+use Rattle.step_core.specs.Machines.{ending_of}
 use Rattle.step_run.specs.declared.putting.Cut.TheVariants as cut
 use Rattle.step_run.specs.Puts.{PutsRun}
 use Rattle.step_run.specs.Ran.{is_write_fault}
@@ -15,7 +15,7 @@ pub told-requires-clause-declared : goal.told-requires-clause-declared
 told-requires-clause-declared g c =
     let L = g.L.Labels in
     let reading = L.meaning c.put_lines.new.labels in
-    let starts = c.in-Ok-begin.ensures.starts c.args.inputs.now reading (IsReading-earlier L.made L.meaning L.room L.firm c.begin.new.labels c.put_lines.new.labels reading c.put_lines.ensures.kept (record { agrees = λ label m. refl })) in
+    let starts = c.in-Ok.ensures.starts reading (IsReading-earlier L.made L.meaning L.room L.firm c.new.new.labels c.put_lines.new.labels reading c.put_lines.ensures.kept (record { agrees = λ label m. refl })) in
     let puts = c.in-Ok-put_lines.ensures.puts reading (record { agrees = λ label m. refl }) in
     let run = c.declared.ensures c.args.policy.now c.args.inputs.now (view_program c.args.program.now) c.args.turns c.origins-formed.ensures.formed in
     stop_declared (length c.args.policy.now.origins) reading c.put_lines.new.machine c.in-Ok-put_lines.ending
@@ -25,7 +25,7 @@ pub returns-in-Ok-put_lines-clause-ran : goal.returns-in-Ok-put_lines-clause-ran
 returns-in-Ok-put_lines-clause-ran g c =
     let L = g.L.Labels in
     let reading = L.meaning c.put_lines.new.labels in
-    let starts = c.in-Ok-begin.ensures.starts c.args.inputs.now reading (IsReading-earlier L.made L.meaning L.room L.firm c.begin.new.labels c.put_lines.new.labels reading c.put_lines.ensures.kept (record { agrees = λ label m. refl })) in
+    let starts = c.in-Ok.ensures.starts reading (IsReading-earlier L.made L.meaning L.room L.firm c.new.new.labels c.put_lines.new.labels reading c.put_lines.ensures.kept (record { agrees = λ label m. refl })) in
     let ends = ending_of reading c.put_lines.new.machine in
     let old = g.K.Sink.taken c.args.sink.now in
     let new = g.K.Sink.taken c.put_lines.new.sink in
@@ -42,7 +42,7 @@ pub returns-in-Err-WriteFault-clause-ran : goal.returns-in-Err-WriteFault-clause
 returns-in-Err-WriteFault-clause-ran g c =
     let L = g.L.Labels in
     let reading = L.meaning c.put_lines.new.labels in
-    let starts = c.in-Ok-begin.ensures.starts c.args.inputs.now reading (IsReading-earlier L.made L.meaning L.room L.firm c.begin.new.labels c.put_lines.new.labels reading c.put_lines.ensures.kept (record { agrees = λ label m. refl })) in
+    let starts = c.in-Ok.ensures.starts reading (IsReading-earlier L.made L.meaning L.room L.firm c.new.new.labels c.put_lines.new.labels reading c.put_lines.ensures.kept (record { agrees = λ label m. refl })) in
     let ends = ending_of reading c.put_lines.new.machine in
     subst (λ (r : Run). PutsRun c.args.show.now c.args.policy.now r ends (g.K.Sink.taken c.args.sink.now) (g.K.Sink.taken c.put_lines.new.sink) (Err cut.WriteFault)) starts (c.in-Err-WriteFault.ensures.puts reading (record { agrees = λ label m. refl }))
 
@@ -53,6 +53,6 @@ pub returns-clause-ran : goal.returns-clause-ran
 returns-clause-ran g c =
     let L = g.L.Labels in
     let reading = L.meaning c.put_lines.new.labels in
-    let starts = c.in-Ok-begin.ensures.starts c.args.inputs.now reading (IsReading-earlier L.made L.meaning L.room L.firm c.begin.new.labels c.put_lines.new.labels reading c.put_lines.ensures.kept (record { agrees = λ label m. refl })) in
+    let starts = c.in-Ok.ensures.starts reading (IsReading-earlier L.made L.meaning L.room L.firm c.new.new.labels c.put_lines.new.labels reading c.put_lines.ensures.kept (record { agrees = λ label m. refl })) in
     let ends = ending_of reading c.put_lines.new.machine in
     subst (λ (r : Run). PutsRun c.args.show.now c.args.policy.now r ends (g.K.Sink.taken c.args.sink.now) (g.K.Sink.taken c.put_lines.new.sink) (Err cut.OutOfMemory)) starts (c.in-Err-OutOfMemory.ensures.puts reading (record { agrees = λ label m. refl }))
