@@ -11,9 +11,10 @@ use Rattle.low_equal.specs.Laws as low
 use Rattle.low_equal.specs.Laws.{IsFinishedBy}
 use Rattle.low_equal.specs.Observed.{seen_lines}
 use Rattle.js_shell.specs.Promises.{IsIsolating}
-use Rattle.js_shell.proofs.Kept.{named}
+use Rattle.step_run.proofs.Kept.{named}
 use Rattle.js_shell.proofs.Shown.{run_shown}
-use Rattle.js_shell.proofs.Views.{view_finished, bodies}
+use Rattle.step_run.proofs.Views.{bodies}
+use Rattle.js_shell.proofs.Views.{view_finished}
 
 view_run : (tables : Tables) (observer : Label) (given : Given) (program : Statements) (turns : ℕ) → IsPolicy tables → IsFinishedBy (tracked_run tables given program turns).ending
     → view_of observer tables (written tables (tracked_run tables given program turns)) ≡ bodies (seen_lines observer tables (tracked_run tables given program turns).lines)

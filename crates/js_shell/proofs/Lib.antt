@@ -3,7 +3,6 @@ pub mod Appending
 pub mod Asked
 pub mod InOrder
 pub mod Isolating
-pub mod Kept
 pub mod PolicyFormed
 pub mod Promised
 pub mod Refusing

@@ -3,7 +3,6 @@ use Rattle.std.proofs.Common.{◌≡◌, ℕ, zero, suc, ◌+◌, ◌<◌, ◌%�
 use Rattle.std.specs.List.{list_all}
 use Rattle.std.specs.Fmt.{decimal, signed_decimal, digits, digits_onto, digit_glyph}
 use Rattle.std.proofs.lemmas.Bool.{and_from, lt-ltb, ne_eqb}
-use Rattle.std.proofs.lemmas.List.Folds.{list_all-append}
 use Rattle.flow_text.specs.Utf8.{utf8_of}
 use Rattle.flow_text.specs.Written.{escaped}
 use Rattle.flow_text.proofs.Laws.{no_line_end, ascii_bytes, ascii_front_bytes}
@@ -28,15 +27,9 @@ use Rattle.es_meaning.specs.Start.{shown, shown_primitive, shown_name, shown_bod
 use Rattle.flow_meaning.specs.Erased.{erased_heap}
 use Rattle.flow_meaning.specs.Scopes.{Halt, State, Jump}
 use Rattle.flow_meaning.specs.Tracked.{timed, start, run_of, tracked_run}
+use Rattle.step_run.proofs.Views.{on_line, line_behind}
 
 -- ---- texts without LF, whose bytes are their units
-
--- no LF
-abbrev pub on_line : List ℕ → Bool
-on_line bytes = list_all (λ b. not (b == 10)) bytes
-
-pub line_behind : (xs ys : List ℕ) → on_line xs ≡ true → on_line ys ≡ true → on_line (xs ++ ys) ≡ true
-line_behind xs ys first second = list_all-append (λ b. not (b == 10)) xs ys ∙ and_from (on_line xs) (on_line ys) first second
 
 -- ASCII, and no LF
 record IsSimple (text : List ℕ) : Type 0 where

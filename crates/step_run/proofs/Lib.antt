@@ -5,3 +5,5 @@ pub mod Listed
 pub mod Shown
 pub mod PutLaws
 pub mod ToldLaws
+pub mod Kept
+pub mod Views

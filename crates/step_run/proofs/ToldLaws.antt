@@ -4,7 +4,8 @@ use Rattle.std.proofs.lemmas.Option.{none-some, same_Some}
 use Rattle.origin_labels.specs.Label.{Label, within}
 use Rattle.flow_io.specs.Sinks.{Appends}
 use Rattle.flow_frames.specs.declared.faults.Rule.{Rule}
-use Rattle.flow_policy.specs.Policies.{Tables}
+use Rattle.flow_policy.specs.Observed.{view_of}
+use Rattle.flow_policy.specs.Policies.{Tables, IsPolicy}
 use Rattle.flow_policy.specs.Inputs.{Given}
 use Rattle.js_ast.specs.Trees.{Statements}
 use Rattle.js_values.specs.declared.value.Value.{Value}
@@ -20,6 +21,7 @@ use Rattle.flow_meaning.specs.Tracked.{Run, tracked_run}
 use Rattle.low_equal.specs.Declared.{EndsDeclared}
 use Rattle.low_equal.specs.Erasure.{Erases, goes_on, stops, IsErasing, monitored}
 use Rattle.low_equal.specs.Laws.{IsFinishedBy, IsIsolating}
+use Rattle.low_equal.specs.Observed.{seen_lines}
 use Rattle.step_core.specs.declared.machine.Machine.{Machine}
 use Rattle.step_core.specs.declared.steps.Ending as core
 use Rattle.step_core.specs.declared.steps.Ending.TheVariants as machine
@@ -30,8 +32,10 @@ use Rattle.step_run.specs.declared.ending.Ending as code
 use Rattle.step_run.specs.declared.ending.Ending.TheVariants as ending
 use Rattle.step_run.specs.Lines.{shown_bytes}
 use Rattle.step_run.specs.Puts.{NeedsDeclared, PutsRun, Tells}
-use Rattle.step_run.specs.Ran.{HasDeclared, IsBroken, IsFinished, Isolates, Ran, is_write_fault}
+use Rattle.step_run.specs.Ran.{HasDeclared, IsBroken, IsFinished, Isolates, IsolatesView, Put, Ran, is_write_fault}
 use Rattle.step_run.proofs.Appending.{front_whole, front_of_whole}
+use Rattle.step_run.proofs.Kept.{named}
+use Rattle.step_run.proofs.Views.{bodies, shown_alike, view_shown}
 use Rattle.step_run.proofs.Walking.{heap_read}
 
 -- what was thrown is shown
@@ -131,3 +135,39 @@ module _ (tables : Tables) (which : Show) (inputs : Given) (program : Statements
   pub ran_isolated : IsIsolating → (result : code.Ending) → Ran tables which (tracked_run tables inputs program turns) old new result → Isolates tables inputs program turns result
   ran_isolated isolating result ran finished observer other others agree others_finished =
       (isolating observer tables inputs other program turns others agree).on_channels (ran_finished tables which (tracked_run tables inputs program turns) old new result ran finished) others_finished
+
+-- what is put of lines that an observer can't tell looks alike to it
+views_alike : (tables : Tables) → IsPolicy tables → (observer : Label) (which : Show) (first second : Given) (program : Statements) (turns others : ℕ)
+    → seen_lines observer tables (tracked_run tables first program turns).lines ≡ seen_lines observer tables (tracked_run tables second program others).lines
+    → view_of observer tables (shown_bytes which tables (tracked_run tables first program turns).lines) ≡ view_of observer tables (shown_bytes which tables (tracked_run tables second program others).lines)
+views_alike tables formed observer which first second program turns others alike =
+    let ls = (tracked_run tables first program turns).lines in
+    let ms = (tracked_run tables second program others).lines in
+    view_shown tables formed observer which ls (named tables first program turns)
+    ∙ ap bodies (shown_alike observer tables which ls ms alike)
+    ∙ sym (view_shown tables formed observer which ms (named tables second program others))
+
+-- a fact of what was appended
+put_says : (old new : Option (List ℕ)) (out : List ℕ) (Says : List ℕ → Type 0) → Appends old new out → Says out → Put old new Says
+put_says old None out Says put holds = tt
+put_says None (Some after) out Says put holds = absurd put
+put_says (Some before) (Some after) out Says put holds = (out, put, holds)
+
+-- a finished run's lines were appended
+ran_appends : (tables : Tables) (which : Show) (run : Run) (old new : Option (List ℕ)) (result : code.Ending) → Ran tables which run old new result → IsFinished result → Appends old new (shown_bytes which tables run.lines)
+ran_appends tables which run old new ending.Done ran finished = ran.1
+ran_appends tables which run old new (ending.Threw text) ran finished = ran.1
+ran_appends tables which run old new (ending.Stopped rule need have) ran finished = absurd finished
+ran_appends tables which run old new (ending.Left why) ran finished = absurd finished
+ran_appends tables which run old new ending.OutOfTurns ran finished = absurd finished
+ran_appends tables which run old new ending.WriteFault ran finished = absurd finished
+ran_appends tables which run old new ending.OutOfMemory ran finished = absurd finished
+
+pub ran_viewed : (tables : Tables) → IsPolicy tables → (which : Show) (inputs : Given) (program : Statements) (turns : ℕ) (old new : Option (List ℕ)) (result : code.Ending)
+    → Ran tables which (tracked_run tables inputs program turns) old new result → Isolates tables inputs program turns result → IsolatesView tables which inputs program old new result
+ran_viewed tables formed which inputs program turns old new result ran isolates finished observer other others agree others_finished =
+    let run = tracked_run tables inputs program turns in
+    let shown_of_other = shown_bytes which tables (tracked_run tables other program others).lines in
+    put_says old new (shown_bytes which tables run.lines) (λ out. view_of observer tables out ≡ view_of observer tables shown_of_other)
+    (ran_appends tables which run old new result ran finished)
+    (views_alike tables formed observer which inputs other program turns others (isolates finished observer other others agree others_finished))

@@ -1,5 +1,5 @@
 -- How the code's endings tell those of the meaning, and what a run puts.
-use Rattle.std.specs.Prelude.{◌≡◌, ℕ, Bool, true, false, List, Option, Some, None}
+use Rattle.std.specs.Prelude.{◌≡◌, ℕ, ◌++◌, Bool, true, false, List, Option, Some, None, IfSome, IsSomeAnd}
 use Rattle.origin_labels.specs.Label.{Label, within}
 use Rattle.flow_io.specs.Sinks.{Appends, AppendsFront}
 use Rattle.flow_policy.specs.Policies.{Tables}
@@ -48,6 +48,15 @@ IsFinished _ = ⊥
 abbrev pub Isolates : Tables → Given → Statements → ℕ → code.Ending → Type 0
 Isolates tables inputs program turns result = IsFinished result → (observer : Label) (other : Given) (others : ℕ) → policy.Agree observer tables inputs other → IsFinishedBy (tracked_run tables other program others).ending
     → seen_lines observer tables (tracked_run tables inputs program turns).lines ≡ seen_lines observer tables (tracked_run tables other program others).lines
+
+-- a fact of the bytes that came behind those taken before, where the bytes taken are told afterwards
+abbrev pub Put : Option (List ℕ) → Option (List ℕ) → (List ℕ → Type 0) → Type 0
+Put old new Says = IfSome new (λ after. IsSomeAnd old (λ before. (out : List ℕ) × (after ≡ before ++ out) × Says out))
+
+-- isolation of what the call put: under the same conditions the observer's view of these bytes is that of the bytes that the other run's shown lines are
+abbrev pub IsolatesView : Tables → Show → Given → Statements → Option (List ℕ) → Option (List ℕ) → code.Ending → Type 0
+IsolatesView tables show inputs program old new result = IsFinished result → (observer : Label) (other : Given) (others : ℕ) → policy.Agree observer tables inputs other → IsFinishedBy (tracked_run tables other program others).ending
+    → Put old new (λ out. policy.view_of observer tables out ≡ policy.view_of observer tables (shown_bytes show tables (tracked_run tables other program others).lines))
 
 -- what a stop needs and what it has are declared origins, and the first isn't within the second
 abbrev pub HasDeclared : ℕ → code.Ending → Type 0

@@ -7,7 +7,7 @@ ghost use Rattle.flow_policy.specs.Inputs.{IsGivenTo};
 ghost use Rattle.js_ast.specs.IsMarked.{IsMarked};
 ghost use Rattle.js_ast.specs.Views.{view_program};
 ghost use Rattle.flow_meaning.specs.Tracked.{tracked_run};
-ghost use Rattle.step_run.specs.Ran.{HasDeclared, IsBroken, Isolates, Ran, is_write_fault};
+ghost use Rattle.step_run.specs.Ran.{HasDeclared, IsBroken, Isolates, IsolatesView, Ran, is_write_fault};
 
 use crate::ending::{Ending, Show};
 use crate::putting::{Cut, put_lines};
@@ -37,6 +37,7 @@ pub fn run<L: Labels, K: Sink>(
     requires open { K.shut sink.old ≡ false }
     ensures ran { Ran policy.now show.now (tracked_run policy.now inputs.now (view_program program.now) turns) (K.taken sink.old) (K.taken sink.new) result }
     ensures isolation { Isolates policy.now inputs.now (view_program program.now) turns result }
+    ensures view { IsolatesView policy.now show.now inputs.now (view_program program.now) (K.taken sink.old) (K.taken sink.new) result }
     ensures declared { HasDeclared (length policy.now.origins) result }
     ensures broken { IsBroken result }
     ensures shut { K.shut sink.new ≡ is_write_fault result }

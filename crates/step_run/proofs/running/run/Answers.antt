@@ -1,11 +1,19 @@
 use Rattle.std.proofs.Common.{length}
 use Rattle.js_ast.specs.Views.{view_program}
 use Rattle.flow_meaning.specs.Tracked.{tracked_run}
-use Rattle.step_run.proofs.ToldLaws.{ran_declared, ran_broken, ran_isolated}
+use Rattle.step_run.proofs.ToldLaws.{ran_declared, ran_broken, ran_isolated, ran_viewed}
 use Rattle.step_run.proofs.running.run.Goals as goal
 
 pub returns-clause-isolation : goal.returns-clause-isolation
 returns-clause-isolation g c = ran_isolated c.args.policy.now c.args.show.now c.args.inputs.now (view_program c.args.program.now) c.args.turns (g.K.Sink.taken c.args.sink.now) (g.K.Sink.taken c.put_run.new.sink) c.two_runs.ensures c.put_run.result c.put_run.ensures.ran
+
+pub returns-clause-view : goal.returns-clause-view
+returns-clause-view g c =
+    let old = g.K.Sink.taken c.args.sink.now in
+    let new = g.K.Sink.taken c.put_run.new.sink in
+    let program = view_program c.args.program.now in
+    let isolates = ran_isolated c.args.policy.now c.args.show.now c.args.inputs.now program c.args.turns old new c.two_runs.ensures c.put_run.result c.put_run.ensures.ran in
+    ran_viewed c.args.policy.now c.origins-formed.ensures.formed c.args.show.now c.args.inputs.now program c.args.turns old new c.put_run.result c.put_run.ensures.ran isolates
 
 pub returns-clause-declared : goal.returns-clause-declared
 returns-clause-declared g c =
