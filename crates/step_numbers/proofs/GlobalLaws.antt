@@ -194,7 +194,7 @@ no_array key class.Array none = absurd (true≢false none)
 no_array key _ none = refl
 
 module _ {T : Type 0} where
-  record Writable (o : Option (Slot T)) (walk : T) : Type 0 where
+  pub record Writable (o : Option (Slot T)) (walk : T) : Type 0 where
     pub slot : Slot T
     pub what : Value
     pub here : o ≡ Some slot
@@ -225,6 +225,9 @@ module _ {T : Type 0} where
   pub class_seen : (p : Option (Object T)) (shape : Shape T) → IsShape p shape → is_array shape.class ≡ array_in p
   class_seen None shape is = absurd is
   class_seen (Some p) shape is = ap (λ (q : Shape T). is_array q.class) is
+
+  pub written_slot : (name : List ℕ) (p : Option (Object T)) (walk : T) → Some walk ≡ written_in name p → Writable (own_in name p) walk
+  written_slot name p walk e = (no_array_there (array_in p) (own_in name p) walk e).1
 
   -- it is there
   pub written_there : (name : List ℕ) (p : Option (Object T)) (walk : T) → Some walk ≡ written_in name p → IsSome (own_in name p)

@@ -1,7 +1,9 @@
 //! Names that are given numbers.
 
-ghost use Rattle.std.specs.Prelude.{◌≡◌, ◌≤◌, ◌<◌, ℕ, pos, Ok, Some, IfNone, IfSome, IsSome, length, slice_get};
+ghost use Rattle.std.specs.Prelude.{◌≡◌, ◌≤◌, ◌<◌, ℕ, pos, Ok, Some, ◌-◌, true, None, IfNone, IfSome, IsSome, is_some, length, slice_get};
+ghost use Rattle.std.specs.Option.{option_map};
 ghost use Rattle.origin_labels.specs.Stores.{IsKept};
+ghost use Rattle.js_ast.specs.declared.operators.AssignOperator.{AssignOperator};
 ghost use Rattle.js_ast.specs.declared.operators.AssignOperator.TheVariants as assign_operator;
 ghost use Rattle.js_ast.specs.declared.operators.UnaryOperator.TheVariants as unary_operator;
 ghost use Rattle.js_ast.specs.Trees as trees;
@@ -14,12 +16,12 @@ ghost use Rattle.es_meaning.specs.Evaluation.{operator_of};
 ghost use Rattle.es_meaning.specs.Operators.{a_primitive, binary_of, unary_of};
 ghost use Rattle.step_world.specs.Worlds.{Belongs};
 ghost use Rattle.step_work.specs.Shapes.{step_of};
-ghost use Rattle.step_numbers.specs.Assigned.{Finishes, Gives, Puts, PutsAt, Rebinds, array_in, is_array, slot_written, written_in};
+ghost use Rattle.step_numbers.specs.Assigned.{Finishes, Gives, Puts, PutsAt, Rebinds, array_in, assigned_at, changes, changes_binding, changes_global, context_of, counted_by, finished_at, given_by, if_changes, is_array, name_in, slot_written, written_in};
 ghost use Rattle.es_meaning.specs.Plain.{in_record, on_global};
-ghost use Rattle.step_numbers.specs.Evaluated.{global_in, labelled_number};
+ghost use Rattle.step_numbers.specs.Evaluated.{as_value, combined_of, global_in, labelled_number};
 
 use crate::evaluating::{Counted, DEPTH, Evaluated, GLOBAL, as_value, joined, named, number};
-use crate::operators::combined;
+use crate::operators::{combined, combines};
 use flow_frames::Rule;
 use flow_text::Text;
 use js_ast::{AssignOperator, BinaryOperator, Expr, ExprKind, PostfixOperator, Stmt, StmtKind};
@@ -38,6 +40,7 @@ pub fn assign<L: Labels>(
 ) -> Option<Evaluated<L::Label>>
     requires at { at.0 < length world.old.records }
     requires belongs { Belongs L.made L.meaning labels.old world.old }
+    ensures exact { L.firm labels.old ≡ true → option_map (λ x. (x.value.value, x.turns)) result ≡ as_value world.old.records world.old.heap at.0 prims.Num (assigned_at (L.meaning labels.old) world.old at.0 (view_expr e.now) turns) }
     ensures gives { IfSome result (λ x. Gives L.made L.meaning labels.new (view_expr e.now) at.0 world.old world.new turns x.value x.turns) }
     ensures unchanged { IfNone result (world.new ≡ world.old) }
     ensures rebinds { Rebinds L.made L.meaning labels.new world.old world.new }
@@ -56,6 +59,7 @@ fn assigned<L: Labels>(
 ) -> Option<Counted<L::Label>>
     requires at { at.0 < length world.old.records }
     requires belongs { Belongs L.made L.meaning labels.old world.old }
+    ensures exact { L.firm labels.old ≡ true → option_map (λ c. (c.number, c.turns)) result ≡ assigned_at (L.meaning labels.old) world.old at.0 (view_expr e.now) turns }
     ensures gives { IfSome result (λ c. Gives L.made L.meaning labels.new (view_expr e.now) at.0 world.old world.new turns (labelled_number c.number c.label) c.turns) }
     ensures unchanged { IfNone result (world.new ≡ world.old) }
     ensures rebinds { Rebinds L.made L.meaning labels.new world.old world.new }
@@ -67,14 +71,9 @@ fn assigned<L: Labels>(
     match &*e.kind {
         ExprKind::Assign {
             target,
-            operator: AssignOperator::Assign,
-            value,
-        } => assigned_value(labels, world, at, turns, target, value),
-        ExprKind::Assign {
-            target,
             operator,
             value,
-        } => updated_value(labels, world, at, turns, target, *operator, value),
+        } => assignment(labels, world, at, turns, target, *operator, value),
         ExprKind::Postfix { operand, operator } => {
             counted_behind(labels, world, at, turns, operand, *operator)
         }
@@ -92,6 +91,7 @@ pub fn finish<L: Labels>(
 ) -> Option<u64>
     requires at { at.0 < length world.old.records }
     requires belongs { Belongs L.made L.meaning labels.old world.old }
+    ensures exact { L.firm labels.old ≡ true → result ≡ finished_at (L.meaning labels.old) world.old at.0 (view_stmt s.now) turns }
     ensures finishes { IfSome result (Finishes L.made L.meaning labels.new (view_stmt s.now) at.0 world.old world.new turns) }
     ensures unchanged { IfNone result (world.new ≡ world.old) }
     ensures rebinds { Rebinds L.made L.meaning labels.new world.old world.new }
@@ -121,6 +121,7 @@ fn counted_behind<L: Labels>(
     requires turns { 2 ≤ turns }
     requires at { at.0 < length world.old.records }
     requires belongs { Belongs L.made L.meaning labels.old world.old }
+    ensures exact { L.firm labels.old ≡ true → option_map (λ c. (c.number, c.turns)) result ≡ if_changes (L.meaning labels.old) world.old at.0 (name_in (view_expr target.now)) (counted_by world.old at.0 (step_of operator) (turns - 2)) }
     ensures gives { (place : ℕ) → IfSome result (λ c. Gives L.made L.meaning labels.new (trees.postfix place (view_expr target.now) operator) at.0 world.old world.new turns (labelled_number c.number c.label) c.turns) }
     ensures unchanged { IfNone result (world.new ≡ world.old) }
     ensures rebinds { Rebinds L.made L.meaning labels.new world.old world.new }
@@ -146,6 +147,7 @@ fn step_of(operator: PostfixOperator) -> BinaryOperator
 /// A number with one added or taken away, where that is a number of the profile.
 #[tactic(auto, using(crate::proofs::NumberLaws::between_numbers, crate::proofs::NumberLaws::plus_number))]
 fn one_more(operator: BinaryOperator, number: Int) -> Option<Int>
+    ensures exact { result ≡ combined_of operator number (pos 1) }
     ensures counts { IfSome result (λ n. binary_of operator (value.Primitive (prims.Num number)) (value.Primitive (prims.Num (pos 1))) ≡ Ok (prims.Num n)) }
     ensures plus { unary_of unary_operator.Plus (a_primitive (prims.Num number)) ≡ Ok (prims.Num number) }
 {
@@ -160,6 +162,31 @@ fn one() -> Int
 }
 
 /// An assignment of a number to a name.
+fn assignment<L: Labels>(
+    labels: &mut L,
+    world: &mut World<L::Label>,
+    at: EnvId,
+    turns: u64,
+    target: &Expr,
+    operator: AssignOperator,
+    value: &Expr,
+) -> Option<Counted<L::Label>>
+    requires turns { 2 ≤ turns }
+    requires at { at.0 < length world.old.records }
+    requires belongs { Belongs L.made L.meaning labels.old world.old }
+    ensures exact { L.firm labels.old ≡ true → option_map (λ c. (c.number, c.turns)) result ≡ if_changes (L.meaning labels.old) world.old at.0 (name_in (view_expr target.now)) (given_by world.old at.0 (operator_of operator) (view_expr value.now) (turns - 2)) }
+    ensures gives { (place : ℕ) → IfSome result (λ c. Gives L.made L.meaning labels.new (trees.assign place (view_expr target.now) operator (view_expr value.now)) at.0 world.old world.new turns (labelled_number c.number c.label) c.turns) }
+    ensures unchanged { IfNone result (world.new ≡ world.old) }
+    ensures rebinds { Rebinds L.made L.meaning labels.new world.old world.new }
+    ensures kept { IsKept L.made L.meaning L.room L.firm labels.old labels.new }
+{
+    match operator_of(operator) {
+        Some(by) => updated_value(labels, world, at, turns, target, by, value),
+        None => assigned_value(labels, world, at, turns, target, value),
+    }
+}
+
+/// An assignment by `=`.
 fn assigned_value<L: Labels>(
     labels: &mut L,
     world: &mut World<L::Label>,
@@ -171,6 +198,7 @@ fn assigned_value<L: Labels>(
     requires turns { 2 ≤ turns }
     requires at { at.0 < length world.old.records }
     requires belongs { Belongs L.made L.meaning labels.old world.old }
+    ensures exact { L.firm labels.old ≡ true → option_map (λ c. (c.number, c.turns)) result ≡ if_changes (L.meaning labels.old) world.old at.0 (name_in (view_expr target.now)) (given_by world.old at.0 None (view_expr value.now) (turns - 2)) }
     ensures gives { (place : ℕ) → IfSome result (λ c. Gives L.made L.meaning labels.new (trees.assign place (view_expr target.now) assign_operator.Assign (view_expr value.now)) at.0 world.old world.new turns (labelled_number c.number c.label) c.turns) }
     ensures unchanged { IfNone result (world.new ≡ world.old) }
     ensures rebinds { Rebinds L.made L.meaning labels.new world.old world.new }
@@ -189,18 +217,21 @@ fn updated_value<L: Labels>(
     at: EnvId,
     turns: u64,
     target: &Expr,
-    operator: AssignOperator,
+    by: BinaryOperator,
     value: &Expr,
 ) -> Option<Counted<L::Label>>
     requires turns { 2 ≤ turns }
     requires at { at.0 < length world.old.records }
     requires belongs { Belongs L.made L.meaning labels.old world.old }
-    ensures gives { (place : ℕ) → IfSome result (λ c. Gives L.made L.meaning labels.new (trees.assign place (view_expr target.now) operator (view_expr value.now)) at.0 world.old world.new turns (labelled_number c.number c.label) c.turns) }
+    ensures exact { L.firm labels.old ≡ true → option_map (λ c. (c.number, c.turns)) result ≡ if_changes (L.meaning labels.old) world.old at.0 (name_in (view_expr target.now)) (given_by world.old at.0 (Some by) (view_expr value.now) (turns - 2)) }
+    ensures gives { (place : ℕ) (operator : AssignOperator) → operator_of operator ≡ Some by → IfSome result (λ c. Gives L.made L.meaning labels.new (trees.assign place (view_expr target.now) operator (view_expr value.now)) at.0 world.old world.new turns (labelled_number c.number c.label) c.turns) }
     ensures unchanged { IfNone result (world.new ≡ world.old) }
     ensures rebinds { Rebinds L.made L.meaning labels.new world.old world.new }
     ensures kept { IsKept L.made L.meaning L.room L.firm labels.old labels.new }
 {
-    let by = operator_of(operator)?;
+    if !combines(by) {
+        return None;
+    }
     let name = name_of(target)?;
     let old = named(labels, world, at, turns - 2, name)?;
     let operand = number(labels, world, at, turns - 2, DEPTH, value)?;
@@ -209,23 +240,31 @@ fn updated_value<L: Labels>(
     Some(given)
 }
 
-/// The arithmetic of a compound assignment.
+/// The operator of a compound assignment.
 fn operator_of(operator: AssignOperator) -> Option<BinaryOperator>
-    ensures { IfSome result (λ o. operator_of operator ≡ Some o) }
+    ensures { result ≡ operator_of operator }
 {
     match operator {
+        AssignOperator::Assign => None,
+        AssignOperator::Multiply => Some(BinaryOperator::Multiply),
+        AssignOperator::Divide => Some(BinaryOperator::Divide),
+        AssignOperator::Remainder => Some(BinaryOperator::Remainder),
         AssignOperator::Add => Some(BinaryOperator::Add),
         AssignOperator::Subtract => Some(BinaryOperator::Subtract),
-        AssignOperator::Multiply => Some(BinaryOperator::Multiply),
-        AssignOperator::Remainder => Some(BinaryOperator::Remainder),
-        _ => None,
+        AssignOperator::ShiftLeft => Some(BinaryOperator::ShiftLeft),
+        AssignOperator::ShiftRight => Some(BinaryOperator::ShiftRight),
+        AssignOperator::ShiftRightZero => Some(BinaryOperator::ShiftRightZero),
+        AssignOperator::BitAnd => Some(BinaryOperator::BitAnd),
+        AssignOperator::BitXor => Some(BinaryOperator::BitXor),
+        AssignOperator::BitOr => Some(BinaryOperator::BitOr),
     }
 }
 
 /// The name that an expression is.
 #[tactic(auto, using(js_ast::specs::declared::trees::ExprKind::TheViews::the_lemmas))]
 fn name_of(e: &Expr) -> Option<&Text>
-    ensures { IfSome result (λ name. view_expr e.now ≡ trees.name e.now.at name.now) }
+    ensures exact { option_map (λ name. name.now) result ≡ name_in (view_expr e.now) }
+    ensures name { IfSome result (λ name. view_expr e.now ≡ trees.name e.now.at name.now) }
 {
     match &*e.kind {
         ExprKind::Name(name) => Some(name),
@@ -245,6 +284,7 @@ fn put<L: Labels>(
     requires at { at.0 < length world.old.records }
     requires label { L.made labels.old label }
     requires belongs { Belongs L.made L.meaning labels.old world.old }
+    ensures exact { L.firm labels.old ≡ true → is_some result ≡ changes (L.meaning labels.old) world.old at.0 name.now }
     ensures puts { IfSome result (λ _. Puts L.made L.meaning labels.new at.0 name.now (labelled_number number label) world.old world.new) }
     ensures unchanged { IfNone result (world.new ≡ world.old) }
     ensures rebinds { Rebinds L.made L.meaning labels.new world.old world.new }
@@ -271,6 +311,7 @@ fn put_bound<L: Labels>(
     requires bound { IsSome (bound_in name.now (slice_get world.old.records e.0)) }
     requires label { L.made labels.old value.label }
     requires belongs { Belongs L.made L.meaning labels.old world.old }
+    ensures exact { L.firm labels.old ≡ true → is_some result ≡ changes_binding (L.meaning labels.old) (context_of (L.meaning labels.old) world.old) (bound_in name.now (slice_get world.old.records e.0)) }
     ensures puts { IfSome result (λ _. PutsAt L.made L.meaning labels.new (in_record e.0) name.now value world.old world.new) }
     ensures unchanged { IfNone result (world.new ≡ world.old) }
     ensures rebinds { Rebinds L.made L.meaning labels.new world.old world.new }
@@ -292,6 +333,7 @@ fn put_global<L: Labels>(
 ) -> Option<()>
     requires label { L.made labels.old value.label }
     requires belongs { Belongs L.made L.meaning labels.old world.old }
+    ensures exact { L.firm labels.old ≡ true → is_some result ≡ changes_global (L.meaning labels.old) (context_of (L.meaning labels.old) world.old) name.now (global_in world.old.heap) }
     ensures there { IfSome result (λ _. IsSome (own_in name.now (global_in world.old.heap))) }
     ensures puts { IfSome result (λ _. PutsAt L.made L.meaning labels.new on_global name.now value world.old world.new) }
     ensures unchanged { IfNone result (world.new ≡ world.old) }

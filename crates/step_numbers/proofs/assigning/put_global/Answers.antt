@@ -1,8 +1,10 @@
-use Rattle.std.proofs.Common.{◌≡◌}
+use Rattle.std.proofs.Common.{sym, ap, ◌∙◌, ◌≡◌}
+use Rattle.std.specs.Result.{is_ok}
 use Rattle.origin_labels.specs.Label.{union}
 use Rattle.origin_labels.proofs.StoreLaws.{IsKept-trans}
 use Rattle.step_numbers.specs.Evaluated.{global_in}
 use Rattle.step_numbers.proofs.AssignLaws.{rebinds_heap, rebinds_none}
+use Rattle.step_numbers.proofs.ChangeLaws.{global_exact}
 use Rattle.step_numbers.proofs.GlobalLaws.{ok_has, puts_globally, written_made, written_there}
 use Rattle.step_numbers.proofs.assigning.put_global.Goals as goal
 
@@ -36,3 +38,23 @@ pub returns-in-Err-clause-rebinds : goal.returns-in-Err-clause-rebinds
 returns-in-Err-clause-rebinds g c =
     rebinds_heap g.L.Labels.made g.L.Labels.meaning g.L.Labels.room g.L.Labels.firm c.args.labels.now c.write_named.new.labels (IsKept-trans _ _ _ _ _ _ _ c.join.ensures.kept c.write_named.ensures.kept) g.met.L.Labels.rising c.args.world.now c.requires.belongs
     c.write_named.new.self c.write_named.ensures.belongs c.write_named.ensures.length
+
+pub returns-in-Ok-clause-exact : goal.returns-in-Ok-clause-exact
+returns-in-Ok-clause-exact g c firm =
+    let joined = c.in_ok-need.ensures.value in
+    let made = ok_has (g.L.Labels.made c.join.new.self) c.join.result c.in_ok-need.need joined c.join.ensures.made in
+    let means = ok_has (λ l. g.L.Labels.meaning c.join.new.self l ≡ union (g.L.Labels.meaning c.args.labels.now c.context-context.result) (g.L.Labels.meaning c.args.labels.now c.in_ok-walk.walk)) c.join.result c.in_ok-need.need joined c.join.ensures.meaning in
+    sym (ap is_ok c.in-Ok.is)
+    ∙ global_exact g.L.Labels.made g.L.Labels.meaning g.L.Labels.room g.L.Labels.firm c.args.labels.now c.join.new.self c.write_named.new.labels c.join.ensures.kept c.write_named.ensures.kept c.args.world.now c.requires.belongs
+    c.args.name.now c.args.value c.in_ok-walk.walk c.context-context.result c.in_ok-need.need c.in_ok-walk.ensures c.context-context.ensures.made c.context-context.ensures.meaning made means
+    c.write_named.new.self c.write_named.result c.write_named.ensures.acts (c.write_named.ensures.firm (c.join.ensures.kept.same_firm ∙ firm))
+
+pub returns-in-Err-clause-exact : goal.returns-in-Err-clause-exact
+returns-in-Err-clause-exact g c firm =
+    let joined = c.in_ok-need.ensures.value in
+    let made = ok_has (g.L.Labels.made c.join.new.self) c.join.result c.in_ok-need.need joined c.join.ensures.made in
+    let means = ok_has (λ l. g.L.Labels.meaning c.join.new.self l ≡ union (g.L.Labels.meaning c.args.labels.now c.context-context.result) (g.L.Labels.meaning c.args.labels.now c.in_ok-walk.walk)) c.join.result c.in_ok-need.need joined c.join.ensures.meaning in
+    sym (ap is_ok c.in-Err.is)
+    ∙ global_exact g.L.Labels.made g.L.Labels.meaning g.L.Labels.room g.L.Labels.firm c.args.labels.now c.join.new.self c.write_named.new.labels c.join.ensures.kept c.write_named.ensures.kept c.args.world.now c.requires.belongs
+    c.args.name.now c.args.value c.in_ok-walk.walk c.context-context.result c.in_ok-need.need c.in_ok-walk.ensures c.context-context.ensures.made c.context-context.ensures.meaning made means
+    c.write_named.new.self c.write_named.result c.write_named.ensures.acts (c.write_named.ensures.firm (c.join.ensures.kept.same_firm ∙ firm))
