@@ -1,5 +1,5 @@
 -- How the endings of a run are told, and what follows of one that is.
-use Rattle.std.proofs.Common.{◌≡◌, ℕ, false, List, [], Option, Some, Ok, refl, sym, ap, ap₂, subst, ◌∙◌}
+use Rattle.std.proofs.Common.{◌≡◌, ℕ, false, List, [], Option, Some, None, Ok, refl, sym, ap, ap₂, subst, ◌∙◌}
 use Rattle.std.proofs.lemmas.Option.{none-some, same_Some}
 use Rattle.origin_labels.specs.Label.{Label, within}
 use Rattle.flow_io.specs.Sinks.{Appends}
