@@ -39,7 +39,11 @@ pub(crate) fn told<'p, L: Labels>(
 {
     match ending {
         step_core::Ending::Done => Ending::Done,
-        step_core::Ending::Threw(value) => thrown(alloc, &machine.progress.world.heap, &value.value),
+        step_core::Ending::Threw(value) => thrown(
+            alloc,
+            &machine.progress.world.heap,
+            &value.value,
+        ),
         step_core::Ending::Stopped(stop) => stopped(alloc, labels, policy, stop),
         step_core::Ending::Left(why) => Ending::Left(why),
         step_core::Ending::OutOfTurns => Ending::OutOfTurns,
