@@ -19,12 +19,3 @@ pub use exactness::{one_reading, one_white_space};
 pub use fault::ScanFault;
 pub use names::{is_identifier, is_one_of, spells};
 pub use scanning::scan;
-
-#[cfg(test)]
-mod name_tests;
-#[cfg(test)]
-mod number_tests;
-#[cfg(test)]
-mod string_tests;
-#[cfg(test)]
-mod tests;

@@ -12,4 +12,5 @@ pub mod Reported
 pub mod Shown
 pub mod Sourced
 pub mod Spelled
+pub mod Uncounted
 pub mod Views

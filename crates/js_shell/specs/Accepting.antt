@@ -181,6 +181,10 @@ abbrev pub HasMarks : Accepted → Type 0
 HasMarks (accepted.Run task) = IsMarked task.script
 HasMarks accepted.Program = Unit {0}
 
+-- the answer isn't a read fault
+abbrev pub IsRead : {X : Type 0} → Result X Refusal → Type 0
+IsRead result = ¬ (result ≡ Err refusal.ReadFault)
+
 abbrev pub is_usage : {T : Type 0} → Result T Refusal → Bool
 is_usage (Err refusal.Usage) = true
 is_usage _ = false

@@ -5,7 +5,7 @@ ghost use Rattle.flow_io.specs.Files.{Rose, IsStoreKept};
 ghost use Rattle.flow_policy.specs.Inputs.{IsGivenTo};
 ghost use Rattle.js_ast.specs.IsMarked.{IsMarked};
 ghost use Rattle.js_shell.specs.Replies.{command_of, Reaches};
-ghost use Rattle.js_shell.specs.Accepting.{ReadsSource, AcceptsProgram, AcceptsScript, AcceptsPolicy, AcceptsInput, Accepts, HasMarks, IsGiven, is_usage};
+ghost use Rattle.js_shell.specs.Accepting.{ReadsSource, AcceptsProgram, AcceptsScript, AcceptsPolicy, AcceptsInput, Accepts, HasMarks, IsGiven, IsRead, is_usage};
 ghost use Rattle.js_shell.specs.Seen.{seen_commands, seen_script, seen_work, texts_of};
 
 use crate::refusals::Refusal;
@@ -84,6 +84,7 @@ pub(crate) fn accept<F: Store>(
     ensures marked { IfOk result (λ accepted. HasMarks accepted) }
     ensures usage { (is_usage result ≡ true) ↔ (command_of (texts_of words.now) ≡ None) }
     ensures read_fault { result ≡ Err Refusal.ReadFault → Rose (F.faults store.old) (F.faults store.new) }
+    ensures no_fault { IsRead result → F.faults store.new ≡ F.faults store.old }
 {
     match command_of(words) {
         None => Err(Refusal::Usage),
@@ -117,6 +118,7 @@ fn source_bytes<F: Store>(alloc: Global, store: &mut F, path: &str) -> Result<Ve
     ensures kept { IsStoreKept F.contents F.may_ask F.faults store.old store.new }
     ensures reads { ReadsSource (F.contents store.old) path.now result }
     ensures read_fault { result ≡ Err Refusal.ReadFault → Rose (F.faults store.old) (F.faults store.new) }
+    ensures no_fault { IsRead result → F.faults store.new ≡ F.faults store.old }
 {
     match load(alloc, store, path, SOURCE_LIMIT) {
         Ok(bytes) => Ok(bytes),
@@ -132,6 +134,7 @@ fn accept_program<F: Store>(alloc: Global, store: &mut F, path: &str) -> Result<
     ensures kept { IsStoreKept F.contents F.may_ask F.faults store.old store.new }
     ensures accepts { AcceptsProgram (F.contents store.old) path.now result }
     ensures read_fault { result ≡ Err Refusal.ReadFault → Rose (F.faults store.old) (F.faults store.new) }
+    ensures no_fault { IsRead result → F.faults store.new ≡ F.faults store.old }
 {
     let bytes = source_bytes(alloc, store, path)?;
     check_program(alloc, &bytes)
@@ -144,6 +147,7 @@ fn accept_script<F: Store>(alloc: Global, store: &mut F, path: &str) -> Result<P
     ensures marked { IfOk result IsMarked }
     ensures accepts { AcceptsScript (F.contents store.old) path.now (seen_script result) }
     ensures read_fault { result ≡ Err Refusal.ReadFault → Rose (F.faults store.old) (F.faults store.new) }
+    ensures no_fault { IsRead result → F.faults store.new ≡ F.faults store.old }
 {
     let bytes = source_bytes(alloc, store, path)?;
     script_of(alloc, &bytes)
@@ -156,6 +160,7 @@ fn accept_policy<F: Store>(alloc: Global, store: &mut F, path: &str) -> Result<P
     ensures kept { IsStoreKept F.contents F.may_ask F.faults store.old store.new }
     ensures accepts { AcceptsPolicy (F.contents store.old) path.now result }
     ensures read_fault { result ≡ Err Refusal.ReadFault → Rose (F.faults store.old) (F.faults store.new) }
+    ensures no_fault { IsRead result → F.faults store.new ≡ F.faults store.old }
 {
     let bytes = match load(alloc, store, path, POLICY_LIMIT) {
         Ok(bytes) => bytes,
@@ -183,6 +188,7 @@ fn accept_input<F: Store>(
     ensures accepts { AcceptsInput (F.contents store.old) path.now policy.now result }
     ensures given { IfOk result (λ inputs. IsGivenTo policy.now inputs) }
     ensures read_fault { result ≡ Err Refusal.ReadFault → Rose (F.faults store.old) (F.faults store.new) }
+    ensures no_fault { IsRead result → F.faults store.new ≡ F.faults store.old }
 {
     let bytes = match load(alloc, store, path, INPUT_LIMIT) {
         Ok(bytes) => bytes,

@@ -40,6 +40,7 @@ pub fn shell<F: Store, K: Sink>(
     ensures left { IfSome (F.contents store.old) (λ files. Exactly result Status.Left (IsLeft (texts_of words.now) files)) }
     ensures out_of_turns { IfSome (F.contents store.old) (λ files. Exactly result Status.OutOfTurns (IsOutOfTurns (texts_of words.now) files)) }
     ensures read_fault { result ≡ Status.ReadFault → Rose (F.faults store.old) (F.faults store.new) }
+    ensures no_read_fault { UnlessEarly result (F.faults store.new ≡ F.faults store.old) }
     ensures read_report { Told (F.contents store.old) (K.taken sink.old) (K.taken sink.new) (λ files out. result ≡ Status.ReadFault → out ≡ read_fault_report) }
     ensures write_fault { (result ≡ Status.WriteFault) ↔ (K.shut sink.new ≡ true) }
     ensures write_failed { result ≡ Status.WriteFault → Rose (K.faults sink.old) (K.faults sink.new) }
@@ -58,6 +59,7 @@ fn answer<F: Store, K: Sink>(alloc: Global, words: &[String], store: &mut F, sin
     requires open { K.shut sink.old ≡ false }
     ensures answers { Answers (texts_of words.now) (F.contents store.old) (Rose (F.faults store.old) (F.faults store.new)) (K.taken sink.old) (K.taken sink.new) result }
     ensures usage { Exactly result Status.Usage (IsUsage (texts_of words.now)) }
+    ensures no_read_fault { UnlessEarly result (F.faults store.new ≡ F.faults store.old) }
     ensures kept { IsStoreKept F.contents F.may_ask F.faults store.old store.new }
     ensures shut { K.shut sink.new ≡ is_write_fault result }
     ensures faults_stay { K.faults sink.old ≤ K.faults sink.new }

@@ -260,7 +260,7 @@ fn form_of(e: &Expr) -> Form {
 }
 
 /// The tokens of a source, and the place behind its last unit.
-fn scanned(alloc: Global, source: &str) -> Option<(Vec<Token>, usize)> {
+pub(crate) fn scanned(alloc: Global, source: &str) -> Option<(Vec<Token>, usize)> {
     let text = Text::spelled(alloc, source).ok()?;
     let tokens = scan(alloc, &text).ok()?;
     Some((tokens, text.len()))

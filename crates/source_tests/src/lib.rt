@@ -21,3 +21,5 @@ mod told;
 mod trees;
 #[cfg(test)]
 mod unbuilt;
+#[cfg(test)]
+mod whole_trees;

@@ -2,7 +2,7 @@ ghost use Rattle.std.specs.Prelude.{IfOk};
 ghost use Rattle.js_ast.specs.IsMarked.{IsMarked};
 
 use flow_text::Text;
-use js_ast::{ExprKind, Function, Program, Stmt, StmtKind};
+use js_ast::{Function, Program};
 use js_parse::{ParseFault, parse};
 use js_scan::scan;
 use std::alloc::Global;
@@ -81,66 +81,6 @@ fn has_fault(alloc: Global, source: &str, wanted: ParseFault) -> bool {
 fn refused_tokens(rt: HostRuntime) {
     for (source, fault) in FAULTS {
         assert!(rt; has_fault(rt.alloc(), *source, *fault), "{source}");
-    }
-}
-
-/// What a statement is, as far as the rows tell it.
-#[derive(Clone, Copy, PartialEq, Eq)]
-enum Form {
-    Name,
-    Paren,
-    Assign,
-    Postfix,
-    Prefix,
-    Other,
-}
-
-fn form_of(statement: &Stmt) -> Form {
-    let StmtKind::Expr { expr, .. } = &*statement.kind else {
-        return Form::Other;
-    };
-    match &*expr.kind {
-        ExprKind::Name(_) => Form::Name,
-        ExprKind::Paren(_) => Form::Paren,
-        ExprKind::Assign { .. } => Form::Assign,
-        ExprKind::Postfix { .. } => Form::Postfix,
-        ExprKind::Unary { .. } => Form::Prefix,
-        _ => Form::Other,
-    }
-}
-
-// How many statements a source has, and the first and the last of them: one name, and sources in which a line's end is
-// a semicolon or isn't (ECMA-262 7.9).
-const ENDS: &[(&str, usize, Form, Form)] = &[
-    ("a", 1, Form::Name, Form::Name),
-    ("a = b\n(c)", 1, Form::Assign, Form::Assign),
-    ("a++\n(b)", 2, Form::Postfix, Form::Paren),
-    ("a\n++b", 2, Form::Name, Form::Prefix),
-];
-
-fn has_ends(statements: &[Stmt], count: usize, first: Form, last: Form) -> bool {
-    match (statements.first(), statements.last()) {
-        (Some(front), Some(back)) => {
-            statements.len() == count && form_of(front) == first && form_of(back) == last
-        }
-        _ => false,
-    }
-}
-
-fn is_tree(alloc: Global, source: &str, count: usize, first: Form, last: Form) -> bool {
-    match parsed(alloc, source) {
-        Ok(program) => has_ends(program.body.items(), count, first, last),
-        Err(_) => false,
-    }
-}
-
-#[test]
-fn trees(rt: HostRuntime) {
-    for (source, count, first, last) in ENDS {
-        assert!(rt;
-            is_tree(rt.alloc(), *source, *count, *first, *last),
-            "{source}"
-        );
     }
 }
 
