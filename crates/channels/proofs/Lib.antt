@@ -1,0 +1,4 @@
+pub mod ClauseLaws
+pub mod NameLaws
+pub mod SetLaws
+pub mod Words

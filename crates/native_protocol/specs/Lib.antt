@@ -1,0 +1,4 @@
+pub mod Pieces
+pub mod Running
+pub mod Sets
+pub mod Steps

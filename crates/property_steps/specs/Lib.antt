@@ -1,0 +1,12 @@
+pub mod Looks
+pub mod Fields
+pub mod Properties
+pub mod Descriptors
+pub mod Loops
+pub mod Fixing
+pub mod Defining
+pub mod DescriptorPieces
+pub mod TellingPieces
+pub mod LoopPieces
+pub mod FixingPieces
+pub mod DefiningPieces
