@@ -1,0 +1,7 @@
+//! Calls of built-ins with the requests that they come to, worked out by hand. They stand here so that the crates of built-ins are proved once.
+#![tactic(auto)]
+
+#[cfg(test)]
+mod objects;
+#[cfg(test)]
+mod scenes;

@@ -1,0 +1,15 @@
+pub mod AncestorMachine
+pub mod DefiningMachine
+pub mod IntegrityMachine
+pub mod Kinds
+pub mod Needs
+pub mod ObjectMachine
+pub mod Objects
+pub mod OwnTestMachine
+pub mod Properties
+pub mod PropertyMachine
+pub mod Prototypes
+pub mod ReflectionMachine
+pub mod Registers
+pub mod Repeating
+pub mod ThisMachine

@@ -1,0 +1,5 @@
+pub mod BooleanLaws
+pub mod EndingLaws
+pub mod MathLaws
+pub mod NumberLaws
+mod Words

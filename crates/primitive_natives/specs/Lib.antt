@@ -1,0 +1,9 @@
+pub mod BooleanMachine
+pub mod Booleans
+pub mod Endings
+pub mod Machines
+pub mod MathMachine
+pub mod Maths
+pub mod NumberMachine
+pub mod Numbers
+pub mod Registers
