@@ -1,29 +1,39 @@
 -- With more turns a run that is over is the same.
-use Rattle.std.proofs.Common.{◌≡◌, ℕ, zero, suc, ◌+◌, ◌-◌, ◌≤◌, List, ◌∷◌, Bool, true, false, length, Option, Some, None, Result, Ok, Err, slice_get, ◌&&◌, refl, ap, ap₂, subst, arith}
+use Rattle.std.proofs.Common.{◌≡◌, ℕ, zero, suc, ◌+◌, ◌-◌, ◌≤◌, List, [], ◌∷◌, Bool, true, false, length, Option, Some, None, Result, Ok, Err, slice_get, ◌&&◌, refl, ap, ap₂, subst, arith}
 use Rattle.flow_policy.specs.Policies.{Tables}
 use Rattle.flow_policy.specs.Inputs.{Given}
 use Rattle.js_number.specs.declared.primitive.Primitive.{Primitive}
+use Rattle.js_number.specs.declared.primitive.Primitive.TheVariants.{Undefined, Null, Num, Str}
+use Rattle.js_number.specs.declared.primitive.Primitive.TheVariants as prims
 use Rattle.js_values.specs.declared.value.Value.{Value}
 use Rattle.js_values.specs.declared.value.Value.TheVariants as value
-use Rattle.js_values.specs.declared.property.Body.{Body}
-use Rattle.js_values.specs.declared.property.Body.TheVariants.{Data, Accessor}
-use Rattle.js_values.specs.Objects.{Property}
+use Rattle.js_values.specs.declared.ids.ObjId.{ObjId}
+use Rattle.js_values.specs.declared.inner.Class.{Class}
+use Rattle.js_values.specs.Objects.{Property, PlainObject}
 use Rattle.js_values.specs.Records.{Binding}
 use Rattle.js_values.specs.Walks.{plain_chain, plain_find}
 use Rattle.js_ast.specs.Trees.{Function, Statements}
 use Rattle.js_ast.specs.Functions.{FunctionCode, functions_of}
+use Rattle.native_protocol.specs.declared.hint.Hint.{Hint}
+use Rattle.native_protocol.specs.declared.hint.Hint.TheVariants as hint
+use Rattle.native_protocol.specs.declared.request.ErrorKind.{ErrorKind}
+use Rattle.native_protocol.specs.declared.request.GivenMarks.{GivenMarks}
 use Rattle.es_meaning.specs.Outcomes.{Exit, Halt, out_of_turns, halted, Outcome, Goes, Jumps, Ends, From, ret, and_then, ◌>>=◌}
 use Rattle.es_meaning.specs.Environments.{Env, with_around, with_place, aimed}
-use Rattle.es_meaning.specs.Functions.{Callee, not_callable, empty_callee, of_script, unbuilt_callee}
-use Rattle.es_meaning.specs.Operations.{Ty, One, Res, Direct, read, print, lbl, upgs, upge, Act, object_of, base_needed, object_needed, has_key, refused_declaration, Ops}
+use Rattle.es_meaning.specs.BuiltIns.{BuiltIns}
+use Rattle.es_meaning.specs.Holders.{constructs_in}
+use Rattle.es_meaning.specs.Functions.{Callee, not_callable, empty_callee, of_script, of_built_in, Target}
+use Rattle.es_meaning.specs.Operations.{Ty, One, Res, Part, Shape, Act, object_of, base_needed, object_needed, has_key, throws_error, own_property, define, own_keys, prototype_of_object, is_extensible, prevent_extensions, new_object, bind, read_line, print_line, join_label, raise_structure, raise_existence, Ops}
 use Rattle.es_meaning.specs.Operations.{Value as a_value}
-use Rattle.es_meaning.specs.Operators.{is_object, truth, converts_beside, unary_of, binary_of}
+use Rattle.es_meaning.specs.Operators.{truth, converts_beside, unary_of, binary_of}
 use Rattle.es_meaning.specs.Evaluation.{program_step}
 use Rattle.es_meaning.specs.Laws.{MoreTurns}
 use Rattle.es_meaning.specs.Objects.{Plan, writes, adds, refuses, calls, can_put, own_in}
-use Rattle.es_meaning.specs.Start.{ErrorKind, global_object}
-use Rattle.es_meaning.specs.Plain.{State, Jump, P, Place, in_record, on_global, nowhere, Reference, of_name, of_property, resolved, binding_at, given, unless_object, seen, throw_error, bound, held, found_globally, found, property_of, named, get_value, typeof_value, assigned, assigned_to, put_by, put_on, is_element_of, put, put_property, put_named, put_value, removed_if, removed_own, remove, make_object, needed, has, act, key_list, with_list, choose, spend, leaves_it, ended_round, read_channel, print_value, print_channel, label_by, raise_by, raise_of, raise_at, direct, make_function, with_call, callee_at, entered, is_return, ended_call, prototype_of, with_fresh, constructed, ended_construction, prototype_name, is_function_at, is_instance, instance_of, instance_if, jumps_to, is_throw, handled_throw, finished, attempt, may_declare, raised_by, named_origins, plain, timed, outermost_env, start, run_of, plain_run}
-use Rattle.es_meaning.proofs.Link.{Rels, nils, conses, Rel, Link, program_longer}
+use Rattle.es_meaning.specs.Start.{global_object}
+use Rattle.es_meaning.specs.Requested.{is_function_in, is_function_at, is_array, are_origins, target_of}
+use Rattle.es_meaning.specs.Plain.{State, Jump, P, Place, in_record, on_global, nowhere, Reference, of_name, of_property, resolved, binding_at, given, seen, throw_error, bound, Access, has_value, has_getter, found_globally, property_of, as_access, named, accessed, accessed_for_typeof, assigned, assigned_to, Putting, is_put, has_setter, put_by, put_on, is_element_of, put, put_property, as_putting, put_named, put_value, removed_if, removed_own, remove, make_object, needed, has, on_object, define_by, define_in, define_on, made_new, make_new, bind_to, if_origins, key_list, with_list, choose, spend, leaves_it, ended_round, make_function, callee_at, with_call, is_return, ended_call, Enters, entered, call_target, call, prototype_of, with_fresh, ended_construction, constructed, construct_target, construct, entered_access, entered_putting, converted, converted_if, prototype_name, is_instance, instance_of, instance_if, instance, jumps_to, is_throw, handled_throw, finished, attempt, read_channel, print_text, print_channel, with_origins, act, raised_by, named_origins, may_declare, plain, timed, outermost_env, start, run_of, plain_run}
+use Rattle.es_meaning.proofs.Link.{Rels, nils, conses, Rel, EnteringLinked, Link}
+use Rattle.es_meaning.proofs.RequestLinks.{program_longer}
 
 -- ---- turns
 
@@ -89,6 +99,11 @@ pub rels_equal : {V : Type 0} {vs us : List V} → Rels (λ (v : V) (u : V). v �
 rels_equal nils = refl
 rels_equal (conses e r) = ap₂ (λ v l. v ∷ l) e (rels_equal r)
 
+-- and a list is related to itself
+pub same_rels : {V : Type 0} (vs : List V) → Rels (λ (v : V) (u : V). v ≡ u) vs vs
+same_rels [] = nils
+same_rels (v ∷ vs) = conses refl (same_rels vs)
+
 -- ---- the unlabelled meaning
 
 -- the state with k more turns
@@ -112,16 +127,12 @@ module _ (k : ℕ) where
   given_on (Ok v) = record { on = λ s. goes }
   given_on (Err name) = record { on = λ s. ends }
 
-  -- a value that isn't to be converted
-  unless_on : (b : Bool) (v : Value) → On Value (unless_object b v) (unless_object b v)
-  unfolding unless_object
-  unless_on true v = record { on = λ s. ends }
-  unless_on false v = record { on = λ s. goes }
-
   -- an exception of the engine
   throw_on : (X : Type 0) (kind : ErrorKind) → On X (throw_error kind) (throw_error kind)
   unfolding throw_error
   throw_on X kind = record { on = λ s. jumps }
+
+  -- ---- reads
 
   -- the value of a name
   bound_on : (b : Option (Binding Value)) → On Value (bound b) (bound b)
@@ -129,50 +140,42 @@ module _ (k : ℕ) where
   bound_on (Some b) = record { on = λ s. goes }
   bound_on None = record { on = λ s. (throw_on Value _).on s }
 
-  -- that of a property
-  held_on : (body : Body) → On Value (held body) (held body)
-  unfolding held
-  held_on (Data v) = record { on = λ s. goes }
-  held_on (Accessor get set) = record { on = λ s. ends }
+  as_access_on : {m n : P Value} → On Value m n → On Access (as_access m) (as_access n)
+  as_access_on l = bind_longer _ _ l (λ v. record { on = λ s. goes })
 
   -- of one that the global object has
-  globally_on : (f : Option (ℕ × Property)) → On Value (found_globally f) (found_globally f)
+  globally_on : (f : Option (ℕ × Property)) → On Access (found_globally f) (found_globally f)
   unfolding found_globally
-  globally_on (Some f) = record { on = λ s. (held_on f.1.body).on s }
-  globally_on None = record { on = λ s. (throw_on Value _).on s }
+  globally_on (Some f) = record { on = λ s. goes }
+  globally_on None = record { on = λ s. (throw_on Access _).on s }
 
-  -- or that there may be
-  found_on : (f : Option (ℕ × Property)) → On Value (found f) (found f)
-  unfolding found
-  found_on (Some f) = record { on = λ s. (held_on f.1.body).on s }
-  found_on None = record { on = λ s. goes }
-
-  -- of a value
-  property_on : (v : Value) (key : List ℕ) → On Value (property_of v key) (property_of v key)
+  -- of a property of a value
+  property_on : (v : Value) (key : List ℕ) → On Access (property_of v key) (property_of v key)
   unfolding property_of
   property_on (value.Primitive p) key = record { on = λ s. ends }
-  property_on (value.Object o) key = record { on = λ s. (found_on (plain_find key (plain_chain s.heap o.0))).on s }
+  property_on (value.Object o) key = record { on = λ s. goes }
 
-  -- the value of a name
-  named_on : (place : Place) (x : List ℕ) → On Value (named place x) (named place x)
+  named_on : (place : Place) (x : List ℕ) → On Access (named place x) (named place x)
   unfolding named
-  named_on (in_record i) x = record { on = λ s. (bound_on (binding_at s.records i x)).on s }
+  named_on (in_record i) x = record { on = λ s. (as_access_on (bound_on (binding_at s.records i x))).on s }
   named_on on_global x = record { on = λ s. (globally_on (plain_find x (plain_chain s.heap global_object.0))).on s }
-  named_on nowhere x = record { on = λ s. (throw_on Value _).on s }
+  named_on nowhere x = record { on = λ s. (throw_on Access _).on s }
 
   -- of a reference
-  value_on : (n : Reference) → On Value (get_value n) (get_value n)
-  unfolding get_value
-  value_on (of_name x place) = named_on place x
-  value_on (of_property v key) = property_on v key
+  accessed_on : (n : Reference) → On Access (accessed n) (accessed n)
+  unfolding accessed
+  accessed_on (of_name x place) = named_on place x
+  accessed_on (of_property v key) = property_on v key
 
   -- or undefined
-  typeof_on : (n : Reference) → On Value (typeof_value n) (typeof_value n)
-  unfolding typeof_value
-  typeof_on (of_name x (in_record i)) = record { on = λ s. (value_on (of_name x (in_record i))).on s }
-  typeof_on (of_name x on_global) = record { on = λ s. (value_on (of_name x on_global)).on s }
+  typeof_on : (n : Reference) → On Access (accessed_for_typeof n) (accessed_for_typeof n)
+  unfolding accessed_for_typeof
+  typeof_on (of_name x (in_record i)) = record { on = λ s. (accessed_on (of_name x (in_record i))).on s }
+  typeof_on (of_name x on_global) = record { on = λ s. (accessed_on (of_name x on_global)).on s }
   typeof_on (of_name x nowhere) = record { on = λ s. goes }
-  typeof_on (of_property v key) = record { on = λ s. (value_on (of_property v key)).on s }
+  typeof_on (of_property v key) = record { on = λ s. (accessed_on (of_property v key)).on s }
+
+  -- ---- puts
 
   -- a value for a binding
   assigned_on : (mutable : Bool) (x : List ℕ) (i : ℕ) (v : Value) → On (Unit {0}) (assigned mutable x i v) (assigned mutable x i v)
@@ -186,36 +189,39 @@ module _ (k : ℕ) where
   assigned_to_on (Some b) x i v = record { on = λ s. (assigned_on b.mutable x i v).on s }
   assigned_to_on None x i v = record { on = λ s. (throw_on (Unit {0}) _).on s }
 
+  as_putting_on : {m n : P (Unit {0})} → On (Unit {0}) m n → On Putting (as_putting m) (as_putting n)
+  as_putting_on l = bind_longer _ _ l (λ u. record { on = λ s. goes })
+
   -- a put, as is planned
-  put_by_on : (plan : Plan) (o : ℕ) (key : List ℕ) (v : Value) → On (Unit {0}) (put_by plan o key v) (put_by plan o key v)
+  put_by_on : (plan : Plan) (o : ℕ) (key : List ℕ) (v : Value) → On Putting (put_by plan o key v) (put_by plan o key v)
   unfolding put_by
   put_by_on writes o key v = record { on = λ s. goes }
   put_by_on adds o key v = record { on = λ s. goes }
-  put_by_on refuses o key v = record { on = λ s. (throw_on (Unit {0}) _).on s }
-  put_by_on (calls f) o key v = record { on = λ s. ends }
+  put_by_on refuses o key v = record { on = λ s. (throw_on Putting _).on s }
+  put_by_on (calls f) o key v = record { on = λ s. goes }
 
-  put_on_on : (element : Bool) (o : ℕ) (key : List ℕ) (v : Value) → On (Unit {0}) (put_on element o key v) (put_on element o key v)
+  put_on_on : (element : Bool) (o : ℕ) (key : List ℕ) (v : Value) → On Putting (put_on element o key v) (put_on element o key v)
   unfolding put_on
   put_on_on true o key v = record { on = λ s. ends }
   put_on_on false o key v = record { on = λ s. (put_by_on (can_put key (plain_chain s.heap o)) o key v).on s }
 
   -- for an object, for a value, and for a name
-  put_object_on : (o : ℕ) (key : List ℕ) (v : Value) → On (Unit {0}) (put o key v) (put o key v)
+  put_object_on : (o : ℕ) (key : List ℕ) (v : Value) → On Putting (put o key v) (put o key v)
   unfolding put
   put_object_on o key v = record { on = λ s. (put_on_on (is_element_of (slice_get s.heap o) key) o key v).on s }
 
-  put_property_on : (base : Value) (key : List ℕ) (v : Value) → On (Unit {0}) (put_property base key v) (put_property base key v)
+  put_property_on : (base : Value) (key : List ℕ) (v : Value) → On Putting (put_property base key v) (put_property base key v)
   unfolding put_property
   put_property_on (value.Primitive p) key v = record { on = λ s. ends }
   put_property_on (value.Object o) key v = record { on = λ s. (put_object_on o.0 key v).on s }
 
-  put_named_on : (place : Place) (x : List ℕ) (v : Value) → On (Unit {0}) (put_named place x v) (put_named place x v)
+  put_named_on : (place : Place) (x : List ℕ) (v : Value) → On Putting (put_named place x v) (put_named place x v)
   unfolding put_named
-  put_named_on (in_record i) x v = record { on = λ s. (assigned_to_on (binding_at s.records i x) x i v).on s }
+  put_named_on (in_record i) x v = record { on = λ s. (as_putting_on (assigned_to_on (binding_at s.records i x) x i v)).on s }
   put_named_on on_global x v = record { on = λ s. (put_object_on global_object.0 x v).on s }
-  put_named_on nowhere x v = record { on = λ s. (throw_on (Unit {0}) _).on s }
+  put_named_on nowhere x v = record { on = λ s. (throw_on Putting _).on s }
 
-  put_value_on : (n : Reference) (v : Value) → On (Unit {0}) (put_value n v) (put_value n v)
+  put_value_on : (n : Reference) (v : Value) → On Putting (put_value n v) (put_value n v)
   unfolding put_value
   put_value_on (of_name x place) v = put_named_on place x v
   put_value_on (of_property base key) v = put_property_on base key v
@@ -237,7 +243,8 @@ module _ (k : ℕ) where
   remove_on (of_property (value.Primitive p) key) = record { on = λ s. ends }
   remove_on (of_property (value.Object o) key) = record { on = λ s. (removed_own_on (own_in key (slice_get s.heap o.0)) o.0 key).on s }
 
-  -- acts
+  -- ---- acts
+
   needed_on : (there : Bool) (v : Value) → On Value (needed there v) (needed there v)
   unfolding needed
   needed_on true v = record { on = λ s. goes }
@@ -248,17 +255,51 @@ module _ (k : ℕ) where
   has_on key (value.Primitive p) = record { on = λ s. ends }
   has_on key (value.Object o) = record { on = λ s. goes }
 
-  make_on : (keys : List (List ℕ)) (vs : List Value) → On Value (make_object keys vs) (make_object keys vs)
+  make_on : (parts : List (Part × List ℕ)) (vs : List Value) → On Value (make_object parts vs) (make_object parts vs)
   unfolding make_object
-  make_on keys vs = record { on = λ s. goes }
+  make_on parts vs = record { on = λ s. goes }
 
-  act_on : (a : Act) (vs : List Value) → On Value (act a vs) (act a vs)
-  unfolding act
-  act_on (object_of keys) vs = make_on keys vs
-  act_on base_needed vs = needed_on _ _
-  act_on object_needed vs = needed_on _ _
-  act_on has_key vs = has_on _ _
-  act_on refused_declaration vs = throw_on Value _
+  -- on an object
+  object_on : {X : Type 0} (v : Value) (f g : ℕ → P X) → ((o : ℕ) → On X (f o) (g o)) → On X (on_object v f) (on_object v g)
+  unfolding on_object
+  object_on {X} (value.Primitive p) f g h = record { on = λ s. (throw_on X _).on s }
+  object_on (value.Object o) f g h = record { on = λ s. (h o.0).on s }
+
+  -- a definition
+  define_by_on : (o : ℕ) (key : List ℕ) (p : Option Property) → On Value (define_by o key p) (define_by o key p)
+  unfolding define_by
+  define_by_on o key None = record { on = λ s. (throw_on Value _).on s }
+  define_by_on o key (Some p) = record { on = λ s. goes }
+
+  define_in_on : (p : Option PlainObject) (o : ℕ) (key : List ℕ) (marks : GivenMarks) (shape : Shape) (v get set : Value) → On Value (define_in p o key marks shape v get set) (define_in p o key marks shape v get set)
+  unfolding define_in
+  define_in_on None o key marks shape v get set = record { on = λ s. (throw_on Value _).on s }
+  define_in_on (Some p) o key marks shape v get set = record { on = λ s. (choose_longer (is_array p.class) (record { on = λ t. ends }) (define_by_on o key _)).on s }
+
+  define_on_on : (o : ℕ) (key : List ℕ) (marks : GivenMarks) (shape : Shape) (v get set : Value) → On Value (define_on o key marks shape v get set) (define_on o key marks shape v get set)
+  unfolding define_on
+  define_on_on o key marks shape v get set = record { on = λ s. (define_in_on (slice_get s.heap o) o key marks shape v get set).on s }
+
+  -- a new object, and a bound function
+  made_new_on : (c : Class) (proto : Option ObjId) → On Value (made_new c proto) (made_new c proto)
+  unfolding made_new
+  made_new_on c proto = record { on = λ s. goes }
+
+  make_new_on : (c : Class) (proto : Option ObjId) → On Value (make_new c proto) (make_new c proto)
+  unfolding make_new
+  make_new_on c proto = record { on = λ s. (choose_longer (is_array c) (record { on = λ t. ends }) (made_new_on c proto)).on s }
+
+  bind_to_on : (is_function : Bool) (target this : Value) (args : List Value) → On Value (bind_to is_function target this args) (bind_to is_function target this args)
+  unfolding bind_to
+  bind_to_on true (value.Object o) this args = record { on = λ s. goes }
+  bind_to_on true (value.Primitive p) this args = record { on = λ s. (throw_on Value _).on s }
+  bind_to_on false target this args = record { on = λ s. (throw_on Value _).on s }
+
+  -- where origins are declared
+  if_origins_on : (declared : Bool) {m n : P Value} → On Value m n → On Value (if_origins declared m) (if_origins declared n)
+  unfolding if_origins
+  if_origins_on true l = record { on = λ s. l.on s }
+  if_origins_on false l = record { on = λ s. ends }
 
   -- the keys of a value
   list_on : (list : Option (List (List ℕ))) (next last : List (List ℕ) → P (Unit {0})) → ((keys : List (List ℕ)) → On (Unit {0}) (next keys) (last keys)) → On (Unit {0}) (with_list list next) (with_list list last)
@@ -286,19 +327,11 @@ module _ (k : ℕ) where
   unfolding make_function
   function_on functions f i = record { on = λ s. goes }
 
-  -- computations on a body, from each environment
-  abbrev Bodies : (Statements → Env (Unit {0}) → P (Unit {0})) → (Statements → Env (Unit {0}) → P (Unit {0})) → Type 0
-  Bodies f g = (ss : Statements) (e : Env (Unit {0})) → On (Unit {0}) (f ss e) (g ss e)
+  -- what is called is entered alike
+  abbrev Alike : Enters → Enters → Type 0
+  Alike E D = EnteringLinked (Unit {0}) (λ w v u. v ≡ u) (λ w e d. e ≡ d) (λ t w m n. On (Res Value t) m n) E D
 
-  -- a call begins
-  entered_on : (functions : List FunctionCode) (callee : Callee) (base : Value) (vs : List Value) (f g : Statements → Env (Unit {0}) → P (Unit {0})) → Bodies f g → On (Unit {0}) (entered functions callee base vs f) (entered functions callee base vs g)
-  unfolding entered with_call
-  entered_on functions not_callable base vs f g h = record { on = λ s. (throw_on (Unit {0}) _).on s }
-  entered_on functions empty_callee base vs f g h = record { on = λ s. goes }
-  entered_on functions unbuilt_callee base vs f g h = record { on = λ s. ends }
-  entered_on functions (of_script number code place) base vs f g h = record { on = λ s. (h _ _).on (with_call functions number code place base vs s) }
-
-  -- and ends
+  -- a call ends
   returned_on : (b : Bool) (j : Jump) (s : State) → Longer {X = Value} out_of_turns (more_turns_in k) (choose b (Goes j.value s) (Jumps j s)) (choose b (Goes j.value (more_turns_in k s)) (Jumps j (more_turns_in k s)))
   returned_on true j s = goes
   returned_on false j s = jumps
@@ -310,14 +343,24 @@ module _ (k : ℕ) where
   call_ends_on _ _ (jumps {j = j} {s = s}) = returned_on (is_return j.exit) j s
   call_ends_on _ _ ends = ends
 
-  -- an object is constructed
-  constructed_on : (functions : List FunctionCode) (callee : Callee) (v : Value) (vs : List Value) (f g : Statements → Env (Unit {0}) → P (Unit {0})) → Bodies f g → On (Unit {0}) (constructed functions callee v vs f) (constructed functions callee v vs g)
-  unfolding constructed
-  constructed_on functions not_callable v vs f g h = record { on = λ s. (throw_on (Unit {0}) _).on s }
-  constructed_on functions empty_callee v vs f g h = record { on = λ s. (throw_on (Unit {0}) _).on s }
-  constructed_on functions unbuilt_callee v vs f g h = record { on = λ s. ends }
-  constructed_on functions (of_script number code place) v vs f g h = record { on = λ s. (entered_on functions (of_script number code place) _ vs f g h).on (with_fresh (prototype_of s.heap v) s) }
+  -- what is called is entered
+  entered_on : (functions : List FunctionCode) (callee : Callee) (f this : Value) (args : List Value) {E D : Enters} → Alike E D → On Value (entered functions callee f this args E) (entered functions callee f this args D)
+  unfolding entered with_call
+  entered_on functions not_callable f this args h = record { on = λ s. (throw_on Value _).on s }
+  entered_on functions empty_callee f this args h = record { on = λ s. goes }
+  entered_on functions (of_built_in which) f this args h = record { on = λ s. (h.built_in tt which false _ _ (same_rels _)).on s }
+  entered_on functions (of_script number code place) f this args h = record { on = λ s. call_ends_on _ _ ((h.body tt _ _ _ refl).on (with_call functions number code place this args s)) }
 
+  call_target_on : (functions : List FunctionCode) (target : Target Value) (this : Value) (args : List Value) {E D : Enters} → Alike E D → On Value (call_target functions target this args E) (call_target functions target this args D)
+  unfolding call_target
+  call_target_on functions target this args h = record { on = λ s. (entered_on functions (callee_at functions s.heap target.function) _ _ _ h).on s }
+
+  call_on : (functions : List FunctionCode) (f this : Value) (args : List Value) {E D : Enters} → Alike E D → On Value (call functions f this args E) (call functions f this args D)
+  unfolding call
+  call_on functions (value.Primitive p) this args h = record { on = λ s. (throw_on Value _).on s }
+  call_on functions (value.Object o) this args h = record { on = λ s. (call_target_on functions (target_of s.heap o.0) this args h).on s }
+
+  -- an object is constructed
   construction_ends_on : (fresh : ℕ) (o p : Outcome Halt Jump Value State) → Longer out_of_turns (more_turns_in k) o p → Longer out_of_turns (more_turns_in k) (ended_construction fresh o) (ended_construction fresh p)
   unfolding ended_construction
   construction_ends_on fresh _ _ wants = wants
@@ -325,21 +368,67 @@ module _ (k : ℕ) where
   construction_ends_on fresh _ _ jumps = jumps
   construction_ends_on fresh _ _ ends = ends
 
-  -- `instanceof`
+  constructed_on : (set : BuiltIns) (functions : List FunctionCode) (callee : Callee) (f : ℕ) (args : List Value) {E D : Enters} → Alike E D → On Value (constructed set functions callee f args E) (constructed set functions callee f args D)
+  unfolding constructed
+  constructed_on set functions not_callable f args h = record { on = λ s. (throw_on Value _).on s }
+  constructed_on set functions empty_callee f args h = record { on = λ s. (throw_on Value _).on s }
+  constructed_on set functions (of_built_in which) f args h = record { on = λ s. (choose_longer (constructs_in set which) (h.built_in tt which true _ _ (same_rels _)) (throw_on Value _)).on s }
+  constructed_on set functions (of_script number code place) f args h =
+      record { on = λ s. construction_ends_on (length s.heap) _ _ ((entered_on functions (of_script number code place) _ _ args h).on (with_fresh (prototype_of s.heap f) s)) }
+
+  construct_target_on : (set : BuiltIns) (functions : List FunctionCode) (target : Target Value) (args : List Value) {E D : Enters} → Alike E D → On Value (construct_target set functions target args E) (construct_target set functions target args D)
+  unfolding construct_target
+  construct_target_on set functions target args h = record { on = λ s. (constructed_on set functions (callee_at functions s.heap target.function) target.function _ h).on s }
+
+  construct_on : (set : BuiltIns) (functions : List FunctionCode) (f : Value) (args : List Value) {E D : Enters} → Alike E D → On Value (construct set functions f args E) (construct set functions f args D)
+  unfolding construct
+  construct_on set functions (value.Primitive p) args h = record { on = λ s. (throw_on Value _).on s }
+  construct_on set functions (value.Object o) args h = record { on = λ s. (construct_target_on set functions (target_of s.heap o.0) args h).on s }
+
+  -- ---- getters, setters, and the conversion of objects
+
+  access_on : (functions : List FunctionCode) (a : Access) {E D : Enters} → Alike E D → On Value (entered_access functions E a) (entered_access functions D a)
+  unfolding entered_access
+  access_on functions (has_value v) h = record { on = λ s. goes }
+  access_on functions (has_getter f this) h = record { on = λ s. (call_on functions (value.Object f) this [] h).on s }
+
+  putting_on : (functions : List FunctionCode) (v : Value) (p : Putting) {E D : Enters} → Alike E D → On (Unit {0}) (entered_putting functions E v p) (entered_putting functions D v p)
+  unfolding entered_putting
+  putting_on functions v is_put h = record { on = λ s. goes }
+  putting_on functions v (has_setter f this) h = record { on = λ s. (bind_longer _ _ (call_on functions (value.Object f) this (v ∷ []) h) (λ u. record { on = λ t. goes })).on s }
+
+  converted_on : (kind : Hint) (v : Value) {E D : Enters} → Alike E D → On Value (converted E kind v) (converted D kind v)
+  unfolding converted
+  converted_on kind (value.Primitive p) h = record { on = λ s. goes }
+  converted_on kind (value.Object o) h = record { on = λ s. (h.conversion tt kind _ _ refl).on s }
+
+  converted_if_on : (converts : Bool) (v : Value) {E D : Enters} → Alike E D → On Value (converted_if converts E v) (converted_if converts D v)
+  unfolding converted_if
+  converted_if_on true v h = record { on = λ s. (converted_on hint.Default v h).on s }
+  converted_if_on false v h = record { on = λ s. goes }
+
+  -- ---- `instanceof`
+
   is_instance_on : (o : ℕ) (proto : Value) → On Value (is_instance o proto) (is_instance o proto)
   unfolding is_instance
   is_instance_on o (value.Primitive p) = record { on = λ s. (throw_on Value _).on s }
   is_instance_on o (value.Object proto) = record { on = λ s. goes }
 
-  instance_of_on : (v f : Value) → On Value (instance_of v f) (instance_of v f)
+  instance_of_on : (functions : List FunctionCode) (v : Value) (f : ℕ) {E D : Enters} → Alike E D → On Value (instance_of functions v f E) (instance_of functions v f D)
   unfolding instance_of
-  instance_of_on (value.Primitive p) f = record { on = λ s. goes }
-  instance_of_on (value.Object o) f = record { on = λ s. (bind_longer _ _ (property_on f prototype_name) (λ proto. is_instance_on o.0 proto)).on s }
+  instance_of_on functions (value.Primitive p) f h = record { on = λ s. goes }
+  instance_of_on functions (value.Object o) f h =
+      record { on = λ s. (bind_longer _ _ (bind_longer _ _ (property_on _ prototype_name) (λ a. access_on functions a h)) (λ proto. is_instance_on o.0 proto)).on s }
 
-  instance_on : (b : Bool) (v f : Value) → On Value (instance_if b v f) (instance_if b v f)
+  instance_if_on : (functions : List FunctionCode) (is_function : Bool) (v : Value) (f : ℕ) {E D : Enters} → Alike E D → On Value (instance_if functions is_function v f E) (instance_if functions is_function v f D)
   unfolding instance_if
-  instance_on true v f = record { on = λ s. (instance_of_on v f).on s }
-  instance_on false v f = record { on = λ s. (throw_on Value _).on s }
+  instance_if_on functions true v f h = record { on = λ s. (instance_of_on functions v (target_of s.heap f).function h).on s }
+  instance_if_on functions false v f h = record { on = λ s. (throw_on Value _).on s }
+
+  instance_on : (functions : List FunctionCode) (v f : Value) {E D : Enters} → Alike E D → On Value (instance functions v f E) (instance functions v f D)
+  unfolding instance
+  instance_on functions v (value.Primitive p) h = record { on = λ s. (throw_on Value _).on s }
+  instance_on functions v (value.Object f) h = record { on = λ s. (instance_if_on functions (is_function_in (slice_get s.heap f.0)) v f.0 h).on s }
 
   -- ---- jumps
 
@@ -375,11 +464,7 @@ module _ (k : ℕ) where
   unfolding attempt
   attempt_on handles finishes f g l h q = record { on = λ s. finished_on _ _ (choose_longer finishes q (record { on = λ t. goes })) _ _ (handled_on handles f g h _ _ (l.on s)) }
 
-  module _ (tables : Tables) (inputs : Given) (functions : List FunctionCode) where
-    -- the unlabelled meaning
-    abbrev A : Ops
-    A = plain tables inputs functions
-
+  module _ (tables : Tables) (inputs : Given) where
     -- a directive
     raised_on : (os : Option (List ℕ)) → On (Unit {0}) (raised_by tables inputs os) (raised_by tables inputs os)
     unfolding raised_by
@@ -392,111 +477,118 @@ module _ (k : ℕ) where
     read_on None = record { on = λ s. ends }
     read_on (Some i) = record { on = λ s. goes }
 
-    -- a line is printed
-    print_value_on : (i : ℕ) (v : Value) → On Value (print_value tables inputs i v) (print_value tables inputs i v)
-    unfolding print_value
-    print_value_on i (value.Object o) = record { on = λ s. ends }
-    print_value_on i (value.Primitive v) = record { on = λ s. goes }
+    -- a text is printed
+    print_text_on : (i : ℕ) (v : Value) → On Value (print_text tables inputs i v) (print_text tables inputs i v)
+    unfolding print_text
+    print_text_on i (value.Object o) = record { on = λ s. ends }
+    print_text_on i (value.Primitive Undefined) = record { on = λ s. ends }
+    print_text_on i (value.Primitive Null) = record { on = λ s. ends }
+    print_text_on i (value.Primitive (prims.Bool b)) = record { on = λ s. ends }
+    print_text_on i (value.Primitive (Num n)) = record { on = λ s. ends }
+    print_text_on i (value.Primitive (Str text)) = record { on = λ s. goes }
 
     -- on a channel that there may be
     print_on : (i : Option ℕ) (v : Value) → On Value (print_channel tables inputs i v) (print_channel tables inputs i v)
     unfolding print_channel
     print_on None v = record { on = λ s. ends }
-    print_on (Some i) v = record { on = λ s. (print_value_on i v).on s }
+    print_on (Some i) v = record { on = λ s. (print_text_on i v).on s }
 
-    -- origins are joined
-    label_on : (os : Option (List ℕ)) (v : Value) → On Value (label_by tables inputs os v) (label_by tables inputs os v)
-    unfolding label_by
-    label_on None v = record { on = λ s. ends }
-    label_on (Some os) v = record { on = λ s. goes }
+    -- with origins
+    origins_on : (origins : List ℕ) {m n : P Value} → On Value m n → On Value (with_origins tables inputs origins m) (with_origins tables inputs origins n)
+    unfolding with_origins
+    origins_on origins l = record { on = λ s. (if_origins_on (are_origins (length tables.origins) origins) l).on s }
 
-    -- labels are raised
-    raise_by_on : (os : Option (List ℕ)) → On Value (raise_by tables inputs os) (raise_by tables inputs os)
-    unfolding raise_by
-    raise_by_on None = record { on = λ s. ends }
-    raise_by_on (Some os) = record { on = λ s. goes }
+    act_on : (f : Act) (vs : List Value) → On Value (act tables inputs f vs) (act tables inputs f vs)
+    unfolding act
+    act_on (object_of parts) vs = make_on parts vs
+    act_on base_needed vs = needed_on _ _
+    act_on object_needed vs = needed_on _ _
+    act_on has_key vs = has_on _ _
+    act_on (throws_error kind) vs = throw_on Value kind
+    act_on (own_property part key) vs = object_on _ _ _ (λ o. record { on = λ s. goes })
+    act_on (define key marks shape) vs = object_on _ _ _ (λ o. define_on_on o key marks shape _ _ _)
+    act_on (own_keys all) vs = object_on _ _ _ (λ o. record { on = λ s. ends })
+    act_on prototype_of_object vs = object_on _ _ _ (λ o. record { on = λ s. goes })
+    act_on is_extensible vs = object_on _ _ _ (λ o. record { on = λ s. goes })
+    act_on prevent_extensions vs = object_on _ _ _ (λ o. record { on = λ s. goes })
+    act_on (new_object c false) vs = make_new_on c _
+    act_on (new_object c true) vs = make_new_on c _
+    act_on bind vs = record { on = λ s. (bind_to_on (is_function_at s.heap _) _ _ _).on s }
+    act_on read_line vs = read_on _
+    act_on print_line vs = print_on _ _
+    act_on (join_label origins) vs = origins_on origins (record { on = λ s. goes })
+    act_on (raise_structure origins) vs = origins_on origins (object_on _ _ _ (λ o. record { on = λ s. goes }))
+    act_on (raise_existence key origins) vs = origins_on origins (object_on _ _ _ (λ o. record { on = λ s. goes }))
 
-    raise_of_on : (there : Bool) (vs : List Value) → On Value (raise_of tables inputs there vs) (raise_of tables inputs there vs)
-    unfolding raise_of
-    raise_of_on true vs = record { on = λ s. (raise_by_on _).on s }
-    raise_of_on false vs = record { on = λ s. (throw_on Value _).on s }
+    module _ (set : BuiltIns) (functions : List FunctionCode) where
+      -- the unlabelled meaning
+      abbrev A : Ops
+      A = plain tables inputs set functions
 
-    raise_at_on : (there : Bool) (key : Value) (vs : List Value) → On Value (raise_at tables inputs there key vs) (raise_at tables inputs there key vs)
-    unfolding raise_at
-    raise_at_on true key vs = record { on = λ s. (bind_longer _ _ (unless_on _ key) (λ k. raise_by_on _)).on s }
-    raise_at_on false key vs = record { on = λ s. (throw_on Value _).on s }
+      -- the unlabelled meaning, linked with itself
+      pub lasting : Link (plain tables inputs set functions) (plain tables inputs set functions)
+      lasting = record {
+        W = Unit {0};
+        Le = λ v w. Unit {0};
+        RV = λ w v u. v ≡ u;
+        RN = λ w n m. n ≡ m;
+        RP = λ w i j. i ≡ j;
+        RE = λ w e d. e ≡ d;
+        Lift = λ t w m n. On (Res Value t) m n;
+        Inside = λ v w. Unit {0};
+        inside_v = λ p r. r;
+        le_refl = λ w. tt;
+        le_trans = λ p q. tt;
+        more_v = λ p r. r;
+        more_n = λ p r. r;
+        more_p = λ p r. r;
+        more_e = λ p r. r;
+        place_of = λ {e = e} r. subst (λ (x : Env (Unit {0})). e.place ≡ x.place) r refl;
+        ret_one = λ w. record { on = λ s. goes };
+        ret_value = λ r. at_equal ret ret r (record { on = λ s. goes });
+        bind = λ t u {w = w} f g l h. bind_longer f g l (λ a. h w tt a a (equal_results Value t w a));
+        literal = λ w v. refl;
+        unary = λ o {v = v} r. at_equal (A.unary o) (A.unary o) r (record { on = λ s. (given_on (unary_of o (seen s.heap v))).on s });
+        binary = λ o {v = v} {u = u} {u' = u'} r q. at_equal (λ x. A.binary o x u) (λ x. A.binary o x u') r
+            (at_equal (A.binary o v) (A.binary o v) q (given_on (binary_of o v u)));
+        primitive = λ kind {v = v} {E = E} {D = D} r h. at_equal (λ x. A.primitive kind x E) (λ x. A.primitive kind x D) r (converted_on kind v h);
+        comparable = λ {v = v} {u = u} {u' = u'} {E = E} {D = D} r q h. at_equal (λ x. A.comparable x u E) (λ x. A.comparable x u' D) r
+            (at_equal (λ x. A.comparable v x E) (λ x. A.comparable v x D) q (converted_if_on (converts_beside v u) v h));
+        look = λ {w = w} {v = v} f g r h. at_equal (λ x. A.look x f) (λ x. A.look x g) r (record { on = λ s. (h w tt (seen s.heap v)).on s });
+        throw = λ {v = v} r. at_equal A.throw A.throw r (record { on = λ s. jumps });
+        leave = λ t w name. record { on = λ s. ends };
+        act = λ a {vs = vs} r. at_equal (A.act a) (A.act a) (rels_equal r) (act_on a vs);
+        resolve = λ t {w = w} {i = i} x f g p h. at_equal (λ j. A.resolve t j x f) (λ j. A.resolve t j x g) p (record { on = λ s. (h w tt (resolved s.records s.heap i x) (resolved s.records s.heap i x) refl).on s });
+        property = λ r q. ap₂ (λ v u. A.property v u) r q;
+        get_value = λ {n = n} {E = E} {D = D} r h. at_equal (λ x. A.get_value x E) (λ x. A.get_value x D) r (bind_longer _ _ (accessed_on n) (λ a. access_on functions a h));
+        typeof_value = λ {n = n} {E = E} {D = D} r h. at_equal (λ x. A.typeof_value x E) (λ x. A.typeof_value x D) r (bind_longer _ _ (typeof_on n) (λ a. access_on functions a h));
+        put_value = λ {n = n} {v = v} {v' = v'} {E = E} {D = D} r q h. at_equal (λ x. A.put_value x v E) (λ x. A.put_value x v' D) r
+            (at_equal (λ x. A.put_value n x E) (λ x. A.put_value n x D) q (bind_longer _ _ (put_value_on n v) (λ p. putting_on functions v p h)));
+        remove = λ {n = n} r. at_equal A.remove A.remove r (remove_on n);
+        fork = λ t {w = w} {v = v} {m = m} {n = n} {m' = m'} {n' = n'} r l q. at_equal (λ x. A.fork t x m n) (λ x. A.fork t x m' n') r (choose_longer (truth v) (l w tt) (q w tt));
+        round = λ {w = w} turn labels {e = e} f g r h. at_equal (λ d. A.round turn labels d f) (λ d. A.round turn labels d g) r
+            (record { on = λ s. round_on (length e.around) _ _ ((h w tt (with_around turn labels tt e) (with_around turn labels tt e) refl).on s) });
+        again = λ {v = v} {m = m} {n = n} {m' = m'} {n' = n'} r l q. at_equal (λ x. A.again x m n) (λ x. A.again x m' n') r (choose_longer (truth v) l q);
+        function = λ f {i = i} p. at_equal (A.function f) (A.function f) p (function_on functions f i);
+        jump = λ leaving {e = e} {v = v} {v' = v'} r q. at_equal (λ d. A.jump leaving d v) (λ d. A.jump leaving d v') r (at_equal (A.jump leaving e) (A.jump leaving e) q (jumps_on (aimed tt leaving e) v));
+        raise = λ leaving {e = e} names r. at_equal (λ d. A.raise leaving d names) (λ d. A.raise leaving d names) r (raised_on (named_origins tables inputs names));
+        this_of = λ r. ap A.this_of r;
+        instance = λ {v = v} {f = f} {f' = f'} {E = E} {D = D} r q h. at_equal (λ x. A.instance x f E) (λ x. A.instance x f' D) r (at_equal (λ x. A.instance v x E) (λ x. A.instance v x D) q (instance_on functions v f h));
+        declare = λ {w = w} name {v = v} {v' = v'} {e = e} {d = d} f g r q h. at_equal (λ x. A.declare name x e f) (λ x. A.declare name x d g) r (at_equal (λ d. A.declare name v d f) (λ d. A.declare name v d g) q
+            (record { on = λ s. (h w tt (with_place (length s.records) e) (with_place (length s.records) e) refl).on _ }));
+        call = λ {f = f} {this = b} {f' = f'} {this' = b'} {vs = vs} {us = us} {E = E} {D = D} r q rs h. at_equal (λ x. A.call x b vs E) (λ x. A.call x b' us D) r (at_equal (λ x. A.call f x vs E) (λ x. A.call f x us D) q
+            (at_equal (λ xs. A.call f b xs E) (λ xs. A.call f b xs D) (rels_equal rs) (call_on functions f b vs h)));
+        construct = λ {f = f} {f' = f'} {vs = vs} {us = us} {E = E} {D = D} r rs h. at_equal (λ x. A.construct x vs E) (λ x. A.construct x us D) r
+            (at_equal (λ xs. A.construct f xs E) (λ xs. A.construct f xs D) (rels_equal rs) (construct_on set functions f vs h));
+        attempt = λ {w = w} handles finishes f g l h q. attempt_on handles finishes f g (l w tt) (λ v. h w tt v v refl) (q w tt);
+        keys = λ {w = w} {v = v} f g r h. at_equal (λ x. A.keys x f) (λ x. A.keys x g) r (record { on = λ s. (list_on (key_list s.heap v) f g (λ keys. h w tt keys)).on s });
+      }
 
-    -- a function of the product
-    direct_on : (f : Direct) (vs : List Value) → On Value (direct tables inputs f vs) (direct tables inputs f vs)
-    unfolding direct
-    direct_on read vs = read_on _
-    direct_on print vs = print_on _ _
-    direct_on lbl vs = label_on _ _
-    direct_on upgs vs = raise_of_on _ _
-    direct_on upge vs = raise_at_on _ _ _
-
-    -- the unlabelled meaning, linked with itself
-    pub lasting : Link (plain tables inputs functions) (plain tables inputs functions)
-    lasting = record {
-      W = Unit {0};
-      Le = λ v w. Unit {0};
-      RV = λ w v u. v ≡ u;
-      RN = λ w n m. n ≡ m;
-      RP = λ w i j. i ≡ j;
-      RE = λ w e d. e ≡ d;
-      Lift = λ t w m n. On (Res Value t) m n;
-      Inside = λ v w. Unit {0};
-      inside_v = λ p r. r;
-      le_refl = λ w. tt;
-      le_trans = λ p q. tt;
-      more_v = λ p r. r;
-      more_n = λ p r. r;
-      more_p = λ p r. r;
-      more_e = λ p r. r;
-      place_of = λ {e = e} r. subst (λ (x : Env (Unit {0})). e.place ≡ x.place) r refl;
-      ret_one = λ w. record { on = λ s. goes };
-      ret_value = λ r. at_equal ret ret r (record { on = λ s. goes });
-      bind = λ t u {w = w} f g l h. bind_longer f g l (λ a. h w tt a a (equal_results Value t w a));
-      literal = λ w v. refl;
-      unary = λ o {v = v} r. at_equal (A.unary o) (A.unary o) r (record { on = λ s. (given_on (unary_of o (seen s.heap v))).on s });
-      binary = λ o {v = v} {u = u} {u' = u'} r q. at_equal (λ x. A.binary o x u) (λ x. A.binary o x u') r
-          (at_equal (A.binary o v) (A.binary o v) q (given_on (binary_of o v u)));
-      primitive = λ hint {v = v} r. at_equal (A.primitive hint) (A.primitive hint) r (unless_on (is_object v) v);
-      comparable = λ {v = v} {u = u} {u' = u'} r q. at_equal (λ x. A.comparable x u) (λ x. A.comparable x u') r
-          (at_equal (A.comparable v) (A.comparable v) q (unless_on (converts_beside v u) v));
-      direct = λ f {vs = vs} r. at_equal (A.direct f) (A.direct f) (rels_equal r) (direct_on f vs);
-      unbuilt = λ t w. record { on = λ s. ends };
-      act = λ a {vs = vs} r. at_equal (A.act a) (A.act a) (rels_equal r) (act_on a vs);
-      resolve = λ t {w = w} {i = i} x f g p h. at_equal (λ j. A.resolve t j x f) (λ j. A.resolve t j x g) p (record { on = λ s. (h w tt (resolved s.records s.heap i x) (resolved s.records s.heap i x) refl).on s });
-      property = λ r q. ap₂ (λ v u. A.property v u) r q;
-      get_value = λ {n = n} f g r h. at_equal (λ m. A.get_value m f) (λ m. A.get_value m g) r (value_on n);
-      typeof_value = λ {n = n} f g r h. at_equal (λ m. A.typeof_value m f) (λ m. A.typeof_value m g) r (typeof_on n);
-      put_value = λ {n = n} {v = v} {v' = v'} f g r q h. at_equal (λ m. A.put_value m v f) (λ m. A.put_value m v' g) r (at_equal (λ x. A.put_value n x f) (λ x. A.put_value n x g) q (put_value_on n v));
-      remove = λ {n = n} r. at_equal A.remove A.remove r (remove_on n);
-      fork = λ t {w = w} {v = v} {m = m} {n = n} {m' = m'} {n' = n'} r l q. at_equal (λ x. A.fork t x m n) (λ x. A.fork t x m' n') r (choose_longer (truth v) (l w tt) (q w tt));
-      round = λ {w = w} turn labels {e = e} f g r h. at_equal (λ d. A.round turn labels d f) (λ d. A.round turn labels d g) r
-          (record { on = λ s. round_on (length e.around) _ _ ((h w tt (with_around turn labels tt e) (with_around turn labels tt e) refl).on s) });
-      again = λ {v = v} {m = m} {n = n} {m' = m'} {n' = n'} r l q. at_equal (λ x. A.again x m n) (λ x. A.again x m' n') r (choose_longer (truth v) l q);
-      function = λ f {i = i} p. at_equal (A.function f) (A.function f) p (function_on functions f i);
-      jump = λ leaving {e = e} {v = v} {v' = v'} r q. at_equal (λ d. A.jump leaving d v) (λ d. A.jump leaving d v') r (at_equal (A.jump leaving e) (A.jump leaving e) q (jumps_on (aimed tt leaving e) v));
-      raise = λ leaving {e = e} names r. at_equal (λ d. A.raise leaving d names) (λ d. A.raise leaving d names) r (raised_on (named_origins tables inputs names));
-      this_of = λ r. ap A.this_of r;
-      instance = λ {v = v} {f = f} {f' = f'} m n r q h. at_equal (λ x. A.instance x f m) (λ x. A.instance x f' n) r (at_equal (λ x. A.instance v x m) (λ x. A.instance v x n) q (record { on = λ s. (instance_on (is_function_at s.heap f) v f).on s }));
-      declare = λ {w = w} name {v = v} {v' = v'} {e = e} {d = d} f g r q h. at_equal (λ x. A.declare name x e f) (λ x. A.declare name x d g) r (at_equal (λ d. A.declare name v d f) (λ d. A.declare name v d g) q
-          (record { on = λ s. (h w tt (with_place (length s.records) e) (with_place (length s.records) e) refl).on _ }));
-      call = λ {f = f} {this = b} {f' = f'} {this' = b'} {vs = vs} {us = us} m n r q rs h. at_equal (λ x. A.call x b vs m) (λ x. A.call x b' us n) r (at_equal (λ x. A.call f x vs m) (λ x. A.call f x us n) q (at_equal (λ xs. A.call f b xs m) (λ xs. A.call f b xs n) (rels_equal rs)
-          (record { on = λ s. call_ends_on _ _ ((entered_on functions (callee_at functions s.heap f) b vs m n (λ ss e. h tt ss e e refl)).on s) })));
-      construct = λ {f = f} {vs = vs} {us = us} m n r rs h. at_equal (λ x. A.construct x vs m) (λ x. A.construct x us n) r (at_equal (λ xs. A.construct f xs m) (λ xs. A.construct f xs n) (rels_equal rs)
-          (record { on = λ s. construction_ends_on (length s.heap) _ _ (call_ends_on _ _ ((constructed_on functions (callee_at functions s.heap f) f vs m n (λ ss e. h tt ss e e refl)).on s)) }));
-      attempt = λ {w = w} handles finishes f g l h q. attempt_on handles finishes f g (l w tt) (λ v. h w tt v v refl) (q w tt);
-      keys = λ {w = w} {v = v} f g r h. at_equal (λ x. A.keys x f) (λ x. A.keys x g) r (record { on = λ s. (list_on (key_list s.heap v) f g (λ keys. h w tt keys)).on s });
-    }
-
-    -- a program, to a depth and a larger one
-    program_lasts : (may : Bool) (program : Statements) (n m : ℕ) → n ≤ m → (e : Env (Unit {0})) (s : State) → Longer out_of_turns (more_turns_in k) (program_step (timed tables inputs functions) n may program e s) (program_step (timed tables inputs functions) m may program e (more_turns_in k s))
-    unfolding lasting
-    program_lasts may program n m le e s =
-        (program_longer (timed tables inputs functions) (timed tables inputs functions) lasting (λ w. record { on = λ s. spend_on s.turns s }) (λ t w x. record { on = λ s. wants }) n m le may program {w = tt} {e = e} {d = e} refl).on s
+      -- a program, to a depth and a larger one
+      program_lasts : (may : Bool) (program : Statements) (n m : ℕ) → n ≤ m → (e : Env (Unit {0})) (s : State) → Longer out_of_turns (more_turns_in k) (program_step (timed tables inputs set functions) set n may program e s) (program_step (timed tables inputs set functions) set m may program e (more_turns_in k s))
+      unfolding lasting
+      program_lasts may program n m le e s =
+          (program_longer (timed tables inputs set functions) (timed tables inputs set functions) lasting (λ w. record { on = λ s. spend_on s.turns s }) set (λ t w x. record { on = λ s. wants }) n m le may program {w = tt} {e = e} {d = e} refl).on s
 
 -- what a run prints and how it ends
 run_lasts : (k : ℕ) (o p : Outcome Halt Jump (Unit {0}) State) → Longer out_of_turns (more_turns_in k) o p → ((run_of o).ending ≡ halted out_of_turns → ⊥) → run_of p ≡ run_of o
@@ -506,11 +598,11 @@ run_lasts k _ _ jumps out = refl
 run_lasts k _ _ ends out = refl
 
 -- with k more turns
-lasts : (tables : Tables) (inputs : Given) (program : Statements) (few k : ℕ) → ((plain_run tables inputs program few).ending ≡ halted out_of_turns → ⊥)
-    → plain_run tables inputs program (beyond k few) ≡ plain_run tables inputs program few
+lasts : (set : BuiltIns) (tables : Tables) (inputs : Given) (program : Statements) (few k : ℕ) → ((plain_run set tables inputs program few).ending ≡ halted out_of_turns → ⊥)
+    → plain_run set tables inputs program (beyond k few) ≡ plain_run set tables inputs program few
 unfolding plain_run
-lasts tables inputs program few k out = run_lasts k _ _ (program_lasts k tables inputs (functions_of program) (may_declare program) program few (beyond k few) (few_beyond k few) (outermost_env tt) (start tables inputs program few)) out
+lasts set tables inputs program few k out = run_lasts k _ _ (program_lasts k tables inputs set (functions_of program) (may_declare set program) program few (beyond k few) (few_beyond k few) (outermost_env tt) (start tables inputs set program few)) out
 
 -- more turns change no run that ends otherwise
 pub more_turns : MoreTurns
-more_turns tables inputs program few many le out = subst (λ n. plain_run tables inputs program n ≡ plain_run tables inputs program few) (beyond_few few many le) (lasts tables inputs program few (many - few) out)
+more_turns set tables inputs program few many le out = subst (λ n. plain_run set tables inputs program n ≡ plain_run set tables inputs program few) (beyond_few few many le) (lasts set tables inputs program few (many - few) out)

@@ -17,7 +17,7 @@ use Rattle.js_ast.specs.Functions.{FunctionCode}
 use Rattle.es_meaning.specs.Declared.{declared_functions, declared_statements}
 use Rattle.es_meaning.specs.Naming.{arguments_name, names_in_statements}
 use Rattle.es_meaning.specs.Objects.{made_by_script, defined}
-use Rattle.es_meaning.specs.Start.{id, fixed, built_in, object_prototype, function_prototype}
+use Rattle.es_meaning.specs.Start.{id, built_in, count_property, fixed_accessor, function_rows, caller_accessor, callee_accessor, object_prototype, function_prototype}
 
 abbrev pub env_id : ℕ → EnvId
 env_id n = record { 0 = n }
@@ -42,7 +42,7 @@ property_with v marks = record { body = Data v; marks = marks }
 -- its number, the record that it closes over, and the number of its parameters
 abbrev pub function_object : ℕ → ℕ → ℕ → ℕ → PlainObject
 function_object o number place count = record (fresh_plain class.Function (script number (env_id place)) (Some function_prototype)) {
-  rows = (codes "length", property_with (value.Primitive (Num (pos count))) fixed) ∷ (codes "prototype", property_with (value.Object (id (suc o))) kept) ∷ [];
+  rows = (codes "length", count_property count) ∷ (codes "prototype", property_with (value.Object (id (suc o))) kept) ∷ function_rows;
 }
 
 abbrev pub constructed_prototype : ℕ → PlainObject
@@ -82,19 +82,20 @@ pub data Callee : Type 0 where
   empty_callee : Callee
   -- a function of the script: its number, itself, and the record that it closes over
   of_script : ℕ → Function → ℕ → Callee
-  -- built-in functions and bound ones aren't built yet
-  unbuilt_callee : Callee
+  -- a built-in, by its number
+  of_built_in : ℕ → Callee
 
 -- each function object of the script has a function of the program
 abbrev pub script_callee : Option FunctionCode → ℕ → ℕ → Callee
 script_callee None number place = not_callable
 script_callee (Some code) number place = of_script number code.function place
 
+-- a bound function is called by its target, and is none at the end of a chain of targets
 abbrev pub callable_inner : List FunctionCode → PlainInner → Callee
 callable_inner functions plain = empty_callee
 callable_inner functions (script number place) = script_callee (slice_get functions number) number place.0
-callable_inner functions (native which) = unbuilt_callee
-callable_inner functions (bound target this args) = unbuilt_callee
+callable_inner functions (native which) = of_built_in which
+callable_inner functions (bound target this args) = not_callable
 
 abbrev pub is_function : Class → Bool
 is_function class.Function = true
@@ -116,6 +117,26 @@ callee_if false functions inner = not_callable
 unfoldable pub callee_of : List FunctionCode → Class → PlainInner → Callee
 callee_of functions c inner = callee_if (is_function c) functions inner
 
+-- ---- bound functions (ECMA-262 15.3.4.5.1): what is called in the end, with the `this` that stands for that of the call, if there is one, and the
+-- arguments in front of those of the call
+
+pub record Target (V : Type 0) : Type 0 where
+  pub function : ℕ
+  pub this : Option V
+  pub args : List V
+
+-- the target itself, which no chain leads on from
+abbrev pub own_target : {V : Type 0} → ℕ → Target V
+own_target o = record { function = o; this = None; args = [] }
+
+-- the target's own target, behind a `this` and arguments
+abbrev pub this_or : {V : Type 0} → Option V → V → V
+this_or None this = this
+this_or (Some kept_this) this = kept_this
+
+abbrev pub bound_behind : {V : Type 0} → V → List V → Target V → Target V
+bound_behind this args rest = record { function = rest.function; this = Some (this_or rest.this this); args = rest.args ++ args }
+
 -- ---- the `arguments` object (ECMA-262 10.6): its `length`, and then the arguments from the last one down
 
 abbrev pub elements_down : {S : Type 0} → Rows S → ℕ → List S → Rows S
@@ -125,10 +146,14 @@ elements_down rows n (s ∷ ss) = defined (text_of (Num (pos n))) s (elements_do
 abbrev pub arguments_rows : {S : Type 0} → S → List S → Rows S
 arguments_rows count elements = elements_down ((codes "length", count) ∷ []) 0 elements
 
+-- and behind them the accessors of `caller` and `callee`
+abbrev pub accessor_rows : Rows Property
+accessor_rows = (codes "caller", fixed_accessor caller_accessor) ∷ (codes "callee", fixed_accessor callee_accessor) ∷ []
+
 -- of a call of the function with this number, in its record
 abbrev pub arguments_object : ℕ → ℕ → List Value → PlainObject
 arguments_object number place args = record (fresh_plain class.Arguments (script number (env_id place)) (Some object_prototype)) {
-  rows = arguments_rows (property_with (value.Primitive (Num (pos (length args)))) built_in) (map (λ v. property_with v made_by_script) args);
+  rows = arguments_rows (property_with (value.Primitive (Num (pos (length args)))) built_in) (map (λ v. property_with v made_by_script) args) ++ accessor_rows;
 }
 
 -- ---- the record of a call

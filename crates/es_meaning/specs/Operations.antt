@@ -4,6 +4,12 @@ use Rattle.std.specs.Prelude.{ℕ, Bool, List, Option}
 use Rattle.js_number.specs.declared.primitive.Primitive.{Primitive}
 use Rattle.js_ast.specs.declared.operators.UnaryOperator.{UnaryOperator}
 use Rattle.js_ast.specs.declared.operators.BinaryOperator.{BinaryOperator}
+use Rattle.js_values.specs.declared.inner.Class.{Class}
+use Rattle.native_protocol.specs.declared.hint.Hint.{Hint}
+use Rattle.native_protocol.specs.declared.request.Seen.{Seen}
+use Rattle.native_protocol.specs.declared.request.ErrorKind.{ErrorKind}
+use Rattle.native_protocol.specs.declared.request.GivenMarks.{GivenMarks}
+use Rattle.native_protocol.specs.Steps.{Steps}
 use Rattle.js_ast.specs.Trees.{Expr, Exprs, Function, Statement, Statements, MaybeExpr, Target}
 use Rattle.es_meaning.specs.Environments.{Env, Leaving}
 
@@ -15,33 +21,56 @@ abbrev pub Res : Type 0 → Ty → Type 0
 Res V One = Unit {0}
 Res V Value = V
 
--- the functions that this product adds to the language
-pub data Direct : Type 0 where
-  -- the next line of an input channel
-  read : Direct
-  -- prints a line on an output channel
-  print : Direct
-  -- joins origins to a value's label
-  lbl : Direct
-  -- join origins to the structure label of an object, and to the existence label of one of its properties
-  upgs upge : Direct
+-- what a part of an object literal gives the object under its key: a value, a getter or a setter (ECMA-262 11.1.5)
+pub data Part : Type 0 where
+  as_value as_getter as_setter : Part
+
+-- which of the four things that are known of an own property is asked for: its marks as a number, its value, its getter or its setter
+pub data OwnPart : Type 0 where
+  own_marks own_value own_getter own_setter : OwnPart
+
+-- which values a definition is given besides the attributes
+pub record Shape : Type 0 where
+  pub has_value : Bool
+  pub has_getter : Bool
+  pub has_setter : Bool
 
 -- acts on values that enter no function
 pub data Act : Type 0 where
   -- an object with properties of these keys is made of their values (ECMA-262 11.1.5)
-  object_of : List (List ℕ) → Act
+  object_of : List (Part × List ℕ) → Act
   -- the value, if it can have properties (ECMA-262 9.10), or an exception
   base_needed : Act
   -- the value, if it is an object, or an exception (ECMA-262 11.8.7)
   object_needed : Act
   -- whether the second, an object, or a prototype of it has the first as a key (ECMA-262 8.12.6)
   has_key : Act
-  -- an exception, since the outermost code may not declare a function as it does (ECMA-262 10.5)
-  refused_declaration : Act
+  -- an exception of a kind (ECMA-262 15.11)
+  throws_error : ErrorKind → Act
+  -- ---- what built-ins ask for besides
+  -- a part of the own property of a key (ECMA-262 8.12.1), and a definition of it (8.12.9)
+  own_property : OwnPart → List ℕ → Act
+  define : List ℕ → GivenMarks → Shape → Act
+  -- the own keys of an object as an array: all, or the enumerable ones
+  own_keys : Bool → Act
+  -- the prototype of an object, whether it may get further properties, and that it may not any more
+  prototype_of_object is_extensible prevent_extensions : Act
+  -- a new object of a class: with the prototype that chapter 15 gives the class, or with one that a value gives
+  new_object : Class → Bool → Act
+  -- a bound function (ECMA-262 15.3.4.5): its target, its `this` and its first arguments
+  bind : Act
+  -- the next line of the input channel that a value names, and a value printed on the output channel that another names
+  read_line print_line : Act
+  -- origins are joined to a value's label, to the structure label of an object, and to the existence label of one of its properties
+  join_label raise_structure : List ℕ → Act
+  raise_existence : List ℕ → List ℕ → Act
 
--- which primitive value of an object is asked for (ECMA-262 9.1)
-pub data Hint : Type 0 where
-  no_hint number_hint string_hint : Hint
+-- how what is called is entered: the body of a function of the script in its environment; a built-in by its number, by whether it constructs, and by what
+-- stands in its registers; and the conversion of an object to a primitive value
+pub record Entering (V H : Type 0) (M : Ty → Type 0) : Type 0 where
+  pub body : Statements → Env H → M One
+  pub built_in : ℕ → Bool → List V → M Value
+  pub conversion : Hint → V → M Value
 
 pub record Ops : Type 1 where
   -- values, references, what is known of a frame that a jump can reach, and computations
@@ -58,35 +87,33 @@ pub record Ops : Type 1 where
   -- operators on values that are converted
   pub unary : UnaryOperator → V → M Value
   pub binary : BinaryOperator → V → V → M Value
-  -- a value converted to a primitive one (ECMA-262 9.1), and an operand of `==` converted to what it is compared as beside the other one (11.9.3)
-  pub primitive : Hint → V → M Value
-  pub comparable : V → V → M Value
   pub act : Act → List V → M Value
-  -- a function of the product, by its arguments
-  pub direct : Direct → List V → M Value
+  -- what is seen of a value decides what is done
+  pub look : V → (Seen → M Value) → M Value
   -- a function of the script is made, in a record of variables (ECMA-262 13.2)
   pub function : Function → ℕ → M Value
   -- a jump takes a value along, and an upgrade directive joins the origins of these names to what such a jump depends on
   pub jump : Leaving → Env H → V → M One
   pub raise : Leaving → Env H → List (List ℕ) → M One
-  -- a part of the language that can't be run yet
-  pub unbuilt : (t : Ty) → M t
+  -- the engine throws a value, or leaves the language by a name
+  pub throw : V → M Value
+  pub leave : (t : Ty) → List ℕ → M t
   -- ---- references (ECMA-262 8.7)
   -- the reference that a name is at this moment, from a record on outwards (ECMA-262 10.3.1), is handed on
   pub resolve : (t : Ty) → ℕ → List ℕ → (N → M t) → M t
   -- a property of a value, whose key is a primitive value
   pub property : V → V → N
-  -- its value (ECMA-262 8.7.1), and its value for `typeof`, which is undefined where a name has no binding. A getter is entered as is said
-  pub get_value : N → (V → M Value) → M Value
-  pub typeof_value : N → (V → M Value) → M Value
-  -- it is given a value (ECMA-262 8.7.2). A setter is entered as is said
-  pub put_value : N → V → (V → M Value) → M One
+  -- its value (ECMA-262 8.7.1), and its value for `typeof`, which is undefined where a name has no binding. What a getter is decides how it is entered
+  pub get_value : N → Entering V H M → M Value
+  pub typeof_value : N → Entering V H M → M Value
+  -- it is given a value (ECMA-262 8.7.2), by a setter where there is one
+  pub put_value : N → V → Entering V H M → M One
   -- it is deleted (ECMA-262 11.4.1)
   pub remove : N → M Value
   -- what a call of it has as `this` (ECMA-262 11.2.3): the base of a property, and undefined for a name
   pub this_of : N → V
-  -- whether a value is an instance of a function (ECMA-262 11.8.6). A getter of its `prototype` is entered as is said
-  pub instance : V → V → (V → M Value) → M Value
+  -- whether a value is an instance of a function (ECMA-262 11.8.6), whose `prototype` may have a getter
+  pub instance : V → V → Entering V H M → M Value
   -- ---- scopes: those that a jump can reach hand the environment in which it can
   -- one of two computations, as a value chooses
   pub fork : (t : Ty) → V → M t → M t → M t
@@ -98,9 +125,12 @@ pub record Ops : Type 1 where
   pub keys : V → (List (List ℕ) → M One) → M One
   -- a name has a value in a record of its own (ECMA-262 12.14)
   pub declare : List ℕ → V → Env H → (Env H → M One) → M One
-  -- a value is called with a `this` and arguments (ECMA-262 13.2.1), or makes an object with arguments (13.2.2). The body is evaluated as is said
-  pub call : V → V → List V → (Statements → Env H → M One) → M Value
-  pub construct : V → List V → (Statements → Env H → M One) → M Value
+  -- a value is called with a `this` and arguments (ECMA-262 13.2.1), or makes an object with arguments (13.2.2)
+  pub call : V → V → List V → Entering V H M → M Value
+  pub construct : V → List V → Entering V H M → M Value
+  -- a value converted to a primitive one (ECMA-262 9.1), and an operand of `==` converted to what it is compared as beside the other one (11.9.3)
+  pub primitive : Hint → V → Entering V H M → M Value
+  pub comparable : V → V → Entering V H M → M Value
   -- a block, what is done with what it throws, if anything, and what is done last, if anything (ECMA-262 12.14)
   pub attempt : Bool → Bool → M One → (V → M One) → M One → M One
 
@@ -124,9 +154,8 @@ pub data Use : Type 0 where
   -- its value is called with arguments
   called : Exprs → Use
 
--- what is done with arguments: a function of the product is asked, a value is called with a `this`, or it makes an object
+-- what is done with arguments: a value is called with a `this`, or it makes an object
 pub data Calling (V : Type 0) : Type 0 where
-  directly : Direct → Calling V
   calls : V → V → Calling V
   constructs : V → Calling V
 
@@ -158,3 +187,5 @@ pub record Rec (O : Ops) : Type 0 where
   -- a turn of a loop, and those behind it
   pub turn : Round → Env O.H → O.M One
   pub visit : Visit O.V → Env O.H → O.M One
+  -- a request of a built-in that goes on by these steps, with what stands in its registers, and those behind it
+  pub native : Steps → List O.V → O.M Value

@@ -16,6 +16,8 @@ use Rattle.js_number.specs.Arithmetic.{quotient, remainder}
 use Rattle.js_number.specs.Bits.{shifted_left, shifted_right, shifted_with_zeros, and_of, xor_of, or_of, not_of}
 use Rattle.js_number.specs.Compare.{strictly_equal, loosely_equal, is_less}
 use Rattle.js_number.specs.Sum.{sum_of}
+use Rattle.native_protocol.specs.declared.request.Seen.{Seen}
+use Rattle.native_protocol.specs.declared.request.Seen.TheVariants as seen
 use Rattle.js_values.specs.declared.inner.Class.{Class}
 use Rattle.js_values.specs.declared.inner.Class.TheVariants as class
 use Rattle.js_values.specs.declared.value.Value.{Value}
@@ -82,11 +84,6 @@ type_of (Str text) = codes "string"
 
 -- ---- values
 
--- what can be asked of a value without its properties: which primitive value it is, or of which class of objects
-pub data Seen : Type 0 where
-  a_primitive : Primitive → Seen
-  an_object : Class → Seen
-
 abbrev pub is_object : Value → Bool
 is_object (value.Primitive p) = false
 is_object (value.Object o) = true
@@ -136,8 +133,8 @@ unary_of_object unary_operator.Delete c = Ok (prims.Bool true)
 unary_of_object _ c = Err not_built
 
 unfoldable pub unary_of : UnaryOperator → Seen → Given
-unary_of o (a_primitive v) = unary_of_primitive o v
-unary_of o (an_object c) = unary_of_object o c
+unary_of o (seen.Prim v) = unary_of_primitive o v
+unary_of o (seen.Object c) = unary_of_object o c
 
 -- ---- an operator between two operands; `&&` and `||` choose what is evaluated, and can't stand here
 

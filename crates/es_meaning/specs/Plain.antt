@@ -16,22 +16,34 @@ use Rattle.js_values.specs.declared.property.Body.{Body}
 use Rattle.js_values.specs.declared.property.Body.TheVariants.{Data, Accessor}
 use Rattle.js_values.specs.declared.inner.Class.TheVariants as class
 use Rattle.js_values.specs.declared.ids.ObjId.{ObjId}
-use Rattle.js_values.specs.Objects.{Property, PlainObject, plain as plain_inner, fresh_plain}
+use Rattle.js_values.specs.Objects.{Property, PlainObject, plain as plain_inner, own, fresh_plain}
 use Rattle.js_values.specs.Records.{Binding, Record, rebound, lookup, bound_in}
 use Rattle.js_values.specs.Walks.{plain_chain, plain_find}
 use Rattle.js_ast.specs.Trees.{Function, name_of, body_of, Statements}
 use Rattle.js_ast.specs.Functions.{FunctionCode, functions_of}
 use Rattle.es_meaning.specs.Outcomes.{Exit, throws, returns, leaves, Halt, left, out_of_turns, Ending, done, threw, halted, Outcome, Goes, Jumps, Ends, From, ret, and_then, ◌>>=◌}
 use Rattle.es_meaning.specs.Environments.{Env, with_around, with_place, called_env, aimed}
-use Rattle.es_meaning.specs.Operations.{Res, Direct, read, print, lbl, upgs, upge, Act, object_of, base_needed, object_needed, has_key, refused_declaration, Ops}
-use Rattle.es_meaning.specs.Operators.{Seen, a_primitive, an_object, is_object, truth, converts_beside, unary_of, binary_of, not_built}
+use Rattle.native_protocol.specs.declared.hint.Hint.TheVariants as hint
+use Rattle.js_values.specs.declared.inner.Class.{Class}
+use Rattle.es_meaning.specs.Operations.{Res, Part, Shape, Act, object_of, base_needed, object_needed, has_key, throws_error, own_property, define, own_keys, prototype_of_object, is_extensible, prevent_extensions, new_object, bind, read_line, print_line, join_label, raise_structure, raise_existence, Entering, Ops}
+use Rattle.es_meaning.specs.Operators.{is_object, truth, converts_beside, unary_of, binary_of, not_built}
 use Rattle.es_meaning.specs.Declared.{declared_statements, declared_functions}
 use Rattle.es_meaning.specs.Naming.{names_in_statements}
-use Rattle.es_meaning.specs.Functions.{env_id, property_with, function_objects, objects_of, references_of, behind_functions, closes_over, own_name, Callee, not_callable, empty_callee, of_script, unbuilt_callee, is_function, callee_of, arguments_object, binds, this_name, name_text, entry_record, made_if}
+use Rattle.es_meaning.specs.Functions.{env_id, property_with, function_objects, objects_of, references_of, behind_functions, closes_over, own_name, Callee, not_callable, empty_callee, of_script, of_built_in, Target, this_or, callee_of, arguments_object, binds, this_name, name_text, entry_record, made_if}
 use Rattle.es_meaning.specs.Evaluation.{Timed, program_step}
 use Rattle.es_meaning.specs.Objects as objects
-use Rattle.es_meaning.specs.Objects.{Plan, writes, adds, refuses, calls, can_put, is_element, made_by_script, declared_by_script, defined, defined_all, with_rows, with_object, own_in, enumerable_keys}
-use Rattle.es_meaning.specs.Start.{id, ErrorKind, reference_error, type_error, object_prototype, global_object, start_heap, engine_error, shown}
+use Rattle.es_meaning.specs.Objects.{Plan, writes, adds, refuses, calls, can_put, is_element, made_by_script, declared_by_script, defined, with_rows, with_object, own_in, enumerable_keys}
+use Rattle.native_protocol.specs.declared.hint.Hint.{Hint}
+use Rattle.native_protocol.specs.declared.request.ErrorKind.{ErrorKind}
+use Rattle.native_protocol.specs.declared.request.ErrorKind.TheVariants as kinds
+use Rattle.native_protocol.specs.declared.request.GivenMarks.{GivenMarks}
+use Rattle.native_protocol.specs.declared.request.Seen.{Seen}
+use Rattle.native_protocol.specs.declared.request.Seen.TheVariants as seen_as
+use Rattle.es_meaning.specs.BuiltIns.{BuiltIns}
+use Rattle.es_meaning.specs.Definitions.{value_in}
+use Rattle.es_meaning.specs.Holders.{built_heap, constructs_in}
+use Rattle.es_meaning.specs.Start.{id, object_prototype, global_object, engine_error, shown}
+use Rattle.es_meaning.specs.Requested.{literal_object, is_function_in, is_function_at, part_or_undefined, given_body, behind_given, is_array, prototype_in, extensible_in, class_prototype, prototype_given, bound_count, bound_object, target_of, are_origins}
 
 -- ---- what both meanings speak of
 
@@ -117,7 +129,7 @@ choose false a b = b
 
 -- what can be asked of the object with this number, in a heap of which this says the classes
 abbrev pub seen_of : {C : Type 0} → (C → Seen) → Option C → Seen
-seen_of look None = a_primitive Undefined
+seen_of look None = seen_as.Prim Undefined
 seen_of look (Some c) = look c
 
 -- ---- variables of the outermost code (ECMA-262 10.5): properties of the global object, undefined at first, but where it has one of the name
@@ -176,19 +188,19 @@ with_functions functions [] heap = Some heap
 with_functions functions (f ∷ fs) heap = and_functions (declared_function functions f heap) (λ made. with_functions functions fs made)
 
 -- the heap with what the outermost code declares, unless a declaration is refused
-unfoldable pub entered_heap : Statements → Option (List PlainObject)
-entered_heap program = option_map (λ heap. with_variables (declared_statements program) heap) (with_functions (functions_of program) (declared_functions program) start_heap)
+unfoldable pub entered_heap : BuiltIns → Statements → Option (List PlainObject)
+entered_heap set program = option_map (λ heap. with_variables (declared_statements program) heap) (with_functions (functions_of program) (declared_functions program) (built_heap set.entries))
 
 abbrev pub heap_or : List PlainObject → Option (List PlainObject) → List PlainObject
 heap_or heap None = heap
 heap_or heap (Some entered) = entered
 
 -- the objects that a run of a script starts with, and whether it may declare its functions: where it may not, no statement is evaluated
-abbrev pub first_heap : Statements → List PlainObject
-first_heap program = heap_or start_heap (entered_heap program)
+abbrev pub first_heap : BuiltIns → Statements → List PlainObject
+first_heap set program = heap_or (built_heap set.entries) (entered_heap set program)
 
-abbrev pub may_declare : Statements → Bool
-may_declare program = is_some (entered_heap program)
+abbrev pub may_declare : BuiltIns → Statements → Bool
+may_declare set program = is_some (entered_heap set program)
 
 -- the record of the outermost code: nothing is outside it, and it has `this`
 abbrev pub outermost : {V : Type 0} → V → Record V
@@ -259,15 +271,10 @@ unfoldable pub given : Result Primitive (List ℕ) → P Value
 given (Ok v) s = Goes (value.Primitive v) s
 given (Err name) s = Ends (left name) s
 
--- a value that can be asked for, or the run leaves, since what it is converted by can't be run yet
-unfoldable pub unless_object : Bool → Value → P Value
-unless_object true v s = Ends (left not_built) s
-unless_object false v s = Goes v s
-
 -- what can be asked of a value
 unfoldable pub seen : List PlainObject → Value → Seen
-seen heap (value.Primitive v) = a_primitive v
-seen heap (value.Object o) = seen_of (λ p. an_object p.class) (slice_get heap o.0)
+seen heap (value.Primitive v) = seen_as.Prim v
+seen heap (value.Object o) = seen_of (λ p. seen_as.Object p.class) (slice_get heap o.0)
 
 -- the engine throws an error, which is made at that moment (ECMA-262 15.11)
 unfoldable pub throw_error : {X : Type 0} → ErrorKind → P X
@@ -278,57 +285,73 @@ throw_error kind s = Jumps (record { exit = throws; value = value.Object (id (le
 -- the value of a binding, or an exception where there is none (ECMA-262 8.7.1, 10.2.1.1.4)
 unfoldable pub bound : Option (Binding Value) → P Value
 bound (Some b) s = Goes b.value s
-bound None s = throw_error reference_error s
+bound None s = throw_error kinds.ReferenceError s
 
--- that of a property (ECMA-262 8.12.3). Getters aren't built yet
-unfoldable pub held : Body → P Value
-held (Data v) s = Goes v s
-held (Accessor get set) s = Ends (left not_built) s
+-- what a read comes to (ECMA-262 8.12.3): a value, or a getter that is called with the base as its `this`
+pub data Access : Type 0 where
+  has_value : Value → Access
+  has_getter : ObjId → Value → Access
+
+abbrev pub getter_or_none : Option ObjId → Value → Access
+getter_or_none None base = has_value undefined
+getter_or_none (Some f) base = has_getter f base
+
+abbrev pub held : Value → Body → Access
+held base (Data v) = has_value v
+held base (Accessor get set) = getter_or_none get base
 
 -- of a name of the global object, or an exception where there is none (ECMA-262 10.2.1.2.4)
-unfoldable pub found_globally : Option (ℕ × Property) → P Value
-found_globally (Some f) s = held f.1.body s
-found_globally None s = throw_error reference_error s
+unfoldable pub found_globally : Option (ℕ × Property) → P Access
+found_globally (Some f) s = Goes (held (value.Object global_object) f.1.body) s
+found_globally None s = throw_error kinds.ReferenceError s
 
-unfoldable pub found : Option (ℕ × Property) → P Value
-found (Some f) s = held f.1.body s
-found None s = Goes undefined s
+abbrev pub found : Value → Option (ℕ × Property) → Access
+found base (Some f) = held base f.1.body
+found base None = has_value undefined
 
 -- the properties of primitive values aren't built yet
-unfoldable pub property_of : Value → List ℕ → P Value
+unfoldable pub property_of : Value → List ℕ → P Access
 property_of (value.Primitive p) key s = Ends (left not_built) s
-property_of (value.Object o) key s = found (plain_find key (plain_chain s.heap o.0)) s
+property_of (value.Object o) key s = Goes (found (value.Object o) (plain_find key (plain_chain s.heap o.0))) s
 
-unfoldable pub named : Place → List ℕ → P Value
-named (in_record i) name s = bound (binding_at s.records i name) s
+abbrev pub as_access : P Value → P Access
+as_access m = m >>= λ v. ret (has_value v)
+
+unfoldable pub named : Place → List ℕ → P Access
+named (in_record i) name s = as_access (bound (binding_at s.records i name)) s
 named on_global name s = found_globally (plain_find name (plain_chain s.heap global_object.0)) s
-named nowhere name s = throw_error reference_error s
+named nowhere name s = throw_error kinds.ReferenceError s
 
-unfoldable pub get_value : Reference → P Value
-get_value (of_name name place) = named place name
-get_value (of_property v key) = property_of v key
+unfoldable pub accessed : Reference → P Access
+accessed (of_name name place) = named place name
+accessed (of_property v key) = property_of v key
 
-unfoldable pub typeof_value : Reference → P Value
-typeof_value (of_name name nowhere) s = Goes undefined s
-typeof_value n s = get_value n s
+unfoldable pub accessed_for_typeof : Reference → P Access
+accessed_for_typeof (of_name name nowhere) s = Goes (has_value undefined) s
+accessed_for_typeof n s = accessed n s
 
 -- an assignment to a binding that can be changed, and to one that can't (ECMA-262 10.2.1.1.3)
 unfoldable pub assigned : Bool → List ℕ → ℕ → Value → P (Unit {0})
 assigned true name i v s = Goes tt (record s { records = assigned_in name v s.records i })
-assigned false name i v s = throw_error type_error s
+assigned false name i v s = throw_error kinds.TypeError s
 
 unfoldable pub assigned_to : Option (Binding Value) → List ℕ → ℕ → Value → P (Unit {0})
 assigned_to (Some b) name i v s = assigned b.mutable name i v s
-assigned_to None name i v s = throw_error reference_error s
+assigned_to None name i v s = throw_error kinds.ReferenceError s
 
--- a put (ECMA-262 8.12.5). Setters, and elements of arrays, aren't built yet
-unfoldable pub put_by : Plan → ℕ → List ℕ → Value → P (Unit {0})
-put_by writes o key v s = Goes tt (record s { heap = objects.write o key v s.heap })
-put_by adds o key v s = Goes tt (record s { heap = objects.add o key v made_by_script s.heap })
-put_by refuses o key v s = throw_error type_error s
-put_by (calls f) o key v s = Ends (left not_built) s
+-- what a put comes to (ECMA-262 8.12.5): it is done, or a setter is called with the base as its `this`
+pub data Putting : Type 0 where
+  is_put : Putting
+  has_setter : ObjId → Value → Putting
 
-unfoldable pub put_on : Bool → ℕ → List ℕ → Value → P (Unit {0})
+-- elements of arrays aren't built yet
+unfoldable pub put_by : Plan → ℕ → List ℕ → Value → P Putting
+put_by writes o key v s = Goes is_put (record s { heap = objects.write o key v s.heap })
+put_by adds o key v s = Goes is_put (record s { heap = objects.add o key v made_by_script s.heap })
+put_by refuses o key v s = throw_error kinds.TypeError s
+put_by (calls f) o key v s = Goes (has_setter f (value.Object (id o))) s
+
+unfoldable pub put_on : Bool → ℕ → List ℕ → Value → P Putting
 put_on true o key v s = Ends (left not_built) s
 put_on false o key v s = put_by (can_put key (plain_chain s.heap o)) o key v s
 
@@ -336,26 +359,29 @@ abbrev pub is_element_of : Option PlainObject → List ℕ → Bool
 is_element_of None key = false
 is_element_of (Some p) key = is_element p.class key
 
-unfoldable pub put : ℕ → List ℕ → Value → P (Unit {0})
+unfoldable pub put : ℕ → List ℕ → Value → P Putting
 put o key v s = put_on (is_element_of (slice_get s.heap o) key) o key v s
 
-unfoldable pub put_property : Value → List ℕ → Value → P (Unit {0})
+unfoldable pub put_property : Value → List ℕ → Value → P Putting
 put_property (value.Primitive p) key v s = Ends (left not_built) s
 put_property (value.Object o) key v s = put o.0 key v s
 
-unfoldable pub put_named : Place → List ℕ → Value → P (Unit {0})
-put_named (in_record i) name v s = assigned_to (binding_at s.records i name) name i v s
-put_named on_global name v s = put global_object.0 name v s
-put_named nowhere name v s = throw_error reference_error s
+abbrev pub as_putting : P (Unit {0}) → P Putting
+as_putting m = m >>= λ u. ret is_put
 
-unfoldable pub put_value : Reference → Value → P (Unit {0})
+unfoldable pub put_named : Place → List ℕ → Value → P Putting
+put_named (in_record i) name v s = as_putting (assigned_to (binding_at s.records i name) name i v) s
+put_named on_global name v s = put global_object.0 name v s
+put_named nowhere name v s = throw_error kinds.ReferenceError s
+
+unfoldable pub put_value : Reference → Value → P Putting
 put_value (of_name name place) v = put_named place name v
 put_value (of_property base key) v = put_property base key v
 
 -- a deletion (ECMA-262 8.12.7): a property that isn't configurable stays, and the engine throws
 unfoldable pub removed_if : Bool → ℕ → List ℕ → P Value
 removed_if true o key s = Goes (value.Primitive (prims.Bool true)) (record s { heap = objects.remove o key s.heap })
-removed_if false o key s = throw_error type_error s
+removed_if false o key s = throw_error kinds.TypeError s
 
 unfoldable pub removed_own : Option Property → ℕ → List ℕ → P Value
 removed_own None o key s = Goes (value.Primitive (prims.Bool true)) s
@@ -368,15 +394,9 @@ remove _ s = Ends (left not_built) s
 
 -- ---- acts
 
--- an object with these keys and values (ECMA-262 11.1.5)
-abbrev pub data_property : Value → Property
-data_property v = record { body = Data v; marks = made_by_script }
-
-abbrev pub literal_object : List (List ℕ) → List Value → PlainObject
-literal_object keys vs = record (fresh_plain class.Object plain_inner (Some object_prototype)) { rows = defined_all keys (map data_property vs) [] }
-
-unfoldable pub make_object : List (List ℕ) → List Value → P Value
-make_object keys vs s = Goes (value.Object (id (length s.heap))) (record s { heap = s.heap ++ literal_object keys vs ∷ [] })
+-- an object with these parts (ECMA-262 11.1.5)
+unfoldable pub make_object : List (Part × List ℕ) → List Value → P Value
+make_object parts vs s = Goes (value.Object (id (length s.heap))) (record s { heap = s.heap ++ literal_object parts vs ∷ [] })
 
 -- whether a value can have properties (ECMA-262 9.10)
 abbrev pub is_coercible : Value → Bool
@@ -387,7 +407,7 @@ is_coercible _ = true
 -- the value, or the engine throws
 unfoldable pub needed : Bool → Value → P Value
 needed true v s = Goes v s
-needed false v s = throw_error type_error s
+needed false v s = throw_error kinds.TypeError s
 
 abbrev pub is_found : {A : Type 0} → Option A → Bool
 is_found None = false
@@ -397,13 +417,45 @@ unfoldable pub has : List ℕ → Value → P Value
 has key (value.Primitive p) s = Ends (left not_built) s
 has key (value.Object o) s = Goes (value.Primitive (prims.Bool (is_found (plain_find key (plain_chain s.heap o.0))))) s
 
--- the arguments are as many as the act takes
-unfoldable pub act : Act → List Value → P Value
-act (object_of keys) vs = make_object keys vs
-act base_needed vs = needed (is_coercible (argument_or undefined 0 vs)) (argument_or undefined 0 vs)
-act object_needed vs = needed (is_object (argument_or undefined 0 vs)) (argument_or undefined 0 vs)
-act has_key vs = has (key_text (argument_or undefined 0 vs)) (argument_or undefined 1 vs)
-act refused_declaration vs = throw_error type_error
+-- ---- what built-ins ask for besides
+
+-- an object, or the engine throws
+unfoldable pub on_object : {X : Type 0} → Value → (ℕ → P X) → P X
+on_object (value.Primitive p) next s = throw_error kinds.TypeError s
+on_object (value.Object o) next s = next o.0 s
+
+abbrev pub truth_value : Bool → Value
+truth_value b = value.Primitive (prims.Bool b)
+
+-- a definition (ECMA-262 8.12.9), unless it is refused
+unfoldable pub define_by : ℕ → List ℕ → Option Property → P Value
+define_by o key None s = throw_error kinds.TypeError s
+define_by o key (Some p) s = Goes undefined (record s { heap = with_object o (λ q. with_rows q (defined key p q.rows)) s.heap })
+
+unfoldable pub define_in : Option PlainObject → ℕ → List ℕ → GivenMarks → Shape → Value → Value → Value → P Value
+define_in None o key marks shape v g set s = throw_error kinds.TypeError s
+define_in (Some p) o key marks shape v g set s =
+    choose (is_array p.class) (λ t. Ends (left not_built) t) (define_by o key (behind_given p.extensible (own key p.rows) marks (given_body s.heap marks shape v g set))) s
+
+unfoldable pub define_on : ℕ → List ℕ → GivenMarks → Shape → Value → Value → Value → P Value
+define_on o key marks shape v g set s = define_in (slice_get s.heap o) o key marks shape v g set s
+
+-- a new object of a class (ECMA-262 15.2.2.1, 15.2.3.5): those of arrays aren't built yet
+unfoldable pub made_new : Class → Option ObjId → P Value
+made_new c proto s = Goes (value.Object (id (length s.heap))) (record s { heap = s.heap ++ fresh_plain c plain_inner proto ∷ [] })
+
+unfoldable pub make_new : Class → Option ObjId → P Value
+make_new c proto s = choose (is_array c) (λ t. Ends (left not_built) t) (made_new c proto) s
+
+-- a bound function (ECMA-262 15.3.4.5)
+unfoldable pub bind_to : Bool → Value → Value → List Value → P Value
+bind_to true (value.Object o) this args s = Goes (value.Object (id (length s.heap))) (record s { heap = s.heap ++ bound_object o this args (bound_count (slice_get s.heap o.0) (length args)) ∷ [] })
+bind_to _ target this args s = throw_error kinds.TypeError s
+
+-- origins that are declared, or the run leaves
+unfoldable pub if_origins : Bool → P Value → P Value
+if_origins true next s = next s
+if_origins false next s = Ends (left leaves_origins) s
 
 -- the keys that `for in` takes of a value: none of undefined and null
 abbrev pub key_list : List PlainObject → Value → Option (List (List ℕ))
@@ -448,9 +500,8 @@ abbrev pub callee_in : List FunctionCode → Option PlainObject → Callee
 callee_in functions None = not_callable
 callee_in functions (Some p) = callee_of functions p.class p.inner
 
-unfoldable pub callee_at : List FunctionCode → List PlainObject → Value → Callee
-callee_at functions heap (value.Primitive p) = not_callable
-callee_at functions heap (value.Object o) = callee_in functions (slice_get heap o.0)
+unfoldable pub callee_at : List FunctionCode → List PlainObject → ℕ → Callee
+callee_at functions heap o = callee_in functions (slice_get heap o)
 
 -- a call begins (ECMA-262 10.4.3, 10.5): its record is inside that of the function, and the functions that it declares are made, and its `arguments` object
 unfoldable pub with_call : List FunctionCode → ℕ → Function → ℕ → Value → List Value → State → State
@@ -474,12 +525,6 @@ with_call functions number f place this args s =
 abbrev pub in_call : (Statements → Env (Unit {0}) → P (Unit {0})) → Function → ℕ → P (Unit {0})
 in_call body f here = body (body_of f) (called_env here tt)
 
-unfoldable pub entered : List FunctionCode → Callee → Value → List Value → (Statements → Env (Unit {0}) → P (Unit {0})) → P (Unit {0})
-entered functions not_callable this args body s = throw_error type_error s
-entered functions empty_callee this args body s = Goes tt s
-entered functions unbuilt_callee this args body s = Ends (left not_built) s
-entered functions (of_script number f place) this args body s = in_call body f (length s.records) (with_call functions number f place this args s)
-
 -- a call gives what is returned, or undefined (ECMA-262 13.2.1)
 abbrev pub is_return : Exit → Bool
 is_return throws = false
@@ -491,12 +536,27 @@ ended_call (Goes u s) = Goes undefined s
 ended_call (Jumps j s) = choose (is_return j.exit) (Goes j.value s) (Jumps j s)
 ended_call (Ends halt s) = Ends halt s
 
+abbrev pub Enters : Type 0
+Enters = Entering Value (Unit {0}) (λ t. P (Res Value t))
+
+-- what is called is entered: with itself, its `this` and arguments in the registers of a built-in
+unfoldable pub entered : List FunctionCode → Callee → Value → Value → List Value → Enters → P Value
+entered functions not_callable f this args E s = throw_error kinds.TypeError s
+entered functions empty_callee f this args E s = Goes undefined s
+entered functions (of_built_in which) f this args E s = E.built_in which false (this ∷ f ∷ args) s
+entered functions (of_script number code place) f this args E s = ended_call (in_call E.body code (length s.records) (with_call functions number code place this args s))
+
+-- the target of a function, with its `this` and arguments
+unfoldable pub call_target : List FunctionCode → Target Value → Value → List Value → Enters → P Value
+call_target functions target this args E s =
+    entered functions (callee_at functions s.heap target.function) (value.Object (id target.function)) (this_or target.this this) (target.args ++ args) E s
+
+unfoldable pub call : List FunctionCode → Value → Value → List Value → Enters → P Value
+call functions (value.Primitive p) this args E s = throw_error kinds.TypeError s
+call functions (value.Object o) this args E s = call_target functions (target_of s.heap o.0) this args E s
+
 -- what `new` makes has the `prototype` of the function as its prototype, or that of all objects where this is no object (ECMA-262 13.2.2). That of a
 -- function of the script is data, since it can't be configured
-abbrev pub value_in : Body → Value
-value_in (Data v) = v
-value_in (Accessor get set) = undefined
-
 abbrev pub value_found : Option (ℕ × Property) → Value
 value_found None = undefined
 value_found (Some f) = value_in f.1.body
@@ -508,19 +568,11 @@ abbrev pub object_or_default : Value → ObjId
 object_or_default (value.Primitive p) = object_prototype
 object_or_default (value.Object o) = o
 
-abbrev pub prototype_of : List PlainObject → Value → ObjId
-prototype_of heap (value.Primitive p) = object_prototype
-prototype_of heap (value.Object o) = object_or_default (value_found (plain_find prototype_name (plain_chain heap o.0)))
+abbrev pub prototype_of : List PlainObject → ℕ → ObjId
+prototype_of heap o = object_or_default (value_found (plain_find prototype_name (plain_chain heap o)))
 
 abbrev pub with_fresh : ObjId → State → State
 with_fresh proto s = record s { heap = s.heap ++ fresh_plain class.Object plain_inner (Some proto) ∷ [] }
-
-unfoldable pub constructed : List FunctionCode → Callee → Value → List Value → (Statements → Env (Unit {0}) → P (Unit {0})) → P (Unit {0})
-constructed functions not_callable f args body s = throw_error type_error s
-constructed functions empty_callee f args body s = throw_error type_error s
-constructed functions unbuilt_callee f args body s = Ends (left not_built) s
-constructed functions (of_script number code place) f args body s =
-    entered functions (of_script number code place) (value.Object (id (length s.heap))) args body (with_fresh (prototype_of s.heap f) s)
 
 -- an object that the function returns stands for what was made
 abbrev pub object_or : ℕ → Value → Value
@@ -532,15 +584,40 @@ ended_construction fresh (Goes v s) = Goes (object_or fresh v) s
 ended_construction fresh (Jumps j s) = Jumps j s
 ended_construction fresh (Ends halt s) = Ends halt s
 
+-- a built-in makes what it gives itself, if it constructs
+unfoldable pub constructed : BuiltIns → List FunctionCode → Callee → ℕ → List Value → Enters → P Value
+constructed set functions not_callable f args E s = throw_error kinds.TypeError s
+constructed set functions empty_callee f args E s = throw_error kinds.TypeError s
+constructed set functions (of_built_in which) f args E s = choose (constructs_in set which) (E.built_in which true (undefined ∷ value.Object (id f) ∷ args)) (throw_error kinds.TypeError) s
+constructed set functions (of_script number code place) f args E s =
+    ended_construction (length s.heap) (entered functions (of_script number code place) (value.Object (id f)) (value.Object (id (length s.heap))) args E (with_fresh (prototype_of s.heap f) s))
+
+unfoldable pub construct_target : BuiltIns → List FunctionCode → Target Value → List Value → Enters → P Value
+construct_target set functions target args E s = constructed set functions (callee_at functions s.heap target.function) target.function (target.args ++ args) E s
+
+unfoldable pub construct : BuiltIns → List FunctionCode → Value → List Value → Enters → P Value
+construct set functions (value.Primitive p) args E s = throw_error kinds.TypeError s
+construct set functions (value.Object o) args E s = construct_target set functions (target_of s.heap o.0) args E s
+
+-- ---- getters, setters, and the conversion of objects (ECMA-262 9.1)
+
+unfoldable pub entered_access : List FunctionCode → Enters → Access → P Value
+entered_access functions E (has_value v) s = Goes v s
+entered_access functions E (has_getter f this) s = call functions (value.Object f) this [] E s
+
+unfoldable pub entered_putting : List FunctionCode → Enters → Value → Putting → P (Unit {0})
+entered_putting functions E v is_put s = Goes tt s
+entered_putting functions E v (has_setter f this) s = (call functions (value.Object f) this (v ∷ []) E >>= λ u. ret tt) s
+
+unfoldable pub converted : Enters → Hint → Value → P Value
+converted E h (value.Primitive p) s = Goes (value.Primitive p) s
+converted E h (value.Object o) s = E.conversion h (value.Object o) s
+
+unfoldable pub converted_if : Bool → Enters → Value → P Value
+converted_if true E v s = converted E hint.Default v s
+converted_if false E v s = Goes v s
+
 -- ---- `instanceof` (ECMA-262 11.8.6, 15.3.5.3)
-
-abbrev pub is_function_in : Option PlainObject → Bool
-is_function_in None = false
-is_function_in (Some p) = is_function p.class
-
-abbrev pub is_function_at : List PlainObject → Value → Bool
-is_function_at heap (value.Primitive p) = false
-is_function_at heap (value.Object o) = is_function_in (slice_get heap o.0)
 
 -- the object is a prototype of the first of the chain
 abbrev pub behind_first : {A : Type 0} → List A → List A
@@ -551,16 +628,21 @@ abbrev pub is_prototype_in : ℕ → List (ℕ × PlainObject) → Bool
 is_prototype_in proto chain = list_any (λ e. nat_eq e.0 proto) (behind_first chain)
 
 unfoldable pub is_instance : ℕ → Value → P Value
-is_instance o (value.Primitive p) s = throw_error type_error s
-is_instance o (value.Object proto) s = Goes (value.Primitive (prims.Bool (is_prototype_in proto.0 (plain_chain s.heap o)))) s
+is_instance o (value.Primitive p) s = throw_error kinds.TypeError s
+is_instance o (value.Object proto) s = Goes (truth_value (is_prototype_in proto.0 (plain_chain s.heap o))) s
 
-unfoldable pub instance_of : Value → Value → P Value
-instance_of (value.Primitive p) f s = Goes (value.Primitive (prims.Bool false)) s
-instance_of (value.Object o) f s = (property_of f prototype_name >>= λ proto. is_instance o.0 proto) s
+-- the `prototype` is that of the target of a bound function (15.3.4.5.3)
+unfoldable pub instance_of : List FunctionCode → Value → ℕ → Enters → P Value
+instance_of functions (value.Primitive p) f E s = Goes (truth_value false) s
+instance_of functions (value.Object o) f E s = (property_of (value.Object (id f)) prototype_name >>= entered_access functions E >>= is_instance o.0) s
 
-unfoldable pub instance_if : Bool → Value → Value → P Value
-instance_if true v f s = instance_of v f s
-instance_if false v f s = throw_error type_error s
+unfoldable pub instance_if : List FunctionCode → Bool → Value → ℕ → Enters → P Value
+instance_if functions true v f E s = instance_of functions v (target_of s.heap f).function E s
+instance_if functions false v f E s = throw_error kinds.TypeError s
+
+unfoldable pub instance : List FunctionCode → Value → Value → Enters → P Value
+instance functions v (value.Primitive p) E s = throw_error kinds.TypeError s
+instance functions v (value.Object f) E s = instance_if functions (is_function_in (slice_get s.heap f.0)) v f.0 E s
 
 -- ---- jumps
 
@@ -601,39 +683,46 @@ module _ (tables : Tables) (inputs : Given) where
   read_channel None s = Ends (left leaves_channels) s
   read_channel (Some i) s = let line = line_at inputs i s.positions in Goes (value_read line) (record s { positions = positions_behind i line s.positions })
 
-  -- the text of a primitive value is printed
-  unfoldable pub print_value : ℕ → Value → P Value
-  print_value i (value.Object o) s = Ends (left not_built) s
-  print_value i (value.Primitive v) s = Goes undefined (record s { lines = s.lines ++ record { channel = channel_name tables.outputs i; text = text_of v } ∷ [] })
+  -- a text is printed, on a channel that there is
+  unfoldable pub print_text : ℕ → Value → P Value
+  print_text i (value.Primitive (Str text)) s = Goes undefined (record s { lines = s.lines ++ record { channel = channel_name tables.outputs i; text = text } ∷ [] })
+  print_text i _ s = Ends (left leaves_channels) s
 
   unfoldable pub print_channel : Option ℕ → Value → P Value
   print_channel None v s = Ends (left leaves_channels) s
-  print_channel (Some i) v s = print_value i v s
+  print_channel (Some i) v s = print_text i v s
 
-  unfoldable pub label_by : Option (List ℕ) → Value → P Value
-  label_by None v s = Ends (left leaves_origins) s
-  label_by (Some origins) v s = Goes v s
+  -- origins that aren't declared are asked about first
+  unfoldable pub with_origins : List ℕ → P Value → P Value
+  with_origins origins next s = if_origins (are_origins (length tables.origins) origins) next s
 
-  -- the functions that raise labels have no further result. The first argument is an object, and the others name origins
-  unfoldable pub raise_by : Option (List ℕ) → P Value
-  raise_by None s = Ends (left leaves_origins) s
-  raise_by (Some origins) s = Goes undefined s
+  abbrev pub first : List Value → Value
+  first vs = argument_or undefined 0 vs
 
-  unfoldable pub raise_of : Bool → List Value → P Value
-  raise_of true vs s = raise_by (origins_of tables.origins vs) s
-  raise_of false vs s = throw_error type_error s
+  abbrev pub second : List Value → Value
+  second vs = argument_or undefined 1 vs
 
-  -- the conversion of an object to a key isn't built yet
-  unfoldable pub raise_at : Bool → Value → List Value → P Value
-  raise_at true key vs s = (unless_object (is_object key) key >>= λ k. raise_by (origins_of tables.origins vs)) s
-  raise_at false key vs s = throw_error type_error s
-
-  unfoldable pub direct : Direct → List Value → P Value
-  direct read vs = read_channel (channel_of tables.inputs (argument_or undefined 0 vs))
-  direct print vs = print_channel (channel_of tables.outputs (argument_or undefined 0 vs)) (argument_or undefined 1 vs)
-  direct lbl vs = label_by (origins_of tables.origins (others vs)) (argument_or undefined 0 vs)
-  direct upgs vs = raise_of (is_object (argument_or undefined 0 vs)) (others vs)
-  direct upge vs = raise_at (is_object (argument_or undefined 0 vs)) (argument_or undefined 1 vs) (others (others vs))
+  -- the arguments are as many as the act takes
+  unfoldable pub act : Act → List Value → P Value
+  act (object_of parts) vs = make_object parts vs
+  act base_needed vs = needed (is_coercible (first vs)) (first vs)
+  act object_needed vs = needed (is_object (first vs)) (first vs)
+  act has_key vs = has (key_text (first vs)) (second vs)
+  act (throws_error kind) vs = throw_error kind
+  act (own_property part key) vs = on_object (first vs) (λ o s. Goes (part_or_undefined part (own_in key (slice_get s.heap o))) s)
+  act (define key marks shape) vs = on_object (first vs) (λ o. define_on o key marks shape (second vs) (argument_or undefined 2 vs) (argument_or undefined 3 vs))
+  act (own_keys all) vs = on_object (first vs) (λ o s. Ends (left not_built) s)
+  act prototype_of_object vs = on_object (first vs) (λ o s. Goes (prototype_in (slice_get s.heap o)) s)
+  act is_extensible vs = on_object (first vs) (λ o s. Goes (truth_value (extensible_in (slice_get s.heap o))) s)
+  act prevent_extensions vs = on_object (first vs) (λ o s. Goes undefined (record s { heap = with_object o (λ p. record p { extensible = false }) s.heap }))
+  act (new_object c false) vs = make_new c (Some (class_prototype c))
+  act (new_object c true) vs = make_new c (prototype_given (first vs))
+  act bind vs = λ s. bind_to (is_function_at s.heap (first vs)) (first vs) (second vs) (others (others vs)) s
+  act read_line vs = read_channel (channel_of tables.inputs (first vs))
+  act print_line vs = print_channel (channel_of tables.outputs (first vs)) (second vs)
+  act (join_label origins) vs = with_origins origins (ret (first vs))
+  act (raise_structure origins) vs = with_origins origins (on_object (first vs) (λ o. ret undefined))
+  act (raise_existence key origins) vs = with_origins origins (on_object (first vs) (λ o. ret undefined))
 
   -- a directive changes nothing, and leaves where an origin isn't declared
   unfoldable pub raised_by : Option (List ℕ) → P (Unit {0})
@@ -643,10 +732,10 @@ module _ (tables : Tables) (inputs : Given) where
   abbrev pub named_origins : List (List ℕ) → Option (List ℕ)
   named_origins names = origins_of tables.origins (map (λ name. value.Primitive (Str name)) names)
 
-  abbrev pub start : Statements → ℕ → State
-  start program turns = record { heap = first_heap program; records = outermost (value.Object global_object) ∷ []; positions = replicate (length tables.inputs) 0; lines = []; turns = turns }
+  abbrev pub start : BuiltIns → Statements → ℕ → State
+  start set program turns = record { heap = first_heap set program; records = outermost (value.Object global_object) ∷ []; positions = replicate (length tables.inputs) 0; lines = []; turns = turns }
 
-  module _ (functions : List FunctionCode) where
+  module _ (set : BuiltIns) (functions : List FunctionCode) where
     abbrev pub plain : Ops
     plain = record {
       V = Value;
@@ -658,29 +747,30 @@ module _ (tables : Tables) (inputs : Given) where
       literal = value.Primitive;
       unary = λ o v s. given (unary_of o (seen s.heap v)) s;
       binary = λ o v u. given (binary_of o v u);
-      primitive = λ hint v. unless_object (is_object v) v;
-      comparable = λ v u. unless_object (converts_beside v u) v;
       act = act;
-      direct = direct;
+      look = λ v k s. k (seen s.heap v) s;
       function = make_function functions;
       jump = λ leaving e v. jumps_to (aimed tt leaving e) v;
       raise = λ leaving e names. raised_by (named_origins names);
-      unbuilt = λ t s. Ends (left not_built) s;
+      throw = λ v s. Jumps (record { exit = throws; value = v }) s;
+      leave = λ t name s. Ends (left name) s;
       resolve = λ t i x k s. k (resolved s.records s.heap i x) s;
       property = λ v k. of_property v (key_text k);
-      get_value = λ n k. get_value n;
-      typeof_value = λ n k. typeof_value n;
-      put_value = λ n v k. put_value n v;
+      get_value = λ n E. accessed n >>= entered_access functions E;
+      typeof_value = λ n E. accessed_for_typeof n >>= entered_access functions E;
+      put_value = λ n v E. put_value n v >>= entered_putting functions E v;
       remove = remove;
       this_of = base_of;
-      instance = λ v f k s. instance_if (is_function_at s.heap f) v f s;
+      instance = instance functions;
       fork = λ t v m n. choose (truth v) m n;
       round = λ turn labels e k s. ended_round (length e.around) (k (with_around turn labels tt e) s);
       again = λ v m n. choose (truth v) m n;
       keys = λ v next s. with_list (key_list s.heap v) next s;
       declare = in_own_record;
-      call = λ f this args body s. ended_call (entered functions (callee_at functions s.heap f) this args body s);
-      construct = λ f args body s. ended_construction (length s.heap) (ended_call (constructed functions (callee_at functions s.heap f) f args body s));
+      call = λ f this args E. call functions f this args E;
+      construct = λ f args E. construct set functions f args E;
+      primitive = λ h v E. converted E h v;
+      comparable = λ v u E. converted_if (converts_beside v u) E v;
       attempt = attempt;
     }
 
@@ -699,5 +789,6 @@ run_of (Jumps j s) = record { lines = s.lines; ending = threw (shown s.heap j.va
 run_of (Ends halt s) = record { lines = s.lines; ending = halted halt }
 
 -- what a script prints and how it ends, with so many turns
-unfoldable pub plain_run : Tables → Given → Statements → ℕ → Run
-plain_run tables inputs program turns = run_of (program_step (timed tables inputs (functions_of program)) turns (may_declare program) program (outermost_env tt) (start tables inputs program turns))
+unfoldable pub plain_run : BuiltIns → Tables → Given → Statements → ℕ → Run
+plain_run set tables inputs program turns =
+    run_of (program_step (timed tables inputs set (functions_of program)) set turns (may_declare set program) program (outermost_env tt) (start tables inputs set program turns))

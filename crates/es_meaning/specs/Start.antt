@@ -14,7 +14,9 @@ use Rattle.js_values.specs.declared.property.Body.TheVariants.{Data, Accessor}
 use Rattle.js_values.specs.declared.property.Marks.{Marks}
 use Rattle.js_values.specs.declared.inner.Class.{Class}
 use Rattle.js_values.specs.declared.inner.Class.TheVariants as class
-use Rattle.js_values.specs.Objects.{Property, PlainObject, plain, fresh_plain}
+use Rattle.native_protocol.specs.declared.request.ErrorKind.{ErrorKind}
+use Rattle.native_protocol.specs.declared.request.ErrorKind.TheVariants as kinds
+use Rattle.js_values.specs.Objects.{Rows, Property, PlainObject, plain, native, fresh_plain}
 use Rattle.js_values.specs.Walks.{plain_chain, plain_find}
 
 abbrev pub id : ℕ → ObjId
@@ -22,17 +24,14 @@ id n = record { 0 = n }
 
 -- ---- errors (ECMA-262 15.11)
 
-pub data ErrorKind : Type 0 where
-  error eval_error range_error reference_error syntax_error type_error uri_error : ErrorKind
-
 abbrev pub error_name : ErrorKind → List ℕ
-error_name error = codes "Error"
-error_name eval_error = codes "EvalError"
-error_name range_error = codes "RangeError"
-error_name reference_error = codes "ReferenceError"
-error_name syntax_error = codes "SyntaxError"
-error_name type_error = codes "TypeError"
-error_name uri_error = codes "URIError"
+error_name kinds.Error = codes "Error"
+error_name kinds.EvalError = codes "EvalError"
+error_name kinds.RangeError = codes "RangeError"
+error_name kinds.ReferenceError = codes "ReferenceError"
+error_name kinds.SyntaxError = codes "SyntaxError"
+error_name kinds.TypeError = codes "TypeError"
+error_name kinds.UriError = codes "URIError"
 
 -- ---- the numbers of the objects that a run starts with: a prototype's is below that of what has it
 
@@ -46,13 +45,33 @@ abbrev pub function_prototype : ObjId
 function_prototype = id 9
 
 abbrev pub error_prototype : ErrorKind → ObjId
-error_prototype error = id 2
-error_prototype eval_error = id 3
-error_prototype range_error = id 4
-error_prototype reference_error = id 5
-error_prototype syntax_error = id 6
-error_prototype type_error = id 7
-error_prototype uri_error = id 8
+error_prototype kinds.Error = id 2
+error_prototype kinds.EvalError = id 3
+error_prototype kinds.RangeError = id 4
+error_prototype kinds.ReferenceError = id 5
+error_prototype kinds.SyntaxError = id 6
+error_prototype kinds.TypeError = id 7
+error_prototype kinds.UriError = id 8
+
+-- the prototypes of booleans and of numbers (ECMA-262 15.6.4, 15.7.4), and `Math`
+abbrev pub boolean_prototype : ObjId
+boolean_prototype = id 10
+
+abbrev pub number_prototype : ObjId
+number_prototype = id 11
+
+abbrev pub math_object : ObjId
+math_object = id 12
+
+-- the accessors of `caller`, `arguments` and `callee` (ECMA-262 13.2.3)
+abbrev pub caller_accessor : ObjId
+caller_accessor = id 13
+
+abbrev pub arguments_accessor : ObjId
+arguments_accessor = id 14
+
+abbrev pub callee_accessor : ObjId
+callee_accessor = id 15
 
 -- ---- these objects
 
@@ -74,21 +93,40 @@ fixed = record { writable = false; enumerable = false; configurable = false }
 abbrev pub global : PlainObject
 global = record (fresh_plain class.Object plain (Some object_prototype)) { rows = (codes "undefined", record { body = Data (value.Primitive Undefined); marks = fixed }) ∷ [] }
 
+-- an accessor that is its own getter and setter, and can't be changed
+abbrev pub fixed_accessor : ObjId → Property
+fixed_accessor f = record { body = Accessor (Some f) (Some f); marks = fixed }
+
+abbrev pub count_property : ℕ → Property
+count_property n = record { body = Data (value.Primitive (Num (pos n))); marks = fixed }
+
+-- the properties that each function has behind its own (ECMA-262 13.2, 15.3.5)
+abbrev pub function_rows : Rows Property
+function_rows = (codes "caller", fixed_accessor caller_accessor) ∷ (codes "arguments", fixed_accessor arguments_accessor) ∷ []
+
 -- the prototype of functions, which is a function itself (ECMA-262 15.3.4)
 abbrev pub prototype_of_functions : PlainObject
-prototype_of_functions = record (fresh_plain class.Function plain (Some object_prototype)) { rows = (codes "length", record { body = Data (value.Primitive (Num (pos 0))); marks = fixed }) ∷ [] }
+prototype_of_functions = record (fresh_plain class.Function plain (Some object_prototype)) { rows = (codes "length", count_property 0) ∷ function_rows }
+
+-- a built-in function (ECMA-262 15)
+abbrev pub native_function : ℕ → ℕ → Rows Property → PlainObject
+native_function which size rows = record (fresh_plain class.Function (native which) (Some function_prototype)) { rows = (codes "length", count_property size) ∷ (rows ++ function_rows) }
 
 abbrev pub start_heap : List PlainObject
 start_heap = fresh_plain class.Object plain None
     ∷ global
-    ∷ prototype_of_errors error object_prototype
-    ∷ prototype_of_errors eval_error (error_prototype error)
-    ∷ prototype_of_errors range_error (error_prototype error)
-    ∷ prototype_of_errors reference_error (error_prototype error)
-    ∷ prototype_of_errors syntax_error (error_prototype error)
-    ∷ prototype_of_errors type_error (error_prototype error)
-    ∷ prototype_of_errors uri_error (error_prototype error)
-    ∷ prototype_of_functions ∷ []
+    ∷ prototype_of_errors kinds.Error object_prototype
+    ∷ prototype_of_errors kinds.EvalError (error_prototype kinds.Error)
+    ∷ prototype_of_errors kinds.RangeError (error_prototype kinds.Error)
+    ∷ prototype_of_errors kinds.ReferenceError (error_prototype kinds.Error)
+    ∷ prototype_of_errors kinds.SyntaxError (error_prototype kinds.Error)
+    ∷ prototype_of_errors kinds.TypeError (error_prototype kinds.Error)
+    ∷ prototype_of_errors kinds.UriError (error_prototype kinds.Error)
+    ∷ prototype_of_functions
+    ∷ fresh_plain class.Boolean plain (Some object_prototype)
+    ∷ fresh_plain class.Number plain (Some object_prototype)
+    ∷ fresh_plain class.Math plain (Some object_prototype)
+    ∷ native_function 0 0 [] ∷ native_function 1 0 [] ∷ native_function 2 0 [] ∷ []
 
 -- an error that the engine makes has no properties of its own
 abbrev pub engine_error : ErrorKind → PlainObject

@@ -3,4 +3,4 @@
 
 mod laws;
 
-pub use laws::{more_turns, rows};
+pub use laws::more_turns;

@@ -1,26 +1,35 @@
 -- With more turns a monitored run that is over is the same.
-use Rattle.std.proofs.Common.{◌≡◌, ℕ, zero, suc, ◌-◌, ◌≤◌, Bool, true, false, List, length, Option, Some, None, nat_lt, ◌&&◌, refl, sym, ap, ap₂, subst}
+use Rattle.std.proofs.Common.{◌≡◌, ℕ, zero, suc, ◌-◌, ◌≤◌, Bool, true, false, List, [], ◌∷◌, length, Option, Some, None, slice_get, nat_lt, ◌&&◌, refl, sym, ap, ap₂, subst}
 use Rattle.origin_labels.specs.Label.{Label, bottom, union}
 use Rattle.flow_policy.specs.Policies.{Tables}
 use Rattle.flow_policy.specs.Inputs.{Given}
 use Rattle.flow_frames.specs.declared.kind.Kind.{Kind}
 use Rattle.flow_frames.specs.declared.kind.Kind.TheVariants as kind
+use Rattle.js_values.specs.declared.value.Value.{Value}
+use Rattle.js_values.specs.declared.value.Value.TheVariants as value
 use Rattle.js_ast.specs.Trees.{Statements}
 use Rattle.js_ast.specs.Functions.{FunctionCode, functions_of}
-use Rattle.es_meaning.specs.Outcomes.{left, out_of_turns, halted, Outcome, Goes, Jumps, Ends, ret}
+use Rattle.native_protocol.specs.declared.hint.Hint.{Hint}
+use Rattle.native_protocol.specs.declared.hint.Hint.TheVariants as hint
 use Rattle.prototype_walk.specs.KeyLists.{Keys}
+use Rattle.es_meaning.specs.BuiltIns.{BuiltIns}
+use Rattle.es_meaning.specs.Holders.{constructs_in}
+use Rattle.es_meaning.specs.Outcomes.{left, out_of_turns, halted, Outcome, Goes, Jumps, Ends, ret, ◌>>=◌}
 use Rattle.es_meaning.specs.Environments.{Env, with_around, with_place, aimed}
-use Rattle.es_meaning.specs.Functions.{Callee, not_callable, empty_callee, of_script, unbuilt_callee}
+use Rattle.es_meaning.specs.Functions.{Callee, not_callable, empty_callee, of_script, of_built_in}
 use Rattle.es_meaning.specs.Operations.{Res, Ops}
-use Rattle.es_meaning.specs.Operators.{is_object, truth, converts_beside, binary_of, not_built}
+use Rattle.es_meaning.specs.Operators.{is_object, truth, converts_beside, binary_of}
 use Rattle.es_meaning.specs.Evaluation.{program_step}
-use Rattle.es_meaning.specs.Plain.{choose, is_throw, may_declare, outermost_env}
-use Rattle.es_meaning.proofs.Link.{Link, program_longer}
-use Rattle.es_meaning.proofs.Longer.{beyond, few_beyond, beyond_few, Longer, wants, goes, jumps, ends, Lift, bind_longer, choose_longer, at_equal, equal_results, rels_equal}
+use Rattle.es_meaning.specs.Start.{id}
+use Rattle.es_meaning.specs.Plain.{choose, is_throw, may_declare, outermost_env, prototype_name}
+use Rattle.es_meaning.proofs.Link.{EnteringLinked, Link}
+use Rattle.es_meaning.proofs.RequestLinks.{program_longer}
+use Rattle.es_meaning.proofs.Longer.{beyond, few_beyond, beyond_few, Longer, wants, goes, jumps, ends, Lift, bind_longer, choose_longer, at_equal, equal_results, rels_equal, same_rels}
 use Rattle.flow_meaning.specs.Laws.{MoreTurns}
-use Rattle.flow_meaning.specs.Scopes.{Val, Halt, as_plain, State, Jump, L, cut_to, pushed_on, Came, ended, caught, Left, popped, stay, scope, settled, answer, construction, react, resume, finish, attempt, round_kind}
-use Rattle.flow_meaning.specs.Tracked.{spend, CallBody, entered, call, constructed, construct, with_call, callee_at, with_fresh, prototype_of, is_function_at, with_name, named_origins, resolved, key_list, with_list, labelled, timed, start, run_of, tracked_run}
-use Rattle.flow_meaning.proofs.Steady.{with_turns, left_with, Steady, Holds, holds, ret_steady, ends_steady, given_steady, unless_steady, raise_steady, unary_steady, value_steady, typeof_steady, put_steady, remove_steady, act_steady, direct_steady, throws_steady, function_steady, instance_steady, jumps_steady, raised_steady, quiet_steady, resume_steady}
+use Rattle.flow_meaning.specs.Requested.{Aim, aim_of, is_function_in}
+use Rattle.flow_meaning.specs.Scopes.{Val, joined, Halt, as_plain, State, Jump, L, cut_to, pushed_on, Came, ended, caught, Left, popped, stay, scope, settled, settled_value, answer, construction, react, resume, finish, attempt, round_kind}
+use Rattle.flow_meaning.specs.Tracked.{spend, seen, Access, has_value, has_getter, Putting, is_put, has_setter, Enters, entered, called_value, call_by, call_aimed, call_value, constructed, construct_built_in, construct_by, construct_aimed, construct_value, entered_access, entered_putting, convert, converted_by, instance_by, instance_of, instance_if, instance_value, with_call, callee_at, with_fresh, prototype_of, with_name, named_origins, resolved, key_list, with_list, labelled, timed, start, run_of, tracked_run}
+use Rattle.flow_meaning.proofs.Steady.{with_turns, left_with, Steady, Holds, holds, ret_steady, ends_steady, given_steady, raise_steady, unary_steady, accessed_steady, typeof_steady, put_steady, property_steady, is_instance_steady, remove_steady, act_steady, throws_steady, function_steady, jump_steady, jumps_steady, raised_steady, quiet_steady, resume_steady}
 
 -- the state with k more turns
 abbrev more_turns_in : ℕ → State → State
@@ -78,34 +87,122 @@ module _ (k : ℕ) where
 
   -- ---- calls
 
-  -- computations on a body, from each environment
-  abbrev Bodies : CallBody → CallBody → Type 0
-  Bodies f g = (ss : Statements) (e : Env ℕ) → On (Unit {0}) (f ss e) (g ss e)
+  -- what is called is entered alike
+  abbrev Alike : Enters → Enters → Type 0
+  Alike E D = EnteringLinked (Unit {0}) (λ w v u. v ≡ u) (λ w e d. e ≡ d) (λ t w m n. On (Res Val t) m n) E D
+
+  -- a value is given in a frame of its own
+  framed_on : (kind : Kind) (label : Label) {m n : L Val} → On Val m n → On Val (scope kind label (λ depth. m) >>= λ c. ret (settled_value c)) (scope kind label (λ depth. n) >>= λ c. ret (settled_value c))
+  framed_on kind label l = bind_longer _ _ (scope_on kind label (λ depth. l)) (λ c. act _ (ret_steady (settled_value c)))
 
   -- in the frame of a call
-  entered_on : (functions : List FunctionCode) (callee : Callee) (label : Label) (base : Val) (vs : List Val) (f g : CallBody) (depth : ℕ) → Bodies f g → On (Unit {0}) (entered functions callee label base vs f depth) (entered functions callee label base vs g depth)
+  entered_on : (functions : List FunctionCode) (callee : Callee) (label : Label) (this : Val) (args : List Val) {E D : Enters} (depth : ℕ) → Alike E D
+      → On (Unit {0}) (entered functions callee label this args E depth) (entered functions callee label this args D depth)
   unfolding entered with_call
-  entered_on functions not_callable label base vs f g depth h = record { on = λ s. (act _ (throws_steady (Unit {0}) _ label)).on s }
-  entered_on functions empty_callee label base vs f g depth h = record { on = λ s. goes }
-  entered_on functions unbuilt_callee label base vs f g depth h = record { on = λ s. ends }
-  entered_on functions (of_script number code place) label base vs f g depth h = record { on = λ s. (h _ _).on (with_call functions number code place base vs s) }
+  entered_on functions not_callable label this args depth h = record { on = λ s. (act _ (throws_steady (Unit {0}) _ label)).on s }
+  entered_on functions empty_callee label this args depth h = record { on = λ s. goes }
+  entered_on functions (of_built_in which) label this args depth h = record { on = λ s. (act _ (throws_steady (Unit {0}) _ label)).on s }
+  entered_on functions (of_script number f place) label this args depth h = record { on = λ s. (h.body tt _ _ _ refl).on (with_call functions number f place this args s) }
 
-  call_on : (functions : List FunctionCode) (v base : Val) (vs : List Val) (f g : CallBody) → Bodies f g → On Val (call functions v base vs f) (call functions v base vs g)
-  call_on functions v base vs f g h = bind_longer _ _ (scope_on kind.Call v.label {n = λ depth s. entered functions (callee_at functions s.heap v.value) v.label base vs g depth s} (λ depth. record { on = λ s. (entered_on functions (callee_at functions s.heap v.value) v.label base vs f g depth h).on s })) (λ c. act _ (ret_steady (answer c)))
+  in_frame_on : (functions : List FunctionCode) (callee : Callee) (label : Label) (this : Val) (args : List Val) {E D : Enters} → Alike E D
+      → On Val (scope kind.Call label (λ depth. entered functions callee label this args E depth) >>= λ c. ret (answer c)) (scope kind.Call label (λ depth. entered functions callee label this args D depth) >>= λ c. ret (answer c))
+  in_frame_on functions callee label this args h = bind_longer _ _ (scope_on kind.Call label (λ depth. entered_on functions callee label this args depth h)) (λ c. act _ (ret_steady (answer c)))
+
+  call_by_on : (functions : List FunctionCode) (callee : Callee) (label : Label) (o : ℕ) (this : Val) (args : List Val) {E D : Enters} → Alike E D
+      → On Val (call_by functions callee label o this args E) (call_by functions callee label o this args D)
+  unfolding call_by
+  call_by_on functions not_callable label o this args h = in_frame_on functions not_callable label this args h
+  call_by_on functions empty_callee label o this args h = in_frame_on functions empty_callee label this args h
+  call_by_on functions (of_built_in which) label o this args h = framed_on kind.Native label (h.built_in tt which false _ _ (same_rels (this ∷ called_value label o ∷ args)))
+  call_by_on functions (of_script number f place) label o this args h = in_frame_on functions (of_script number f place) label this args h
+
+  call_aimed_on : (functions : List FunctionCode) (label : Label) (aim : Aim) (this : Val) (args : List Val) {E D : Enters} → Alike E D → On Val (call_aimed functions label aim this args E) (call_aimed functions label aim this args D)
+  unfolding call_aimed
+  call_aimed_on functions label aim this args h = record { on = λ s. (call_by_on functions (callee_at functions s.heap aim.target.function) _ aim.target.function _ _ h).on s }
+
+  call_value_on : (functions : List FunctionCode) (label : Label) (v : Value) (this : Val) (args : List Val) {E D : Enters} → Alike E D → On Val (call_value functions label v this args E) (call_value functions label v this args D)
+  unfolding call_value
+  call_value_on functions label (value.Primitive p) this args h = record { on = λ s. (call_by_on functions not_callable label 0 this args h).on s }
+  call_value_on functions label (value.Object o) this args h = record { on = λ s. (call_aimed_on functions label (aim_of s.heap o.0) this args h).on s }
 
   -- and of a construction
-  constructed_on : (functions : List FunctionCode) (callee : Callee) (v : Val) (vs : List Val) (f g : CallBody) (depth : ℕ) → Bodies f g → On (Unit {0}) (constructed functions callee v vs f depth) (constructed functions callee v vs g depth)
+  constructed_on : (functions : List FunctionCode) (callee : Callee) (label : Label) (o : ℕ) (args : List Val) {E D : Enters} (depth : ℕ) → Alike E D
+      → On (Unit {0}) (constructed functions callee label o args E depth) (constructed functions callee label o args D depth)
   unfolding constructed
-  constructed_on functions not_callable v vs f g depth h = record { on = λ s. (act _ (throws_steady (Unit {0}) _ v.label)).on s }
-  constructed_on functions empty_callee v vs f g depth h = record { on = λ s. (act _ (throws_steady (Unit {0}) _ v.label)).on s }
-  constructed_on functions unbuilt_callee v vs f g depth h = record { on = λ s. ends }
-  constructed_on functions (of_script number code place) v vs f g depth h = record { on = λ s. (entered_on functions (of_script number code place) v.label _ vs f g depth h).on (with_fresh (prototype_of s.heap v.value) s) }
+  constructed_on functions not_callable label o args depth h = record { on = λ s. (act _ (throws_steady (Unit {0}) _ label)).on s }
+  constructed_on functions empty_callee label o args depth h = record { on = λ s. (act _ (throws_steady (Unit {0}) _ label)).on s }
+  constructed_on functions (of_built_in which) label o args depth h = record { on = λ s. (act _ (throws_steady (Unit {0}) _ label)).on s }
+  constructed_on functions (of_script number code place) label o args depth h =
+      record { on = λ s. (entered_on functions (of_script number code place) label _ args depth h).on (with_fresh (prototype_of s.heap o) s) }
 
-  construct_on : (functions : List FunctionCode) (v : Val) (vs : List Val) (f g : CallBody) → Bodies f g → On Val (construct functions v vs f) (construct functions v vs g)
-  construct_on functions v vs f g h = record {
-    on = λ s.
-        (bind_longer _ _ (scope_on kind.Call v.label {n = λ depth t. constructed functions (callee_at functions t.heap v.value) v vs g depth t} (λ depth. record { on = λ t. (constructed_on functions (callee_at functions t.heap v.value) v vs f g depth h).on t })) (λ c. act _ (ret_steady (construction (length s.heap) c)))).on s;
+  built_on : (functions : List FunctionCode) (callee : Callee) (label : Label) (o fresh : ℕ) (args : List Val) {E D : Enters} → Alike E D
+      → On Val (scope kind.Call label (λ depth. constructed functions callee label o args E depth) >>= λ c. ret (construction fresh c)) (scope kind.Call label (λ depth. constructed functions callee label o args D depth) >>= λ c. ret (construction fresh c))
+  built_on functions callee label o fresh args h = bind_longer _ _ (scope_on kind.Call label (λ depth. constructed_on functions callee label o args depth h)) (λ c. act _ (ret_steady (construction fresh c)))
+
+  built_in_on : (set : BuiltIns) (which : ℕ) (label : Label) (o : ℕ) (args : List Val) {E D : Enters} → Alike E D → On Val (construct_built_in set which label o args E) (construct_built_in set which label o args D)
+  unfolding construct_built_in
+  built_in_on set which label o args h = choose_longer (constructs_in set which) (h.built_in tt which true _ _ (same_rels _)) (act _ (throws_steady Val _ label))
+
+  construct_by_on : (set : BuiltIns) (functions : List FunctionCode) (callee : Callee) (label : Label) (o : ℕ) (args : List Val) {E D : Enters} → Alike E D
+      → On Val (construct_by set functions callee label o args E) (construct_by set functions callee label o args D)
+  unfolding construct_by
+  construct_by_on set functions not_callable label o args h = record { on = λ s. (built_on functions not_callable label o (length s.heap) args h).on s }
+  construct_by_on set functions empty_callee label o args h = record { on = λ s. (built_on functions empty_callee label o (length s.heap) args h).on s }
+  construct_by_on set functions (of_built_in which) label o args h = record { on = λ s. (framed_on kind.Native label (built_in_on set which label o args h)).on s }
+  construct_by_on set functions (of_script number code place) label o args h = record { on = λ s. (built_on functions (of_script number code place) label o (length s.heap) args h).on s }
+
+  construct_aimed_on : (set : BuiltIns) (functions : List FunctionCode) (label : Label) (aim : Aim) (args : List Val) {E D : Enters} → Alike E D → On Val (construct_aimed set functions label aim args E) (construct_aimed set functions label aim args D)
+  unfolding construct_aimed
+  construct_aimed_on set functions label aim args h = record { on = λ s. (construct_by_on set functions (callee_at functions s.heap aim.target.function) _ aim.target.function _ h).on s }
+
+  construct_value_on : (set : BuiltIns) (functions : List FunctionCode) (label : Label) (v : Value) (args : List Val) {E D : Enters} → Alike E D → On Val (construct_value set functions label v args E) (construct_value set functions label v args D)
+  unfolding construct_value
+  construct_value_on set functions label (value.Primitive p) args h = record { on = λ s. (construct_by_on set functions not_callable label 0 args h).on s }
+  construct_value_on set functions label (value.Object o) args h = record { on = λ s. (construct_aimed_on set functions label (aim_of s.heap o.0) args h).on s }
+
+  -- ---- getters, setters, and the conversion of objects
+
+  access_on : (functions : List FunctionCode) (a : Access) {E D : Enters} → Alike E D → On Val (entered_access functions E a) (entered_access functions D a)
+  unfolding entered_access
+  access_on functions (has_value v) h = act _ (ret_steady v)
+  access_on functions (has_getter label f this) h = call_value_on functions label (value.Object f) this [] h
+
+  putting_on : (functions : List FunctionCode) (v : Val) (p : Putting) {E D : Enters} → Alike E D → On (Unit {0}) (entered_putting functions E v p) (entered_putting functions D v p)
+  unfolding entered_putting
+  putting_on functions v is_put h = act _ (ret_steady tt)
+  putting_on functions v (has_setter label f this) h = bind_longer _ _ (call_value_on functions label (value.Object f) this (v ∷ []) h) (λ u. act _ (ret_steady tt))
+
+  convert_on : (to : Hint) (label : Label) (v : Val) {E D : Enters} → Alike E D → On Val (convert E to label v) (convert D to label v)
+  unfolding convert
+  convert_on to label v h = framed_on kind.Native label (h.conversion tt to v v refl)
+
+  converted_on : (converts : Bool) (to : Hint) (label : Label) (v given : Val) {E D : Enters} → Alike E D → On Val (converted_by converts E to label v given) (converted_by converts D to label v given)
+  unfolding converted_by
+  converted_on true to label v given h = convert_on to label v h
+  converted_on false to label v given h = act _ (ret_steady given)
+
+  -- ---- `instanceof`
+
+  instance_by_on : (functions : List FunctionCode) (v : Val) (o : Value) (label : Label) (f : ℕ) {E D : Enters} → Alike E D → On Val (instance_by functions v o label f E) (instance_by functions v o label f D)
+  unfolding instance_by
+  instance_by_on functions v (value.Primitive p) label f h = record { on = λ s. goes }
+  instance_by_on functions v (value.Object o) label f h = record {
+    on = λ s. (bind_longer _ _ (bind_longer _ _ (act _ (property_steady _ (called_value label f) (value.Object (id f)) prototype_name)) (λ a. access_on functions a h)) (λ proto. act _ (is_instance_steady _ o.0 proto.value))).on s;
   }
+
+  instance_of_on : (functions : List FunctionCode) (v : Val) (label : Label) (aim : Aim) {E D : Enters} → Alike E D → On Val (instance_of functions v label aim E) (instance_of functions v label aim D)
+  unfolding instance_of
+  instance_of_on functions v label aim h = instance_by_on functions v v.value _ aim.target.function h
+
+  instance_if_on : (functions : List FunctionCode) (is_function : Bool) (v : Val) (label : Label) (f : ℕ) {E D : Enters} → Alike E D → On Val (instance_if functions is_function v label f E) (instance_if functions is_function v label f D)
+  unfolding instance_if
+  instance_if_on functions true v label f h = record { on = λ s. (instance_of_on functions v label (aim_of s.heap f) h).on s }
+  instance_if_on functions false v label f h = record { on = λ s. (act _ (throws_steady Val _ label)).on s }
+
+  instance_on : (functions : List FunctionCode) (v : Val) (label : Label) (f : Value) {E D : Enters} → Alike E D → On Val (instance_value functions v label f E) (instance_value functions v label f D)
+  unfolding instance_value
+  instance_on functions v label (value.Primitive p) h = record { on = λ s. (act _ (throws_steady Val _ label)).on s }
+  instance_on functions v label (value.Object f) h = record { on = λ s. (instance_if_on functions (is_function_in (slice_get s.heap f.0)) v label f.0 h).on s }
 
   -- ---- `try`
 
@@ -135,13 +232,13 @@ module _ (k : ℕ) where
       (scope_on kind.Try bottom (λ depth. bind_longer _ _ (bind_longer _ _ (stay_on depth l) (λ how. react_on handles finishes f g depth how h)) (λ how. finish_on finishes n n' how q)))
       (λ c. act _ (ret_steady tt))
 
-  module _ (tables : Tables) (inputs : Given) (functions : List FunctionCode) where
+  module _ (tables : Tables) (inputs : Given) (set : BuiltIns) (functions : List FunctionCode) where
     -- the labelled meaning
     abbrev A : Ops
-    A = labelled tables inputs functions
+    A = labelled tables inputs set functions
 
     -- the labelled meaning, linked with itself
-    pub lasting : Link (labelled tables inputs functions) (labelled tables inputs functions)
+    pub lasting : Link (labelled tables inputs set functions) (labelled tables inputs set functions)
     lasting = record {
       W = Unit {0};
       Le = λ v w. Unit {0};
@@ -163,20 +260,22 @@ module _ (k : ℕ) where
       ret_value = λ {a = a} r. at_equal ret ret r (act _ (ret_steady a));
       bind = λ t u {w = w} f g l h. bind_longer f g l (λ a. h w tt a a (equal_results Val t w a));
       literal = λ w v. refl;
-      unary = λ o {v = v} r. at_equal (A.unary o) (A.unary o) r (act _ (unary_steady tables inputs functions o v));
+      unary = λ o {v = v} r. at_equal (A.unary o) (A.unary o) r (act _ (unary_steady tables inputs set functions o v));
       binary = λ o {v = v} {u = u} {u' = u'} r q. at_equal (λ x. A.binary o x u) (λ x. A.binary o x u') r
           (at_equal (A.binary o v) (A.binary o v) q (act _ (given_steady (union v.label u.label) (binary_of o v.value u.value))));
-      primitive = λ hint {v = v} r. at_equal (A.primitive hint) (A.primitive hint) r (act _ (unless_steady (is_object v.value) v));
-      comparable = λ {v = v} {u = u} {u' = u'} r q. at_equal (λ x. A.comparable x u) (λ x. A.comparable x u') r
-          (at_equal (A.comparable v) (A.comparable v) q (act _ (unless_steady (converts_beside v.value u.value) v)));
-      direct = λ f {vs = vs} r. at_equal (A.direct f) (A.direct f) (rels_equal r) (act _ (direct_steady tables inputs f vs));
-      unbuilt = λ t w. act _ (ends_steady (Res Val t) (left not_built));
-      act = λ a {vs = vs} r. at_equal (A.act a) (A.act a) (rels_equal r) (act _ (act_steady a vs));
+      primitive = λ to {v = v} {E = E} {D = D} r h. at_equal (λ x. A.primitive to x E) (λ x. A.primitive to x D) r (converted_on (is_object v.value) to v.label v v h);
+      comparable = λ {v = v} {u = u} {u' = u'} {E = E} {D = D} r q h. at_equal (λ x. A.comparable x u E) (λ x. A.comparable x u' D) r
+          (at_equal (λ x. A.comparable v x E) (λ x. A.comparable v x D) q (converted_on (converts_beside v.value u.value) hint.Default (union v.label u.label) v (joined u.label v) h));
+      look = λ {w = w} {v = v} f g r h. at_equal (λ x. A.look x f) (λ x. A.look x g) r (bind_longer _ _ (act _ (raise_steady v.label)) (λ u. record { on = λ s. (h w tt (seen s.heap v.value)).on s }));
+      throw = λ {v = v} r. at_equal A.throw A.throw r (act _ (jump_steady Val bottom _));
+      leave = λ t w name. act _ (ends_steady (Res Val t) (left name));
+      act = λ a {vs = vs} r. at_equal (A.act a) (A.act a) (rels_equal r) (act _ (act_steady tables inputs a vs));
       resolve = λ t {w = w} {i = i} x f g p h. at_equal (λ j. A.resolve t j x f) (λ j. A.resolve t j x g) p (record { on = λ s. (h w tt (resolved s.records s.heap i x) (resolved s.records s.heap i x) refl).on s });
       property = λ r q. ap₂ (λ v u. A.property v u) r q;
-      get_value = λ {n = n} f g r h. at_equal (λ m. A.get_value m f) (λ m. A.get_value m g) r (act _ (value_steady n));
-      typeof_value = λ {n = n} f g r h. at_equal (λ m. A.typeof_value m f) (λ m. A.typeof_value m g) r (act _ (typeof_steady n));
-      put_value = λ {n = n} {v = v} {v' = v'} f g r q h. at_equal (λ m. A.put_value m v f) (λ m. A.put_value m v' g) r (at_equal (λ x. A.put_value n x f) (λ x. A.put_value n x g) q (act _ (put_steady n v)));
+      get_value = λ {n = n} {E = E} {D = D} r h. at_equal (λ x. A.get_value x E) (λ x. A.get_value x D) r (bind_longer _ _ (act _ (accessed_steady n)) (λ a. access_on functions a h));
+      typeof_value = λ {n = n} {E = E} {D = D} r h. at_equal (λ x. A.typeof_value x E) (λ x. A.typeof_value x D) r (bind_longer _ _ (act _ (typeof_steady n)) (λ a. access_on functions a h));
+      put_value = λ {n = n} {v = v} {v' = v'} {E = E} {D = D} r q h. at_equal (λ x. A.put_value x v E) (λ x. A.put_value x v' D) r
+          (at_equal (λ x. A.put_value n x E) (λ x. A.put_value n x D) q (bind_longer _ _ (act _ (put_steady n v)) (λ p. putting_on functions v p h)));
       remove = λ {n = n} r. at_equal A.remove A.remove r (act _ (remove_steady n));
       fork = λ t {w = w} {v = v} {m = m} {n = n} {m' = m'} {n' = n'} r l q. at_equal (λ x. A.fork t x m n) (λ x. A.fork t x m' n') r
           (bind_longer _ _ (scope_on kind.Branch v.label (λ depth. choose_longer (truth v.value) (l w tt) (q w tt))) (λ c. act _ (ret_steady (settled t c))));
@@ -188,22 +287,22 @@ module _ (k : ℕ) where
       jump = λ leaving {e = e} {v = v} {v' = v'} r q. at_equal (λ d. A.jump leaving d v) (λ d. A.jump leaving d v') r (at_equal (A.jump leaving e) (A.jump leaving e) q (act _ (jumps_steady (aimed 0 leaving e) v)));
       raise = λ leaving {e = e} names r. at_equal (λ d. A.raise leaving d names) (λ d. A.raise leaving d names) r (act _ (raised_steady tables inputs leaving (aimed 0 leaving e) (named_origins tables inputs names)));
       this_of = λ r. ap A.this_of r;
-      instance = λ {v = v} {f = f} {f' = f'} m n r q h. at_equal (λ x. A.instance x f m) (λ x. A.instance x f' n) r (at_equal (λ x. A.instance v x m) (λ x. A.instance v x n) q (act _ (record { steady = λ n s. (instance_steady (is_function_at s.heap f.value) v f).steady n s })));
+      instance = λ {v = v} {f = f} {f' = f'} {E = E} {D = D} r q h. at_equal (λ x. A.instance x f E) (λ x. A.instance x f' D) r (at_equal (λ x. A.instance v x E) (λ x. A.instance v x D) q (instance_on functions v f.label f.value h));
       declare = λ {w = w} name {v = v} {v' = v'} {e = e} {d = d} f g r q h. at_equal (λ x. A.declare name x e f) (λ x. A.declare name x d g) r (at_equal (λ d. A.declare name v d f) (λ d. A.declare name v d g) q
           (record { on = λ s. (h w tt (with_place (length s.records) e) (with_place (length s.records) e) refl).on (with_name e.place name v s) }));
-      call = λ {f = f} {this = b} {f' = f'} {this' = b'} {vs = vs} {us = us} m n r q rs h. at_equal (λ x. A.call x b vs m) (λ x. A.call x b' us n) r (at_equal (λ x. A.call f x vs m) (λ x. A.call f x us n) q (at_equal (λ xs. A.call f b xs m) (λ xs. A.call f b xs n) (rels_equal rs)
-          (call_on functions f b vs m n (λ ss e. h tt ss e e refl))));
-      construct = λ {f = f} {vs = vs} {us = us} m n r rs h. at_equal (λ x. A.construct x vs m) (λ x. A.construct x us n) r (at_equal (λ xs. A.construct f xs m) (λ xs. A.construct f xs n) (rels_equal rs)
-          (construct_on functions f vs m n (λ ss e. h tt ss e e refl)));
+      call = λ {f = f} {this = b} {f' = f'} {this' = b'} {vs = vs} {us = us} {E = E} {D = D} r q rs h. at_equal (λ x. A.call x b vs E) (λ x. A.call x b' us D) r (at_equal (λ x. A.call f x vs E) (λ x. A.call f x us D) q
+          (at_equal (λ xs. A.call f b xs E) (λ xs. A.call f b xs D) (rels_equal rs) (call_value_on functions f.label f.value b vs h)));
+      construct = λ {f = f} {f' = f'} {vs = vs} {us = us} {E = E} {D = D} r rs h. at_equal (λ x. A.construct x vs E) (λ x. A.construct x us D) r
+          (at_equal (λ xs. A.construct f xs E) (λ xs. A.construct f xs D) (rels_equal rs) (construct_value_on set functions f.label f.value vs h));
       attempt = λ {w = w} handles finishes f g l h q. attempt_on handles finishes f g (l w tt) (λ v. h w tt v v refl) (q w tt);
       keys = λ {w = w} {v = v} f g r h. at_equal (λ x. A.keys x f) (λ x. A.keys x g) r (record { on = λ s. (list_on (key_list s.heap v.value) v.label f g (λ keys. h w tt keys)).on s });
     }
 
     -- a program, to a depth and a larger one
-    program_lasts : (may : Bool) (program : Statements) (n m : ℕ) → n ≤ m → (e : Env ℕ) (s : State) → Lasts (Unit {0}) (program_step (timed tables inputs functions) n may program e s) (program_step (timed tables inputs functions) m may program e (more_turns_in k s))
+    program_lasts : (may : Bool) (program : Statements) (n m : ℕ) → n ≤ m → (e : Env ℕ) (s : State) → Lasts (Unit {0}) (program_step (timed tables inputs set functions) set n may program e s) (program_step (timed tables inputs set functions) set m may program e (more_turns_in k s))
     unfolding lasting
     program_lasts may program n m le e s =
-        (program_longer (timed tables inputs functions) (timed tables inputs functions) lasting (λ w. record { on = λ s. spend_on s.turns s }) (λ t w x. record { on = λ s. wants }) n m le may program {w = tt} {e = e} {d = e} refl).on s
+        (program_longer (timed tables inputs set functions) (timed tables inputs set functions) lasting (λ w. record { on = λ s. spend_on s.turns s }) set (λ t w x. record { on = λ s. wants }) n m le may program {w = tt} {e = e} {d = e} refl).on s
 
   -- what a run prints and how it ends
   run_lasts : (o p : Outcome Halt Jump (Unit {0}) State) → Lasts (Unit {0}) o p → ((run_of o).ending ≡ halted (as_plain out_of_turns) → ⊥) → run_of p ≡ run_of o
@@ -213,11 +312,12 @@ module _ (k : ℕ) where
   run_lasts _ _ ends out = refl
 
   -- with k more turns
-  lasts : (tables : Tables) (inputs : Given) (program : Statements) (few : ℕ) → ((tracked_run tables inputs program few).ending ≡ halted (as_plain out_of_turns) → ⊥)
-      → tracked_run tables inputs program (beyond k few) ≡ tracked_run tables inputs program few
+  lasts : (set : BuiltIns) (tables : Tables) (inputs : Given) (program : Statements) (few : ℕ) → ((tracked_run set tables inputs program few).ending ≡ halted (as_plain out_of_turns) → ⊥)
+      → tracked_run set tables inputs program (beyond k few) ≡ tracked_run set tables inputs program few
   unfolding tracked_run
-  lasts tables inputs program few out = run_lasts _ _ (program_lasts tables inputs (functions_of program) (may_declare program) program few (beyond k few) (few_beyond k few) (outermost_env 0) (start tables inputs program few)) out
+  lasts set tables inputs program few out =
+      run_lasts _ _ (program_lasts tables inputs set (functions_of program) (may_declare set program) program few (beyond k few) (few_beyond k few) (outermost_env 0) (start tables inputs set program few)) out
 
 -- more turns change no run that ends otherwise
 pub more_turns : MoreTurns
-more_turns tables inputs program few many le out = subst (λ n. tracked_run tables inputs program n ≡ tracked_run tables inputs program few) (beyond_few few many le) (lasts (many - few) tables inputs program few out)
+more_turns set tables inputs program few many le out = subst (λ n. tracked_run set tables inputs program n ≡ tracked_run set tables inputs program few) (beyond_few few many le) (lasts (many - few) set tables inputs program few out)

@@ -1,28 +1,38 @@
 -- Performing the plan of a part is the labelled step of the part.
-use Rattle.std.proofs.Common.{◌≡◌, ℕ, List, Option, Some, None, Bool, true, false, length, nat_lt, ◌&&◌, refl, ◌∙◌, ap, ap₂, subst}
+use Rattle.std.proofs.Common.{◌≡◌, ℕ, List, [], ◌∷◌, Option, Some, None, Bool, true, false, length, slice_get, nat_lt, ◌&&◌, refl, ◌∙◌, ap, ap₂, subst}
 use Rattle.origin_labels.specs.Label.{Label, bottom, union}
 use Rattle.flow_policy.specs.Policies.{Tables}
 use Rattle.flow_policy.specs.Inputs.{Given}
 use Rattle.flow_frames.specs.declared.kind.Kind.{Kind}
 use Rattle.flow_frames.specs.declared.kind.Kind.TheVariants as kind
+use Rattle.js_values.specs.declared.value.Value.{Value as AnyValue}
+use Rattle.js_values.specs.declared.value.Value.TheVariants as value
 use Rattle.js_ast.specs.Trees.{body_of, Statements}
 use Rattle.js_ast.specs.Functions.{FunctionCode}
-use Rattle.es_meaning.specs.Outcomes.{left, Outcome, Goes, Jumps, Ends, ret, and_then, ◌>>=◌}
-use Rattle.es_meaning.specs.Environments.{Env, with_around, with_place, called_env, aimed}
-use Rattle.es_meaning.specs.Functions.{Callee, not_callable, empty_callee, of_script, unbuilt_callee}
-use Rattle.es_meaning.specs.Start.{type_error}
-use Rattle.es_meaning.specs.Operations.{Ty, One, Value, Res, Ops, Visit, Rec}
-use Rattle.es_meaning.specs.Operators.{is_object, truth, converts_beside, binary_of, not_built}
-use Rattle.es_meaning.specs.Evaluation.{step, begun}
-use Rattle.es_meaning.specs.Plain.{choose, is_throw, may_declare, outermost_env}
+use Rattle.native_protocol.specs.declared.hint.Hint.{Hint}
+use Rattle.native_protocol.specs.declared.hint.Hint.TheVariants as hint
+use Rattle.native_protocol.specs.declared.request.ErrorKind.TheVariants as kinds
 use Rattle.prototype_walk.specs.KeyLists.{Keys}
-use Rattle.es_meaning.proofs.Link.{Visits, visits_of, Link, Linked, step_linked, begun_linked}
-use Rattle.es_meaning.proofs.Longer.{equal_results, rels_equal}
-use Rattle.flow_meaning.specs.Scopes.{Val, Halt, State, Jump, L, cut_to, pushed_on, Came, ended, caught, Left, popped, stay, scope, settled, answer, construction, quiet, react, resume, finish, tried, round_kind, raise}
+use Rattle.es_meaning.specs.BuiltIns.{BuiltIns}
+use Rattle.es_meaning.specs.Holders.{constructs_in}
+use Rattle.es_meaning.specs.Outcomes.{left, Outcome, Goes, Jumps, Ends, ret, and_then, ◌>>=◌}
+use Rattle.es_meaning.specs.Environments.{Env, with_around, with_place, aimed}
+use Rattle.es_meaning.specs.Functions.{Callee, not_callable, empty_callee, of_script, of_built_in}
+use Rattle.es_meaning.specs.Operations.{Ty, One, Value, Res, Ops, Visit, Rec}
+use Rattle.es_meaning.specs.Operators.{is_object, truth, converts_beside, binary_of}
+use Rattle.es_meaning.specs.Evaluation.{step, begun}
+use Rattle.es_meaning.specs.Start.{id}
+use Rattle.es_meaning.specs.Plain.{undefined, choose, is_throw, may_declare, outermost_env, prototype_name}
+use Rattle.es_meaning.proofs.Link.{EnteringLinked, Visits, visits_of, Link, Linked}
+use Rattle.es_meaning.proofs.RequestLinks.{step_linked, begun_linked}
+use Rattle.es_meaning.proofs.Longer.{equal_results, rels_equal, same_rels}
+use Rattle.flow_meaning.specs.Erased.{unlabelled}
+use Rattle.flow_meaning.specs.Requested.{Aim, aim_of, is_function_in}
+use Rattle.flow_meaning.specs.Scopes.{Val, joined, Halt, State, Jump, L, cut_to, pushed_on, Came, ended, caught, Left, popped, stay, scope, settled, settled_value, answer, construction, quiet, react, resume, finish, tried, round_kind, raise}
 use Rattle.flow_meaning.specs.Tracked as tracked
-use Rattle.flow_meaning.specs.Tracked.{throw_error, CallBody, with_call, callee_at, with_fresh, prototype_of, is_function_at, with_name, named_origins, resolved, key_list, labelled}
-use Rattle.flow_meaning.specs.Planned.{Part, an_expr, a_use, a_stmt, a_named, a_turn, a_visit, Completion, gave, jumped, Plan, Give, Ask, End, Then, and_plan, with_result, as_plan, outcome_of, end_branch, end_round, end_call, end_construction, as_stayed, with_stay, end_last, do_last, end_handler, do_handle, do_react, end_block, PlannedBody, enter_call, enter_construction, with_list, planned, asking, plan, program_plan, Ran, Evaluator, untyped, and_go, completed, perform, of_rec}
-use Rattle.flow_meaning.proofs.Steady.{Steady, Holds, holds, ret_steady, ends_steady, given_steady, unless_steady, raise_steady, unary_steady, value_steady, typeof_steady, put_steady, remove_steady, act_steady, direct_steady, throws_steady, function_steady, instance_steady, jumps_steady, raised_steady, quiet_steady, resume_steady}
+use Rattle.flow_meaning.specs.Tracked.{throw_error, seen, Access, has_value, has_getter, accessed, accessed_for_typeof, property_of, Putting, is_put, has_setter, put_value, with_call, callee_at, called_value, with_fresh, prototype_of, is_instance, with_name, named_origins, resolved, key_list, labelled}
+use Rattle.flow_meaning.specs.Planned.{Part, an_expr, a_use, a_stmt, a_named, a_turn, a_visit, a_request, Completion, gave, jumped, Plan, Give, Ask, End, Then, and_plan, with_result, as_plan, outcome_of, end_branch, end_round, end_call, end_construction, as_stayed, with_stay, end_last, do_last, end_handler, do_handle, do_react, end_block, Enters, in_frame, enter_call, call_by, call_aimed, call_value, enter_construction, construct_built_in, construct_by, construct_aimed, construct_value, with_outcome, enter_access, end_setter, enter_putting, convert_by, end_instance, instance_by, instance_if, instance_value, with_list, planned, asking, plan, program_plan, Ran, Evaluator, untyped, and_go, completed, perform, of_rec}
+use Rattle.flow_meaning.proofs.Steady.{Steady, Holds, holds, ret_steady, ends_steady, given_steady, raise_steady, unary_steady, accessed_steady, typeof_steady, put_steady, property_steady, is_instance_steady, remove_steady, act_steady, throws_steady, function_steady, jump_steady, jumps_steady, raised_steady, quiet_steady, resume_steady}
 
 -- ---- no part of a plan but what it asks for changes the turns
 
@@ -107,18 +117,18 @@ pub perform_asked : (e : Evaluator) (part : Part) (s : State) → perform e (Ask
 unfolding perform
 perform_asked e part s = and_give e (e part s)
 
-module _ (tables : Tables) (inputs : Given) (functions : List FunctionCode) (Q : Rec (labelled tables inputs functions)) where
+module _ (tables : Tables) (inputs : Given) (set : BuiltIns) (functions : List FunctionCode) (Q : Rec (labelled tables inputs set functions)) where
   -- the meaning of the parts
   abbrev evaluator : Evaluator
-  evaluator = of_rec tables inputs functions Q
+  evaluator = of_rec tables inputs set functions Q
 
   -- the plans
   abbrev A : Ops
-  A = planned tables inputs functions
+  A = planned tables inputs set functions
 
   -- the labelled meaning
   abbrev B : Ops
-  B = labelled tables inputs functions
+  B = labelled tables inputs set functions
 
   -- a plan that does what a computation does
   pub record Lift (t : Ty) (m : State → Plan) (n : L (Res Val t)) : Type 0 where
@@ -199,52 +209,166 @@ module _ (tables : Tables) (inputs : Given) (functions : List FunctionCode) (Q :
   unfolding end_round
   round_performed turn labels e {m} {n} l = scope_performed One One (round_kind turn) bottom (λ c. tt) {m = λ depth. m (with_around turn labels depth e)} {n = λ depth. n (with_around turn labels depth e)} (λ depth. l (with_around turn labels depth e))
 
+  -- a value that is given in a frame of its own
+  framed : (kind : Kind) (label : Label) {m : State → Plan} {n : L Val} → Lift Value m n → Lift Value (in_frame kind label m) (scope kind label (λ depth. n) >>= λ c. ret (settled_value c))
+  unfolding end_branch
+  framed kind label {m} {n} l = scope_performed Value Value kind label (settled Value) {m = λ depth. m} {n = λ depth. n} (λ depth. l)
+
+  -- ---- what a read or a put comes to, and what is done behind it
+
+  after_outcome : {X : Type 0} (t : Ty) (f : X → State → Plan) (g : X → L (Res Val t)) → ((x : X) → Lift t (f x) (g x)) → (o : Outcome Halt Jump X State) → perform evaluator (with_outcome o f) ≡ untyped t (and_then o g)
+  unfolding perform completed
+  after_outcome t f g h (Goes x s) = (h x).same s
+  after_outcome t f g h (Jumps j s) = refl
+  after_outcome t f g h (Ends halt s) = refl
+
+  keeps_outcome : {X : Type 0} (n : ℕ) (f : X → State → Plan) → ((x : X) (s : State) → Keeps s.turns (f x s)) → (o : Outcome Halt Jump X State) → Holds n o → Keeps n (with_outcome o f)
+  keeps_outcome n f h (Goes x s) e = subst (λ m. Keeps m (f x s)) e (h x s)
+  keeps_outcome n f h (Jumps j s) e = e
+  keeps_outcome n f h (Ends halt s) e = tt
+
+  outcome_performed : {X : Type 0} (t : Ty) (m : L X) (f : X → State → Plan) (g : X → L (Res Val t)) → Steady m → ((x : X) → Lift t (f x) (g x)) → Lift t (λ s. with_outcome (m s) f) (m >>= g)
+  outcome_performed t m f g l h = record { same = λ s. after_outcome t f g h (m s); keeps = λ s. keeps_outcome s.turns f (λ x s. (h x).keeps s) (m s) (holds m l s) }
+
   -- ---- calls
 
-  -- computations on a body, from each environment
-  abbrev Bodies : PlannedBody → CallBody → Type 0
-  Bodies f g = (ss : Statements) (e : Env ℕ) → Lift One (f ss e) (g ss e)
+  -- what is called is entered alike
+  abbrev Alike : Enters → tracked.Enters → Type 0
+  Alike E D = EnteringLinked (Unit {0}) (λ w v u. v ≡ u) (λ w e d. e ≡ d) (λ t w m n. Lift t m n) E D
+
+  -- the engine throws
+  throws : (t : Ty) (label : Label) → Lift t (λ s. as_plan t (throw_error kinds.TypeError label s)) (throw_error kinds.TypeError label)
+  throws t label = act t (throw_error kinds.TypeError label) (throws_steady (Res Val t) kinds.TypeError label)
 
   -- in the frame of a call
-  entered_performed : (callee : Callee) (label : Label) (base : Val) (vs : List Val) (f : PlannedBody) (g : CallBody) (depth : ℕ) → Bodies f g
-      → Lift One (enter_call functions callee label base vs f depth) (tracked.entered functions callee label base vs g depth)
+  entered_performed : (callee : Callee) (label : Label) (this : Val) (args : List Val) {E : Enters} {D : tracked.Enters} (depth : ℕ) → Alike E D
+      → Lift One (enter_call functions callee label this args E depth) (tracked.entered functions callee label this args D depth)
   unfolding enter_call tracked.entered with_call perform completed
-  entered_performed not_callable label base vs f g depth h = act One (throw_error type_error label) (throws_steady (Unit {0}) type_error label)
-  entered_performed empty_callee label base vs f g depth h = record { same = λ s. refl; keeps = λ s. refl }
-  entered_performed unbuilt_callee label base vs f g depth h = record { same = λ s. refl; keeps = λ s. tt }
-  entered_performed (of_script number code place) label base vs f g depth h = record {
-    same = λ s. (h (body_of code) (called_env (length s.records) depth)).same (with_call functions number code place base vs s);
-    keeps = λ s. (h (body_of code) (called_env (length s.records) depth)).keeps (with_call functions number code place base vs s);
+  entered_performed not_callable label this args depth h = record { same = λ s. (throws One label).same s; keeps = λ s. (throws One label).keeps s }
+  entered_performed empty_callee label this args depth h = record { same = λ s. refl; keeps = λ s. refl }
+  entered_performed (of_built_in which) label this args depth h = record { same = λ s. (throws One label).same s; keeps = λ s. (throws One label).keeps s }
+  entered_performed (of_script number f place) label this args depth h = record {
+    same = λ s. (h.body tt (body_of f) _ _ refl).same (with_call functions number f place this args s);
+    keeps = λ s. (h.body tt (body_of f) _ _ refl).keeps (with_call functions number f place this args s);
   }
 
-  call_performed : (v base : Val) (vs : List Val) (f : PlannedBody) (g : CallBody) → Bodies f g → Lift Value (A.call v base vs f) (B.call v base vs g)
+  called_performed : (callee : Callee) (label : Label) (this : Val) (args : List Val) {E : Enters} {D : tracked.Enters} → Alike E D
+      → Lift Value (λ s. and_plan (enter_call functions callee label this args E (length s.frames) (pushed_on kind.Call label s)) (end_call (length s.frames)))
+      (scope kind.Call label (λ depth. tracked.entered functions callee label this args D depth) >>= λ c. ret (answer c))
   unfolding end_call
-  call_performed v base vs f g h = scope_performed One Value kind.Call v.label answer
-      {m = λ depth s. enter_call functions (callee_at functions s.heap v.value) v.label base vs f depth s} {n = λ depth s. tracked.entered functions (callee_at functions s.heap v.value) v.label base vs g depth s}
-      (λ depth. record { same = λ s. (entered_performed (callee_at functions s.heap v.value) v.label base vs f g depth h).same s; keeps = λ s. (entered_performed (callee_at functions s.heap v.value) v.label base vs f g depth h).keeps s })
+  called_performed callee label this args {E} {D} h = scope_performed One Value kind.Call label answer
+      {m = λ depth. enter_call functions callee label this args E depth} {n = λ depth. tracked.entered functions callee label this args D depth} (λ depth. entered_performed callee label this args depth h)
+
+  call_by_performed : (callee : Callee) (label : Label) (o : ℕ) (this : Val) (args : List Val) {E : Enters} {D : tracked.Enters} → Alike E D
+      → Lift Value (call_by functions callee label o this args E) (tracked.call_by functions callee label o this args D)
+  unfolding call_by tracked.call_by
+  call_by_performed not_callable label o this args h = let l = called_performed not_callable label this args h in record { same = λ s. l.same s; keeps = λ s. l.keeps s }
+  call_by_performed empty_callee label o this args h = let l = called_performed empty_callee label this args h in record { same = λ s. l.same s; keeps = λ s. l.keeps s }
+  call_by_performed (of_built_in which) label o this args h = let l = framed kind.Native label (h.built_in tt which false _ _ (same_rels (this ∷ called_value label o ∷ args))) in record { same = λ s. l.same s; keeps = λ s. l.keeps s }
+  call_by_performed (of_script number f place) label o this args h = let l = called_performed (of_script number f place) label this args h in record { same = λ s. l.same s; keeps = λ s. l.keeps s }
+
+  call_aimed_performed : (label : Label) (aim : Aim) (this : Val) (args : List Val) {E : Enters} {D : tracked.Enters} → Alike E D → Lift Value (call_aimed functions label aim this args E) (tracked.call_aimed functions label aim this args D)
+  unfolding call_aimed tracked.call_aimed
+  call_aimed_performed label aim this args h = record {
+    same = λ s. (call_by_performed (callee_at functions s.heap aim.target.function) _ aim.target.function _ _ h).same s;
+    keeps = λ s. (call_by_performed (callee_at functions s.heap aim.target.function) _ aim.target.function _ _ h).keeps s;
+  }
+
+  call_performed : (label : Label) (v : AnyValue) (this : Val) (args : List Val) {E : Enters} {D : tracked.Enters} → Alike E D → Lift Value (call_value functions label v this args E) (tracked.call_value functions label v this args D)
+  unfolding call_value tracked.call_value
+  call_performed label (value.Primitive p) this args h = let l = call_by_performed not_callable label 0 this args h in record { same = λ s. l.same s; keeps = λ s. l.keeps s }
+  call_performed label (value.Object o) this args h = record { same = λ s. (call_aimed_performed label (aim_of s.heap o.0) this args h).same s; keeps = λ s. (call_aimed_performed label (aim_of s.heap o.0) this args h).keeps s }
 
   -- and of a construction
-  constructed_performed : (callee : Callee) (v : Val) (vs : List Val) (f : PlannedBody) (g : CallBody) (depth : ℕ) → Bodies f g
-      → Lift One (enter_construction functions callee v vs f depth) (tracked.constructed functions callee v vs g depth)
-  unfolding enter_construction tracked.constructed perform completed
-  constructed_performed not_callable v vs f g depth h = act One (throw_error type_error v.label) (throws_steady (Unit {0}) type_error v.label)
-  constructed_performed empty_callee v vs f g depth h = act One (throw_error type_error v.label) (throws_steady (Unit {0}) type_error v.label)
-  constructed_performed unbuilt_callee v vs f g depth h = record { same = λ s. refl; keeps = λ s. tt }
-  constructed_performed (of_script number code place) v vs f g depth h = record {
-    same = λ s. (entered_performed (of_script number code place) v.label _ vs f g depth h).same (with_fresh (prototype_of s.heap v.value) s);
-    keeps = λ s. (entered_performed (of_script number code place) v.label _ vs f g depth h).keeps (with_fresh (prototype_of s.heap v.value) s);
+  constructed_performed : (callee : Callee) (label : Label) (o : ℕ) (args : List Val) {E : Enters} {D : tracked.Enters} (depth : ℕ) → Alike E D
+      → Lift One (enter_construction functions callee label o args E depth) (tracked.constructed functions callee label o args D depth)
+  unfolding enter_construction tracked.constructed
+  constructed_performed not_callable label o args depth h = record { same = λ s. (throws One label).same s; keeps = λ s. (throws One label).keeps s }
+  constructed_performed empty_callee label o args depth h = record { same = λ s. (throws One label).same s; keeps = λ s. (throws One label).keeps s }
+  constructed_performed (of_built_in which) label o args depth h = record { same = λ s. (throws One label).same s; keeps = λ s. (throws One label).keeps s }
+  constructed_performed (of_script number code place) label o args depth h = record {
+    same = λ s. (entered_performed (of_script number code place) label _ args depth h).same (with_fresh (prototype_of s.heap o) s);
+    keeps = λ s. (entered_performed (of_script number code place) label _ args depth h).keeps (with_fresh (prototype_of s.heap o) s);
   }
 
-  construct_at : (fresh : ℕ) (v : Val) (vs : List Val) (f : PlannedBody) (g : CallBody) → Bodies f g
-      → Lift Value (λ s. and_plan (enter_construction functions (callee_at functions s.heap v.value) v vs f (length s.frames) (pushed_on kind.Call v.label s)) (end_construction fresh (length s.frames)))
-      (scope kind.Call v.label (λ depth s. tracked.constructed functions (callee_at functions s.heap v.value) v vs g depth s) >>= λ l. ret (construction fresh l))
+  built_performed : (fresh : ℕ) (callee : Callee) (label : Label) (o : ℕ) (args : List Val) {E : Enters} {D : tracked.Enters} → Alike E D
+      → Lift Value (λ s. and_plan (enter_construction functions callee label o args E (length s.frames) (pushed_on kind.Call label s)) (end_construction fresh (length s.frames)))
+      (scope kind.Call label (λ depth. tracked.constructed functions callee label o args D depth) >>= λ c. ret (construction fresh c))
   unfolding end_construction
-  construct_at fresh v vs f g h = scope_performed One Value kind.Call v.label (construction fresh)
-      {m = λ depth s. enter_construction functions (callee_at functions s.heap v.value) v vs f depth s} {n = λ depth s. tracked.constructed functions (callee_at functions s.heap v.value) v vs g depth s}
-      (λ depth. record { same = λ s. (constructed_performed (callee_at functions s.heap v.value) v vs f g depth h).same s; keeps = λ s. (constructed_performed (callee_at functions s.heap v.value) v vs f g depth h).keeps s })
+  built_performed fresh callee label o args {E} {D} h = scope_performed One Value kind.Call label (construction fresh)
+      {m = λ depth. enter_construction functions callee label o args E depth} {n = λ depth. tracked.constructed functions callee label o args D depth} (λ depth. constructed_performed callee label o args depth h)
 
-  construct_performed : (v : Val) (vs : List Val) (f : PlannedBody) (g : CallBody) → Bodies f g → Lift Value (A.construct v vs f) (B.construct v vs g)
-  construct_performed v vs f g h = record { same = λ s. (construct_at (length s.heap) v vs f g h).same s; keeps = λ s. (construct_at (length s.heap) v vs f g h).keeps s }
+  built_in_performed : (which : ℕ) (label : Label) (o : ℕ) (args : List Val) {E : Enters} {D : tracked.Enters} → Alike E D → Lift Value (construct_built_in set which label o args E) (tracked.construct_built_in set which label o args D)
+  unfolding construct_built_in tracked.construct_built_in
+  built_in_performed which label o args h = choose_performed (constructs_in set which) (h.built_in tt which true _ _ (same_rels (unlabelled undefined ∷ called_value label o ∷ args))) (throws Value label)
+
+  construct_by_performed : (callee : Callee) (label : Label) (o : ℕ) (args : List Val) {E : Enters} {D : tracked.Enters} → Alike E D
+      → Lift Value (construct_by set functions callee label o args E) (tracked.construct_by set functions callee label o args D)
+  unfolding construct_by tracked.construct_by
+  construct_by_performed not_callable label o args h = record { same = λ s. (built_performed (length s.heap) not_callable label o args h).same s; keeps = λ s. (built_performed (length s.heap) not_callable label o args h).keeps s }
+  construct_by_performed empty_callee label o args h = record { same = λ s. (built_performed (length s.heap) empty_callee label o args h).same s; keeps = λ s. (built_performed (length s.heap) empty_callee label o args h).keeps s }
+  construct_by_performed (of_built_in which) label o args h = let l = framed kind.Native label (built_in_performed which label o args h) in record { same = λ s. l.same s; keeps = λ s. l.keeps s }
+  construct_by_performed (of_script number code place) label o args h = record {
+    same = λ s. (built_performed (length s.heap) (of_script number code place) label o args h).same s;
+    keeps = λ s. (built_performed (length s.heap) (of_script number code place) label o args h).keeps s;
+  }
+
+  construct_aimed_performed : (label : Label) (aim : Aim) (args : List Val) {E : Enters} {D : tracked.Enters} → Alike E D → Lift Value (construct_aimed set functions label aim args E) (tracked.construct_aimed set functions label aim args D)
+  unfolding construct_aimed tracked.construct_aimed
+  construct_aimed_performed label aim args h = record {
+    same = λ s. (construct_by_performed (callee_at functions s.heap aim.target.function) _ aim.target.function _ h).same s;
+    keeps = λ s. (construct_by_performed (callee_at functions s.heap aim.target.function) _ aim.target.function _ h).keeps s;
+  }
+
+  construct_performed : (label : Label) (v : AnyValue) (args : List Val) {E : Enters} {D : tracked.Enters} → Alike E D → Lift Value (construct_value set functions label v args E) (tracked.construct_value set functions label v args D)
+  unfolding construct_value tracked.construct_value
+  construct_performed label (value.Primitive p) args h = let l = construct_by_performed not_callable label 0 args h in record { same = λ s. l.same s; keeps = λ s. l.keeps s }
+  construct_performed label (value.Object o) args h = record { same = λ s. (construct_aimed_performed label (aim_of s.heap o.0) args h).same s; keeps = λ s. (construct_aimed_performed label (aim_of s.heap o.0) args h).keeps s }
+
+  -- ---- getters, setters, and the conversion of objects
+
+  access_performed : (a : Access) {E : Enters} {D : tracked.Enters} → Alike E D → Lift Value (enter_access functions E a) (tracked.entered_access functions D a)
+  unfolding enter_access tracked.entered_access
+  access_performed (has_value v) h = let l = act Value (ret v) (ret_steady v) in record { same = λ s. l.same s; keeps = λ s. l.keeps s }
+  access_performed (has_getter label f this) h = let l = call_performed label (value.Object f) this [] h in record { same = λ s. l.same s; keeps = λ s. l.keeps s }
+
+  putting_performed : (v : Val) (p : Putting) {E : Enters} {D : tracked.Enters} → Alike E D → Lift One (enter_putting functions E v p) (tracked.entered_putting functions D v p)
+  unfolding enter_putting tracked.entered_putting end_setter
+  putting_performed v is_put h = let l = act One (ret tt) (ret_steady tt) in record { same = λ s. l.same s; keeps = λ s. l.keeps s }
+  putting_performed v (has_setter label f this) h =
+      let l = bind_performed Value One (λ u s. Give (gave (unlabelled undefined)) s) (λ u. ret tt) (call_performed label (value.Object f) this (v ∷ []) h) (λ u. act One (ret tt) (ret_steady tt)) in record { same = λ s. l.same s; keeps = λ s. l.keeps s }
+
+  converted_performed : (converts : Bool) (to : Hint) (label : Label) (v given : Val) {E : Enters} {D : tracked.Enters} → Alike E D → Lift Value (convert_by converts E to label v given) (tracked.converted_by converts D to label v given)
+  unfolding convert_by tracked.converted_by tracked.convert
+  converted_performed true to label v given h = let l = framed kind.Native label (h.conversion tt to v v refl) in record { same = λ s. l.same s; keeps = λ s. l.keeps s }
+  converted_performed false to label v given h = let l = act Value (ret given) (ret_steady given) in record { same = λ s. l.same s; keeps = λ s. l.keeps s }
+
+  -- ---- `instanceof`
+
+  instance_by_performed : (v : Val) (o : AnyValue) (label : Label) (f : ℕ) {E : Enters} {D : tracked.Enters} → Alike E D → Lift Value (instance_by functions v o label f E) (tracked.instance_by functions v o label f D)
+  unfolding instance_by tracked.instance_by end_instance perform completed
+  instance_by_performed v (value.Primitive p) label f h = record { same = λ s. refl; keeps = λ s. refl }
+  instance_by_performed v (value.Object o) label f {E} {D} h =
+      let l = bind_performed Value Value (λ proto s. as_plan Value (is_instance (union (union v.label label) proto.label) o.0 proto.value s)) (λ proto. is_instance (union (union v.label label) proto.label) o.0 proto.value)
+      (outcome_performed Value (property_of (union v.label label) (called_value label f) (value.Object (id f)) prototype_name) (enter_access functions E) (tracked.entered_access functions D) (property_steady _ _ _ _) (λ a. access_performed a h))
+      (λ proto. act Value (is_instance (union (union v.label label) proto.label) o.0 proto.value) (is_instance_steady _ o.0 proto.value)) in
+      record { same = λ s. l.same s; keeps = λ s. l.keeps s }
+
+  instance_if_performed : (is_function : Bool) (v : Val) (label : Label) (f : ℕ) {E : Enters} {D : tracked.Enters} → Alike E D → Lift Value (instance_if functions is_function v label f E) (tracked.instance_if functions is_function v label f D)
+  unfolding instance_if tracked.instance_if tracked.instance_of
+  instance_if_performed true v label f h = record {
+    same = λ s. let aim = aim_of s.heap f in (instance_by_performed v v.value (union label aim.label) aim.target.function h).same s;
+    keeps = λ s. let aim = aim_of s.heap f in (instance_by_performed v v.value (union label aim.label) aim.target.function h).keeps s;
+  }
+  instance_if_performed false v label f h = record { same = λ s. (throws Value label).same s; keeps = λ s. (throws Value label).keeps s }
+
+  instance_performed : (v : Val) (label : Label) (f : AnyValue) {E : Enters} {D : tracked.Enters} → Alike E D → Lift Value (instance_value functions v label f E) (tracked.instance_value functions v label f D)
+  unfolding instance_value tracked.instance_value
+  instance_performed v label (value.Primitive p) h = record { same = λ s. (throws Value label).same s; keeps = λ s. (throws Value label).keeps s }
+  instance_performed v label (value.Object f) h = record {
+    same = λ s. (instance_if_performed (is_function_in (slice_get s.heap f.0)) v label f.0 h).same s;
+    keeps = λ s. (instance_if_performed (is_function_in (slice_get s.heap f.0)) v label f.0 h).keeps s;
+  }
 
   -- ---- `try`
 
@@ -335,7 +459,7 @@ module _ (tables : Tables) (inputs : Given) (functions : List FunctionCode) (Q :
       record { same = λ s. l.same s; keeps = λ s. l.keeps s }
 
   -- the plans and the labelled meaning, linked
-  pub performed : Link (planned tables inputs functions) (labelled tables inputs functions)
+  pub performed : Link (planned tables inputs set functions) (labelled tables inputs set functions)
   performed = record {
     W = Unit {0};
     Le = λ v w. Unit {0};
@@ -357,22 +481,28 @@ module _ (tables : Tables) (inputs : Given) (functions : List FunctionCode) (Q :
     ret_value = λ {a = a} r. at_equal (A.ret Value a) (B.ret Value) r (act Value (ret a) (ret_steady a));
     bind = λ t u {w = w} f g l h. bind_performed t u f g l (λ a. h w tt a a (equal_results Val t w a));
     literal = λ w v. refl;
-    unary = λ o {v = v} r. at_equal (A.unary o v) (B.unary o) r (act Value (B.unary o v) (unary_steady tables inputs functions o v));
+    unary = λ o {v = v} r. at_equal (A.unary o v) (B.unary o) r (act Value (B.unary o v) (unary_steady tables inputs set functions o v));
     binary = λ o {v = v} {u = u} {u' = u'} r q. at_equal (A.binary o v u) (λ x. B.binary o x u') r
         (at_equal (A.binary o v u) (B.binary o v) q (act Value (B.binary o v u) (given_steady (union v.label u.label) (binary_of o v.value u.value))));
-    primitive = λ hint {v = v} r. at_equal (A.primitive hint v) (B.primitive hint) r (act Value (B.primitive hint v) (unless_steady (is_object v.value) v));
-    comparable = λ {v = v} {u = u} {u' = u'} r q. at_equal (A.comparable v u) (λ x. B.comparable x u') r
-        (at_equal (A.comparable v u) (B.comparable v) q (act Value (B.comparable v u) (unless_steady (converts_beside v.value u.value) v)));
-    direct = λ f {vs = vs} r. at_equal (A.direct f vs) (B.direct f) (rels_equal r) (act Value (B.direct f vs) (direct_steady tables inputs f vs));
-    unbuilt = λ t w. act t (B.unbuilt t) (ends_steady (Res Val t) (left not_built));
-    act = λ a {vs = vs} r. at_equal (A.act a vs) (B.act a) (rels_equal r) (act Value (B.act a vs) (act_steady a vs));
+    primitive = λ to {v = v} {E = E} {D = D} r h. at_equal (A.primitive to v E) (λ x. B.primitive to x D) r
+        (let l = converted_performed (is_object v.value) to v.label v v h in record { same = λ s. l.same s; keeps = λ s. l.keeps s });
+    comparable = λ {v = v} {u = u} {u' = u'} {E = E} {D = D} r q h. at_equal (A.comparable v u E) (λ x. B.comparable x u' D) r (at_equal (A.comparable v u E) (λ x. B.comparable v x D) q
+        (let l = converted_performed (converts_beside v.value u.value) hint.Default (union v.label u.label) v (joined u.label v) h in record { same = λ s. l.same s; keeps = λ s. l.keeps s }));
+    look = λ {w = w} {v = v} f g r h. at_equal (A.look v f) (λ x. B.look x g) r (bind_performed One Value (λ u s. f (seen s.heap v.value) s) (λ u s. g (seen s.heap v.value) s) (act One (raise v.label) (raise_steady v.label)) (λ u. record {
+      same = λ s. (h w tt (seen s.heap v.value)).same s;
+      keeps = λ s. (h w tt (seen s.heap v.value)).keeps s;
+    }));
+    throw = λ {v = v} r. at_equal (A.throw v) B.throw r (act Value (B.throw v) (jump_steady Val bottom _));
+    leave = λ t w name. act t (B.leave t name) (ends_steady (Res Val t) (left name));
+    act = λ a {vs = vs} r. at_equal (A.act a vs) (B.act a) (rels_equal r) (act Value (B.act a vs) (act_steady tables inputs a vs));
     resolve = λ t {w = w} {i = i} x f g p h. at_equal (A.resolve t i x f) (λ j. B.resolve t j x g) p
         (record { same = λ s. (h w tt (resolved s.records s.heap i x) (resolved s.records s.heap i x) refl).same s; keeps = λ s. (h w tt (resolved s.records s.heap i x) (resolved s.records s.heap i x) refl).keeps s });
     property = λ r q. ap₂ (λ v u. A.property v u) r q;
-    get_value = λ {n = n} f g r h. at_equal (A.get_value n f) (λ m. B.get_value m g) r (act Value (B.get_value n (B.ret Value)) (value_steady n));
-    typeof_value = λ {n = n} f g r h. at_equal (A.typeof_value n f) (λ m. B.typeof_value m g) r (act Value (B.typeof_value n (B.ret Value)) (typeof_steady n));
-    put_value = λ {n = n} {v = v} {v' = v'} f g r q h. at_equal (A.put_value n v f) (λ m. B.put_value m v' g) r
-        (at_equal (A.put_value n v f) (λ x. B.put_value n x g) q (act One (B.put_value n v (B.ret Value)) (put_steady n v)));
+    get_value = λ {n = n} {E = E} {D = D} r h. at_equal (A.get_value n E) (λ m. B.get_value m D) r (outcome_performed Value (accessed n) (enter_access functions E) (tracked.entered_access functions D) (accessed_steady n) (λ a. access_performed a h));
+    typeof_value = λ {n = n} {E = E} {D = D} r h. at_equal (A.typeof_value n E) (λ m. B.typeof_value m D) r
+        (outcome_performed Value (accessed_for_typeof n) (enter_access functions E) (tracked.entered_access functions D) (typeof_steady n) (λ a. access_performed a h));
+    put_value = λ {n = n} {v = v} {v' = v'} {E = E} {D = D} r q h. at_equal (A.put_value n v E) (λ m. B.put_value m v' D) r (at_equal (A.put_value n v E) (λ x. B.put_value n x D) q
+        (outcome_performed One (put_value n v) (enter_putting functions E v) (tracked.entered_putting functions D v) (put_steady n v) (λ p. putting_performed v p h)));
     remove = λ {n = n} r. at_equal (A.remove n) B.remove r (act Value (B.remove n) (remove_steady n));
     fork = λ t {w = w} {v = v} {m = m} {n = n} {m' = m'} {n' = n'} r l k. at_equal (A.fork t v m n) (λ x. B.fork t x m' n') r (fork_performed t v (l w tt) (k w tt));
     round = λ {w = w} turn labels {e = e} f g r h. at_equal (A.round turn labels e f) (λ d. B.round turn labels d g) r (round_performed turn labels e (λ d. h w tt d d refl));
@@ -382,15 +512,16 @@ module _ (tables : Tables) (inputs : Given) (functions : List FunctionCode) (Q :
     jump = λ leaving {e = e} {v = v} {v' = v'} r q. at_equal (A.jump leaving e v) (λ d. B.jump leaving d v') r (at_equal (A.jump leaving e v) (B.jump leaving e) q (act One (B.jump leaving e v) (jumps_steady (aimed 0 leaving e) v)));
     raise = λ leaving {e = e} names r. at_equal (A.raise leaving e names) (λ d. B.raise leaving d names) r (act One (B.raise leaving e names) (raised_steady tables inputs leaving (aimed 0 leaving e) (named_origins tables inputs names)));
     this_of = λ r. ap A.this_of r;
-    instance = λ {v = v} {f = f} {f' = f'} m n r q h. at_equal (A.instance v f m) (λ x. B.instance x f' n) r (at_equal (A.instance v f m) (λ x. B.instance v x n) q
-        (act Value (B.instance v f (B.ret Value)) (record { steady = λ n s. (instance_steady (is_function_at s.heap f.value) v f).steady n s })));
+    instance = λ {v = v} {f = f} {f' = f'} {E = E} {D = D} r q h. at_equal (A.instance v f E) (λ x. B.instance x f' D) r (at_equal (A.instance v f E) (λ x. B.instance v x D) q
+        (let l = instance_performed v f.label f.value h in record { same = λ s. l.same s; keeps = λ s. l.keeps s }));
     declare = λ {w = w} name {v = v} {v' = v'} {e = e} {d = d} f g r q h. at_equal (A.declare name v e f) (λ x. B.declare name x d g) r (at_equal (A.declare name v e f) (λ d. B.declare name v d g) q (record {
       same = λ s. (h w tt (with_place (length s.records) e) (with_place (length s.records) e) refl).same (with_name e.place name v s);
       keeps = λ s. (h w tt (with_place (length s.records) e) (with_place (length s.records) e) refl).keeps (with_name e.place name v s);
     }));
-    call = λ {f = f} {this = b} {f' = f'} {this' = b'} {vs = vs} {us = us} m n r q rs h. at_equal (A.call f b vs m) (λ x. B.call x b' us n) r (at_equal (A.call f b vs m) (λ x. B.call f x us n) q (at_equal (A.call f b vs m) (λ xs. B.call f b xs n) (rels_equal rs)
-        (call_performed f b vs m n (λ ss e. h tt ss e e refl))));
-    construct = λ {f = f} {vs = vs} {us = us} m n r rs h. at_equal (A.construct f vs m) (λ x. B.construct x us n) r (at_equal (A.construct f vs m) (λ xs. B.construct f xs n) (rels_equal rs) (construct_performed f vs m n (λ ss e. h tt ss e e refl)));
+    call = λ {f = f} {this = b} {f' = f'} {this' = b'} {vs = vs} {us = us} {E = E} {D = D} r q rs h. at_equal (A.call f b vs E) (λ x. B.call x b' us D) r (at_equal (A.call f b vs E) (λ x. B.call f x us D) q
+        (at_equal (A.call f b vs E) (λ xs. B.call f b xs D) (rels_equal rs) (let l = call_performed f.label f.value b vs h in record { same = λ s. l.same s; keeps = λ s. l.keeps s })));
+    construct = λ {f = f} {f' = f'} {vs = vs} {us = us} {E = E} {D = D} r rs h. at_equal (A.construct f vs E) (λ x. B.construct x us D) r (at_equal (A.construct f vs E) (λ xs. B.construct f xs D) (rels_equal rs)
+        (let l = construct_performed f.label f.value vs h in record { same = λ s. l.same s; keeps = λ s. l.keeps s }));
     attempt = λ {w = w} handles finishes f g l h q. attempt_performed handles finishes f g (l w tt) (λ v. h w tt v v refl) (q w tt);
     keys = λ {w = w} {v = v} f g r h. at_equal (A.keys v f) (λ x. B.keys x g) r
         (record { same = λ s. (list_performed (key_list s.heap v.value) v.label f g (λ keys. h w tt keys)).same s; keeps = λ s. (list_performed (key_list s.heap v.value) v.label f g (λ keys. h w tt keys)).keeps s });
@@ -404,7 +535,7 @@ module _ (tables : Tables) (inputs : Given) (functions : List FunctionCode) (Q :
   visits_equal (visits_of {labels = labels} {target = target} {body = body} {key = key} {others = others} e) = ap (λ o. record { labels = labels; target = target; body = body; object = o; key = key; others = others }) e
 
   -- asking for the parts, and their meaning
-  asking_linked : Linked (planned tables inputs functions) (labelled tables inputs functions) performed (asking tables inputs functions) Q
+  asking_linked : Linked (planned tables inputs set functions) (labelled tables inputs set functions) performed (asking tables inputs set functions) Q
   unfolding performed
   asking_linked = record {
     expr = λ e w i j p. at_equal (λ s. Ask (an_expr e i) s Give) (Q.expr e) p (asked Value (an_expr e i) (Q.expr e i) (λ s. refl));
@@ -413,14 +544,15 @@ module _ (tables : Tables) (inputs : Given) (functions : List FunctionCode) (Q :
     named = λ labels stmt w e d r. at_equal (λ s. Ask (a_named labels stmt e) s Give) (Q.named labels stmt) r (asked One (a_named labels stmt e) (Q.named labels stmt e) (λ s. refl));
     turn = λ round w e d r. at_equal (λ s. Ask (a_turn round e) s Give) (Q.turn round) r (asked One (a_turn round e) (Q.turn round e) (λ s. refl));
     visit = λ w v u rs e d r. at_equal (λ s. Ask (a_visit v e) s Give) (Q.visit u) r (at_equal (λ s. Ask (a_visit v e) s Give) (λ x. Q.visit x e) (visits_equal rs) (asked One (a_visit v e) (Q.visit v e) (λ s. refl)));
+    native = λ steps w vs us rs. at_equal (λ s. Ask (a_request steps vs) s Give) (Q.native steps) (rels_equal rs) (asked Value (a_request steps vs) (Q.native steps vs) (λ s. refl));
   }
 
   -- the steps of all parts
-  steps_linked : Linked (planned tables inputs functions) (labelled tables inputs functions) performed (step (planned tables inputs functions) (asking tables inputs functions)) (step (labelled tables inputs functions) Q)
-  steps_linked = step_linked (planned tables inputs functions) (labelled tables inputs functions) performed (asking tables inputs functions) Q asking_linked
+  steps_linked : Linked (planned tables inputs set functions) (labelled tables inputs set functions) performed (step (planned tables inputs set functions) set (asking tables inputs set functions)) (step (labelled tables inputs set functions) set Q)
+  steps_linked = step_linked (planned tables inputs set functions) (labelled tables inputs set functions) performed (asking tables inputs set functions) Q asking_linked set
 
   -- the plan of a part, performed with the meaning of its parts, is the step of the part
-  pub perform_step : (part : Part) (s : State) → perform (of_rec tables inputs functions Q) (plan tables inputs functions part s) ≡ of_rec tables inputs functions (step (labelled tables inputs functions) Q) part s
+  pub perform_step : (part : Part) (s : State) → perform (of_rec tables inputs set functions Q) (plan tables inputs set functions part s) ≡ of_rec tables inputs set functions (step (labelled tables inputs set functions) set Q) part s
   unfolding performed plan
   perform_step (an_expr e i) s = (steps_linked.expr e tt i i refl).same s
   perform_step (a_use use_as e i) s = (steps_linked.use_of use_as e tt i i refl).same s
@@ -428,9 +560,10 @@ module _ (tables : Tables) (inputs : Given) (functions : List FunctionCode) (Q :
   perform_step (a_named labels stmt e) s = (steps_linked.named labels stmt tt e e refl).same s
   perform_step (a_turn round e) s = (steps_linked.turn round tt e e refl).same s
   perform_step (a_visit visit e) s = (steps_linked.visit tt visit visit (visits_of refl) e e refl).same s
+  perform_step (a_request steps vs) s = (steps_linked.native steps tt vs vs (same_rels vs)).same s
 
   -- and changes no turns
-  pub plan_keeps : (part : Part) (s : State) → Keeps s.turns (plan tables inputs functions part s)
+  pub plan_keeps : (part : Part) (s : State) → Keeps s.turns (plan tables inputs set functions part s)
   unfolding performed plan
   plan_keeps (an_expr e i) s = (steps_linked.expr e tt i i refl).keeps s
   plan_keeps (a_use use_as e i) s = (steps_linked.use_of use_as e tt i i refl).keeps s
@@ -438,16 +571,17 @@ module _ (tables : Tables) (inputs : Given) (functions : List FunctionCode) (Q :
   plan_keeps (a_named labels stmt e) s = (steps_linked.named labels stmt tt e e refl).keeps s
   plan_keeps (a_turn round e) s = (steps_linked.turn round tt e e refl).keeps s
   plan_keeps (a_visit visit e) s = (steps_linked.visit tt visit visit (visits_of refl) e e refl).keeps s
+  plan_keeps (a_request steps vs) s = (steps_linked.native steps tt vs vs (same_rels vs)).keeps s
 
   -- that of a program
-  program_performed : (program : Statements) → Lift One (program_plan tables inputs functions program) (begun (labelled tables inputs functions) Q (may_declare program) program (outermost_env 0))
+  program_performed : (program : Statements) → Lift One (program_plan tables inputs set functions program) (begun (labelled tables inputs set functions) Q (may_declare set program) program (outermost_env 0))
   unfolding performed program_plan
-  program_performed program = begun_linked (planned tables inputs functions) (labelled tables inputs functions) performed (asking tables inputs functions) Q asking_linked (may_declare program) program refl
+  program_performed program = begun_linked (planned tables inputs set functions) (labelled tables inputs set functions) performed (asking tables inputs set functions) Q asking_linked (may_declare set program) program refl
 
   -- performed with the meaning of the parts it is the program's step
-  pub perform_program : (program : Statements) (s : State) → perform (of_rec tables inputs functions Q) (program_plan tables inputs functions program s) ≡ untyped One (begun (labelled tables inputs functions) Q (may_declare program) program (outermost_env 0) s)
+  pub perform_program : (program : Statements) (s : State) → perform (of_rec tables inputs set functions Q) (program_plan tables inputs set functions program s) ≡ untyped One (begun (labelled tables inputs set functions) Q (may_declare set program) program (outermost_env 0) s)
   perform_program program s = (program_performed program).same s
 
   -- and changes no turns
-  pub program_keeps : (program : Statements) (s : State) → Keeps s.turns (program_plan tables inputs functions program s)
+  pub program_keeps : (program : Statements) (s : State) → Keeps s.turns (program_plan tables inputs set functions program s)
   program_keeps program s = (program_performed program).keeps s

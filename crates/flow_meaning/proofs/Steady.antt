@@ -1,6 +1,6 @@
 -- Acts keep the turns that are left, and don't look at them.
 use Rattle.std.proofs.Common.{◌≡◌, ℕ, List, Bool, true, false, Option, Some, None, Result, Ok, Err, slice_get, refl, sym, subst}
-use Rattle.origin_labels.specs.Label.{Label, union, within}
+use Rattle.origin_labels.specs.Label.{Label, bottom, union, within}
 use Rattle.flow_policy.specs.Policies.{Tables}
 use Rattle.flow_policy.specs.Inputs.{Given}
 use Rattle.flow_frames.specs.declared.faults.Rule.{Rule}
@@ -8,14 +8,20 @@ use Rattle.flow_frames.specs.Frames.{context}
 use Rattle.flow_frames.specs.Held.{meant_at}
 use Rattle.flow_frames.specs.Rules.{jump_need, raise_need}
 use Rattle.js_number.specs.declared.primitive.Primitive.{Primitive}
+use Rattle.js_number.specs.declared.primitive.Primitive.TheVariants.{Undefined, Null, Num, Str}
+use Rattle.js_number.specs.declared.primitive.Primitive.TheVariants as prims
+use Rattle.js_values.specs.declared.ids.ObjId.{ObjId}
 use Rattle.js_values.specs.declared.value.Value.{Value}
 use Rattle.js_values.specs.declared.value.Value.TheVariants as value
 use Rattle.js_values.specs.declared.property.Body.{Body}
-use Rattle.js_values.specs.declared.property.Body.TheVariants.{Data, Accessor}
+use Rattle.js_values.specs.declared.property.Marks.{Marks}
 use Rattle.js_values.specs.declared.property.Slot.{Slot}
-use Rattle.js_values.specs.Objects.{Object, own}
+use Rattle.js_values.specs.declared.inner.Class.{Class}
+use Rattle.js_values.specs.Objects.{Property, Object, own}
 use Rattle.js_values.specs.Records.{Binding}
-use Rattle.js_values.specs.Walks.{find, object_chain}
+use Rattle.js_values.specs.Walks.{object_chain}
+use Rattle.native_protocol.specs.declared.request.ErrorKind.{ErrorKind}
+use Rattle.native_protocol.specs.declared.request.GivenMarks.{GivenMarks}
 use Rattle.object_heap.specs.Acts.{Acted}
 use Rattle.prototype_walk.specs.declared.plan.PutPlan.{PutPlan}
 use Rattle.prototype_walk.specs.declared.plan.PutPlan.TheVariants.{Write, Add, Setter, Refused}
@@ -23,15 +29,19 @@ use Rattle.prototype_walk.specs.Plans.{can_put}
 use Rattle.js_ast.specs.declared.operators.UnaryOperator.{UnaryOperator}
 use Rattle.js_ast.specs.Trees.{Function}
 use Rattle.js_ast.specs.Functions.{FunctionCode}
+use Rattle.es_meaning.specs.BuiltIns.{BuiltIns}
+use Rattle.es_meaning.specs.Definitions.{GivenBody, Definition, setter_in}
 use Rattle.es_meaning.specs.Outcomes as es
 use Rattle.es_meaning.specs.Environments.{Leaving}
-use Rattle.es_meaning.specs.Outcomes.{Exit, Outcome, Goes, Jumps, Ends, ret, and_then, ◌>>=◌}
-use Rattle.es_meaning.specs.Operations.{Direct, read, print, lbl, upgs, upge, Act, object_of, base_needed, object_needed, has_key, refused_declaration}
-use Rattle.es_meaning.specs.Operators.{unary_of}
-use Rattle.es_meaning.specs.Start.{ErrorKind}
-use Rattle.es_meaning.specs.Plain.{Place, in_record, on_global, nowhere, prototype_name, binding_at}
+use Rattle.es_meaning.specs.Outcomes.{Exit, left, Outcome, Goes, Jumps, Ends, ret, and_then, ◌>>=◌}
+use Rattle.es_meaning.specs.Operations.{Part, OwnPart, Shape, Act, object_of, base_needed, object_needed, has_key, throws_error, own_property, define, own_keys, prototype_of_object, is_extensible, prevent_extensions, new_object, bind, read_line, print_line, join_label, raise_structure as raise_structure_by, raise_existence as raise_existence_by}
+use Rattle.es_meaning.specs.Operators.{unary_of, not_built}
+use Rattle.es_meaning.specs.Plain.{Place, in_record, on_global, nowhere, binding_at, choose}
+use Rattle.es_meaning.specs.Requested.{given_body, behind_definition, is_array}
+use Rattle.flow_meaning.specs.Erased.{erased_heap}
+use Rattle.flow_meaning.specs.Requested.{property_in, is_function_at}
 use Rattle.flow_meaning.specs.Scopes.{Val, Halt, State, Jump, L, guard, raise, reached, jump_to, jump, raise_frame, frame_of, quiet, Came, ended, caught, resume}
-use Rattle.flow_meaning.specs.Tracked.{ends, with_error, throw_error, given, unless_object, seen, Reference, of_name, of_property, global_walk, bound, held, found_globally, found, property_of, named, get_value, typeof_value, assigned, assigned_to, acted, put_by, put_on, is_element_of, put, put_property, put_named, put_value, removed_if, removed_own, removed_in, remove_property, remove, make_object, needed, has, act, make_function, is_instance, instance_of, instance_if, jumps_to, raises, raised_by, raise_structure, raise_existence, raise_of, raise_at, read_channel, print_value, print_channel, label_by, direct, labelled}
+use Rattle.flow_meaning.specs.Tracked.{ends, with_error, throw_error, given, seen, Reference, of_name, of_property, bound, Access, has_value, found_globally, property_of, named, accessed, accessed_for_typeof, assigned, assigned_to, acted, own_in, Putting, is_put, setter_found, setter_at, put_by, put_on, is_element_of, put, put_property, put_named, put_value, removed_if, removed_own, removed_in, remove_property, remove, make_object, needed, has, argument, on_object_in, own_property_in, set_marks, set_body_if, redefine, define_over, define_given, define_in, prototype_in, extensible_in, prevent, made_new, make_new, bind_object, bind_value, bind_to, if_origins, raise_structure, raise_existence, make_function, is_instance, jumps_to, raises, raised_by, read_channel, print_text, print_channel, with_origins, act, global_walk, labelled}
 
 -- the state with so many turns left
 abbrev pub with_turns : ℕ → State → State
@@ -89,7 +99,7 @@ guard_steady true rule need have l = record { steady = λ n s. l.steady n s }
 guard_steady false rule need have l = record { steady = λ n s. refl }
 
 -- a jump
-jump_steady : (X : Type 0) (cause : Label) (j : Jump) → Steady {X = X} (jump cause j)
+pub jump_steady : (X : Type 0) (cause : Label) (j : Jump) → Steady {X = X} (jump cause j)
 unfolding jump jump_to
 jump_steady X cause j = record {
   steady = λ n s. let depth = reached j.to s.frames in
@@ -109,57 +119,41 @@ unfolding given
 given_steady label (Ok v) = record { steady = λ n s. refl }
 given_steady label (Err name) = record { steady = λ n s. refl }
 
--- a value that isn't to be converted
-pub unless_steady : (b : Bool) (v : Val) → Steady (unless_object b v)
-unfolding unless_object
-unless_steady true v = record { steady = λ n s. refl }
-unless_steady false v = record { steady = λ n s. refl }
-
 -- the value of a binding
 bound_steady : (b : Option (Binding Val)) → Steady (bound b)
 unfolding bound
 bound_steady (Some b) = record { steady = λ n s. refl }
 bound_steady None = record { steady = λ n s. (throws_steady Val _ _).steady n s }
 
--- what a property holds
-held_steady : (label : Label) (body : Body) → Steady (held label body)
-unfolding held
-held_steady label (Data v) = record { steady = λ n s. refl }
-held_steady label (Accessor get set) = record { steady = λ n s. refl }
-
+-- what the global object has of a name, and an object of a key
 globally_steady : (walk : Label) (f : Option (ℕ × Slot Label)) → Steady (found_globally walk f)
 unfolding found_globally
-globally_steady walk (Some f) = record { steady = λ n s. (held_steady _ f.1.body).steady n s }
-globally_steady walk None = record { steady = λ n s. (throws_steady Val _ _).steady n s }
+globally_steady walk (Some f) = record { steady = λ n s. refl }
+globally_steady walk None = record { steady = λ n s. (throws_steady Access _ _).steady n s }
 
-found_steady : (place : Label) (f : Option (ℕ × Slot Label)) → Steady (found place f)
-unfolding found
-found_steady place (Some f) = record { steady = λ n s. (held_steady _ f.1.body).steady n s }
-found_steady place None = record { steady = λ n s. refl }
-
-property_steady : (label : Label) (v : Value) (key : List ℕ) → Steady (property_of label v key)
+pub property_steady : (label : Label) (base : Val) (v : Value) (key : List ℕ) → Steady (property_of label base v key)
 unfolding property_of
-property_steady label (value.Primitive p) key = record { steady = λ n s. refl }
-property_steady label (value.Object o) key = record { steady = λ n s. (found_steady _ (find key (object_chain s.heap o.0)).at).steady n s }
+property_steady label base (value.Primitive p) key = record { steady = λ n s. refl }
+property_steady label base (value.Object o) key = record { steady = λ n s. refl }
 
--- the value of a reference
+-- what a read of a reference comes to
 named_steady : (place : Place) (walk : Label) (x : List ℕ) → Steady (named place walk x)
 unfolding named
-named_steady (in_record i) walk x = record { steady = λ n s. (bound_steady (binding_at s.records i x)).steady n s }
+named_steady (in_record i) walk x = record { steady = λ n s. (bind_steady _ (bound_steady (binding_at s.records i x)) (λ v. ret_steady (has_value v))).steady n s }
 named_steady on_global walk x = record { steady = λ n s. (globally_steady _ (global_walk s.heap x).at).steady n s }
-named_steady nowhere walk x = record { steady = λ n s. (throws_steady Val _ _).steady n s }
+named_steady nowhere walk x = record { steady = λ n s. (throws_steady Access _ _).steady n s }
 
-pub value_steady : (r : Reference) → Steady (get_value r)
-unfolding get_value
-value_steady (of_name x place walk) = named_steady place walk x
-value_steady (of_property v key label) = property_steady _ v.value key
+pub accessed_steady : (r : Reference) → Steady (accessed r)
+unfolding accessed
+accessed_steady (of_name x place walk) = named_steady place walk x
+accessed_steady (of_property v key label) = property_steady _ v v.value key
 
-pub typeof_steady : (r : Reference) → Steady (typeof_value r)
-unfolding typeof_value
-typeof_steady (of_name x (in_record i) walk) = record { steady = λ n s. (value_steady (of_name x (in_record i) walk)).steady n s }
-typeof_steady (of_name x on_global walk) = record { steady = λ n s. (value_steady (of_name x on_global walk)).steady n s }
+pub typeof_steady : (r : Reference) → Steady (accessed_for_typeof r)
+unfolding accessed_for_typeof
+typeof_steady (of_name x (in_record i) walk) = record { steady = λ n s. (accessed_steady (of_name x (in_record i) walk)).steady n s }
+typeof_steady (of_name x on_global walk) = record { steady = λ n s. (accessed_steady (of_name x on_global walk)).steady n s }
 typeof_steady (of_name x nowhere walk) = record { steady = λ n s. refl }
-typeof_steady (of_property v key label) = record { steady = λ n s. (value_steady (of_property v key label)).steady n s }
+typeof_steady (of_property v key label) = record { steady = λ n s. (accessed_steady (of_property v key label)).steady n s }
 
 -- a value for a binding
 assigned_steady : (mutable : Bool) (have : Label) (x : List ℕ) (i : ℕ) (v : Val) → Steady (assigned mutable have x i v)
@@ -179,38 +173,49 @@ unfolding acted
 acted_steady x (Ok heap) = record { steady = λ n s. refl }
 acted_steady x (Err stop) = record { steady = λ n s. refl }
 
--- a put
-put_by_steady : (plan : PutPlan Label) (rule : Rule) (o : ℕ) (key : List ℕ) (label : Label) (v : Val) → Steady (put_by plan rule o key label v)
+-- a setter that there may be
+setter_found_steady : (label : Label) (base : Val) (set : Option ObjId) → Steady (setter_found label base set)
+unfolding setter_found
+setter_found_steady label base None = record { steady = λ n s. (throws_steady Putting _ _).steady n s }
+setter_found_steady label base (Some f) = record { steady = λ n s. refl }
+
+setter_at_steady : (label : Label) (base : Val) (p : Option (Slot Label)) → Steady (setter_at label base p)
+unfolding setter_at
+setter_at_steady label base None = record { steady = λ n s. (throws_steady Putting _ _).steady n s }
+setter_at_steady label base (Some p) = record { steady = λ n s. (setter_found_steady _ base (setter_in p.body)).steady n s }
+
+-- what a put comes to
+put_by_steady : (plan : PutPlan Label) (rule : Rule) (o : ℕ) (key : List ℕ) (label : Label) (base v : Val) → Steady (put_by plan rule o key label base v)
 unfolding put_by
-put_by_steady (Write walk) rule o key label v = record { steady = λ n s. (acted_steady tt _).steady n s }
-put_by_steady (Add walk) rule o key label v = record { steady = λ n s. (acted_steady tt _).steady n s }
-put_by_steady (Refused walk) rule o key label v = record { steady = λ n s. (throws_steady (Unit {0}) _ _).steady n s }
-put_by_steady (Setter at walk) rule o key label v = record { steady = λ n s. refl }
+put_by_steady (Write walk) rule o key label base v = record { steady = λ n s. (acted_steady is_put _).steady n s }
+put_by_steady (Add walk) rule o key label base v = record { steady = λ n s. (acted_steady is_put _).steady n s }
+put_by_steady (Refused walk) rule o key label base v = record { steady = λ n s. (throws_steady Putting _ _).steady n s }
+put_by_steady (Setter at walk) rule o key label base v = record { steady = λ n s. (setter_at_steady _ base (own_in key (slice_get s.heap at.0))).steady n s }
 
-put_on_steady : (element : Bool) (rule : Rule) (o : ℕ) (key : List ℕ) (label : Label) (v : Val) → Steady (put_on element rule o key label v)
+put_on_steady : (element : Bool) (rule : Rule) (o : ℕ) (key : List ℕ) (label : Label) (base v : Val) → Steady (put_on element rule o key label base v)
 unfolding put_on
-put_on_steady true rule o key label v = record { steady = λ n s. refl }
-put_on_steady false rule o key label v = record { steady = λ n s. (put_by_steady (can_put key (object_chain s.heap o)) rule o key label v).steady n s }
+put_on_steady true rule o key label base v = record { steady = λ n s. refl }
+put_on_steady false rule o key label base v = record { steady = λ n s. (put_by_steady (can_put key (object_chain s.heap o)) rule o key label base v).steady n s }
 
-put_object_steady : (rule : Rule) (o : ℕ) (key : List ℕ) (label : Label) (v : Val) → Steady (put rule o key label v)
+put_object_steady : (rule : Rule) (o : ℕ) (key : List ℕ) (label : Label) (base v : Val) → Steady (put rule o key label base v)
 unfolding put
-put_object_steady rule o key label v = record { steady = λ n s. (put_on_steady (is_element_of (slice_get s.heap o) key) rule o key label v).steady n s }
+put_object_steady rule o key label base v = record { steady = λ n s. (put_on_steady (is_element_of (slice_get s.heap o) key) rule o key label base v).steady n s }
 
-put_property_steady : (label : Label) (base : Value) (key : List ℕ) (v : Val) → Steady (put_property label base key v)
+put_property_steady : (label : Label) (base : Val) (b : Value) (key : List ℕ) (v : Val) → Steady (put_property label base b key v)
 unfolding put_property
-put_property_steady label (value.Primitive p) key v = record { steady = λ n s. refl }
-put_property_steady label (value.Object o) key v = record { steady = λ n s. (put_object_steady _ o.0 key label v).steady n s }
+put_property_steady label base (value.Primitive p) key v = record { steady = λ n s. refl }
+put_property_steady label base (value.Object o) key v = record { steady = λ n s. (put_object_steady _ o.0 key label base v).steady n s }
 
 put_named_steady : (place : Place) (walk : Label) (x : List ℕ) (v : Val) → Steady (put_named place walk x v)
 unfolding put_named
-put_named_steady (in_record i) walk x v = record { steady = λ n s. (assigned_to_steady (binding_at s.records i x) x i v).steady n s }
-put_named_steady on_global walk x v = record { steady = λ n s. (put_object_steady _ _ x _ v).steady n s }
-put_named_steady nowhere walk x v = record { steady = λ n s. (throws_steady (Unit {0}) _ _).steady n s }
+put_named_steady (in_record i) walk x v = record { steady = λ n s. (bind_steady _ (assigned_to_steady (binding_at s.records i x) x i v) (λ u. ret_steady is_put)).steady n s }
+put_named_steady on_global walk x v = record { steady = λ n s. (put_object_steady _ _ x _ _ v).steady n s }
+put_named_steady nowhere walk x v = record { steady = λ n s. (throws_steady Putting _ _).steady n s }
 
 pub put_steady : (r : Reference) (v : Val) → Steady (put_value r v)
 unfolding put_value
 put_steady (of_name x place walk) v = put_named_steady place walk x v
-put_steady (of_property base key label) v = put_property_steady _ base.value key v
+put_steady (of_property base key label) v = put_property_steady _ base base.value key v
 
 -- a deletion
 removed_if_steady : (configurable : Bool) (place : Label) (o : ℕ) (key : List ℕ) → Steady (removed_if configurable place o key)
@@ -249,17 +254,114 @@ unfolding has
 has_steady label key (value.Primitive p) = record { steady = λ n s. refl }
 has_steady label key (value.Object o) = record { steady = λ n s. refl }
 
-make_steady : (keys : List (List ℕ)) (vs : List Val) → Steady (make_object keys vs)
+make_steady : (parts : List (Part × List ℕ)) (vs : List Val) → Steady (make_object parts vs)
 unfolding make_object
-make_steady keys vs = record { steady = λ n s. refl }
+make_steady parts vs = record { steady = λ n s. refl }
 
-pub act_steady : (a : Act) (vs : List Val) → Steady (act a vs)
-unfolding act
-act_steady (object_of keys) vs = make_steady keys vs
-act_steady base_needed vs = needed_steady _ _
-act_steady object_needed vs = needed_steady _ _
-act_steady has_key vs = has_steady _ _ _
-act_steady refused_declaration vs = throws_steady Val _ _
+-- ---- what built-ins ask for besides
+
+-- one of two
+choose_steady : {X : Type 0} (b : Bool) {m n : L X} → Steady m → Steady n → Steady (choose b m n)
+choose_steady true l k = l
+choose_steady false l k = k
+
+-- a base that is an object
+on_object_steady : (label : Label) (v : Value) (next : ℕ → L Val) → ((o : ℕ) → Steady (next o)) → Steady (on_object_in label v next)
+unfolding on_object_in
+on_object_steady label (value.Primitive p) next h = record { steady = λ n s. (throws_steady Val _ _).steady n s }
+on_object_steady label (value.Object o) next h = record { steady = λ n s. (h o.0).steady n s }
+
+-- a part of an own property
+own_property_steady : (part : OwnPart) (key : List ℕ) (label : Label) (p : Option (Object Label)) → Steady (own_property_in part key label p)
+unfolding own_property_in
+own_property_steady part key label None = record { steady = λ n s. refl }
+own_property_steady part key label (Some p) = record { steady = λ n s. refl }
+
+-- a definition
+set_marks_steady : (label : Label) (marks : Marks) (o : ℕ) (key : List ℕ) → Steady (set_marks label marks o key)
+unfolding set_marks
+set_marks_steady label marks o key = record { steady = λ n s. (acted_steady tt _).steady n s }
+
+set_body_steady : (changes : Bool) (place : Label) (body : Body) (label : Label) (o : ℕ) (key : List ℕ) → Steady (set_body_if changes place body label o key)
+unfolding set_body_if
+set_body_steady true place body label o key = record { steady = λ n s. (acted_steady tt _).steady n s }
+set_body_steady false place body label o key = record { steady = λ n s. refl }
+
+redefine_steady : (p : Slot Label) (q : Property) (d : Definition) (place given : Label) (o : ℕ) (key : List ℕ) → Steady (redefine p q d place given o key)
+unfolding redefine
+redefine_steady p q d place given o key = bind_steady _ (set_marks_steady _ q.marks o key) (λ u. bind_steady _ (set_body_steady _ place q.body _ o key) (λ w. ret_steady _))
+
+define_over_steady : (old : Option (Slot Label)) (d : Definition) (place given : Label) (o : ℕ) (key : List ℕ) (q : Option Property) → Steady (define_over old d place given o key q)
+unfolding define_over
+define_over_steady None d place given o key None = record { steady = λ n s. (throws_steady Val _ _).steady n s }
+define_over_steady (Some p) d place given o key None = record { steady = λ n s. (throws_steady Val _ _).steady n s }
+define_over_steady None d place given o key (Some q) = record { steady = λ n s. (acted_steady _ _).steady n s }
+define_over_steady (Some p) d place given o key (Some q) = record { steady = λ n s. (redefine_steady p q d place given o key).steady n s }
+
+define_given_steady : (extensible : Bool) (old : Option (Slot Label)) (marks : GivenMarks) (body : Option GivenBody) (place given : Label) (o : ℕ) (key : List ℕ) → Steady (define_given extensible old marks body place given o key)
+unfolding define_given
+define_given_steady extensible old marks None place given o key = record { steady = λ n s. (throws_steady Val _ _).steady n s }
+define_given_steady extensible old marks (Some body) place given o key = record { steady = λ n s. (define_over_steady old _ place given o key (behind_definition extensible (property_in old) _)).steady n s }
+
+define_steady : (p : Option (Object Label)) (label : Label) (o : ℕ) (key : List ℕ) (marks : GivenMarks) (shape : Shape) (v g set : Val) → Steady (define_in p label o key marks shape v g set)
+unfolding define_in
+define_steady None label o key marks shape v g set = record { steady = λ n s. (throws_steady Val _ _).steady n s }
+define_steady (Some p) label o key marks shape v g set = record {
+  steady = λ n s. (choose_steady (is_array p.class) (ends_steady Val (left not_built)) (define_given_steady p.extensible (own key p.rows) marks (given_body (erased_heap s.heap) marks shape v.value g.value set.value) _ _ o key)).steady n s;
+}
+
+-- a prototype, and whether there may be further properties
+prototype_steady : (label : Label) (p : Option (Object Label)) → Steady (prototype_in label p)
+unfolding prototype_in
+prototype_steady label None = record { steady = λ n s. refl }
+prototype_steady label (Some p) = record { steady = λ n s. refl }
+
+extensible_steady : (label : Label) (p : Option (Object Label)) → Steady (extensible_in label p)
+unfolding extensible_in
+extensible_steady label None = record { steady = λ n s. refl }
+extensible_steady label (Some p) = record { steady = λ n s. refl }
+
+prevent_steady : (label : Label) (o : ℕ) → Steady (prevent label o)
+unfolding prevent
+prevent_steady label o = record { steady = λ n s. (acted_steady _ _).steady n s }
+
+-- a new object
+made_new_steady : (c : Class) (proto : Option ObjId) (label : Label) → Steady (made_new c proto label)
+unfolding made_new
+made_new_steady c proto label = record { steady = λ n s. refl }
+
+make_new_steady : (c : Class) (proto : Option ObjId) (label : Label) → Steady (make_new c proto label)
+unfolding make_new
+make_new_steady c proto label = choose_steady (is_array c) (ends_steady Val (left not_built)) (made_new_steady c proto label)
+
+-- a bound function
+bind_object_steady : (o : ObjId) (target this : Val) (args : List Val) → Steady (bind_object o target this args)
+unfolding bind_object
+bind_object_steady o target this args = record { steady = λ n s. refl }
+
+bind_value_steady : (v : Value) (target this : Val) (args : List Val) → Steady (bind_value v target this args)
+unfolding bind_value
+bind_value_steady (value.Primitive p) target this args = record { steady = λ n s. (throws_steady Val _ _).steady n s }
+bind_value_steady (value.Object o) target this args = record { steady = λ n s. (bind_object_steady o target this args).steady n s }
+
+bind_to_steady : (callable : Bool) (target this : Val) (args : List Val) → Steady (bind_to callable target this args)
+unfolding bind_to
+bind_to_steady true target this args = bind_value_steady target.value target this args
+bind_to_steady false target this args = throws_steady Val _ _
+
+-- origins that are declared
+if_origins_steady : (declared : Bool) {next : L Val} → Steady next → Steady (if_origins declared next)
+unfolding if_origins
+if_origins_steady true l = record { steady = λ n s. l.steady n s }
+if_origins_steady false l = record { steady = λ n s. refl }
+
+structure_steady : (origins : List ℕ) (label : Label) (o : ℕ) → Steady (raise_structure origins label o)
+unfolding raise_structure
+structure_steady origins label o = record { steady = λ n s. (acted_steady _ _).steady n s }
+
+existence_steady : (origins : List ℕ) (label : Label) (key : List ℕ) (o : ℕ) → Steady (raise_existence origins label key o)
+unfolding raise_existence
+existence_steady origins label key o = record { steady = λ n s. (acted_steady _ _).steady n s }
 
 -- the innermost frame is raised
 pub raise_steady : (label : Label) → Steady (raise label)
@@ -274,20 +376,10 @@ unfolding make_function
 function_steady functions f i = record { steady = λ n s. refl }
 
 -- `instanceof`
-is_instance_steady : (label : Label) (o : ℕ) (v : Value) → Steady (is_instance label o v)
+pub is_instance_steady : (label : Label) (o : ℕ) (v : Value) → Steady (is_instance label o v)
 unfolding is_instance
 is_instance_steady label o (value.Primitive p) = record { steady = λ n s. (throws_steady Val _ _).steady n s }
 is_instance_steady label o (value.Object proto) = record { steady = λ n s. refl }
-
-instance_of_steady : (v : Val) (base : Value) (f : Val) → Steady (instance_of v base f)
-unfolding instance_of
-instance_of_steady v (value.Primitive p) f = record { steady = λ n s. refl }
-instance_of_steady v (value.Object o) f = record { steady = λ n s. (bind_steady _ (property_steady f.label f.value prototype_name) (λ proto. is_instance_steady _ o.0 proto.value)).steady n s }
-
-pub instance_steady : (b : Bool) (v f : Val) → Steady (instance_if b v f)
-unfolding instance_if
-instance_steady true v f = record { steady = λ n s. (instance_of_steady v v.value f).steady n s }
-instance_steady false v f = record { steady = λ n s. (throws_steady Val _ _).steady n s }
 
 -- a jump to where it aims
 pub jumps_steady : (to : Option (Exit × ℕ)) (v : Val) → Steady (jumps_to to v)
@@ -317,8 +409,8 @@ resume_steady (caught j) = record { steady = λ n s. (jump_steady (Unit {0}) _ _
 
 module _ (tables : Tables) (inputs : Given) where
   -- an operator in front of a value
-  pub unary_steady : (functions : List FunctionCode) (o : UnaryOperator) (v : Val) → Steady ((labelled tables inputs functions).unary o v)
-  unary_steady functions o v = record { steady = λ n s. (given_steady v.label (unary_of o (seen s.heap v.value))).steady n s }
+  pub unary_steady : (set : BuiltIns) (functions : List FunctionCode) (o : UnaryOperator) (v : Val) → Steady ((labelled tables inputs set functions).unary o v)
+  unary_steady set functions o v = record { steady = λ n s. (given_steady v.label (unary_of o (seen s.heap v.value))).steady n s }
 
   -- a directive names origins
   pub raised_steady : (leaving : Leaving) (to : Option (Exit × ℕ)) (os : Option (List ℕ)) → Steady (raised_by tables inputs leaving to os)
@@ -333,49 +425,44 @@ module _ (tables : Tables) (inputs : Given) where
   read_steady (Some i) name = record { steady = λ n s. (guard_steady (within (union (context s.frames) name) _) _ _ _ (record { steady = λ n s. refl })).steady n s }
 
   -- a line is printed
-  print_value_steady : (i : ℕ) (label : Label) (v : Value) → Steady (print_value tables inputs i label v)
-  unfolding print_value
-  print_value_steady i label (value.Object o) = record { steady = λ n s. refl }
-  print_value_steady i label (value.Primitive v) = record { steady = λ n s. (guard_steady (within (union (context s.frames) label) _) _ _ _ (record { steady = λ n s. refl })).steady n s }
+  print_text_steady : (i : ℕ) (label : Label) (v : Value) → Steady (print_text tables inputs i label v)
+  unfolding print_text
+  print_text_steady i label (value.Object o) = record { steady = λ n s. refl }
+  print_text_steady i label (value.Primitive Undefined) = record { steady = λ n s. refl }
+  print_text_steady i label (value.Primitive Null) = record { steady = λ n s. refl }
+  print_text_steady i label (value.Primitive (prims.Bool b)) = record { steady = λ n s. refl }
+  print_text_steady i label (value.Primitive (Num n)) = record { steady = λ n s. refl }
+  print_text_steady i label (value.Primitive (Str text)) = record { steady = λ n s. (guard_steady (within (union (context s.frames) label) _) _ _ _ (record { steady = λ n s. refl })).steady n s }
 
   -- on a channel that there may be
   print_steady : (i : Option ℕ) (name : Label) (v : Val) → Steady (print_channel tables inputs i name v)
   unfolding print_channel
   print_steady None name v = record { steady = λ n s. refl }
-  print_steady (Some i) name v = record { steady = λ n s. (print_value_steady i (union name v.label) v.value).steady n s }
+  print_steady (Some i) name v = record { steady = λ n s. (print_text_steady i (union name v.label) v.value).steady n s }
 
-  -- origins are joined
-  label_steady : (os : Option (List ℕ)) (names : Label) (v : Val) → Steady (label_by tables inputs os names v)
-  unfolding label_by
-  label_steady None names v = record { steady = λ n s. refl }
-  label_steady (Some os) names v = record { steady = λ n s. refl }
+  -- origins by their numbers
+  origins_steady : (origins : List ℕ) {next : L Val} → Steady next → Steady (with_origins tables inputs origins next)
+  unfolding with_origins
+  origins_steady origins l = if_origins_steady _ l
 
-  -- labels are raised
-  structure_steady : (os : Option (List ℕ)) (label : Label) (o : ℕ) → Steady (raise_structure tables inputs os label o)
-  unfolding raise_structure
-  structure_steady None label o = record { steady = λ n s. refl }
-  structure_steady (Some os) label o = record { steady = λ n s. (acted_steady _ _).steady n s }
-
-  existence_steady : (os : Option (List ℕ)) (label : Label) (o : ℕ) (key : List ℕ) → Steady (raise_existence tables inputs os label o key)
-  unfolding raise_existence
-  existence_steady None label o key = record { steady = λ n s. refl }
-  existence_steady (Some os) label o key = record { steady = λ n s. (acted_steady _ _).steady n s }
-
-  raise_of_steady : (v : Value) (label : Label) (names : List Val) → Steady (raise_of tables inputs v label names)
-  unfolding raise_of
-  raise_of_steady (value.Primitive p) label names = record { steady = λ n s. (throws_steady Val _ _).steady n s }
-  raise_of_steady (value.Object o) label names = record { steady = λ n s. (structure_steady _ _ o.0).steady n s }
-
-  raise_at_steady : (v : Value) (label : Label) (key : Val) (names : List Val) → Steady (raise_at tables inputs v label key names)
-  unfolding raise_at
-  raise_at_steady (value.Primitive p) label key names = record { steady = λ n s. (throws_steady Val _ _).steady n s }
-  raise_at_steady (value.Object o) label key names = record { steady = λ n s. (bind_steady _ (unless_steady _ key) (λ k. existence_steady _ _ o.0 _)).steady n s }
-
-  -- a function of the product
-  pub direct_steady : (f : Direct) (vs : List Val) → Steady (direct tables inputs f vs)
-  unfolding direct
-  direct_steady read vs = read_steady _ _
-  direct_steady print vs = print_steady _ _ _
-  direct_steady lbl vs = label_steady _ _ _
-  direct_steady upgs vs = raise_of_steady _ _ _
-  direct_steady upge vs = raise_at_steady _ _ _ _
+  pub act_steady : (a : Act) (vs : List Val) → Steady (act tables inputs a vs)
+  unfolding act
+  act_steady (object_of parts) vs = make_steady parts vs
+  act_steady base_needed vs = needed_steady _ _
+  act_steady object_needed vs = needed_steady _ _
+  act_steady has_key vs = has_steady _ _ _
+  act_steady (throws_error kind) vs = throws_steady Val kind bottom
+  act_steady (own_property part key) vs = on_object_steady _ _ _ (λ o. record { steady = λ n s. (own_property_steady part key _ (slice_get s.heap o)).steady n s })
+  act_steady (define key marks shape) vs = on_object_steady _ _ _ (λ o. record { steady = λ n s. (define_steady (slice_get s.heap o) _ o key marks shape _ _ _).steady n s })
+  act_steady (own_keys all) vs = on_object_steady _ _ _ (λ o. ends_steady Val (left not_built))
+  act_steady prototype_of_object vs = on_object_steady _ _ _ (λ o. record { steady = λ n s. (prototype_steady _ (slice_get s.heap o)).steady n s })
+  act_steady is_extensible vs = on_object_steady _ _ _ (λ o. record { steady = λ n s. (extensible_steady _ (slice_get s.heap o)).steady n s })
+  act_steady prevent_extensions vs = on_object_steady _ _ _ (prevent_steady _)
+  act_steady (new_object c false) vs = make_new_steady c _ _
+  act_steady (new_object c true) vs = make_new_steady c _ _
+  act_steady bind vs = record { steady = λ n s. (bind_to_steady (is_function_at s.heap (argument 0 vs).value) _ _ _).steady n s }
+  act_steady read_line vs = read_steady _ _
+  act_steady print_line vs = print_steady _ _ _
+  act_steady (join_label origins) vs = origins_steady origins (ret_steady _)
+  act_steady (raise_structure_by origins) vs = origins_steady origins (on_object_steady _ _ _ (structure_steady origins _))
+  act_steady (raise_existence_by key origins) vs = origins_steady origins (on_object_steady _ _ _ (existence_steady origins _ key))

@@ -1,10 +1,7 @@
 pub mod Erased
-pub mod FunctionRows
-pub mod JumpRows
 pub mod Laws
-pub mod ObjectRows
 pub mod Planned
-pub mod Rows
+pub mod Requested
 pub mod Scopes
 pub mod Tracked
 pub mod Written

@@ -160,6 +160,9 @@ depending Value label v = joined label v
 abbrev pub settled : (t : Ty) → Left (Res Val t) → Res Val t
 settled t c = depending t c.label (given_by t c.how)
 
+abbrev pub settled_value : Left Val → Val
+settled_value c = settled Value c
+
 abbrev pub fork : (t : Ty) → Val → L (Res Val t) → L (Res Val t) → L (Res Val t)
 fork t v m n = scope kind.Branch v.label (λ depth. choose (truth v.value) m n) >>= λ c. ret (settled t c)
 

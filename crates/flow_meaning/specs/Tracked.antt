@@ -12,17 +12,26 @@ use Rattle.flow_frames.specs.Changes.{pushed}
 use Rattle.js_number.specs.declared.primitive.Primitive.{Primitive}
 use Rattle.js_number.specs.declared.primitive.Primitive.TheVariants.{Undefined, Null, Num, Str}
 use Rattle.js_number.specs.declared.primitive.Primitive.TheVariants as prims
-use Rattle.js_number.specs.Conversions.{text_of}
+use Rattle.js_values.specs.declared.ids.ObjId.{ObjId}
 use Rattle.js_values.specs.declared.value.Value.{Value}
 use Rattle.js_values.specs.declared.value.Value.TheVariants as value
 use Rattle.js_values.specs.declared.property.Body.{Body}
 use Rattle.js_values.specs.declared.property.Body.TheVariants.{Data, Accessor}
+use Rattle.js_values.specs.declared.property.Marks.{Marks}
 use Rattle.js_values.specs.declared.property.Slot.{Slot}
+use Rattle.js_values.specs.declared.inner.Class.{Class}
 use Rattle.js_values.specs.declared.inner.Class.TheVariants as class
-use Rattle.js_values.specs.declared.inner.Inner.TheVariants.{Plain, Script}
-use Rattle.js_values.specs.Objects.{Object, own, fresh_object}
+use Rattle.js_values.specs.declared.inner.Inner.TheVariants.{Plain}
+use Rattle.js_values.specs.Objects.{Property, Object, own, fresh_object}
 use Rattle.js_values.specs.Records.{Binding, lookup, Record}
 use Rattle.js_values.specs.Walks.{Found, find, object_chain}
+use Rattle.native_protocol.specs.declared.hint.Hint.{Hint}
+use Rattle.native_protocol.specs.declared.hint.Hint.TheVariants as hint
+use Rattle.native_protocol.specs.declared.request.ErrorKind.{ErrorKind}
+use Rattle.native_protocol.specs.declared.request.ErrorKind.TheVariants as kinds
+use Rattle.native_protocol.specs.declared.request.GivenMarks.{GivenMarks}
+use Rattle.native_protocol.specs.declared.request.Seen.{Seen}
+use Rattle.native_protocol.specs.declared.request.Seen.TheVariants as seen_as
 use Rattle.object_heap.specs.Acts as heap_acts
 use Rattle.object_heap.specs.Acts.{Acted}
 use Rattle.prototype_walk.specs.declared.plan.PutPlan.{PutPlan}
@@ -31,20 +40,25 @@ use Rattle.prototype_walk.specs.Plans.{can_put}
 use Rattle.prototype_walk.specs.KeyLists.{Keys, keys}
 use Rattle.js_ast.specs.Trees.{Function, name_of, body_of, Statements}
 use Rattle.js_ast.specs.Functions.{FunctionCode, functions_of}
+use Rattle.es_meaning.specs.BuiltIns.{BuiltIns}
+use Rattle.es_meaning.specs.Definitions.{GivenBody, Definition, setter_in, value_in, changes_body, keeps_a_half}
+use Rattle.es_meaning.specs.Holders.{constructs_in}
 use Rattle.es_meaning.specs.Outcomes as es
 use Rattle.es_meaning.specs.Outcomes.{Exit, throws, left, out_of_turns, Ending, done, threw, halted, Outcome, Goes, Jumps, Ends, ret, ◌>>=◌}
 use Rattle.es_meaning.specs.Environments.{Env, with_place, called_env, Leaving, aimed}
-use Rattle.es_meaning.specs.Operations.{Res, Direct, read, print, lbl, upgs, upge, Act, object_of, base_needed, object_needed, has_key, refused_declaration, Ops}
-use Rattle.es_meaning.specs.Operators.{Seen, a_primitive, an_object, is_object, converts_beside, unary_of, binary_of, not_built}
+use Rattle.es_meaning.specs.Operations.{Res, Part, OwnPart, Shape, Act, object_of, base_needed, object_needed, has_key, throws_error, own_property, define, own_keys, prototype_of_object, is_extensible, prevent_extensions, new_object, bind, read_line, print_line, join_label, raise_structure as raise_structure_by, raise_existence as raise_existence_by, Entering, Ops}
+use Rattle.es_meaning.specs.Operators.{is_object, converts_beside, unary_of, binary_of, not_built}
 use Rattle.es_meaning.specs.Evaluation.{Timed, program_step}
 use Rattle.es_meaning.specs.Declared.{declared_functions}
 use Rattle.es_meaning.specs.Naming.{names_in_statements}
-use Rattle.es_meaning.specs.Functions.{env_id, function_objects, objects_of, references_of, behind_functions, closes_over, own_name, Callee, not_callable, empty_callee, of_script, unbuilt_callee, is_function, callee_of, arguments_rows, binds, entry_record, made_if}
-use Rattle.es_meaning.specs.Objects.{is_element, made_by_script, defined_all}
-use Rattle.es_meaning.specs.Start.{id, built_in, ErrorKind, reference_error, type_error, object_prototype, global_object, error_prototype, shown}
-use Rattle.es_meaning.specs.Plain.{undefined, leaves_channels, leaves_origins, leaves_wrappers, argument_or, others, channel_of, origins_of, value_read, positions_behind, line_at, channel_name, seen_of, first_heap, may_declare, outermost, outermost_env, value_in, prototype_name, object_or_default, assigned_in, Place, in_record, on_global, nowhere, place_from, key_text, binding_at, is_coercible, is_found}
-use Rattle.flow_meaning.specs.Erased.{erased_inner, erased_heap, labelled_by, labelled_values, made_objects, unlabelled, unlabelled_heap}
-use Rattle.flow_meaning.specs.Scopes.{Val, joined, LabelledLine, Halt, as_plain, stopped, State, Jump, L, under, raise, jump, raise_frame, frame_of, scope, fork, round, again, answer, construction, attempt}
+use Rattle.es_meaning.specs.Functions.{env_id, function_objects, objects_of, references_of, behind_functions, closes_over, own_name, Callee, not_callable, empty_callee, of_script, of_built_in, this_or, callee_of, binds, entry_record, made_if}
+use Rattle.es_meaning.specs.Objects.{is_element, made_by_script}
+use Rattle.es_meaning.specs.Start.{id, global_object, error_prototype, shown}
+use Rattle.es_meaning.specs.Plain.{undefined, leaves_channels, leaves_origins, leaves_wrappers, argument_or, others, channel_of, origins_of, value_read, positions_behind, line_at, channel_name, choose, seen_of, first_heap, may_declare, outermost, outermost_env, prototype_name, object_or_default, assigned_in, Place, in_record, on_global, nowhere, place_from, key_text, binding_at, is_coercible, is_found}
+use Rattle.es_meaning.specs.Requested.{given_body, behind_definition, is_array, reference_or_null, class_prototype, prototype_given, bound_count, are_origins}
+use Rattle.flow_meaning.specs.Erased.{erased_slot, erased_inner, erased_heap, labelled_by, labelled_values, made_objects, unlabelled, unlabelled_heap}
+use Rattle.flow_meaning.specs.Requested.{property_in, literal_object, own_test, own_walk, known_of, value_label, body_label, length_label, bound_object, erased_in, Aim, aim_of, arguments_object, is_function_in, is_function_at}
+use Rattle.flow_meaning.specs.Scopes.{Val, joined, LabelledLine, Halt, as_plain, stopped, State, Jump, L, under, raise, jump, raise_frame, frame_of, scope, settled_value, fork, round, again, answer, construction, attempt}
 
 abbrev pub ends : {X : Type 0} → es.Halt → L X
 ends halt s = Ends (as_plain halt) s
@@ -72,14 +86,10 @@ unfoldable pub given : Label → Result Primitive (List ℕ) → L Val
 given label (Ok v) s = Goes (record { value = value.Primitive v; label = label }) s
 given label (Err name) s = ends (left name) s
 
-unfoldable pub unless_object : Bool → Val → L Val
-unless_object true v s = ends (left not_built) s
-unless_object false v s = Goes v s
-
 -- what can be asked of a value
 unfoldable pub seen : List (Object Label) → Value → Seen
-seen heap (value.Primitive v) = a_primitive v
-seen heap (value.Object o) = seen_of (λ p. an_object p.class) (slice_get heap o.0)
+seen heap (value.Primitive v) = seen_as.Prim v
+seen heap (value.Object o) = seen_of (λ p. seen_as.Object p.class) (slice_get heap o.0)
 
 -- ---- references (ECMA-262 8.7): a name, where it stands, and on what that depends; or a base, a key and the key's label
 
@@ -102,39 +112,57 @@ resolved records heap i name = of_name name (place_from (lookup name records i) 
 
 unfoldable pub bound : Option (Binding Val) → L Val
 bound (Some b) s = Goes b.value s
-bound None s = throw_error reference_error bottom s
+bound None s = throw_error kinds.ReferenceError bottom s
 
--- what a property holds. Getters aren't built yet
-unfoldable pub held : Label → Body → L Val
-held label (Data v) s = Goes (record { value = v; label = label }) s
-held label (Accessor get set) s = ends (left not_built) s
+-- what a read comes to: a value; or a getter that is called with the base as its `this`, in a frame of which this is the label
+pub data Access : Type 0 where
+  has_value : Val → Access
+  has_getter : Label → ObjId → Val → Access
+
+abbrev pub getter_or_none : Label → Option ObjId → Val → Access
+getter_or_none label None base = has_value (record { value = undefined; label = label })
+getter_or_none label (Some f) base = has_getter label f base
+
+abbrev pub held : Label → Val → Body → Access
+held label base (Data v) = has_value (record { value = v; label = label })
+held label base (Accessor get set) = getter_or_none label get base
+
+abbrev pub global_value : Val
+global_value = unlabelled (value.Object global_object)
 
 -- the value of a name of the global object depends on the walk to it, also as the name was resolved, and has the property's value label besides
-unfoldable pub found_globally : Label → Option (ℕ × Slot Label) → L Val
-found_globally walk (Some f) s = held (union walk f.1.label) f.1.body s
-found_globally walk None s = throw_error reference_error walk s
+unfoldable pub found_globally : Label → Option (ℕ × Slot Label) → L Access
+found_globally walk (Some f) s = Goes (held (union walk f.1.label) global_value f.1.body) s
+found_globally walk None s = throw_error kinds.ReferenceError walk s
 
 -- that of a property depends on the base, the key and the walk
-unfoldable pub found : Label → Option (ℕ × Slot Label) → L Val
-found place (Some f) s = held (union place f.1.label) f.1.body s
-found place None s = Goes (record { value = undefined; label = place }) s
+abbrev pub found : Label → Val → Option (ℕ × Slot Label) → Access
+found place base (Some f) = held (union place f.1.label) base f.1.body
+found place base None = has_value (record { value = undefined; label = place })
 
-unfoldable pub property_of : Label → Value → List ℕ → L Val
-property_of label (value.Primitive p) key s = ends (left not_built) s
-property_of label (value.Object o) key s = let walk = find key (object_chain s.heap o.0) in found (union label walk.walk) walk.at s
+abbrev pub found_by : Label → Val → Found → Access
+found_by label base walk = found (union label walk.walk) base walk.at
 
-unfoldable pub named : Place → Label → List ℕ → L Val
-named (in_record i) walk name s = bound (binding_at s.records i name) s
+-- the label is that of all that tells which property is read
+unfoldable pub property_of : Label → Val → Value → List ℕ → L Access
+property_of label base (value.Primitive p) key s = ends (left not_built) s
+property_of label base (value.Object o) key s = Goes (found_by label base (find key (object_chain s.heap o.0))) s
+
+abbrev pub as_access : L Val → L Access
+as_access m = m >>= λ v. ret (has_value v)
+
+unfoldable pub named : Place → Label → List ℕ → L Access
+named (in_record i) walk name s = as_access (bound (binding_at s.records i name)) s
 named on_global walk name s = let here = global_walk s.heap name in found_globally (union walk here.walk) here.at s
-named nowhere walk name s = throw_error reference_error walk s
+named nowhere walk name s = throw_error kinds.ReferenceError walk s
 
-unfoldable pub get_value : Reference → L Val
-get_value (of_name name place walk) = named place walk name
-get_value (of_property v key label) = property_of (union v.label label) v.value key
+unfoldable pub accessed : Reference → L Access
+accessed (of_name name place walk) = named place walk name
+accessed (of_property v key label) = property_of (union v.label label) v v.value key
 
-unfoldable pub typeof_value : Reference → L Val
-typeof_value (of_name name nowhere walk) s = Goes (record { value = undefined; label = walk }) s
-typeof_value n s = get_value n s
+unfoldable pub accessed_for_typeof : Reference → L Access
+accessed_for_typeof (of_name name nowhere walk) s = Goes (has_value (record { value = undefined; label = walk })) s
+accessed_for_typeof n s = accessed n s
 
 -- ---- it is given a value
 
@@ -144,49 +172,71 @@ rebinds name i v s = Goes tt (record s { records = assigned_in name v s.records 
 -- an assignment to a binding that can be changed asks rule W1: the context is included in the binding's label
 unfoldable pub assigned : Bool → Label → List ℕ → ℕ → Val → L (Unit {0})
 assigned true have name i v s = under W1 (context s.frames) have (rebinds name i (joined (context s.frames) v)) s
-assigned false have name i v s = throw_error type_error bottom s
+assigned false have name i v s = throw_error kinds.TypeError bottom s
 
 unfoldable pub assigned_to : Option (Binding Val) → List ℕ → ℕ → Val → L (Unit {0})
 assigned_to (Some b) name i v s = assigned b.mutable b.value.label name i v s
-assigned_to None name i v s = throw_error reference_error bottom s
+assigned_to None name i v s = throw_error kinds.ReferenceError bottom s
 
 -- what an act on the heap comes to
 unfoldable pub acted : {X : Type 0} → X → Acted (List (Object Label)) → L X
 acted x (Ok heap) s = Goes x (record s { heap = heap })
 acted x (Err stop) s = Ends (stopped stop.rule stop.need stop.have) s
 
+-- what the key names in the object itself
+abbrev pub own_in : List ℕ → Option (Object Label) → Option (Slot Label)
+own_in key None = None
+own_in key (Some p) = own key p.rows
+
+-- what a put comes to: it is done; or a setter is called with the base as its `this`, in a frame of which this is the label
+pub data Putting : Type 0 where
+  is_put : Putting
+  has_setter : Label → ObjId → Val → Putting
+
+-- the setter depends on the value label of its property besides
+unfoldable pub setter_found : Label → Val → Option ObjId → L Putting
+setter_found label base None s = throw_error kinds.TypeError label s
+setter_found label base (Some f) s = Goes (has_setter label f base) s
+
+unfoldable pub setter_at : Label → Val → Option (Slot Label) → L Putting
+setter_at label base None s = throw_error kinds.TypeError label s
+setter_at label base (Some p) s = setter_found (union label p.label) base (setter_in p.body) s
+
 -- a put: the property has another value by the rule, W1 for a name and W2 for a member, or is added by W3. The need is the context, the labels of base
--- and key, and the walk; a refusal is caused by the last three. Setters aren't built yet
-unfoldable pub put_by : PutPlan Label → Rule → ℕ → List ℕ → Label → Val → L (Unit {0})
-put_by (Write walk) rule o key label v s = acted tt (heap_acts.write rule o key (union (context s.frames) (union label walk)) v s.heap) s
-put_by (Add walk) rule o key label v s = acted tt (heap_acts.add o key (union (context s.frames) (union label walk)) (Data v.value) v.label made_by_script s.heap) s
-put_by (Refused walk) rule o key label v s = throw_error type_error (union label walk) s
-put_by (Setter at walk) rule o key label v s = ends (left not_built) s
+-- and key, and the walk; a refusal is caused by the last three
+unfoldable pub put_by : PutPlan Label → Rule → ℕ → List ℕ → Label → Val → Val → L Putting
+put_by (Write walk) rule o key label base v s = acted is_put (heap_acts.write rule o key (union (context s.frames) (union label walk)) v s.heap) s
+put_by (Add walk) rule o key label base v s = acted is_put (heap_acts.add o key (union (context s.frames) (union label walk)) (Data v.value) v.label made_by_script s.heap) s
+put_by (Refused walk) rule o key label base v s = throw_error kinds.TypeError (union label walk) s
+put_by (Setter at walk) rule o key label base v s = setter_at (union label walk) base (own_in key (slice_get s.heap at.0)) s
 
 -- elements of arrays aren't built yet
-unfoldable pub put_on : Bool → Rule → ℕ → List ℕ → Label → Val → L (Unit {0})
-put_on true rule o key label v s = ends (left not_built) s
-put_on false rule o key label v s = put_by (can_put key (object_chain s.heap o)) rule o key label v s
+unfoldable pub put_on : Bool → Rule → ℕ → List ℕ → Label → Val → Val → L Putting
+put_on true rule o key label base v s = ends (left not_built) s
+put_on false rule o key label base v s = put_by (can_put key (object_chain s.heap o)) rule o key label base v s
 
 abbrev pub is_element_of : Option (Object Label) → List ℕ → Bool
 is_element_of None key = false
 is_element_of (Some p) key = is_element p.class key
 
-unfoldable pub put : Rule → ℕ → List ℕ → Label → Val → L (Unit {0})
-put rule o key label v s = put_on (is_element_of (slice_get s.heap o) key) rule o key label v s
+unfoldable pub put : Rule → ℕ → List ℕ → Label → Val → Val → L Putting
+put rule o key label base v s = put_on (is_element_of (slice_get s.heap o) key) rule o key label base v s
 
-unfoldable pub put_property : Label → Value → List ℕ → Val → L (Unit {0})
-put_property label (value.Primitive p) key v s = ends (left not_built) s
-put_property label (value.Object o) key v s = put W2 o.0 key label v s
+unfoldable pub put_property : Label → Val → Value → List ℕ → Val → L Putting
+put_property label base (value.Primitive p) key v s = ends (left not_built) s
+put_property label base (value.Object o) key v s = put W2 o.0 key label base v s
 
-unfoldable pub put_named : Place → Label → List ℕ → Val → L (Unit {0})
-put_named (in_record i) walk name v s = assigned_to (binding_at s.records i name) name i v s
-put_named on_global walk name v s = put W1 global_object.0 name bottom v s
-put_named nowhere walk name v s = throw_error reference_error walk s
+abbrev pub as_putting : L (Unit {0}) → L Putting
+as_putting m = m >>= λ u. ret is_put
 
-unfoldable pub put_value : Reference → Val → L (Unit {0})
+unfoldable pub put_named : Place → Label → List ℕ → Val → L Putting
+put_named (in_record i) walk name v s = as_putting (assigned_to (binding_at s.records i name) name i v) s
+put_named on_global walk name v s = put W1 global_object.0 name bottom global_value v s
+put_named nowhere walk name v s = throw_error kinds.ReferenceError walk s
+
+unfoldable pub put_value : Reference → Val → L Putting
 put_value (of_name name place walk) v = put_named place walk name v
-put_value (of_property base key label) v = put_property (union base.label label) base.value key v
+put_value (of_property base key label) v = put_property (union base.label label) base base.value key v
 
 -- ---- it is deleted, by rules W4 and W5. That the object has the property depends on its existence label, and that it hasn't on the structure label
 
@@ -195,7 +245,7 @@ truth_of b label = record { value = value.Primitive (prims.Bool b); label = labe
 
 unfoldable pub removed_if : Bool → Label → ℕ → List ℕ → L Val
 removed_if true place o key s = acted (truth_of true place) (heap_acts.remove o key (union (context s.frames) place) s.heap) s
-removed_if false place o key s = throw_error type_error place s
+removed_if false place o key s = throw_error kinds.TypeError place s
 
 unfoldable pub removed_own : Option (Slot Label) → Label → Label → ℕ → List ℕ → L Val
 removed_own None label structure o key s = Goes (truth_of true (union label structure)) s
@@ -216,32 +266,16 @@ remove (of_property base key label) s = remove_property (union base.label label)
 
 -- ---- acts on values that enter no function
 
--- an object's link, its structure, its properties and their values depend on the context
-abbrev pub data_slot : Label → Val → Slot Label
-data_slot label v = record { body = Data v.value; label = union v.label label; existence = label; marks = made_by_script }
-
-abbrev pub literal_object : List (List ℕ) → List Val → Label → Object Label
-literal_object keys vs label = record (fresh_object class.Object Plain (Some object_prototype) label label) { rows = defined_all keys (map (data_slot label) vs) [] }
-
-unfoldable pub make_object : List (List ℕ) → List Val → L Val
-make_object keys vs s = Goes (unlabelled (value.Object (id (length s.heap)))) (record s { heap = s.heap ++ literal_object keys vs (context s.frames) ∷ [] })
+unfoldable pub make_object : List (Part × List ℕ) → List Val → L Val
+make_object parts vs s = Goes (unlabelled (value.Object (id (length s.heap)))) (record s { heap = s.heap ++ literal_object parts vs (context s.frames) ∷ [] })
 
 unfoldable pub needed : Bool → Val → L Val
 needed true v s = Goes v s
-needed false v s = throw_error type_error v.label s
+needed false v s = throw_error kinds.TypeError v.label s
 
 unfoldable pub has : Label → List ℕ → Value → L Val
 has label key (value.Primitive p) s = ends (left not_built) s
 has label key (value.Object o) s = let walk = find key (object_chain s.heap o.0) in Goes (truth_of (is_found walk.at) (union label walk.walk)) s
-
--- what an object itself has of a key depends on its existence label, or on the structure label where it hasn't any
-abbrev pub own_test : Option (Slot Label) → Label → Label
-own_test None structure = structure
-own_test (Some s) structure = s.existence
-
-abbrev pub own_walk : List ℕ → Option (Object Label) → Label
-own_walk key None = bottom
-own_walk key (Some p) = own_test (own key p.rows) p.structure
 
 -- the keys that `for in` takes of a value, and on what they depend besides
 abbrev pub key_list : List (Object Label) → Value → Option Keys
@@ -271,17 +305,92 @@ channel_label channels i = label_at (slice_get channels i)
 abbrev pub argument : ℕ → List Val → Val
 argument n vs = argument_or (unlabelled undefined) n vs
 
--- the union of the labels of values
-abbrev pub labels_of : List Val → Label
-labels_of [] = bottom
-labels_of (v ∷ vs) = union v.label (labels_of vs)
+-- ---- what built-ins ask for besides: the base is an object, or its label causes an error
 
-unfoldable pub act : Act → List Val → L Val
-act (object_of keys) vs = make_object keys vs
-act base_needed vs = needed (is_coercible (argument 0 vs).value) (argument 0 vs)
-act object_needed vs = needed (is_object (argument 0 vs).value) (argument 0 vs)
-act refused_declaration vs = throw_error type_error bottom
-act has_key vs = has (union (argument 0 vs).label (argument 1 vs).label) (key_text (argument 0 vs).value) (argument 1 vs).value
+unfoldable pub on_object_in : Label → Value → (ℕ → L Val) → L Val
+on_object_in label (value.Primitive p) next s = throw_error kinds.TypeError label s
+on_object_in label (value.Object o) next s = next o.0 s
+
+abbrev pub on_object : Val → (ℕ → L Val) → L Val
+on_object v next = on_object_in v.label v.value next
+
+unfoldable pub own_property_in : OwnPart → List ℕ → Label → Option (Object Label) → L Val
+own_property_in part key label None s = Goes (record { value = undefined; label = label }) s
+own_property_in part key label (Some p) s = Goes (known_of part label p.structure (own key p.rows)) s
+
+-- a definition. Its place is the context, the base and the own test; the descriptor's labels are those of what it is given. Over a present property W6 needs
+-- both, and then W2, where a value, a getter or a setter is given anew or the kind changes, the place alone; an absent one is added by W3, which needs both.
+-- A refusal is caused by all of it but the context, and by the value label of the present property
+unfoldable pub set_marks : Label → Marks → ℕ → List ℕ → L (Unit {0})
+set_marks label marks o key s = acted tt (heap_acts.set_attributes o key (union (context s.frames) label) marks s.heap) s
+
+unfoldable pub set_body_if : Bool → Label → Body → Label → ℕ → List ℕ → L (Unit {0})
+set_body_if true place body label o key s = acted tt (heap_acts.set_body o key (union (context s.frames) place) body label s.heap) s
+set_body_if false place body label o key s = Goes tt s
+
+unfoldable pub redefine : Slot Label → Property → Definition → Label → Label → ℕ → List ℕ → L Val
+redefine p q d place given o key =
+    set_marks (union place given) q.marks o key
+    >>= λ u. set_body_if (changes_body (erased_slot p) d) place q.body (body_label (keeps_a_half (erased_slot p) d) given p.label) o key
+    >>= λ w. ret (record { value = undefined; label = place })
+
+unfoldable pub define_over : Option (Slot Label) → Definition → Label → Label → ℕ → List ℕ → Option Property → L Val
+define_over old d place given o key None s = throw_error kinds.TypeError (union (union place given) (value_label old)) s
+define_over None d place given o key (Some q) s = acted (record { value = undefined; label = place }) (heap_acts.add o key (union (context s.frames) (union place given)) q.body given q.marks s.heap) s
+define_over (Some p) d place given o key (Some q) s = redefine p q d place given o key s
+
+unfoldable pub define_given : Bool → Option (Slot Label) → GivenMarks → Option GivenBody → Label → Label → ℕ → List ℕ → L Val
+define_given extensible old marks None place given o key s = throw_error kinds.TypeError (union (union place given) (value_label old)) s
+define_given extensible old marks (Some body) place given o key s =
+    let d : Definition = record { marks = marks; body = body } in define_over old d place given o key (behind_definition extensible (property_in old) d) s
+
+unfoldable pub define_in : Option (Object Label) → Label → ℕ → List ℕ → GivenMarks → Shape → Val → Val → Val → L Val
+define_in None label o key marks shape v g set s = throw_error kinds.TypeError label s
+define_in (Some p) label o key marks shape v g set s =
+    choose (is_array p.class) (ends (left not_built))
+    (define_given p.extensible (own key p.rows) marks (given_body (erased_heap s.heap) marks shape v.value g.value set.value) (union label (own_test (own key p.rows) p.structure)) (union v.label (union g.label set.label)) o key) s
+
+-- the prototype depends on the link, and whether there may be further properties on the structure
+unfoldable pub prototype_in : Label → Option (Object Label) → L Val
+prototype_in label None s = Goes (record { value = value.Primitive Null; label = label }) s
+prototype_in label (Some p) s = Goes (record { value = reference_or_null p.proto; label = union label p.link }) s
+
+unfoldable pub extensible_in : Label → Option (Object Label) → L Val
+extensible_in label None s = Goes (truth_of false label) s
+extensible_in label (Some p) s = Goes (truth_of p.extensible (union label p.structure)) s
+
+unfoldable pub prevent : Label → ℕ → L Val
+prevent label o s = acted (record { value = undefined; label = label }) (heap_acts.prevent_extensions o (union (context s.frames) label) s.heap) s
+
+-- a new object: its link depends on the value that gave the prototype. Those of arrays aren't built yet
+unfoldable pub made_new : Class → Option ObjId → Label → L Val
+made_new c proto label s = Goes (unlabelled (value.Object (id (length s.heap)))) (record s { heap = s.heap ++ fresh_object c Plain proto (union (context s.frames) label) (context s.frames) ∷ [] })
+
+unfoldable pub make_new : Class → Option ObjId → Label → L Val
+make_new c proto label = choose (is_array c) (ends (left not_built)) (made_new c proto label)
+
+unfoldable pub bind_object : ObjId → Val → Val → List Val → L Val
+bind_object o target this args s = let found = slice_get s.heap o.0 in
+    Goes (unlabelled (value.Object (id (length s.heap)))) (record s { heap = s.heap ++ bound_object o target.label this args (length_label found) (bound_count (erased_in found) (length args)) (context s.frames) ∷ [] })
+
+unfoldable pub bind_value : Value → Val → Val → List Val → L Val
+bind_value (value.Primitive p) target this args s = throw_error kinds.TypeError target.label s
+bind_value (value.Object o) target this args s = bind_object o target this args s
+
+unfoldable pub bind_to : Bool → Val → Val → List Val → L Val
+bind_to true target this args = bind_value target.value target this args
+bind_to false target this args = throw_error kinds.TypeError target.label
+
+unfoldable pub if_origins : Bool → L Val → L Val
+if_origins true next s = next s
+if_origins false next s = ends (left leaves_origins) s
+
+unfoldable pub raise_structure : List ℕ → Label → ℕ → L Val
+raise_structure origins label o s = acted (record { value = undefined; label = label }) (heap_acts.raise_structure o (union (context s.frames) label) (label_of origins) s.heap) s
+
+unfoldable pub raise_existence : List ℕ → Label → List ℕ → ℕ → L Val
+raise_existence origins label key o s =
+    acted (record { value = undefined; label = label }) (heap_acts.raise_existence o key (union (context s.frames) (union label (own_walk key (slice_get s.heap o)))) (label_of origins) s.heap) s
 
 -- ---- functions: what is made depends on the context
 
@@ -299,15 +408,8 @@ abbrev pub callee_in : List FunctionCode → Option (Object Label) → Callee
 callee_in functions None = not_callable
 callee_in functions (Some p) = callee_of functions p.class (erased_inner p.inner)
 
-unfoldable pub callee_at : List FunctionCode → List (Object Label) → Value → Callee
-callee_at functions heap (value.Primitive p) = not_callable
-callee_at functions heap (value.Object o) = callee_in functions (slice_get heap o.0)
-
--- the `arguments` object of a call: the arguments have their labels besides
-abbrev pub arguments_object : ℕ → ℕ → List Val → Label → Object Label
-arguments_object number place args label = record (fresh_object class.Arguments (Script number (env_id place)) (Some object_prototype) label label) {
-  rows = arguments_rows (record { body = Data (value.Primitive (Num (pos (length args)))); label = label; existence = label; marks = built_in }) (map (data_slot label) args);
-}
+unfoldable pub callee_at : List FunctionCode → List (Object Label) → ℕ → Callee
+callee_at functions heap o = callee_in functions (slice_get heap o)
 
 -- a call begins. `this` and the function's number have their own labels, and all else that is bound has the context besides
 unfoldable pub with_call : List FunctionCode → ℕ → Function → ℕ → Val → List Val → State → State
@@ -326,55 +428,104 @@ with_call functions number f place this args s =
       }) ∷ [];
     }
 
-abbrev pub CallBody : Type 0
-CallBody = Statements → Env ℕ → L (Unit {0})
+abbrev pub Enters : Type 0
+Enters = Entering Val ℕ (λ t. L (Res Val t))
 
 -- the body is evaluated in the record of the call, whose frame has this depth
-abbrev pub in_call : CallBody → Function → ℕ → ℕ → L (Unit {0})
-in_call body f here depth = body (body_of f) (called_env here depth)
+abbrev pub in_call : Enters → Function → ℕ → ℕ → L (Unit {0})
+in_call E f here depth = E.body (body_of f) (called_env here depth)
 
 -- in the frame of the call. What can't be called throws, by the label of the value
-unfoldable pub entered : List FunctionCode → Callee → Label → Val → List Val → CallBody → ℕ → L (Unit {0})
-entered functions not_callable label this args body depth s = throw_error type_error label s
-entered functions empty_callee label this args body depth s = Goes tt s
-entered functions unbuilt_callee label this args body depth s = ends (left not_built) s
-entered functions (of_script number f place) label this args body depth s = in_call body f (length s.records) depth (with_call functions number f place this args s)
+unfoldable pub entered : List FunctionCode → Callee → Label → Val → List Val → Enters → ℕ → L (Unit {0})
+entered functions not_callable label this args E depth s = throw_error kinds.TypeError label s
+entered functions empty_callee label this args E depth s = Goes tt s
+entered functions (of_built_in which) label this args E depth s = throw_error kinds.TypeError label s
+entered functions (of_script number f place) label this args E depth s = in_call E f (length s.records) depth (with_call functions number f place this args s)
 
-abbrev pub call : List FunctionCode → Val → Val → List Val → CallBody → L Val
-call functions f this args body = scope kind.Call f.label (λ depth s. entered functions (callee_at functions s.heap f.value) f.label this args body depth s) >>= λ c. ret (answer c)
+abbrev pub called_value : Label → ℕ → Val
+called_value label o = record { value = value.Object (id o); label = label }
+
+-- a built-in has a frame of its own kind, with the values in its registers, and gives its result itself
+unfoldable pub call_by : List FunctionCode → Callee → Label → ℕ → Val → List Val → Enters → L Val
+call_by functions (of_built_in which) label o this args E = scope kind.Native label (λ depth. E.built_in which false (this ∷ called_value label o ∷ args)) >>= λ c. ret (settled_value c)
+call_by functions callee label o this args E = scope kind.Call label (λ depth. entered functions callee label this args E depth) >>= λ c. ret (answer c)
+
+unfoldable pub call_aimed : List FunctionCode → Label → Aim → Val → List Val → Enters → L Val
+call_aimed functions label aim this args E s =
+    call_by functions (callee_at functions s.heap aim.target.function) (union label aim.label) aim.target.function (this_or aim.target.this this) (aim.target.args ++ args) E s
+
+unfoldable pub call_value : List FunctionCode → Label → Value → Val → List Val → Enters → L Val
+call_value functions label (value.Primitive p) this args E s = call_by functions not_callable label 0 this args E s
+call_value functions label (value.Object o) this args E s = call_aimed functions label (aim_of s.heap o.0) this args E s
+
+abbrev pub call : List FunctionCode → Val → Val → List Val → Enters → L Val
+call functions f this args E = call_value functions f.label f.value this args E
 
 -- the `prototype` of a function of the script, which is data: it depends on the walk to it and has its value label besides
 abbrev pub value_found : Label → Option (ℕ × Slot Label) → Val
 value_found walk None = labelled_by walk undefined
 value_found walk (Some f) = labelled_by (union walk f.1.label) (value_in f.1.body)
 
-abbrev pub prototype_of : List (Object Label) → Value → Val
-prototype_of heap (value.Primitive p) = unlabelled undefined
-prototype_of heap (value.Object o) = let walk = find prototype_name (object_chain heap o.0) in value_found walk.walk walk.at
+abbrev pub prototype_of : List (Object Label) → ℕ → Val
+prototype_of heap o = let walk = find prototype_name (object_chain heap o) in value_found walk.walk walk.at
 
 -- what `new` makes: its link depends on the value that gave the prototype
 abbrev pub with_fresh : Val → State → State
 with_fresh proto s = record s { heap = s.heap ++ fresh_object class.Object Plain (Some (object_or_default proto.value)) (union (context s.frames) proto.label) (context s.frames) ∷ [] }
 
-unfoldable pub constructed : List FunctionCode → Callee → Val → List Val → CallBody → ℕ → L (Unit {0})
-constructed functions not_callable f args body depth s = throw_error type_error f.label s
-constructed functions empty_callee f args body depth s = throw_error type_error f.label s
-constructed functions unbuilt_callee f args body depth s = ends (left not_built) s
-constructed functions (of_script number code place) f args body depth s =
-    entered functions (of_script number code place) f.label (unlabelled (value.Object (id (length s.heap)))) args body depth (with_fresh (prototype_of s.heap f.value) s)
+unfoldable pub constructed : List FunctionCode → Callee → Label → ℕ → List Val → Enters → ℕ → L (Unit {0})
+constructed functions not_callable label o args E depth s = throw_error kinds.TypeError label s
+constructed functions empty_callee label o args E depth s = throw_error kinds.TypeError label s
+constructed functions (of_built_in which) label o args E depth s = throw_error kinds.TypeError label s
+constructed functions (of_script number code place) label o args E depth s =
+    entered functions (of_script number code place) label (unlabelled (value.Object (id (length s.heap)))) args E depth (with_fresh (prototype_of s.heap o) s)
 
-abbrev pub construct : List FunctionCode → Val → List Val → CallBody → L Val
-construct functions f args body s = (scope kind.Call f.label (λ depth t. constructed functions (callee_at functions t.heap f.value) f args body depth t) >>= λ c. ret (construction (length s.heap) c)) s
+-- a built-in makes what it gives itself, if it constructs
+unfoldable pub construct_built_in : BuiltIns → ℕ → Label → ℕ → List Val → Enters → L Val
+construct_built_in set which label o args E = choose (constructs_in set which) (E.built_in which true (unlabelled undefined ∷ called_value label o ∷ args)) (throw_error kinds.TypeError label)
+
+unfoldable pub construct_by : BuiltIns → List FunctionCode → Callee → Label → ℕ → List Val → Enters → L Val
+construct_by set functions (of_built_in which) label o args E s = (scope kind.Native label (λ depth. construct_built_in set which label o args E) >>= λ c. ret (settled_value c)) s
+construct_by set functions callee label o args E s = (scope kind.Call label (λ depth. constructed functions callee label o args E depth) >>= λ c. ret (construction (length s.heap) c)) s
+
+unfoldable pub construct_aimed : BuiltIns → List FunctionCode → Label → Aim → List Val → Enters → L Val
+construct_aimed set functions label aim args E s =
+    construct_by set functions (callee_at functions s.heap aim.target.function) (union label aim.label) aim.target.function (aim.target.args ++ args) E s
+
+unfoldable pub construct_value : BuiltIns → List FunctionCode → Label → Value → List Val → Enters → L Val
+construct_value set functions label (value.Primitive p) args E s = construct_by set functions not_callable label 0 args E s
+construct_value set functions label (value.Object o) args E s = construct_aimed set functions label (aim_of s.heap o.0) args E s
+
+abbrev pub construct : BuiltIns → List FunctionCode → Val → List Val → Enters → L Val
+construct set functions f args E = construct_value set functions f.label f.value args E
+
+-- ---- getters, setters, and the conversion of objects
+
+unfoldable pub entered_access : List FunctionCode → Enters → Access → L Val
+entered_access functions E (has_value v) = ret v
+entered_access functions E (has_getter label f this) = call_value functions label (value.Object f) this [] E
+
+unfoldable pub entered_putting : List FunctionCode → Enters → Val → Putting → L (Unit {0})
+entered_putting functions E v is_put = ret tt
+entered_putting functions E v (has_setter label f this) = call_value functions label (value.Object f) this (v ∷ []) E >>= λ u. ret tt
+
+-- an object is converted in a frame that has this label
+unfoldable pub convert : Enters → Hint → Label → Val → L Val
+convert E h label v = scope kind.Native label (λ depth. E.conversion h v) >>= λ c. ret (settled_value c)
+
+-- or another value is given as it is
+unfoldable pub converted_by : Bool → Enters → Hint → Label → Val → Val → L Val
+converted_by true E h label v given = convert E h label v
+converted_by false E h label v given = ret given
+
+abbrev pub converted : Enters → Hint → Val → L Val
+converted E h v = converted_by (is_object v.value) E h v.label v v
+
+-- an operand of `==` depends on the other one, which decides whether it is converted
+abbrev pub compared : Enters → Val → Val → L Val
+compared E v u = converted_by (converts_beside v.value u.value) E hint.Default (union v.label u.label) v (joined u.label v)
 
 -- ---- `instanceof`
-
-abbrev pub is_function_in : Option (Object Label) → Bool
-is_function_in None = false
-is_function_in (Some p) = is_function p.class
-
-abbrev pub is_function_at : List (Object Label) → Value → Bool
-is_function_at heap (value.Primitive p) = false
-is_function_at heap (value.Object o) = is_function_in (slice_get heap o.0)
 
 -- an object and its prototypes: whether a further one is this, and the links up to it
 pub record Linked : Type 0 where
@@ -398,16 +549,28 @@ linked proto (e ∷ chain) = linked_from proto e.1.link chain
 
 -- the label is that of both operands and of the read of `prototype`
 unfoldable pub is_instance : Label → ℕ → Value → L Val
-is_instance label o (value.Primitive p) s = throw_error type_error label s
+is_instance label o (value.Primitive p) s = throw_error kinds.TypeError label s
 is_instance label o (value.Object proto) s = let walk = linked proto.0 (object_chain s.heap o) in Goes (truth_of walk.is (union label walk.links)) s
 
-unfoldable pub instance_of : Val → Value → Val → L Val
-instance_of v (value.Primitive p) f s = Goes (truth_of false (union v.label f.label)) s
-instance_of v (value.Object o) f s = (property_of f.label f.value prototype_name >>= λ proto. is_instance (union v.label (union f.label proto.label)) o.0 proto.value) s
+-- a getter of the `prototype`, which is that of the target of a bound function, has the left operand's label in its frame
+unfoldable pub instance_by : List FunctionCode → Val → Value → Label → ℕ → Enters → L Val
+instance_by functions v (value.Primitive p) label f E s = Goes (truth_of false (union v.label label)) s
+instance_by functions v (value.Object o) label f E s =
+    (property_of (union v.label label) (called_value label f) (value.Object (id f)) prototype_name >>= entered_access functions E >>= λ proto. is_instance (union (union v.label label) proto.label) o.0 proto.value) s
 
-unfoldable pub instance_if : Bool → Val → Val → L Val
-instance_if true v f s = instance_of v v.value f s
-instance_if false v f s = throw_error type_error f.label s
+unfoldable pub instance_of : List FunctionCode → Val → Label → Aim → Enters → L Val
+instance_of functions v label aim E = instance_by functions v v.value (union label aim.label) aim.target.function E
+
+unfoldable pub instance_if : List FunctionCode → Bool → Val → Label → ℕ → Enters → L Val
+instance_if functions true v label f E s = instance_of functions v label (aim_of s.heap f) E s
+instance_if functions false v label f E s = throw_error kinds.TypeError label s
+
+unfoldable pub instance_value : List FunctionCode → Val → Label → Value → Enters → L Val
+instance_value functions v label (value.Primitive p) E s = throw_error kinds.TypeError label s
+instance_value functions v label (value.Object f) E s = instance_if functions (is_function_in (slice_get s.heap f.0)) v label f.0 E s
+
+abbrev pub instance : List FunctionCode → Val → Val → Enters → L Val
+instance functions v f E = instance_value functions v f.label f.value E
 
 -- ---- jumps and directives
 
@@ -441,52 +604,42 @@ module _ (tables : Tables) (inputs : Given) where
   read_channel None name s = ends (left leaves_channels) s
   read_channel (Some i) name s = under W11 (union (context s.frames) name) (channel_label tables.inputs i) (reads i (channel_label tables.inputs i)) s
 
-  abbrev pub prints : ℕ → Label → Label → Primitive → L Val
-  prints i need label v s = Goes (record { value = undefined; label = label }) (record s { lines = s.lines ++ record { line = record { channel = channel_name tables.outputs i; text = text_of v }; label = need } ∷ [] })
+  abbrev pub prints : ℕ → Label → Label → List ℕ → L Val
+  prints i need label text s = Goes (record { value = undefined; label = label }) (record s { lines = s.lines ++ record { line = record { channel = channel_name tables.outputs i; text = text }; label = need } ∷ [] })
 
-  -- `print` asks rule W12: the context and the labels of the name and of the value are included in the channel's label
-  unfoldable pub print_value : ℕ → Label → Value → L Val
-  print_value i label (value.Object o) s = ends (left not_built) s
-  print_value i label (value.Primitive v) s = under W12 (union (context s.frames) label) (channel_label tables.outputs i) (prints i (union (context s.frames) label) label v) s
+  -- `print` asks rule W12: the context and the labels of the name and of the text are included in the channel's label
+  unfoldable pub print_text : ℕ → Label → Value → L Val
+  print_text i label (value.Primitive (Str text)) s = under W12 (union (context s.frames) label) (channel_label tables.outputs i) (prints i (union (context s.frames) label) label text) s
+  print_text i label _ s = ends (left leaves_channels) s
 
   unfoldable pub print_channel : Option ℕ → Label → Val → L Val
   print_channel None name v s = ends (left leaves_channels) s
-  print_channel (Some i) name v s = print_value i (union name v.label) v.value s
+  print_channel (Some i) name v s = print_text i (union name v.label) v.value s
 
-  -- `lbl` joins the origins to the label of the value, and the labels of what names them
-  unfoldable pub label_by : Option (List ℕ) → Label → Val → L Val
-  label_by None names v s = ends (left leaves_origins) s
-  label_by (Some origins) names v s = Goes (joined (union names (label_of origins)) v) s
+  unfoldable pub with_origins : List ℕ → L Val → L Val
+  with_origins origins next = if_origins (are_origins (length tables.origins) origins) next
 
-  -- `upgs` asks rule W7 and `upge` W8, with the labels of all arguments in the need, and of the property's own test
-  unfoldable pub raise_structure : Option (List ℕ) → Label → ℕ → L Val
-  raise_structure None label o s = ends (left leaves_origins) s
-  raise_structure (Some origins) label o s = acted (record { value = undefined; label = label }) (heap_acts.raise_structure o (union (context s.frames) label) (label_of origins) s.heap) s
-
-  unfoldable pub raise_existence : Option (List ℕ) → Label → ℕ → List ℕ → L Val
-  raise_existence None label o key s = ends (left leaves_origins) s
-  raise_existence (Some origins) label o key s =
-      acted (record { value = undefined; label = label }) (heap_acts.raise_existence o key (union (context s.frames) (union label (own_walk key (slice_get s.heap o)))) (label_of origins) s.heap) s
-
-  abbrev pub names_in : List Val → Option (List ℕ)
-  names_in names = origins_of tables.origins (map (λ v. v.value) names)
-
-  -- the first argument is an object
-  unfoldable pub raise_of : Value → Label → List Val → L Val
-  raise_of (value.Primitive p) label names s = throw_error type_error label s
-  raise_of (value.Object o) label names s = raise_structure (names_in names) (union label (labels_of names)) o.0 s
-
-  -- the conversion of an object to a key isn't built yet
-  unfoldable pub raise_at : Value → Label → Val → List Val → L Val
-  raise_at (value.Primitive p) label key names s = throw_error type_error label s
-  raise_at (value.Object o) label key names s = (unless_object (is_object key.value) key >>= λ k. raise_existence (names_in names) (union label (union k.label (labels_of names))) o.0 (key_text k.value)) s
-
-  unfoldable pub direct : Direct → List Val → L Val
-  direct read vs = read_channel (channel_of tables.inputs (argument 0 vs).value) (argument 0 vs).label
-  direct print vs = print_channel (channel_of tables.outputs (argument 0 vs).value) (argument 0 vs).label (argument 1 vs)
-  direct lbl vs = label_by (origins_of tables.origins (map (λ v. v.value) (others vs))) (labels_of (others vs)) (argument 0 vs)
-  direct upgs vs = raise_of (argument 0 vs).value (argument 0 vs).label (others vs)
-  direct upge vs = raise_at (argument 0 vs).value (argument 0 vs).label (argument 1 vs) (others (others vs))
+  -- the arguments are as many as the act takes
+  unfoldable pub act : Act → List Val → L Val
+  act (object_of parts) vs = make_object parts vs
+  act base_needed vs = needed (is_coercible (argument 0 vs).value) (argument 0 vs)
+  act object_needed vs = needed (is_object (argument 0 vs).value) (argument 0 vs)
+  act has_key vs = has (union (argument 0 vs).label (argument 1 vs).label) (key_text (argument 0 vs).value) (argument 1 vs).value
+  act (throws_error kind) vs = throw_error kind bottom
+  act (own_property part key) vs = on_object (argument 0 vs) (λ o s. own_property_in part key (argument 0 vs).label (slice_get s.heap o) s)
+  act (define key marks shape) vs = on_object (argument 0 vs) (λ o s. define_in (slice_get s.heap o) (argument 0 vs).label o key marks shape (argument 1 vs) (argument 2 vs) (argument 3 vs) s)
+  act (own_keys all) vs = on_object (argument 0 vs) (λ o. ends (left not_built))
+  act prototype_of_object vs = on_object (argument 0 vs) (λ o s. prototype_in (argument 0 vs).label (slice_get s.heap o) s)
+  act is_extensible vs = on_object (argument 0 vs) (λ o s. extensible_in (argument 0 vs).label (slice_get s.heap o) s)
+  act prevent_extensions vs = on_object (argument 0 vs) (prevent (argument 0 vs).label)
+  act (new_object c false) vs = make_new c (Some (class_prototype c)) bottom
+  act (new_object c true) vs = make_new c (prototype_given (argument 0 vs).value) (argument 0 vs).label
+  act bind vs = λ s. bind_to (is_function_at s.heap (argument 0 vs).value) (argument 0 vs) (argument 1 vs) (others (others vs)) s
+  act read_line vs = read_channel (channel_of tables.inputs (argument 0 vs).value) (argument 0 vs).label
+  act print_line vs = print_channel (channel_of tables.outputs (argument 0 vs).value) (argument 0 vs).label (argument 1 vs)
+  act (join_label origins) vs = with_origins origins (ret (joined (label_of origins) (argument 0 vs)))
+  act (raise_structure_by origins) vs = with_origins origins (on_object (argument 0 vs) (raise_structure origins (argument 0 vs).label))
+  act (raise_existence_by key origins) vs = with_origins origins (on_object (argument 0 vs) (raise_existence origins (argument 0 vs).label key))
 
   -- a directive names origins
   abbrev pub named_origins : List (List ℕ) → Option (List ℕ)
@@ -496,17 +649,17 @@ module _ (tables : Tables) (inputs : Given) where
   raised_by leaving to None s = ends (left leaves_origins) s
   raised_by leaving to (Some origins) s = raises leaving to (label_of origins) s
 
-  abbrev pub start : Statements → ℕ → State
-  start program turns = record {
+  abbrev pub start : BuiltIns → Statements → ℕ → State
+  start set program turns = record {
     frames = pushed kind.Root bottom ∷ [];
-    heap = unlabelled_heap (first_heap program);
+    heap = unlabelled_heap (first_heap set program);
     records = outermost (unlabelled (value.Object global_object)) ∷ [];
     positions = replicate (length tables.inputs) 0;
     lines = [];
     turns = turns;
   }
 
-  module _ (functions : List FunctionCode) where
+  module _ (set : BuiltIns) (functions : List FunctionCode) where
     abbrev pub labelled : Ops
     labelled = record {
       V = Val;
@@ -518,29 +671,30 @@ module _ (tables : Tables) (inputs : Given) where
       literal = λ v. unlabelled (value.Primitive v);
       unary = λ o v s. given v.label (unary_of o (seen s.heap v.value)) s;
       binary = λ o v u. given (union v.label u.label) (binary_of o v.value u.value);
-      primitive = λ hint v. unless_object (is_object v.value) v;
-      comparable = λ v u. unless_object (converts_beside v.value u.value) v;
       act = act;
-      direct = direct;
+      look = λ v k. raise v.label >>= λ u s. k (seen s.heap v.value) s;
       function = make_function functions;
       jump = λ leaving e v. jumps_to (aimed 0 leaving e) v;
       raise = λ leaving e names. raised_by leaving (aimed 0 leaving e) (named_origins names);
-      unbuilt = λ t. ends (left not_built);
+      throw = λ v. jump bottom (record { exit = throws; to = 0; value = v });
+      leave = λ t name. ends (left name);
       resolve = λ t i x k s. k (resolved s.records s.heap i x) s;
       property = λ v k. of_property v (key_text k.value) k.label;
-      get_value = λ n k. get_value n;
-      typeof_value = λ n k. typeof_value n;
-      put_value = λ n v k. put_value n v;
+      get_value = λ n E. accessed n >>= entered_access functions E;
+      typeof_value = λ n E. accessed_for_typeof n >>= entered_access functions E;
+      put_value = λ n v E. put_value n v >>= entered_putting functions E v;
       remove = remove;
       this_of = base_of;
-      instance = λ v f k s. instance_if (is_function_at s.heap f.value) v f s;
+      instance = instance functions;
       fork = fork;
       round = round;
       again = again;
       keys = λ v next s. with_list (key_list s.heap v.value) v.label next s;
       declare = in_own_record;
       call = call functions;
-      construct = construct functions;
+      construct = construct set functions;
+      primitive = λ h v E. converted E h v;
+      comparable = λ v u E. compared E v u;
       attempt = attempt;
     }
 
@@ -558,5 +712,6 @@ run_of (Jumps j s) = record { lines = s.lines; ending = threw (shown (erased_hea
 run_of (Ends halt s) = record { lines = s.lines; ending = halted halt }
 
 -- what a monitored script prints and how it ends, with so many turns
-unfoldable pub tracked_run : Tables → Given → Statements → ℕ → Run
-tracked_run tables inputs program turns = run_of (program_step (timed tables inputs (functions_of program)) turns (may_declare program) program (outermost_env 0) (start tables inputs program turns))
+unfoldable pub tracked_run : BuiltIns → Tables → Given → Statements → ℕ → Run
+tracked_run set tables inputs program turns =
+    run_of (program_step (timed tables inputs set (functions_of program)) set turns (may_declare set program) program (outermost_env 0) (start tables inputs set program turns))

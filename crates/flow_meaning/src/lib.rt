@@ -3,4 +3,4 @@
 
 mod laws;
 
-pub use laws::{more_turns, performed, rows};
+pub use laws::{more_turns, performed};

@@ -6,7 +6,7 @@ use js_values::EnvId;
 /// What a value is for a call (ECMA-262 13.2.1, 13.2.2, 15.3.4).
 #[derive(Clone, Copy)]
 pub enum Callee<'p> {
-    /// It isn't a function.
+    /// It isn't a function, or a bound one, which is called by its target.
     NotCallable,
     /// The prototype of functions: it gives undefined, and constructs nothing.
     Empty,
@@ -16,6 +16,8 @@ pub enum Callee<'p> {
         function: &'p Function,
         place: EnvId,
     },
-    /// Built-in functions and bound ones aren't built yet.
-    Unbuilt,
+    /// A built-in function, with its number.
+    Native {
+        which: u32,
+    },
 }

@@ -11,6 +11,5 @@ pub mod ReportLoops
 pub mod Reported
 pub mod Shown
 pub mod Sourced
-pub mod Spelled
 pub mod Uncounted
 pub mod Views

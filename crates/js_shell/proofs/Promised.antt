@@ -16,7 +16,7 @@ use Rattle.low_equal.specs.Laws as low
 use Rattle.low_equal.specs.Laws.{IsFinishedBy}
 use Rattle.js_shell.specs.declared.status.Status.{Status}
 use Rattle.js_shell.specs.declared.status.Status.TheVariants as status
-use Rattle.js_shell.specs.Replies.{Task, IsAsked, IsChecked, Reply, IsReply, refuses_words, refuses_script, accepts_script, accepted_reply, refuses_policy, refuses_input, runs, run_reply, plain_run, tracked_run, default_turns, status_of, usage_reply, source_reply, policy_reply, input_reply, read_fault_report, ReachesAbsent}
+use Rattle.js_shell.specs.Replies.{Task, IsAsked, IsChecked, Reply, IsReply, refuses_words, refuses_script, accepts_script, accepted_reply, refuses_policy, refuses_input, runs, run_reply, built_ins, plain_run, tracked_run, default_turns, status_of, usage_reply, source_reply, policy_reply, input_reply, read_fault_report, ReachesAbsent}
 use Rattle.js_shell.specs.Promises.{Told, UnlessEarly, IfEarly, IsFinished, Isolates, IsPlain, IsStop, Stops}
 use Rattle.js_shell.specs.Causes.{Exactly, IsSource, IsBadPolicy, IsDone, IsThrew, IsStopped, IsLeft, IsOutOfTurns, IsEarlyFront}
 use Rattle.js_shell.specs.Accepting.{OfFiles, Answers, replies, cuts_off, unread, unread_cut, no_memory, is_reply_status, is_cut_status}
@@ -240,7 +240,7 @@ plain_isnt_stopped e halt rule need have p q = cc
 
 module _ (erasing : IsErasing) (task : Task) where
   erases : Erases (tracked_run task) (plain_run task)
-  erases = erasing task.tables task.given task.program default_turns
+  erases = erasing (built_ins task.tables) task.tables task.given task.program default_turns
 
   -- a run that isn't stopped ends as the plain one
   threw_erased : (shown : List ℕ) → (tracked_run task).ending ≡ threw shown → (plain_run task).ending ≡ threw shown
@@ -298,7 +298,7 @@ module _ (words : List (List ℕ)) (StoreFailed : Type 0) (result : Status) (fil
   isolates two_runs h f task asked observer other others given agree other_done =
       let is = finished_ran h f task asked in
       let policy = policy_formed asked.policy.bytes task.tables asked.policy.stated in
-      ap (view_of observer task.tables) is.0 ∙ isolation two_runs task.program task.tables observer task.given other default_turns others policy agree is.1 other_done
+      ap (view_of observer task.tables) is.0 ∙ isolation two_runs (built_ins task.tables) task.program task.tables observer task.given other default_turns others policy agree is.1 other_done
 
   is_plain : IsErasing → Happens words files StoreFailed result out → IsPlain words result files out
   is_plain erasing h f task asked = let is = finished_ran h f task asked in plain_of erasing task out is.0 is.1

@@ -1,12 +1,15 @@
 -- From the lines and the report that were put to what a run wrote.
-use Rattle.std.proofs.Common.{◌≡◌, ℕ, true, false, List, map, ◌++◌, Option, Some, None, IfSome, refl, sym, ap, subst, ◌∙◌}
+use Rattle.std.proofs.Common.{◌≡◌, ℕ, true, false, List, [], map, ◌++◌, Option, Some, None, IfSome, refl, sym, ap, subst, ◌∙◌}
 use Rattle.std.specs.Option.{is_some}
 use Rattle.std.proofs.lemmas.Bool.{false≢true}
 use Rattle.flow_io.specs.Sinks.{IsFrontOf, Appends, AppendsFront}
 use Rattle.flow_policy.specs.Policies.{Tables}
+use Rattle.flow_policy.specs.Inputs.{Given}
+use Rattle.js_ast.specs.Trees.{Statements}
+use Rattle.es_meaning.specs.BuiltIns.{built_ins_of}
 use Rattle.es_meaning.specs.Outcomes.{Ending, done, threw, halted, left, out_of_turns}
 use Rattle.flow_meaning.specs.Scopes.{Halt, as_plain, stopped}
-use Rattle.flow_meaning.specs.Tracked.{Run}
+use Rattle.flow_meaning.specs.Tracked.{Run, tracked_run}
 use Rattle.flow_meaning.specs.Written.{lines_bytes, report, written}
 use Rattle.step_world.specs.Names.{leaving_name}
 use Rattle.step_run.specs.declared.ending.Ending as code
@@ -16,9 +19,10 @@ use Rattle.step_run.specs.Ran as step
 use Rattle.step_run.specs.Ran.{told_by}
 use Rattle.js_shell.specs.declared.status.Status.{Status}
 use Rattle.js_shell.specs.declared.status.Status.TheVariants as status
-use Rattle.js_shell.specs.Replies.{status_of}
+use Rattle.all_natives.specs.Together.{all_entries, all_begin, all_after, all_asks}
+use Rattle.js_shell.specs.Replies.{built_ins, status_of}
 use Rattle.js_shell.specs.Ran.{is_write_fault, Ran, ended, Reports, tells, breaks_off, tells_nothing}
-use Rattle.js_shell.proofs.Appending.{appends_then, front_then, front_longer, front_of_whole}
+use Rattle.js_shell.proofs.Appending.{front_nothing, appends_nothing, appends_then, front_then, front_longer, front_of_whole}
 
 -- what is told of two
 pub told_of : {E : Type 0} (o : Option E) (P Q : E → Type 0) → ((e : E) → P e → Q e) → IfSome o P → IfSome o Q
@@ -112,3 +116,14 @@ ran_cut tables run old now (ending.Threw shown) is h = absurd (false≢true (sym
 ran_cut tables run old now (ending.Stopped rule need have) is h = absurd (false≢true (sym is))
 ran_cut tables run old now (ending.Left why) is h = absurd (false≢true (sym is))
 ran_cut tables run old now ending.OutOfTurns is h = absurd (false≢true (sym is))
+
+-- nothing of a run was put, for want of memory
+pub ran_nothing : (tables : Tables) (run : Run) (old : Option (List ℕ)) → Ran status.OutOfMemory old old tables run
+ran_nothing tables run old = front_of_whole old old [] (written tables run) (appends_nothing old) (front_nothing (written tables run))
+
+-- the built-ins have the names of the policy's origins
+pub ran_with : (tables : Tables) (inputs : Given) (program : Statements) (turns : ℕ) (old now : Option (List ℕ)) (e : code.Ending) (names : List (List ℕ)) → names ≡ tables.origins
+    → step.Ran tables show.All (tracked_run (built_ins_of all_entries all_begin (all_after names) all_asks) tables inputs program turns) old now e
+    → step.Ran tables show.All (tracked_run (built_ins tables) tables inputs program turns) old now e
+ran_with tables inputs program turns old now e names is ran =
+    subst (λ (o : List (List ℕ)). step.Ran tables show.All (tracked_run (built_ins_of all_entries all_begin (all_after o) all_asks) tables inputs program turns) old now e) is ran

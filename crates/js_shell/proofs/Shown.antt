@@ -20,6 +20,7 @@ use Rattle.js_values.specs.declared.property.Body.{Body}
 use Rattle.js_values.specs.declared.property.Body.TheVariants.{Data, Accessor}
 use Rattle.js_values.specs.Objects.{Property, PlainObject}
 use Rattle.js_values.specs.Walks.{plain_chain, plain_find}
+use Rattle.es_meaning.specs.BuiltIns.{BuiltIns}
 use Rattle.es_meaning.specs.Outcomes.{threw, Outcome, Goes, Jumps, Ends}
 use Rattle.es_meaning.specs.Evaluation.{program_step}
 use Rattle.es_meaning.specs.Plain.{may_declare, outermost_env}
@@ -131,6 +132,6 @@ outcome_shown (Jumps j s) text e =
 outcome_shown (Ends halt s) text e = absurd cc
 
 -- what a run shows of an exception that leaves it
-pub run_shown : (tables : Tables) (inputs : Given) (program : Statements) (turns : ℕ) (text : List ℕ) → (tracked_run tables inputs program turns).ending ≡ threw text → on_line (utf8_of text) ≡ true
+pub run_shown : (set : BuiltIns) (tables : Tables) (inputs : Given) (program : Statements) (turns : ℕ) (text : List ℕ) → (tracked_run set tables inputs program turns).ending ≡ threw text → on_line (utf8_of text) ≡ true
 unfolding tracked_run
-run_shown tables inputs program turns text e = outcome_shown (program_step (timed tables inputs (functions_of program)) turns (may_declare program) program (outermost_env 0) (start tables inputs program turns)) text e
+run_shown set tables inputs program turns text e = outcome_shown (program_step (timed tables inputs set (functions_of program)) set turns (may_declare set program) program (outermost_env 0) (start tables inputs set program turns)) text e

@@ -7,6 +7,7 @@ use Rattle.flow_policy.specs.Inputs.{Given, IsGivenTo}
 use Rattle.flow_policy.specs.Observed.{Agree, view_of}
 use Rattle.flow_frames.specs.declared.faults.Rule.{Rule}
 use Rattle.js_ast.specs.Trees.{Statements}
+use Rattle.es_meaning.specs.BuiltIns.{BuiltIns}
 use Rattle.es_meaning.specs.Outcomes.{halted}
 use Rattle.es_meaning.specs.Plain.{Line}
 use Rattle.flow_meaning.specs.Scopes.{stopped}
@@ -17,15 +18,15 @@ use Rattle.js_shell.specs.declared.status.Status.{Status}
 use Rattle.js_shell.specs.declared.status.Status.TheVariants as status
 use Rattle.js_shell.specs.Sources.{SourceFault, HasProgram, RefusesProgram}
 use Rattle.flow_meaning.specs.Written.{lines_bytes, written, report}
-use Rattle.js_shell.specs.Replies.{Task, IsAsked, plain_run, tracked_run, Reply, IsReply}
+use Rattle.js_shell.specs.Replies.{Task, IsAsked, built_ins, plain_run, tracked_run, Reply, IsReply}
 
 -- ---- laws of the meanings
 
--- isolation: of two runs on inputs that agree for an observer, where both finish within their turns, the views are equal
+-- isolation: with each set of built-ins, of two runs on inputs that agree for an observer, where both finish within their turns, the views are equal
 abbrev pub IsIsolating : Type 0
-IsIsolating = (program : Statements) (tables : Tables) (observer : Label) (first second : Given) (turns others : ℕ) → IsPolicy tables → Agree observer tables first second
-    → IsFinishedBy (tracked.tracked_run tables first program turns).ending → IsFinishedBy (tracked.tracked_run tables second program others).ending
-    → view_of observer tables (written tables (tracked.tracked_run tables first program turns)) ≡ view_of observer tables (written tables (tracked.tracked_run tables second program others))
+IsIsolating = (set : BuiltIns) (program : Statements) (tables : Tables) (observer : Label) (first second : Given) (turns others : ℕ) → IsPolicy tables → Agree observer tables first second
+    → IsFinishedBy (tracked.tracked_run set tables first program turns).ending → IsFinishedBy (tracked.tracked_run set tables second program others).ending
+    → view_of observer tables (written tables (tracked.tracked_run set tables first program turns)) ≡ view_of observer tables (written tables (tracked.tracked_run set tables second program others))
 
 -- bytes are one program at most
 abbrev pub IsProgramOnce : Type 0
@@ -72,8 +73,8 @@ IsFinished _ = ⊥
 -- of turns, if the monitored run on it finishes too, it writes the same view.
 abbrev pub Isolates : List (List ℕ) → Status → Files → List ℕ → Type 0
 Isolates words result files out = IsFinished result → (task : Task) → IsAsked words files task → (observer : Label) (other : Given) (others : ℕ)
-    → IsGivenTo task.tables other → Agree observer task.tables task.given other → IsFinishedBy (tracked.tracked_run task.tables other task.program others).ending
-    → view_of observer task.tables out ≡ view_of observer task.tables (written task.tables (tracked.tracked_run task.tables other task.program others))
+    → IsGivenTo task.tables other → Agree observer task.tables task.given other → IsFinishedBy (tracked.tracked_run (built_ins task.tables) task.tables other task.program others).ending
+    → view_of observer task.tables out ≡ view_of observer task.tables (written task.tables (tracked.tracked_run (built_ins task.tables) task.tables other task.program others))
 
 -- a finished run wrote exactly what unlabelled ECMAScript writes
 abbrev pub IsPlain : List (List ℕ) → Status → Files → List ℕ → Type 0

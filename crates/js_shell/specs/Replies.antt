@@ -12,6 +12,7 @@ use Rattle.flow_policy.specs.Policies.{Tables, BadLine, policy_of}
 use Rattle.flow_policy.specs.Inputs.{Given, inputs_of}
 use Rattle.js_shell.specs.declared.status.Status.{Status}
 use Rattle.js_shell.specs.declared.status.Status.TheVariants as status
+use Rattle.es_meaning.specs.BuiltIns.{BuiltIns, built_ins_of}
 use Rattle.es_meaning.specs.Outcomes.{Ending, done, threw, halted, left, out_of_turns}
 use Rattle.es_meaning.specs.Plain as plain
 use Rattle.flow_meaning.specs.Scopes.{Halt, as_plain, stopped}
@@ -20,6 +21,7 @@ use Rattle.js_shell.specs.declared.refusals.SourceKind.{SourceKind}
 use Rattle.js_shell.specs.declared.refusals.SourceKind.TheVariants as source_kind
 use Rattle.js_shell.specs.Sources.{SourceFault, long_source, source_utf8, bad_source, HasProgram, IsScriptOf, RefusesProgram, RefusesSource}
 use Rattle.flow_meaning.specs.Written.{written}
+use Rattle.all_natives.specs.Together.{all_entries, all_begin, all_after, all_asks}
 
 -- the files of a run
 pub record Paths : Type 0 where
@@ -145,12 +147,16 @@ pub record IsChecked (words : List (List ℕ)) (files : Files) : Type 0 where
 abbrev pub default_turns : ℕ
 default_turns = 1000000
 
+-- the built-ins that a script has under a policy, whose origins those of the product name
+abbrev pub built_ins : Tables → BuiltIns
+built_ins tables = built_ins_of all_entries all_begin (all_after tables.origins) all_asks
+
 -- the two meanings of a task
 abbrev pub plain_run : Task → plain.Run
-plain_run task = plain.plain_run task.tables task.given task.program default_turns
+plain_run task = plain.plain_run (built_ins task.tables) task.tables task.given task.program default_turns
 
 abbrev pub tracked_run : Task → tracked.Run
-tracked_run task = tracked.tracked_run task.tables task.given task.program default_turns
+tracked_run task = tracked.tracked_run (built_ins task.tables) task.tables task.given task.program default_turns
 
 pub record Reply : Type 0 where
   pub bytes : List ℕ

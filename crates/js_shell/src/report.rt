@@ -1,7 +1,7 @@
 //! The bytes of a run's report.
 
-ghost use Rattle.std.specs.Prelude.{◌≡◌, ◌<◌, [], ◌++◌, map, length, codes, IfOk, IfSome};
-ghost use Rattle.std.specs.List.{All, join_with_byte, slice_index_or};
+ghost use Rattle.std.specs.Prelude.{◌≡◌, ◌<◌, [], ◌++◌, true, map, length, nat_lt, codes, IfOk, IfSome};
+ghost use Rattle.std.specs.List.{All, join_with_byte, list_all, slice_index_or};
 ghost use Rattle.flow_text.specs.Utf8.{utf8_of};
 ghost use Rattle.flow_meaning.specs.Scopes.{stopped};
 ghost use Rattle.flow_meaning.specs.Written.{rule_name, list_bytes, halt_bytes, ending_bytes, report};
@@ -42,7 +42,7 @@ fn ending_bytes(alloc: Global, policy: &Policy, ending: &Ending) -> Result<Vec<u
         Ending::Done => Ok(Vec::from_slice(alloc, b"done")?),
         Ending::Threw { shown } => threw_bytes(alloc, shown),
         Ending::Stopped { rule, need, have } => stopped_bytes(alloc, policy, *rule, need, have),
-        Ending::Left(why) => left_bytes(alloc, *why),
+        Ending::Left(why) => left_bytes(alloc, why),
         Ending::OutOfTurns => Ok(Vec::from_slice(alloc, b"out of turns")?),
         Ending::WriteFault | Ending::OutOfMemory => Err(OutOfMemory),
     }
@@ -56,11 +56,38 @@ fn threw_bytes(alloc: Global, shown: &Text) -> Result<Vec<u8>, OutOfMemory>
     Ok(bytes)
 }
 
-fn left_bytes(alloc: Global, why: Leaving) -> Result<Vec<u8>, OutOfMemory>
-    ensures { IfOk result (λ bytes. bytes.items ≡ codes "left " ++ utf8_of (leaving_name why)) }
+fn left_bytes(alloc: Global, why: &Leaving) -> Result<Vec<u8>, OutOfMemory>
+    ensures { IfOk result (λ bytes. bytes.items ≡ codes "left " ++ utf8_of (leaving_name why.now)) }
 {
     let mut bytes = Vec::from_slice(alloc, b"left ")?;
-    bytes.extend_from_slice(leaving_name(why))?;
+    bytes.extend_from_slice(&name_bytes(alloc, why)?)?;
+    Ok(bytes)
+}
+
+/// The name by which a run leaves.
+fn name_bytes(alloc: Global, why: &Leaving) -> Result<Vec<u8>, OutOfMemory>
+    ensures { IfOk result (λ bytes. bytes.items ≡ utf8_of (leaving_name why.now)) }
+{
+    match why {
+        Leaving::Named(name) => {
+            let bytes = name.to_utf8(alloc)?;
+            Ok(bytes)
+        }
+        Leaving::Number => spelled_bytes(alloc, b"number"),
+        Leaving::String => spelled_bytes(alloc, b"string"),
+        Leaving::Channel => spelled_bytes(alloc, b"channel"),
+        Leaving::Origin => spelled_bytes(alloc, b"origin"),
+        Leaving::Wrapper => spelled_bytes(alloc, b"wrapper"),
+        Leaving::Unbuilt => spelled_bytes(alloc, b"unbuilt"),
+    }
+}
+
+/// A word of ASCII, which is spelled by its own units.
+fn spelled_bytes(alloc: Global, word: &[u8]) -> Result<Vec<u8>, OutOfMemory>
+    requires ascii { list_all (λ u. nat_lt u 128) word.now ≡ true }
+    ensures { IfOk result (λ bytes. bytes.items ≡ utf8_of word.now) }
+{
+    let bytes = Vec::from_slice(alloc, word)?;
     Ok(bytes)
 }
 
@@ -83,20 +110,6 @@ fn stopped_bytes(
     bytes.extend_from_slice(b" have ")?;
     bytes.extend_from_slice(&list_bytes(alloc, policy, have)?)?;
     Ok(bytes)
-}
-
-#[tactic(auto, using(crate::proofs::Spelled::leaving_spelled))]
-fn leaving_name(why: Leaving) -> &'static [u8]
-    ensures { result.now ≡ utf8_of (leaving_name why) }
-{
-    match why {
-        Leaving::Number => b"number",
-        Leaving::String => b"string",
-        Leaving::Channel => b"channel",
-        Leaving::Origin => b"origin",
-        Leaving::Wrapper => b"wrapper",
-        Leaving::Unbuilt => b"unbuilt",
-    }
 }
 
 fn rule_name(rule: Rule) -> &'static [u8]

@@ -8,11 +8,12 @@ ghost use Rattle.js_ast.specs.IsMarked.{IsMarked};
 ghost use Rattle.js_ast.specs.Views.{view_program};
 ghost use Rattle.flow_meaning.specs.Tracked.{tracked_run};
 ghost use Rattle.step_run.specs.Ran.{HasDeclared, told_by};
-ghost use Rattle.js_shell.specs.Replies.{default_turns};
+ghost use Rattle.js_shell.specs.Replies.{built_ins, default_turns};
 ghost use Rattle.js_shell.specs.Ran.{Ran, Reports, ended, is_write_fault};
 
 use crate::report::report_bytes;
 use crate::status::Status;
+use all_natives::AllNatives;
 use flow_io::{Failed, Sink};
 use flow_policy::{Inputs, Policy};
 use js_ast::Program;
@@ -35,14 +36,18 @@ pub(crate) fn run<K: Sink>(
     requires room { length policy.now.origins ≤ 64 }
     requires given { IsGivenTo policy.now inputs.now }
     requires open { K.shut sink.old ≡ false }
-    ensures ran { Ran result (K.taken sink.old) (K.taken sink.new) policy.now (tracked_run policy.now inputs.now (view_program program.now) default_turns) }
+    ensures ran { Ran result (K.taken sink.old) (K.taken sink.new) policy.now (tracked_run (built_ins policy.now) policy.now inputs.now (view_program program.now) default_turns) }
     ensures shut { K.shut sink.new ≡ is_write_fault result }
     ensures faults_stay { K.faults sink.old ≤ K.faults sink.new }
     ensures failed { result ≡ Status.WriteFault → Rose (K.faults sink.old) (K.faults sink.new) }
 {
+    let Ok(natives) = AllNatives::new(alloc, policy) else {
+        return Status::OutOfMemory;
+    };
     let mut labels = Masks;
     let ending = step_run::run(
         alloc,
+        &natives,
         program,
         policy,
         inputs,

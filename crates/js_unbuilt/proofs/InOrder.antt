@@ -1,18 +1,18 @@
 -- What is listed of a tree that tokens spell: each place is that of one of its own tokens, and where these don't fall back, nor do the places.
-use Rattle.std.proofs.Common.{◌≡◌, ℕ, suc, ◌<◌, ◌≤◌, ◌⊎◌, inl, inr, Bool, true, false, not, List, [], ◌∷◌, ◌++◌, length, append_assoc, append-nil, Option, Some, None, IfSome, refl, sym, ap, ◌∙◌, subst, arith}
+use Rattle.std.proofs.Common.{◌≡◌, ℕ, suc, ◌<◌, ◌≤◌, ◌⊎◌, inl, inr, Bool, true, false, List, [], ◌∷◌, ◌++◌, length, append_assoc, append-nil, Option, Some, None, IfSome, refl, sym, ap, ◌∙◌, subst, arith}
 use Rattle.std.specs.List.{All}
 use Rattle.std.specs.List.Sorted.{IsNonDecreasingBy}
 use Rattle.std.specs.Option.{is_none}
 use Rattle.std.proofs.lemmas.List.Elements.{All-nil, All-cons, All-append, All-head, All-tail, All-weaker}
 use Rattle.js_ast.specs.declared.token.Token.{Token}
 use Rattle.js_ast.specs.Words.{Word}
-use Rattle.js_ast.specs.Trees.{Ident, Semi, Expr, name, number, string, this, null, boolean, paren, array, object, function, member, index, new_with, new_bare, call, postfix, unary, binary, conditional, assign, comma, at_of, Exprs, no_exprs, more_exprs, MaybeExpr, absent, present, Property, value, getter, setter, Properties, no_properties, more_properties, Function, function_of, Declarations, one_declaration, more_declarations, First, first_expr, first_var, Target, target_expr, target_var, Clauses, no_clauses, case, default, Block, block_of, Statement, block, var, empty, expression, if_then, if_else, do_while, while, for, for_in, continue, break, return, throw, switch, labelled, try_catch, try_finally, try_both, debugger, function_declaration, Statements, no_statements, more_statements}
-use Rattle.js_ast.specs.Grammar.{Part, ◌⨾◌, nothing, place_of as first_place, At, OnLine, Takes, ReadsIdent, MaybeIdent, ReadsIdents, FinalComma, Ends, StartsExpression, last_initialiser, Reads, ReadsExprs, ReadsMaybe, ReadsProperty, ReadsProperties, ReadsFunction, ReadsInitialiser, ReadsDeclarations, ReadsFirst, ReadsTarget, ReadsClauses, ReadsBlock, ReadsStatement, ReadsStatements}
+use Rattle.js_ast.specs.Trees.{Semi, Expr, name, number, string, this, null, boolean, paren, array, object, function, member, index, new_with, new_bare, call, postfix, unary, binary, conditional, assign, comma, at_of, Exprs, no_exprs, more_exprs, MaybeExpr, absent, present, Property, value, getter, setter, Properties, no_properties, more_properties, Function, function_of, Declarations, one_declaration, more_declarations, First, first_expr, first_var, Target, target_expr, target_var, Clauses, no_clauses, case, default, Block, block_of, Statement, block, var, empty, expression, if_then, if_else, do_while, while, for, for_in, continue, break, return, throw, switch, labelled, try_catch, try_finally, try_both, debugger, function_declaration, Statements, no_statements, more_statements}
+use Rattle.js_ast.specs.Grammar.{Part, ◌⨾◌, nothing, place_of as first_place, At, OnLine, Takes, FinalComma, Ends, StartsExpression, last_initialiser, Reads, ReadsExprs, ReadsMaybe, ReadsProperty, ReadsProperties, ReadsFunction, ReadsInitialiser, ReadsDeclarations, ReadsFirst, ReadsTarget, ReadsClauses, ReadsBlock, ReadsStatement, ReadsStatements}
 use Rattle.js_list_parser.proofs.Begins.{reads_place}
-use Rattle.js_list_parser.proofs.Lengths.{Shortens, ident_shortens, expr_shortens, statement_shortens}
-use Rattle.js_list_parser.proofs.Fronts.{Fronts, nothing_fixed, takes_fixed, name_fixed, key_fixed, label_fixed, end_loose, expr_fixed, property_fixed}
+use Rattle.js_list_parser.proofs.Lengths.{Shortens, expr_shortens, statement_shortens}
+use Rattle.js_list_parser.proofs.Fronts.{Fronts, nothing_fixed, takes_fixed, ident_fixed, maybe_ident_fixed, idents_fixed, name_fixed, key_fixed, label_fixed, end_loose, expr_fixed}
 use Rattle.es_meaning.specs.Evaluation.{is_reference}
-use Rattle.js_unbuilt.specs.Unbuilt.{is_reserved, is_callee, takes_operand, are_values, takes_keys, unless, unless_callee, unbuilt_ident, unbuilt_idents, unbuilt_name, unbuilt_expr, unbuilt_exprs, unbuilt_properties, unbuilt_function, unbuilt_maybe, unbuilt_declarations, unbuilt_first, unbuilt_target, unbuilt_clauses, unbuilt_block, unbuilt_statement, unbuilt_statements, least_of, least}
+use Rattle.js_unbuilt.specs.Unbuilt.{takes_operand, takes_keys, unless, unbuilt_expr, unbuilt_exprs, unbuilt_properties, unbuilt_function, unbuilt_maybe, unbuilt_declarations, unbuilt_first, unbuilt_target, unbuilt_clauses, unbuilt_block, unbuilt_statement, unbuilt_statements, least_of, least}
 use Rattle.js_unbuilt.specs.Looking.{first_in, unbuilt_property}
 use Rattle.js_unbuilt.proofs.Looked.{properties_step}
 
@@ -182,7 +182,7 @@ starts f = record { stands = λ ts rest h. f.stands ts rest h.1 }
 end : (before : Option Expr) (semi : Semi) → Stands (Ends before semi) []
 end before semi = passing (end_loose before semi)
 
--- a node with its parts, and one without
+-- a node with its parts
 abbrev IsPlace : ℕ → Part → Type 0
 IsPlace at p = (ts rest : List Token) → p ts rest → at ≡ first_place ts
 
@@ -192,27 +192,7 @@ node {at} {p} {xs} false place shorter f = record {
   stands = λ ts rest h. let a = f.stands ts rest h in passed_node at ts rest xs a.word (place ts rest h) (shorter ts rest h) a.parts a.each a.ascends;
 }
 
-leaf : {at : ℕ} {p : Part} (b : Bool) → IsPlace at p → Shortens p → Stands p [] → Stands p (unless b at)
-leaf {at} b place shorter f = recast (append-nil (unless b at)) (node b place shorter f)
-
--- a part that may be passed over
-unless_passed : {p : Part} {xs : List ℕ} (b : Bool) → Stands p [] → Stands p xs → Stands p (unless_callee b xs)
-unless_passed true passed f = passed
-unless_passed false passed f = f
-
 -- ---- nodes and their parts
-
-ident : (i : Ident) → Stands (ReadsIdent i) (unbuilt_ident i)
-ident i = leaf (not (is_reserved i.text)) (λ ts rest h. h.0) (ident_shortens i) (at_place token)
-
-maybe_ident : (i : Option Ident) → Stands (MaybeIdent i) (unbuilt_name i)
-maybe_ident None = no_token
-maybe_ident (Some i) = ident i
-
-idents : (is : List Ident) → Stands (ReadsIdents is) (unbuilt_idents is)
-idents [] = no_token
-idents (i ∷ []) = recast (sym (append-nil (unbuilt_ident i))) (ident i)
-idents (i ∷ j ∷ is) = both (ident i) (then token (idents (j ∷ is)))
 
 module _ (e : Expr) where
   in_node : {xs : List ℕ} (b : Bool) → Stands (Reads e) xs → Stands (Reads e) (unless b (at_of e) ++ xs)
@@ -225,7 +205,7 @@ mutual
   unfolding unbuilt_expr unbuilt_exprs unbuilt_properties unbuilt_function unbuilt_maybe unbuilt_declarations unbuilt_first unbuilt_target unbuilt_clauses unbuilt_block unbuilt_statement unbuilt_statements
 
   expr : (e : Expr) → Stands (Reads e) (unbuilt_expr e)
-  expr (name at text) = leaf (not (is_reserved text)) (reads_place (name at text)) (expr_shortens (name at text)) (at_place token)
+  expr (name at text) = at_place token
   expr (number at i) = at_place token
   expr (string at text v) = at_place token
   expr (this at) = at_place token
@@ -233,13 +213,13 @@ mutual
   expr (boolean at b) = at_place token
   expr (paren at e) = at_place (between (expr e))
   expr (array at items final) = in_node (array at items final) false (passing (expr_fixed (array at items final)))
-  expr (object at ps final) = in_node (object at ps final) (are_values ps) (at_place (between (properties ps final)))
+  expr (object at ps final) = at_place (between (properties ps final))
   expr (function at f) = at_place (then token (code f))
   expr (member at e text) = at_place (ahead (expr e) (then token (passing (name_fixed text))))
   expr (index at e n) = at_place (both (expr e) (between (expr n)))
   expr (new_with at e es) = at_place (then token (both (expr e) (between (exprs es))))
   expr (new_bare at e) = at_place (then token (expr e))
-  expr (call at e es) = at_place (both (unless_passed (is_callee e) (passing (expr_fixed e)) (expr e)) (between (exprs es)))
+  expr (call at e es) = at_place (both (expr e) (between (exprs es)))
   expr (postfix at e o) = in_node (postfix at e o) (is_reference e) (at_place (ahead (expr e) (on_line token)))
   expr (unary at o e) = in_node (unary at o e) (takes_operand o e) (at_place (then token (expr e)))
   expr (binary at l o r) = at_place (both (expr l) (then token (expr r)))
@@ -254,8 +234,8 @@ mutual
 
   property : (p : Property) → Stands (ReadsProperty p) (unbuilt_property p)
   property (value at k e) = at_place (then (passing (key_fixed k)) (then token (expr e)))
-  property (getter at k f) = passing (property_fixed (getter at k f))
-  property (setter at k f) = passing (property_fixed (setter at k f))
+  property (getter at k f) = at_place (then token (then (passing (key_fixed k)) (code f)))
+  property (setter at k f) = at_place (then token (then (passing (key_fixed k)) (code f)))
 
   properties : (ps : Properties) (final : Bool) → Stands (ReadsProperties ps final) (unbuilt_properties ps)
   properties no_properties final = no_token
@@ -263,7 +243,7 @@ mutual
   properties (more_properties p (more_properties q ps)) final = recast (sym (properties_step p (more_properties q ps))) (both (property p) (then token (properties (more_properties q ps) final)))
 
   code : (f : Function) → Stands (ReadsFunction f) (unbuilt_function f)
-  code (function_of at i params body) = both (maybe_ident i) (both (between (idents params)) (between (statements body)))
+  code (function_of at i params body) = then (passing (maybe_ident_fixed i)) (then (between (passing (idents_fixed params))) (between (statements body)))
 
   maybe : (e : MaybeExpr) → Stands (ReadsMaybe e) (unbuilt_maybe e)
   maybe absent = no_token
@@ -274,8 +254,8 @@ mutual
   initialiser (present e) = then token (expr e)
 
   declarations : (ds : Declarations) → Stands (ReadsDeclarations ds) (unbuilt_declarations ds)
-  declarations (one_declaration i init) = both (ident i) (initialiser init)
-  declarations (more_declarations i init ds) = recast (append_assoc (unbuilt_ident i) (unbuilt_maybe init) (unbuilt_declarations ds)) (both (both (ident i) (initialiser init)) (then token (declarations ds)))
+  declarations (one_declaration i init) = then (passing (ident_fixed i)) (initialiser init)
+  declarations (more_declarations i init ds) = both (then (passing (ident_fixed i)) (initialiser init)) (then token (declarations ds))
 
   first : (f : First) → Stands (ReadsFirst f) (unbuilt_first f)
   first (first_expr e) = maybe e
@@ -283,7 +263,7 @@ mutual
 
   target : (t : Target) → Stands (ReadsTarget t) (unbuilt_target t)
   target (target_expr e) = expr e
-  target (target_var i) = then token (ident i)
+  target (target_var i) = then token (passing (ident_fixed i))
 
   clauses : (cs : Clauses) → Stands (ReadsClauses cs) (unbuilt_clauses cs)
   clauses no_clauses = no_token
@@ -315,10 +295,10 @@ mutual
   statement (throw at e semi) = at_place (then token (ahead (on_line (expr e)) (end (Some e) semi)))
   statement (switch at e cs) = at_place (then token (both (between (expr e)) (between (clauses cs))))
   statement (labelled at text t) = at_place (then token (then token (statement t)))
-  statement (try_catch at b i handler) = at_place (then token (both (braced b) (then token (both (between (ident i)) (braced handler)))))
+  statement (try_catch at b i handler) = at_place (then token (both (braced b) (then token (then (between (passing (ident_fixed i))) (braced handler)))))
   statement (try_finally at b final) = at_place (then token (both (braced b) (then token (braced final))))
   statement (try_both at b i handler final) =
-      at_place (then token (both (braced b) (recast (append_assoc (unbuilt_ident i) (unbuilt_block handler) (unbuilt_block final)) (both (then token (both (between (ident i)) (braced handler))) (then token (braced final))))))
+      at_place (then token (both (braced b) (both (then token (then (between (passing (ident_fixed i))) (braced handler))) (then token (braced final)))))
   statement (debugger at semi) = at_place (then token (end None semi))
   statement (function_declaration at f) = at_place (then token (code f))
 

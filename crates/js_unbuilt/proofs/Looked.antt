@@ -1,19 +1,13 @@
 -- The first of places that are listed one part behind another.
-use Rattle.std.proofs.Common.{refl, sym, ap, ◌∙◌, ◌≡◌, ℕ, Bool, true, false, not, ◌&&◌, ◌||◌, List, [], ◌∷◌, ◌++◌, Option, Some, None, append_assoc, codes, if◌then◌else◌}
-use Rattle.std.specs.List.{list_all}
-use Rattle.std.specs.Option.{is_none}
-use Rattle.std.specs.Str.{bytes_eq}
+use Rattle.std.proofs.Common.{refl, sym, ap, ◌∙◌, ◌≡◌, ℕ, List, [], ◌∷◌, ◌++◌, Option, Some, None, append_assoc}
 use Rattle.js_ast.specs.declared.trees.Clause.{Clause, out-Clause}
-use Rattle.js_ast.specs.declared.trees.Property.{Property}
 use Rattle.js_ast.specs.Nodes.{nodes_of}
 use Rattle.js_ast.specs.Trees as trees
 use Rattle.js_ast.specs.Trees.{absent, present, value, getter, setter, more_properties, no_clauses}
-use Rattle.js_ast.specs.Views.{clause_by, view_maybe_expr, view_property, view_properties, view_clause, view_stmts}
+use Rattle.js_ast.specs.Views.{clause_by, view_maybe_expr, view_clause, view_stmts}
 use Rattle.js_ast.proofs.ViewLaws.{parts_clause}
-use Rattle.es_meaning.specs.Operations.{read, print, lbl, upgs, upge}
-use Rattle.es_meaning.specs.Evaluation.{direct_of}
-use Rattle.js_unbuilt.specs.Unbuilt.{is_reserved, is_called, are_values, unbuilt_expr, unbuilt_properties, unbuilt_maybe, unbuilt_clauses, unbuilt_statements}
-use Rattle.js_unbuilt.specs.Looking.{first_in, or_next, is_value, unbuilt_property, unbuilt_clause}
+use Rattle.js_unbuilt.specs.Unbuilt.{unbuilt_expr, unbuilt_properties, unbuilt_maybe, unbuilt_clauses, unbuilt_statements}
+use Rattle.js_unbuilt.specs.Looking.{first_in, or_next, unbuilt_property, unbuilt_clause}
 
 pub none_behind : (f : Option ℕ) → or_next f None ≡ f
 none_behind None = refl
@@ -27,24 +21,6 @@ first_append (at ∷ xs) ys = refl
 pub found_in_both : (whole xs ys : List ℕ) (result found next : Option ℕ) → whole ≡ xs ++ ys → result ≡ or_next found next → found ≡ first_in xs → next ≡ first_in ys → result ≡ first_in whole
 found_in_both whole xs ys result found next parts is here behind = rw (is, here, behind, parts) (sym (first_append xs ys))
 
--- ---- names
-
--- there is one of five where one of five tests holds
-one_of_five : {X : Type 0} (v w x y z : X) (a b c d e : Bool)
-    → not (is_none (if a then Some v else if b then Some w else if c then Some x else if d then Some y else if e then Some z else None)) ≡ a || (b || (c || (d || e)))
-one_of_five v w x y z true b c d e = refl
-one_of_five v w x y z false true c d e = refl
-one_of_five v w x y z false false true d e = refl
-one_of_five v w x y z false false false true e = refl
-one_of_five v w x y z false false false false true = refl
-one_of_five v w x y z false false false false false = refl
-
--- each function of the product is built
-pub called_reserved : (text : List ℕ) → is_called text ≡ is_reserved text
-unfolding direct_of is_reserved
-called_reserved text =
-    one_of_five read print lbl upgs upge (bytes_eq text (codes "read")) (bytes_eq text (codes "print")) (bytes_eq text (codes "lbl")) (bytes_eq text (codes "upgs")) (bytes_eq text (codes "upge"))
-
 -- ---- properties
 
 -- one property, and those behind it
@@ -56,16 +32,6 @@ properties_step (setter at key f) ps = refl
 
 pub first_property : (p : trees.Property) (ps : trees.Properties) → first_in (unbuilt_properties (more_properties p ps)) ≡ or_next (first_in (unbuilt_property p)) (first_in (unbuilt_properties ps))
 first_property p ps = ap first_in (properties_step p ps) ∙ first_append (unbuilt_property p) (unbuilt_properties ps)
-
-values_step : (p : trees.Property) (ps : trees.Properties) → are_values (more_properties p ps) ≡ is_value p && are_values ps
-values_step (value at key e) ps = refl
-values_step (getter at key f) ps = refl
-values_step (setter at key f) ps = refl
-
--- each is a value
-pub all_values : (ps : List Property) → are_values (view_properties ps) ≡ list_all (λ p. is_value (view_property p)) ps
-all_values [] = refl
-all_values (p ∷ ps) = values_step (view_property p) (view_properties ps) ∙ ap (λ (others : Bool). is_value (view_property p) && others) (all_values ps)
 
 -- ---- clauses
 

@@ -1,5 +1,5 @@
 -- Loops over the nodes of a list that end at the first place found: what the rest gives is what the whole list gives, as long as nothing is found.
-use Rattle.std.proofs.Common.{refl, sym, ap, ◌∙◌, ◌≡◌, ◌<◌, ◌≤◌, ◌+◌, ℕ, List, [], ◌∷◌, ◌++◌, length, drop, get_or, append_assoc, Option, Some, None, true, false}
+use Rattle.std.proofs.Common.{refl, sym, ap, ◌∙◌, ◌≡◌, ◌<◌, ◌≤◌, ◌+◌, ℕ, List, [], ◌∷◌, length, drop, get_or, Option, Some, None, true, false}
 use Rattle.std.specs.Option.{is_some}
 use Rattle.std.proofs.lemmas.List.{drop_more, at_drop_all}
 use Rattle.js_ast.specs.declared.trees.Declarations.{Declarations, out-Declarations}
@@ -7,7 +7,7 @@ use Rattle.js_ast.specs.Nodes.{nodes_of}
 use Rattle.js_ast.specs.Trees.{Ident, MaybeExpr}
 use Rattle.js_ast.specs.Views.{view_declaration, view_declarations, view_other_declarations, declarations_from}
 use Rattle.js_ast.proofs.ViewLaws.{parts_declarations}
-use Rattle.js_unbuilt.specs.Unbuilt.{unbuilt_ident, unbuilt_maybe, unbuilt_declarations}
+use Rattle.js_unbuilt.specs.Unbuilt.{unbuilt_maybe, unbuilt_declarations}
 use Rattle.js_unbuilt.specs.Looking.{first_in, or_next}
 use Rattle.js_unbuilt.proofs.Looked.{none_behind, first_append}
 
@@ -40,9 +40,9 @@ ends F xs i whole none le so_far = sym (at_drop_all F xs i le ∙ none) ∙ so_f
 
 -- ---- variables
 
--- a variable and its initialiser
+-- the initialiser of a variable
 abbrev pub in_variable : Ident × MaybeExpr → Option ℕ
-in_variable d = first_in (unbuilt_ident d.0 ++ unbuilt_maybe d.1)
+in_variable d = first_in (unbuilt_maybe d.1)
 
 -- variables in turn
 abbrev pub in_variables : List (Ident × MaybeExpr) → Option ℕ
@@ -52,9 +52,7 @@ in_variables (d ∷ ds) = or_next (in_variable d) (in_variables ds)
 variables_from : (d : Ident × MaybeExpr) (ds : List (Ident × MaybeExpr)) → first_in (unbuilt_declarations (declarations_from d ds)) ≡ or_next (in_variable d) (in_variables ds)
 unfolding unbuilt_declarations
 variables_from d [] = sym (none_behind (in_variable d))
-variables_from d (e ∷ es) =
-    let others = unbuilt_declarations (declarations_from e es) in
-    ap first_in (sym (append_assoc (unbuilt_ident d.0) (unbuilt_maybe d.1) others)) ∙ first_append (unbuilt_ident d.0 ++ unbuilt_maybe d.1) others ∙ ap (or_next (in_variable d)) (variables_from e es)
+variables_from d (e ∷ es) = first_append (unbuilt_maybe d.1) (unbuilt_declarations (declarations_from e es)) ∙ ap (or_next (in_variable d)) (variables_from e es)
 
 pub whole_variables : (ds : Declarations) → first_in (unbuilt_declarations (view_declarations ds)) ≡ or_next (in_variable (view_declaration (out-Declarations ds).first)) (in_variables (view_other_declarations (nodes_of (out-Declarations ds).others)))
 whole_variables ds = ap (λ d. first_in (unbuilt_declarations d)) (parts_declarations ds) ∙ variables_from (view_declaration (out-Declarations ds).first) (view_other_declarations (nodes_of (out-Declarations ds).others))

@@ -1,37 +1,16 @@
--- Which nodes of a program aren't built yet, by their places, and the least of these places.
-use Rattle.std.specs.Prelude.{ℕ, Bool, true, false, not, ◌||◌, List, [], ◌∷◌, ◌++◌, Option, Some, None, codes, min}
-use Rattle.std.specs.Option.{is_none}
-use Rattle.std.specs.Str.{bytes_eq}
+-- Which nodes of a program aren't built yet, by their places, and the least of these places: array literals. Of a tree that no tokens spell also what would be
+-- done with a reference and stands before something else.
+use Rattle.std.specs.Prelude.{ℕ, Bool, true, false, List, [], ◌∷◌, ◌++◌, Option, Some, None, min}
 use Rattle.js_ast.specs.declared.operators.UnaryOperator.{UnaryOperator}
 use Rattle.js_ast.specs.declared.operators.UnaryOperator.TheVariants as unary_operator
-use Rattle.js_ast.specs.Trees.{Ident, Expr, name, number, string, this, null, boolean, paren, array, object, function, member, index, new_with, new_bare, call, postfix, unary, binary, conditional, assign, comma, Exprs, no_exprs, more_exprs, MaybeExpr, absent, present, value, getter, setter, Properties, no_properties, more_properties, Target, target_expr, target_var, Declarations, one_declaration, more_declarations, First, first_expr, first_var, Clauses, no_clauses, case, default, Block, block_of, Statement, block, var, empty, expression, if_then, if_else, do_while, while, for, for_in, continue, break, return, throw, switch, labelled, try_catch, try_finally, try_both, debugger, function_declaration, Function, function_of, Statements, no_statements, more_statements}
-use Rattle.es_meaning.specs.Evaluation.{is_reference, direct_of}
-
--- the functions of the product are called by their names, and these have no other use yet
-unfoldable pub is_reserved : List ℕ → Bool
-is_reserved text = bytes_eq text (codes "read") || (bytes_eq text (codes "print") || (bytes_eq text (codes "lbl") || (bytes_eq text (codes "upgs") || bytes_eq text (codes "upge"))))
-
--- the function of the product that is called by this name is built
-abbrev pub is_called : List ℕ → Bool
-is_called text = not (is_none (direct_of text))
-
--- what is called by these is built: a name stands there without parentheses
-unfoldable pub is_callee : Expr → Bool
-is_callee (name at text) = is_called text
-is_callee _ = false
+use Rattle.js_ast.specs.Trees.{Expr, name, number, string, this, null, boolean, paren, array, object, function, member, index, new_with, new_bare, call, postfix, unary, binary, conditional, assign, comma, Exprs, no_exprs, more_exprs, MaybeExpr, absent, present, value, getter, setter, Properties, no_properties, more_properties, Target, target_expr, target_var, Declarations, one_declaration, more_declarations, First, first_expr, first_var, Clauses, no_clauses, case, default, Block, block_of, Statement, block, var, empty, expression, if_then, if_else, do_while, while, for, for_in, continue, break, return, throw, switch, labelled, try_catch, try_finally, try_both, debugger, function_declaration, Function, function_of, Statements, no_statements, more_statements}
+use Rattle.es_meaning.specs.Evaluation.{is_reference}
 
 -- operators in front of this operand are built
 abbrev pub takes_operand : UnaryOperator → Expr → Bool
 takes_operand unary_operator.Increment e = is_reference e
 takes_operand unary_operator.Decrement e = is_reference e
 takes_operand _ e = true
-
--- each property of an object is a value: getters and setters aren't built
-abbrev pub are_values : Properties → Bool
-are_values no_properties = true
-are_values (more_properties (value at key e) ps) = are_values ps
-are_values (more_properties (getter at key f) ps) = false
-are_values (more_properties (setter at key f) ps) = false
 
 -- a `for in` with this target is built
 abbrev pub takes_keys : Target → Bool
@@ -43,28 +22,11 @@ abbrev pub unless : Bool → ℕ → List ℕ
 unless true at = []
 unless false at = at ∷ []
 
--- a name where it is bound
-abbrev pub unbuilt_ident : Ident → List ℕ
-unbuilt_ident ident = unless (not (is_reserved ident.text)) ident.at
-
-abbrev pub unbuilt_idents : List Ident → List ℕ
-unbuilt_idents [] = []
-unbuilt_idents (ident ∷ idents) = unbuilt_ident ident ++ unbuilt_idents idents
-
-abbrev pub unbuilt_name : Option Ident → List ℕ
-unbuilt_name None = []
-unbuilt_name (Some ident) = unbuilt_ident ident
-
--- what is called by a function's own name is no part of a call
-abbrev pub unless_callee : Bool → List ℕ → List ℕ
-unless_callee true places = []
-unless_callee false places = places
-
 -- the node where it isn't built, and those of its parts that aren't. An array literal isn't built at all: it stands alone, as none of its parts stands
--- in front of it. A getter and a setter are listed by their object
+-- in front of it
 unfoldable mutual
   pub unbuilt_expr : Expr → List ℕ
-  unbuilt_expr (name at text) = unless (not (is_reserved text)) at
+  unbuilt_expr (name at text) = []
   unbuilt_expr (number at n) = []
   unbuilt_expr (string at text v) = []
   unbuilt_expr (this at) = []
@@ -72,13 +34,13 @@ unfoldable mutual
   unbuilt_expr (boolean at b) = []
   unbuilt_expr (paren at e) = unbuilt_expr e
   unbuilt_expr (array at items final) = at ∷ []
-  unbuilt_expr (object at ps final) = unless (are_values ps) at ++ unbuilt_properties ps
+  unbuilt_expr (object at ps final) = unbuilt_properties ps
   unbuilt_expr (function at f) = unbuilt_function f
   unbuilt_expr (member at e text) = unbuilt_expr e
   unbuilt_expr (index at e n) = unbuilt_expr e ++ unbuilt_expr n
   unbuilt_expr (new_with at e es) = unbuilt_expr e ++ unbuilt_exprs es
   unbuilt_expr (new_bare at e) = unbuilt_expr e
-  unbuilt_expr (call at e es) = unless_callee (is_callee e) (unbuilt_expr e) ++ unbuilt_exprs es
+  unbuilt_expr (call at e es) = unbuilt_expr e ++ unbuilt_exprs es
   unbuilt_expr (postfix at e o) = unless (is_reference e) at ++ unbuilt_expr e
   unbuilt_expr (unary at o e) = unless (takes_operand o e) at ++ unbuilt_expr e
   unbuilt_expr (binary at l o r) = unbuilt_expr l ++ unbuilt_expr r
@@ -90,24 +52,23 @@ unfoldable mutual
   unbuilt_exprs no_exprs = []
   unbuilt_exprs (more_exprs e es) = unbuilt_expr e ++ unbuilt_exprs es
 
-  -- those of the values of properties
+  -- those of the values of properties, and of getters and setters
   pub unbuilt_properties : Properties → List ℕ
   unbuilt_properties no_properties = []
   unbuilt_properties (more_properties (value at key e) ps) = unbuilt_expr e ++ unbuilt_properties ps
-  unbuilt_properties (more_properties (getter at key f) ps) = unbuilt_properties ps
-  unbuilt_properties (more_properties (setter at key f) ps) = unbuilt_properties ps
+  unbuilt_properties (more_properties (getter at key f) ps) = unbuilt_function f ++ unbuilt_properties ps
+  unbuilt_properties (more_properties (setter at key f) ps) = unbuilt_function f ++ unbuilt_properties ps
 
-  -- a function has a name and parameters, in front of its body
   pub unbuilt_function : Function → List ℕ
-  unbuilt_function (function_of at ident params body) = unbuilt_name ident ++ (unbuilt_idents params ++ unbuilt_statements body)
+  unbuilt_function (function_of at ident params body) = unbuilt_statements body
 
   pub unbuilt_maybe : MaybeExpr → List ℕ
   unbuilt_maybe absent = []
   unbuilt_maybe (present e) = unbuilt_expr e
 
   pub unbuilt_declarations : Declarations → List ℕ
-  unbuilt_declarations (one_declaration ident e) = unbuilt_ident ident ++ unbuilt_maybe e
-  unbuilt_declarations (more_declarations ident e ds) = unbuilt_ident ident ++ (unbuilt_maybe e ++ unbuilt_declarations ds)
+  unbuilt_declarations (one_declaration ident e) = unbuilt_maybe e
+  unbuilt_declarations (more_declarations ident e ds) = unbuilt_maybe e ++ unbuilt_declarations ds
 
   pub unbuilt_first : First → List ℕ
   unbuilt_first (first_expr e) = unbuilt_maybe e
@@ -116,7 +77,7 @@ unfoldable mutual
   -- what a `for in` gives its keys to
   pub unbuilt_target : Target → List ℕ
   unbuilt_target (target_expr e) = unbuilt_expr e
-  unbuilt_target (target_var ident) = unbuilt_ident ident
+  unbuilt_target (target_var ident) = []
 
   pub unbuilt_clauses : Clauses → List ℕ
   unbuilt_clauses no_clauses = []
@@ -126,7 +87,7 @@ unfoldable mutual
   pub unbuilt_block : Block → List ℕ
   unbuilt_block (block_of at body) = unbuilt_statements body
 
-  -- the same of statements. A label is no name that is bound
+  -- the same of statements
   pub unbuilt_statement : Statement → List ℕ
   unbuilt_statement (block b) = unbuilt_block b
   unbuilt_statement (var at ds semi) = unbuilt_declarations ds
@@ -144,9 +105,9 @@ unfoldable mutual
   unbuilt_statement (throw at e semi) = unbuilt_expr e
   unbuilt_statement (switch at e cs) = unbuilt_expr e ++ unbuilt_clauses cs
   unbuilt_statement (labelled at text s) = unbuilt_statement s
-  unbuilt_statement (try_catch at b ident handler) = unbuilt_block b ++ (unbuilt_ident ident ++ unbuilt_block handler)
+  unbuilt_statement (try_catch at b ident handler) = unbuilt_block b ++ unbuilt_block handler
   unbuilt_statement (try_finally at b final) = unbuilt_block b ++ unbuilt_block final
-  unbuilt_statement (try_both at b ident handler final) = unbuilt_block b ++ (unbuilt_ident ident ++ (unbuilt_block handler ++ unbuilt_block final))
+  unbuilt_statement (try_both at b ident handler final) = unbuilt_block b ++ (unbuilt_block handler ++ unbuilt_block final)
   unbuilt_statement (debugger at semi) = []
   unbuilt_statement (function_declaration at f) = unbuilt_function f
 

@@ -8,52 +8,16 @@ ghost use Rattle.js_ast.specs.declared.token.Token.{Token};
 ghost use Rattle.js_ast.specs.Grammar.{SpellsProgram};
 ghost use Rattle.js_ast.specs.Nodes.{nodes_of};
 ghost use Rattle.js_ast.specs.Trees.{no_clauses};
-ghost use Rattle.js_ast.specs.Views.{view_ident, view_name, view_idents, view_expr, view_exprs, view_maybe_expr, view_property, view_properties, view_function, view_declaration, view_declarations, view_first, view_target, view_clause, view_clauses, view_block, view_stmt, view_stmts, view_program};
+ghost use Rattle.js_ast.specs.Views.{view_expr, view_exprs, view_maybe_expr, view_property, view_properties, view_function, view_declaration, view_declarations, view_first, view_target, view_clause, view_clauses, view_block, view_stmt, view_stmts, view_program};
 ghost use Rattle.es_meaning.specs.Evaluation.{is_reference};
-ghost use Rattle.js_unbuilt.specs.Unbuilt.{is_reserved, is_callee, takes_operand, are_values, takes_keys, unless, unless_callee, unbuilt_ident, unbuilt_idents, unbuilt_name, unbuilt_expr, unbuilt_exprs, unbuilt_properties, unbuilt_function, unbuilt_maybe, unbuilt_declarations, unbuilt_first, unbuilt_target, unbuilt_clauses, unbuilt_block, unbuilt_statement, unbuilt_statements, first_unbuilt};
-ghost use Rattle.js_unbuilt.specs.Looking.{first_in, or_next, is_value, unbuilt_property, unbuilt_clause};
+ghost use Rattle.js_unbuilt.specs.Unbuilt.{takes_operand, takes_keys, unless, unbuilt_expr, unbuilt_exprs, unbuilt_properties, unbuilt_function, unbuilt_maybe, unbuilt_declarations, unbuilt_first, unbuilt_target, unbuilt_clauses, unbuilt_block, unbuilt_statement, unbuilt_statements, first_unbuilt};
+ghost use Rattle.js_unbuilt.specs.Looking.{first_in, or_next, unbuilt_property, unbuilt_clause};
 
-use flow_text::Text;
 use js_ast::{
     Block, Clause, ClauseList, Declaration, Declarations, Expr, ExprKind, ExprList, ForFirst,
-    ForTarget, Function, Ident, IdentList, Program, Property, PropertyKind, PropertyList, Stmt,
-    StmtKind, StmtList, UnaryOperator,
+    ForTarget, Function, Program, Property, PropertyKind, PropertyList, Stmt, StmtKind, StmtList,
+    UnaryOperator,
 };
-
-// `read`, `print`, `lbl`, `upgs` and `upge`
-const READ: [u16; 4] = [0x72, 0x65, 0x61, 0x64];
-
-const PRINT: [u16; 5] = [0x70, 0x72, 0x69, 0x6E, 0x74];
-
-const LBL: [u16; 3] = [0x6C, 0x62, 0x6C];
-
-const UPGS: [u16; 4] = [0x75, 0x70, 0x67, 0x73];
-
-const UPGE: [u16; 4] = [0x75, 0x70, 0x67, 0x65];
-
-/// The name of a function of the product.
-#[tactic(auto, unfolding(crate::specs::Unbuilt::is_reserved))]
-fn is_reserved(text: &Text) -> bool
-    ensures { result ≡ is_reserved text.now }
-{
-    let text = text.units();
-    text == READ.as_slice()
-        || text == PRINT.as_slice()
-        || text == LBL.as_slice()
-        || text == UPGS.as_slice()
-        || text == UPGE.as_slice()
-}
-
-/// What can be called: a function of the product, by its name.
-#[tactic(auto, using(crate::proofs::Looked::called_reserved), unfolding(crate::specs::Unbuilt::is_callee))]
-fn is_callee(e: &Expr) -> bool
-    ensures { result ≡ is_callee (view_expr e.now) }
-{
-    match &*e.kind {
-        ExprKind::Name(text) => is_reserved(text),
-        _ => false,
-    }
-}
 
 /// Whether it is a reference (ECMA-262 8.7), also in parentheses.
 #[tactic(auto, unfolding(es_meaning::specs::Evaluation::is_reference))]
@@ -74,19 +38,6 @@ fn takes_operand(operator: UnaryOperator, operand: &Expr) -> bool
         UnaryOperator::Increment | UnaryOperator::Decrement => is_reference(operand),
         _ => true,
     }
-}
-
-fn is_value(property: &Property) -> bool
-    ensures { result ≡ is_value (view_property property.now) }
-{
-    matches!(property.kind, PropertyKind::Value(_))
-}
-
-#[tactic(auto, using(crate::proofs::Looked::all_values))]
-fn are_values(list: &PropertyList) -> bool
-    ensures { result ≡ are_values (view_properties (nodes_of list.now)) }
-{
-    list.items().iter().all(|property| is_value(property))
 }
 
 fn takes_keys(target: &ForTarget) -> bool
@@ -126,29 +77,20 @@ fn first_of_three(
     first_of(first, first_of(second, third))
 }
 
-#[tactic(auto, using(crate::proofs::Looked::none_behind))]
-fn in_ident(ident: &Ident) -> Option<usize>
-    ensures { result ≡ first_in (unbuilt_ident (view_ident ident.now)) }
-{
-    where_built(!is_reserved(&ident.text), ident.at, None)
-}
-
 #[cycle(walk)]
-#[tactic(auto, using(crate::proofs::Looked::first_append, crate::proofs::Looked::none_behind, js_ast::proofs::ViewLaws::held_exprs, js_ast::proofs::ViewLaws::held_properties, js_ast::specs::declared::trees::ExprKind::TheViews::the_lemmas), unfolding(crate::specs::Unbuilt::unbuilt_expr))]
+#[tactic(auto, using(crate::proofs::Looked::first_append, js_ast::proofs::ViewLaws::held_exprs, js_ast::proofs::ViewLaws::held_properties, js_ast::specs::declared::trees::ExprKind::TheViews::the_lemmas), unfolding(crate::specs::Unbuilt::unbuilt_expr))]
 fn in_expr(e: &Expr) -> Option<usize>
     ensures { result ≡ first_in (unbuilt_expr (view_expr e.now)) }
 {
     match &*e.kind {
-        ExprKind::Number(_)
+        ExprKind::Name(_)
+        | ExprKind::Number(_)
         | ExprKind::String { .. }
         | ExprKind::This
         | ExprKind::Null
         | ExprKind::Bool(_) => None,
-        ExprKind::Name(text) => where_built(!is_reserved(text), e.at, None),
         ExprKind::Paren(inner) => in_expr(inner),
-        ExprKind::Object { properties, .. } => {
-            where_built(are_values(properties), e.at, in_properties(properties))
-        }
+        ExprKind::Object { properties, .. } => in_properties(properties),
         ExprKind::Member { base, .. } => in_expr(base),
         ExprKind::Index { base, index } => first_of(in_expr(base), in_expr(index)),
         ExprKind::Function(f) => in_function(f),
@@ -159,7 +101,7 @@ fn in_expr(e: &Expr) -> Option<usize>
                 None => found,
             }
         }
-        ExprKind::Call { callee, args } => first_of(in_callee(callee), in_exprs(args)),
+        ExprKind::Call { callee, args } => first_of(in_expr(callee), in_exprs(args)),
         ExprKind::Postfix { operand, .. } => {
             where_built(is_reference(operand), e.at, in_expr(operand))
         }
@@ -182,18 +124,6 @@ fn in_expr(e: &Expr) -> Option<usize>
     }
 }
 
-/// The first place in what is called, which isn't looked at where a function of the product is called by its name.
-#[cycle(walk)]
-fn in_callee(callee: &Expr) -> Option<usize>
-    ensures { result ≡ first_in (unless_callee (is_callee (view_expr callee.now)) (unbuilt_expr (view_expr callee.now))) }
-{
-    if is_callee(callee) {
-        None
-    } else {
-        in_expr(callee)
-    }
-}
-
 #[cycle(walk)]
 fn in_exprs(list: &ExprList) -> Option<usize>
     ensures { result ≡ first_in (unbuilt_exprs (view_exprs (nodes_of list.now))) }
@@ -207,7 +137,7 @@ fn in_exprs(list: &ExprList) -> Option<usize>
     None
 }
 
-/// The first place in the value of a property.
+/// The first place in the value of a property, or in its getter or setter.
 #[cycle(walk)]
 #[tactic(auto, unfolding(crate::specs::Unbuilt::unbuilt_expr))]
 fn in_property(property: &Property) -> Option<usize>
@@ -215,7 +145,8 @@ fn in_property(property: &Property) -> Option<usize>
 {
     match &property.kind {
         PropertyKind::Value(e) => in_expr(e),
-        PropertyKind::Getter(_) | PropertyKind::Setter(_) => None,
+        PropertyKind::Getter(f) => in_function(f),
+        PropertyKind::Setter(f) => in_function(f),
     }
 }
 
@@ -232,38 +163,13 @@ fn in_properties(list: &PropertyList) -> Option<usize>
     None
 }
 
-/// The first place in a function: in its name, its parameters or its body.
+/// The first place in the body of a function.
 #[cycle(walk)]
-#[tactic(auto, using(crate::proofs::Looked::first_append, js_ast::proofs::ViewLaws::parts_function), unfolding(crate::specs::Unbuilt::unbuilt_function))]
+#[tactic(auto, using(js_ast::proofs::ViewLaws::parts_function), unfolding(crate::specs::Unbuilt::unbuilt_function))]
 fn in_function(f: &Function) -> Option<usize>
     ensures { result ≡ first_in (unbuilt_function (view_function f.now)) }
 {
-    first_of_three(
-        in_name(&f.name),
-        in_idents(&f.params),
-        in_statements(&f.body),
-    )
-}
-
-fn in_name(name: &Option<Ident>) -> Option<usize>
-    ensures { result ≡ first_in (unbuilt_name (view_name name.now)) }
-{
-    match name {
-        Some(ident) => in_ident(ident),
-        None => None,
-    }
-}
-
-fn in_idents(list: &IdentList) -> Option<usize>
-    ensures { result ≡ first_in (unbuilt_idents (view_idents (nodes_of list.now))) }
-{
-    'idents: for ident in list.items() {
-        let found = in_ident(ident);
-        if found.is_some() {
-            return found;
-        }
-    }
-    None
+    in_statements(&f.body)
 }
 
 #[cycle(walk)]
@@ -277,13 +183,12 @@ fn in_maybe(e: &Option<Expr>) -> Option<usize>
     }
 }
 
-/// The first place in a variable and its initialiser.
+/// The first place in the initialiser of a variable.
 #[cycle(walk)]
-#[tactic(auto, using(crate::proofs::Looked::first_append))]
 fn in_declaration(declaration: &Declaration) -> Option<usize>
-    ensures { result ≡ first_in (unbuilt_ident (view_declaration declaration.now).0 ++ unbuilt_maybe (view_declaration declaration.now).1) }
+    ensures { result ≡ first_in (unbuilt_maybe (view_declaration declaration.now).1) }
 {
-    first_of(in_ident(&declaration.name), in_maybe(&declaration.value))
+    in_maybe(&declaration.value)
 }
 
 #[cycle(walk)]
@@ -321,7 +226,7 @@ fn in_target(target: &ForTarget) -> Option<usize>
 {
     match target {
         ForTarget::Expr(e) => in_expr(e),
-        ForTarget::Var(name) => in_ident(name),
+        ForTarget::Var(_) => None,
     }
 }
 
@@ -353,15 +258,6 @@ fn in_block(block: &Block) -> Option<usize>
     ensures { result ≡ first_in (unbuilt_block (view_block block.now)) }
 {
     in_statements(&block.body)
-}
-
-/// The first place in a handler: in its name, or in its statements.
-#[cycle(walk)]
-#[tactic(auto, using(crate::proofs::Looked::first_append))]
-fn in_handler(param: &Ident, handler: &Block) -> Option<usize>
-    ensures { result ≡ first_in (unbuilt_ident (view_ident param.now) ++ unbuilt_block (view_block handler.now)) }
-{
-    first_of(in_ident(param), in_block(handler))
 }
 
 #[cycle(walk)]
@@ -411,24 +307,16 @@ fn in_statement(s: &Stmt) -> Option<usize>
         StmtKind::Throw { value, .. } => in_expr(value),
         StmtKind::Switch { value, clauses } => first_of(in_expr(value), in_clauses(clauses)),
         StmtKind::Labelled { body, .. } => in_statement(body),
-        StmtKind::TryCatch {
-            block,
-            param,
-            handler,
-        } => first_of(in_block(block), in_handler(param, handler)),
+        StmtKind::TryCatch { block, handler, .. } => first_of(in_block(block), in_block(handler)),
         StmtKind::TryFinally { block, finalizer } => {
             first_of(in_block(block), in_block(finalizer))
         }
         StmtKind::TryBoth {
             block,
-            param,
             handler,
             finalizer,
-        } => first_of_three(
-            in_block(block),
-            in_handler(param, handler),
-            in_block(finalizer),
-        ),
+            ..
+        } => first_of_three(in_block(block), in_block(handler), in_block(finalizer)),
         StmtKind::Function(f) => in_function(f),
     }
 }

@@ -13,14 +13,17 @@ use Rattle.js_number.specs.declared.primitive.Primitive.{Primitive}
 use Rattle.js_values.specs.declared.ids.ObjId.{ObjId}
 use Rattle.js_values.specs.declared.value.Value.{Value}
 use Rattle.js_values.specs.Objects.{Object}
+use Rattle.native_protocol.specs.declared.request.ErrorKind.{ErrorKind}
+use Rattle.native_protocol.specs.declared.request.ErrorKind.TheVariants as kinds
+use Rattle.native_protocol.specs.declared.request.Seen.TheVariants as seen_as
 use Rattle.js_ast.specs.declared.operators.UnaryOperator.{UnaryOperator}
 use Rattle.js_ast.specs.declared.operators.BinaryOperator.{BinaryOperator}
 use Rattle.es_meaning.specs.Outcomes.{out_of_turns, Goes, Jumps}
-use Rattle.es_meaning.specs.Operators.{an_object, unary_of, binary_of, binary_with_object}
-use Rattle.es_meaning.specs.Start.{ErrorKind, error, eval_error, range_error, reference_error, syntax_error, type_error, uri_error, error_prototype, start_heap}
+use Rattle.es_meaning.specs.Operators.{unary_of, binary_of, binary_with_object}
+use Rattle.es_meaning.specs.Start.{error_prototype, start_heap}
 use Rattle.es_meaning.specs.Plain.{seen_of}
 use Rattle.flow_meaning.specs.Scopes.{Val, as_plain, State, Jump, L, guard, cut_to, raised_in, raise, reached, jump_to, jump}
-use Rattle.flow_meaning.specs.Tracked.{engine_error, with_error, error_jump, throw_error, given, unless_object, seen as seen_in, spend}
+use Rattle.flow_meaning.specs.Tracked.{engine_error, with_error, error_jump, throw_error, given, seen as seen_in, spend}
 use Rattle.low_equal.specs.Observed.{Sees, Hides, view, IsSeen, IsHidden, Front}
 use Rattle.low_equal.specs.LowEqual as low
 use Rattle.low_equal.specs.LowEqual.{Pairing, Extends, Alike, seen, hidden, SameValue, primitives, objects, SameObject, both, Agree, plains, no_rows, seen_shape, ObjectsAgree, Both, IsFormed, no_keys, HeapsAgree, ScopesAgree, LowEqual}
@@ -124,24 +127,25 @@ module _ (observer : Label) (tables : Tables) where
 
   -- ---- errors of the engine
 
-  prototype_below : (kind : ErrorKind) → (error_prototype kind).0 < length start_heap
-  prototype_below error = omega arith
-  prototype_below eval_error = omega arith
-  prototype_below range_error = omega arith
-  prototype_below reference_error = omega arith
-  prototype_below syntax_error = omega arith
-  prototype_below type_error = omega arith
-  prototype_below uri_error = omega arith
+  pub prototype_below : (kind : ErrorKind) → (error_prototype kind).0 < length start_heap
+  prototype_below kinds.Error = omega arith
+  prototype_below kinds.EvalError = omega arith
+  prototype_below kinds.RangeError = omega arith
+  prototype_below kinds.ReferenceError = omega arith
+  prototype_below kinds.SyntaxError = omega arith
+  prototype_below kinds.TypeError = omega arith
+  prototype_below kinds.UriError = omega arith
 
   error_formed : (kind : ErrorKind) (l : Label) (n : ℕ) → length start_heap ≤ n → IsFormed observer n (engine_error kind l)
   error_formed kind l n h = record {
     below = λ v q e. let is : (error_prototype kind) ≡ q = same_Some _ q e in let b = prototype_below kind in subst (λ (o : ObjId). o.0 < n) is (omega arith);
+    target = tt;
     distinct = no_keys;
   }
 
   -- the start objects stand
-  has_start : {β : Pairing} {h g : List (Object Label)} → HeapsAgree observer β h g → length start_heap ≤ length h
-  has_start r = let b = start_stands observer r 9 (omega arith) in omega arith
+  pub has_start : {β : Pairing} {h g : List (Object Label)} → HeapsAgree observer β h g → length start_heap ≤ length h
+  has_start r = let b = start_stands observer r 15 (omega arith) in omega arith
 
   -- an error made where the context is hidden can't be told
   same_error : (kind : ErrorKind) (s : State) → Same observer tables s (with_error kind s)
@@ -275,10 +279,10 @@ module _ (observer : Label) (tables : Tables) where
   after_given {l = l} {m = m} {x = x} {y = y} s t (hidden h k) r w = given_hidden l m x y s t h k r w
 
   -- what can be asked of values that are the same
-  class_same : {γ : Pairing} {p q : Option (Object Label)} → Both (ObjectsAgree observer γ) p q → seen_of (λ (x : Object Label). an_object x.class) p ≡ seen_of (λ (x : Object Label). an_object x.class) q
-  class_same (low.both_stand r) = ap an_object r.class
+  class_same : {γ : Pairing} {p q : Option (Object Label)} → Both (ObjectsAgree observer γ) p q → seen_of (λ (x : Object Label). seen_as.Object x.class) p ≡ seen_of (λ (x : Object Label). seen_as.Object x.class) q
+  class_same (low.both_stand r) = ap (λ c. seen_as.Object c) r.class
 
-  seen_same : {γ : Pairing} {h g : List (Object Label)} {v u : Value} → HeapsAgree observer γ h g → SameValue γ v u → seen_in h v ≡ seen_in g u
+  pub seen_same : {γ : Pairing} {h g : List (Object Label)} {v u : Value} → HeapsAgree observer γ h g → SameValue γ v u → seen_in h v ≡ seen_in g u
   unfolding seen_in
   seen_same r primitives = refl
   seen_same r (objects p) = class_same (r.paired _ _ p)
@@ -314,19 +318,3 @@ module _ (observer : Label) (tables : Tables) where
   pub lock_binary : {β : Pairing} (o : BinaryOperator) {v v' u u' : Val} → Agree observer β v v' → Agree observer β u u'
       → Lockstep observer tables (Agree observer) β (given (union v.label u.label) (binary_of o v.value u.value)) (given (union v'.label u'.label) (binary_of o v'.value u'.value))
   lock_binary o a b = record { steps = λ γ e s t r w. after_given s t (alike_join observer (λ x y. binary_same o r.heap x y) (agree_more observer e a) (agree_more observer e b)) r w }
-
-  -- conversions, of which those of objects can't be run yet
-  pub conf_unless : (b : Bool) (v : Val) → Confined observer tables (unless_object b v)
-  unfolding unless_object
-  conf_unless true v = conf_ends observer tables _
-  conf_unless false v = conf_ret observer tables v
-
-  unless_after : {γ : Pairing} (b c : Bool) {v u : Val} (s t : State) → Agree observer γ v u → LowEqual observer tables γ s t → IsSeen observer s → InStep observer tables (Agree observer) γ (unless_object b v s) (unless_object c u t)
-  unfolding unless_object
-  unless_after true true s t a r w = ends_first observer tables (Agree observer) r (front_refl t.lines)
-  unless_after true false s t a r w = ends_first observer tables (Agree observer) r (front_refl t.lines)
-  unless_after false true s t a r w = ends_second observer tables (Agree observer) r (front_refl s.lines)
-  unless_after false false s t a r w = go _ (extends_refl _) r w a
-
-  pub lock_unless : {β : Pairing} (b c : Bool) {v u : Val} → Agree observer β v u → Lockstep observer tables (Agree observer) β (unless_object b v) (unless_object c u)
-  lock_unless b c a = record { steps = λ γ e s t r w. unless_after b c s t (agree_more observer e a) r w }

@@ -1,39 +1,47 @@
 -- Performing a plan only adds lines, behind those that the state has. The plans are linked with themselves, by this alone.
-use Rattle.std.proofs.Common.{◌≡◌, ℕ, List, ◌∷◌, ◌++◌, Option, Some, None, Bool, true, false, ◌&&◌, length, nat_lt, refl, sym, ap, subst}
+use Rattle.std.proofs.Common.{◌≡◌, ℕ, List, [], ◌∷◌, ◌++◌, Option, Some, None, Bool, true, false, ◌&&◌, length, nat_lt, slice_get, refl, sym, ap, subst}
 use Rattle.origin_labels.specs.Label.{Label, bottom, union}
 use Rattle.flow_policy.specs.Policies.{Tables}
 use Rattle.flow_policy.specs.Inputs.{Given}
 use Rattle.flow_frames.specs.declared.kind.Kind.{Kind}
 use Rattle.flow_frames.specs.declared.kind.Kind.TheVariants as kind
-use Rattle.es_meaning.specs.Outcomes.{left, Outcome, Goes, Jumps, Ends, ret, and_then}
+use Rattle.native_protocol.specs.declared.hint.Hint.{Hint}
+use Rattle.native_protocol.specs.declared.hint.Hint.TheVariants as hint
+use Rattle.native_protocol.specs.declared.request.ErrorKind.TheVariants as kinds
+use Rattle.js_values.specs.declared.value.Value.{Value as AnyValue}
+use Rattle.js_values.specs.declared.value.Value.TheVariants as value
 use Rattle.js_ast.specs.Trees.{Statements, body_of}
 use Rattle.js_ast.specs.Functions.{FunctionCode}
+use Rattle.es_meaning.specs.BuiltIns.{BuiltIns}
+use Rattle.es_meaning.specs.Holders.{constructs_in}
+use Rattle.es_meaning.specs.Outcomes.{left, Outcome, Goes, Jumps, Ends, ret, and_then}
 use Rattle.es_meaning.specs.Environments.{Env, with_around, with_place, called_env, aimed}
-use Rattle.es_meaning.specs.Functions.{Callee, not_callable, empty_callee, of_script, unbuilt_callee}
-use Rattle.es_meaning.specs.Start.{type_error}
+use Rattle.es_meaning.specs.Functions.{Callee, not_callable, empty_callee, of_script, of_built_in, this_or}
 use Rattle.es_meaning.specs.Operations.{Ty, One, Value, Res}
-use Rattle.es_meaning.specs.Operators.{is_object, truth, converts_beside, binary_of, not_built}
-use Rattle.es_meaning.specs.Plain.{undefined, leaves_wrappers, is_throw, choose}
+use Rattle.es_meaning.specs.Operators.{is_object, truth, converts_beside, binary_of}
+use Rattle.es_meaning.specs.Plain.{undefined, leaves_wrappers, is_throw, choose, prototype_name}
+use Rattle.es_meaning.specs.Start.{id}
 use Rattle.prototype_walk.specs.KeyLists.{Keys}
-use Rattle.es_meaning.proofs.Link.{Rel, Link, Linked}
+use Rattle.es_meaning.proofs.Link.{Rel, Rels, nils, conses, EnteringLinked, Link, Linked}
 use Rattle.flow_meaning.specs.Erased.{unlabelled}
-use Rattle.flow_meaning.specs.Scopes.{Val, LabelledLine, Halt, as_plain, State, Jump, L, cut_to, pushed_on, Came, ended, caught, Left, popped, stay, settled, answer, construction, resume, round_kind}
-use Rattle.flow_meaning.specs.Tracked.{resolved, key_list, with_call, callee_at, with_fresh, prototype_of, with_name, named_origins}
+use Rattle.flow_meaning.specs.Scopes.{Val, joined, LabelledLine, Halt, as_plain, State, Jump, L, cut_to, pushed_on, Came, ended, caught, Left, popped, stay, settled, answer, construction, resume, round_kind}
+use Rattle.flow_meaning.specs.Requested.{Aim, aim_of, is_function_in}
+use Rattle.flow_meaning.specs.Tracked.{seen, resolved, key_list, Access, has_value, has_getter, accessed, accessed_for_typeof, property_of, Putting, is_put, has_setter, put_value, truth_of, with_call, callee_at, called_value, with_fresh, prototype_of, is_instance, with_name, named_origins}
 use Rattle.flow_meaning.specs.Laws.{performed_run}
-use Rattle.flow_meaning.specs.Planned.{Part, an_expr, a_use, a_stmt, a_named, a_turn, a_visit, Completion, gave, jumped, Plan, Give, Ask, End, Then, and_plan, with_result, as_plan, outcome_of, end_branch, end_round, end_call, end_construction, as_stayed, with_stay, end_last, do_last, end_handler, do_handle, do_react, end_block, PlannedBody, enter_call, enter_construction, with_list, planned, asking, Ran, untyped, and_go, completed, perform, meaning}
+use Rattle.flow_meaning.specs.Planned.{Part, an_expr, a_use, a_stmt, a_named, a_turn, a_visit, a_request, Completion, gave, jumped, Plan, Give, Ask, End, Then, and_plan, with_result, as_plan, outcome_of, end_branch, end_round, end_call, end_construction, as_stayed, with_stay, end_last, do_last, end_handler, do_handle, do_react, end_block, Enters, in_frame, enter_call, call_by, call_aimed, call_value, enter_construction, construct_built_in, construct_by, construct_aimed, construct_value, with_outcome, enter_access, end_setter, enter_putting, convert_by, end_instance, instance_by, instance_if, instance_value, with_list, planned, asking, Ran, untyped, and_go, completed, perform, meaning}
 use Rattle.flow_meaning.proofs.Performing.{perform_and, perform_asked}
 use Rattle.low_equal.specs.Observed.{Front, empty, longer}
 use Rattle.low_equal.specs.Runs.{state_of, Confined}
 use Rattle.low_equal.proofs.Lines.{front_refl, front_trans}
 use Rattle.low_equal.proofs.Steps.{conf_ret, conf_ends}
-use Rattle.low_equal.proofs.Acts.{conf_throw, conf_raise, conf_given, conf_unary, conf_unless}
-use Rattle.low_equal.proofs.References.{conf_value, conf_typeof}
+use Rattle.low_equal.proofs.Acts.{conf_throw, conf_raise, conf_given, conf_unary}
+use Rattle.low_equal.proofs.References.{conf_accessed, conf_typeof, conf_property}
 use Rattle.low_equal.proofs.Puts.{conf_put}
 use Rattle.low_equal.proofs.Deletions.{conf_remove}
-use Rattle.low_equal.proofs.ObjectActs.{conf_act}
-use Rattle.low_equal.proofs.Directs.{conf_direct}
+use Rattle.low_equal.proofs.AllActs.{conf_act}
+use Rattle.low_equal.proofs.Looks.{conf_throw_value}
 use Rattle.low_equal.proofs.Makes.{conf_function}
-use Rattle.low_equal.proofs.Instances.{conf_instance}
+use Rattle.low_equal.proofs.Instances.{conf_is}
 use Rattle.low_equal.proofs.Jumps.{conf_jumps, conf_raised_by, conf_quiet, conf_choice, conf_resume}
 use Rattle.low_equal.proofs.Observing.{confinement}
 
@@ -70,10 +78,10 @@ go_adds ls (Goes v s) next h f = front_trans h (f (gave v) s)
 go_adds ls (Jumps j s) next h f = front_trans h (f (jumped j) s)
 go_adds ls (Ends halt s) next h f = h
 
-module _ (tables : Tables) (inputs : Given) (functions : List FunctionCode) where
+module _ (tables : Tables) (inputs : Given) (set : BuiltIns) (functions : List FunctionCode) where
   -- the plan, performed with the meaning of the parts, only adds lines
   abbrev pub Adds : State → Plan → Type 0
-  Adds s p = Front s.lines (state_of (perform (meaning tables inputs functions) p)).lines
+  Adds s p = Front s.lines (state_of (perform (meaning tables inputs set functions) p)).lines
 
   -- and so it is from every state
   pub record Adding (m : State → Plan) : Type 0 where
@@ -86,18 +94,19 @@ module _ (tables : Tables) (inputs : Given) (functions : List FunctionCode) wher
   confined_adds t {m} c s = subst (Front s.lines) (lines_untyped t (m s)) (c.adds s)
 
   -- the meaning of a part
-  meaning_adds : (part : Part) (s : State) → Front s.lines (state_of (meaning tables inputs functions part s)).lines
+  meaning_adds : (part : Part) (s : State) → Front s.lines (state_of (meaning tables inputs set functions part s)).lines
   unfolding meaning
-  meaning_adds (an_expr e i) s = confined_adds Value ((confinement bottom tables inputs functions s.turns).expr e i) s
-  meaning_adds (a_use use_as e i) s = confined_adds Value ((confinement bottom tables inputs functions s.turns).use_of use_as e i) s
-  meaning_adds (a_stmt stmt e) s = confined_adds One ((confinement bottom tables inputs functions s.turns).stmt stmt e) s
-  meaning_adds (a_named labels stmt e) s = confined_adds One ((confinement bottom tables inputs functions s.turns).named labels stmt e) s
-  meaning_adds (a_turn round e) s = confined_adds One ((confinement bottom tables inputs functions s.turns).turn round e) s
-  meaning_adds (a_visit visit e) s = confined_adds One ((confinement bottom tables inputs functions s.turns).visit visit e) s
+  meaning_adds (an_expr e i) s = confined_adds Value ((confinement set bottom tables inputs functions s.turns).expr e i) s
+  meaning_adds (a_use use_as e i) s = confined_adds Value ((confinement set bottom tables inputs functions s.turns).use_of use_as e i) s
+  meaning_adds (a_stmt stmt e) s = confined_adds One ((confinement set bottom tables inputs functions s.turns).stmt stmt e) s
+  meaning_adds (a_named labels stmt e) s = confined_adds One ((confinement set bottom tables inputs functions s.turns).named labels stmt e) s
+  meaning_adds (a_turn round e) s = confined_adds One ((confinement set bottom tables inputs functions s.turns).turn round e) s
+  meaning_adds (a_visit visit e) s = confined_adds One ((confinement set bottom tables inputs functions s.turns).visit visit e) s
+  meaning_adds (a_request steps vs) s = confined_adds Value ((confinement set bottom tables inputs functions s.turns).native steps vs) s
 
   -- a part that is asked for
   pub ask_adds : (part : Part) (s : State) → Adds s (Ask part s Give)
-  ask_adds part s = subst (λ (o : Ran). Front s.lines (state_of o).lines) (sym (perform_asked (meaning tables inputs functions) part s)) (meaning_adds part s)
+  ask_adds part s = subst (λ (o : Ran). Front s.lines (state_of o).lines) (sym (perform_asked (meaning tables inputs set functions) part s)) (meaning_adds part s)
 
   -- a completion
   pub give_adds : (c : Completion) (s : State) → Adds s (Give c s)
@@ -112,8 +121,8 @@ module _ (tables : Tables) (inputs : Given) (functions : List FunctionCode) wher
 
   -- a plan, and what is done with its completion
   pub and_adds : (s : State) (p : Plan) (next : Then) → Adds s p → ((c : Completion) (t : State) → Adds t (next c t)) → Adds s (and_plan p next)
-  and_adds s p next h f = subst (λ (o : Ran). Front s.lines (state_of o).lines) (sym (perform_and (meaning tables inputs functions) p next))
-      (go_adds s.lines (perform (meaning tables inputs functions) p) (λ c t. perform (meaning tables inputs functions) (next c t)) h f)
+  and_adds s p next h f = subst (λ (o : Ran). Front s.lines (state_of o).lines) (sym (perform_and (meaning tables inputs set functions) p next))
+      (go_adds s.lines (perform (meaning tables inputs set functions) p) (λ c t. perform (meaning tables inputs set functions) (next c t)) h f)
 
   -- a jump passes what is done with a result
   pub result_adds : (t : Ty) (f : Res Val t → State → Plan) → ((a : Res Val t) → Adding (f a)) → (c : Completion) (s : State) → Adds s (with_result t f c s)
@@ -187,35 +196,130 @@ module _ (tables : Tables) (inputs : Given) (functions : List FunctionCode) wher
   unfolding end_construction
   construction_adds fresh depth c s = popped_adds One Value (construction fresh) depth c s
 
-  -- what is done with a body
-  abbrev Bodies : PlannedBody → Type 0
-  Bodies f = (ss : Statements) (e : Env ℕ) → Adding (f ss e)
+  -- what a read or a put comes to, and what is done behind it
+  pub outcome_adds : {X : Type 0} (s : State) (o : Outcome Halt Jump X State) (next : X → State → Plan) → Front s.lines (state_of o).lines → ((x : X) → Adding (next x)) → Adds s (with_outcome o next)
+  unfolding perform completed
+  outcome_adds s (Goes x r) next f h = front_trans f ((h x).adds r)
+  outcome_adds s (Jumps j r) next f h = f
+  outcome_adds s (Ends halt r) next f h = f
 
-  -- in the frame of a call
-  pub enter_adding : (callee : Callee) (label : Label) (base : Val) (vs : List Val) (f : PlannedBody) (depth : ℕ) → Bodies f → Adding (enter_call functions callee label base vs f depth)
-  unfolding enter_call with_call
-  enter_adding not_callable label base vs f depth h = act_adding One (conf_throw bottom tables type_error label)
-  enter_adding empty_callee label base vs f depth h = record { adds = λ s. give_adds (gave (unlabelled undefined)) s }
-  enter_adding unbuilt_callee label base vs f depth h = record { adds = λ s. end_adds (as_plain (left not_built)) s }
-  enter_adding (of_script number code place) label base vs f depth h = record { adds = λ s. (h (body_of code) (called_env (length s.records) depth)).adds (with_call functions number code place base vs s) }
+  -- behind a setter, and behind the read of `prototype`
+  pub setter_adds : (c : Completion) (s : State) → Adds s (end_setter c s)
+  unfolding end_setter
+  setter_adds = result_adds Value (λ v s. Give (gave (unlabelled undefined)) s) (λ v. record { adds = λ s. give_adds (gave (unlabelled undefined)) s })
 
-  pub call_adding : (v base : Val) (vs : List Val) (f : PlannedBody) → Bodies f
-      → Adding (λ s. and_plan (enter_call functions (callee_at functions s.heap v.value) v.label base vs f (length s.frames) (pushed_on kind.Call v.label s)) (end_call (length s.frames)))
-  call_adding v base vs f h = scope_adding kind.Call v.label end_call {m = λ depth s. enter_call functions (callee_at functions s.heap v.value) v.label base vs f depth s}
-      (λ depth. record { adds = λ s. (enter_adding (callee_at functions s.heap v.value) v.label base vs f depth h).adds s }) call_adds
+  pub instance_end_adds : (label : Label) (o : ℕ) (c : Completion) (s : State) → Adds s (end_instance label o c s)
+  unfolding end_instance
+  instance_end_adds label o = result_adds Value (λ proto s. as_plan Value (is_instance (union label proto.label) o proto.value s)) (λ proto. act_adding Value (conf_is bottom tables functions (union label proto.label) o proto.value))
 
-  -- and of a construction
-  pub enter_construct_adding : (callee : Callee) (v : Val) (vs : List Val) (f : PlannedBody) (depth : ℕ) → Bodies f → Adding (enter_construction functions callee v vs f depth)
-  unfolding enter_construction
-  enter_construct_adding not_callable v vs f depth h = act_adding One (conf_throw bottom tables type_error v.label)
-  enter_construct_adding empty_callee v vs f depth h = act_adding One (conf_throw bottom tables type_error v.label)
-  enter_construct_adding unbuilt_callee v vs f depth h = record { adds = λ s. end_adds (as_plain (left not_built)) s }
-  enter_construct_adding (of_script number code place) v vs f depth h = record { adds = λ s. (enter_adding (of_script number code place) v.label _ vs f depth h).adds (with_fresh (prototype_of s.heap v.value) s) }
+  -- what is done in a frame that gives a value
+  pub frame_adding : (kind : Kind) (label : Label) {m : State → Plan} → Adding m → Adding (in_frame kind label m)
+  frame_adding kind label {m} l = scope_adding kind label (end_branch Value) {m = λ depth. m} (λ depth. l) (branch_adds Value)
 
-  pub construct_adding : (fresh : ℕ) (v : Val) (vs : List Val) (f : PlannedBody) → Bodies f
-      → Adding (λ s. and_plan (enter_construction functions (callee_at functions s.heap v.value) v vs f (length s.frames) (pushed_on kind.Call v.label s)) (end_construction fresh (length s.frames)))
-  construct_adding fresh v vs f h = scope_adding kind.Call v.label (end_construction fresh) {m = λ depth s. enter_construction functions (callee_at functions s.heap v.value) v vs f depth s}
-      (λ depth. record { adds = λ s. (enter_construct_adding (callee_at functions s.heap v.value) v vs f depth h).adds s }) (construction_adds fresh)
+  -- how what is called is entered
+  pub record EntersAdding (E : Enters) : Type 0 where
+    pub body : (ss : Statements) (e : Env ℕ) → Adding (E.body ss e)
+    pub built_in : (which : ℕ) (construct : Bool) (vs : List Val) → Adding (E.built_in which construct vs)
+    pub conversion : (h : Hint) (v : Val) → Adding (E.conversion h v)
+
+  module _ {E : Enters} (c : EntersAdding E) where
+    -- in the frame of a call
+    pub enter_adding : (callee : Callee) (label : Label) (this : Val) (vs : List Val) (depth : ℕ) → Adding (enter_call functions callee label this vs E depth)
+    unfolding enter_call with_call
+    enter_adding not_callable label this vs depth = act_adding One (conf_throw bottom tables kinds.TypeError label)
+    enter_adding empty_callee label this vs depth = record { adds = λ s. give_adds (gave (unlabelled undefined)) s }
+    enter_adding (of_built_in which) label this vs depth = act_adding One (conf_throw bottom tables kinds.TypeError label)
+    enter_adding (of_script number code place) label this vs depth = record { adds = λ s. (c.body (body_of code) (called_env (length s.records) depth)).adds (with_call functions number code place this vs s) }
+
+    script_adding : (callee : Callee) (label : Label) (this : Val) (vs : List Val) → Adding (λ s. and_plan (enter_call functions callee label this vs E (length s.frames) (pushed_on kind.Call label s)) (end_call (length s.frames)))
+    script_adding callee label this vs = scope_adding kind.Call label end_call {m = λ depth s. enter_call functions callee label this vs E depth s} (λ depth. record { adds = λ s. (enter_adding callee label this vs depth).adds s }) call_adds
+
+    by_adding : (callee : Callee) (label : Label) (o : ℕ) (this : Val) (vs : List Val) → Adding (call_by functions callee label o this vs E)
+    unfolding call_by
+    by_adding not_callable label o this vs = record { adds = λ s. (script_adding not_callable label this vs).adds s }
+    by_adding empty_callee label o this vs = record { adds = λ s. (script_adding empty_callee label this vs).adds s }
+    by_adding (of_script number code place) label o this vs = record { adds = λ s. (script_adding (of_script number code place) label this vs).adds s }
+    by_adding (of_built_in which) label o this vs = record { adds = λ s. (frame_adding kind.Native label (c.built_in which false (this ∷ called_value label o ∷ vs))).adds s }
+
+    aimed_adding : (label : Label) (aim : Aim) (this : Val) (vs : List Val) → Adding (call_aimed functions label aim this vs E)
+    unfolding call_aimed
+    aimed_adding label aim this vs = record { adds = λ s. (by_adding (callee_at functions s.heap aim.target.function) (union label aim.label) aim.target.function (this_or aim.target.this this) (aim.target.args ++ vs)).adds s }
+
+    pub call_adding : (label : Label) (f : AnyValue) (this : Val) (vs : List Val) → Adding (call_value functions label f this vs E)
+    unfolding call_value
+    call_adding label (value.Primitive p) this vs = record { adds = λ s. (by_adding not_callable label 0 this vs).adds s }
+    call_adding label (value.Object o) this vs = record { adds = λ s. (aimed_adding label (aim_of s.heap o.0) this vs).adds s }
+
+    -- and of a construction
+    pub enter_construct_adding : (callee : Callee) (label : Label) (o : ℕ) (vs : List Val) (depth : ℕ) → Adding (enter_construction functions callee label o vs E depth)
+    unfolding enter_construction
+    enter_construct_adding not_callable label o vs depth = act_adding One (conf_throw bottom tables kinds.TypeError label)
+    enter_construct_adding empty_callee label o vs depth = act_adding One (conf_throw bottom tables kinds.TypeError label)
+    enter_construct_adding (of_built_in which) label o vs depth = act_adding One (conf_throw bottom tables kinds.TypeError label)
+    enter_construct_adding (of_script number code place) label o vs depth = record { adds = λ s. (enter_adding (of_script number code place) label _ vs depth).adds (with_fresh (prototype_of s.heap o) s) }
+
+    constructed_adding : (callee : Callee) (label : Label) (o : ℕ) (vs : List Val) (fresh : ℕ)
+        → Adding (λ s. and_plan (enter_construction functions callee label o vs E (length s.frames) (pushed_on kind.Call label s)) (end_construction fresh (length s.frames)))
+    constructed_adding callee label o vs fresh = scope_adding kind.Call label (end_construction fresh) {m = λ depth s. enter_construction functions callee label o vs E depth s}
+        (λ depth. record { adds = λ s. (enter_construct_adding callee label o vs depth).adds s }) (construction_adds fresh)
+
+    pub built_in_adding : (which : ℕ) (label : Label) (o : ℕ) (vs : List Val) → Adding (construct_built_in set which label o vs E)
+    unfolding construct_built_in
+    built_in_adding which label o vs = choose_adding (constructs_in set which) (c.built_in which true (unlabelled undefined ∷ called_value label o ∷ vs)) (act_adding Value (conf_throw bottom tables kinds.TypeError label))
+
+    built_adding : (callee : Callee) (label : Label) (o : ℕ) (vs : List Val) → Adding (construct_by set functions callee label o vs E)
+    unfolding construct_by
+    built_adding not_callable label o vs = record { adds = λ s. (constructed_adding not_callable label o vs (length s.heap)).adds s }
+    built_adding empty_callee label o vs = record { adds = λ s. (constructed_adding empty_callee label o vs (length s.heap)).adds s }
+    built_adding (of_script number code place) label o vs = record { adds = λ s. (constructed_adding (of_script number code place) label o vs (length s.heap)).adds s }
+    built_adding (of_built_in which) label o vs = record { adds = λ s. (frame_adding kind.Native label (built_in_adding which label o vs)).adds s }
+
+    aimed_built : (label : Label) (aim : Aim) (vs : List Val) → Adding (construct_aimed set functions label aim vs E)
+    unfolding construct_aimed
+    aimed_built label aim vs = record { adds = λ s. (built_adding (callee_at functions s.heap aim.target.function) (union label aim.label) aim.target.function (aim.target.args ++ vs)).adds s }
+
+    pub construct_adding : (label : Label) (f : AnyValue) (vs : List Val) → Adding (construct_value set functions label f vs E)
+    unfolding construct_value
+    construct_adding label (value.Primitive p) vs = record { adds = λ s. (built_adding not_callable label 0 vs).adds s }
+    construct_adding label (value.Object o) vs = record { adds = λ s. (aimed_built label (aim_of s.heap o.0) vs).adds s }
+
+    -- ---- getters and setters, and the conversion of objects
+
+    pub access_adding : (a : Access) → Adding (enter_access functions E a)
+    unfolding enter_access
+    access_adding (has_value v) = record { adds = λ s. give_adds (gave v) s }
+    access_adding (has_getter label f this) = record { adds = λ s. (call_adding label (value.Object f) this []).adds s }
+
+    pub putting_adding : (v : Val) (p : Putting) → Adding (enter_putting functions E v p)
+    unfolding enter_putting
+    putting_adding v is_put = record { adds = λ s. give_adds (gave (unlabelled undefined)) s }
+    putting_adding v (has_setter label f this) = record { adds = λ s. and_adds s (call_value functions label (value.Object f) this (v ∷ []) E s) end_setter ((call_adding label (value.Object f) this (v ∷ [])).adds s) setter_adds }
+
+    pub convert_adding : (b : Bool) (h : Hint) (label : Label) (v given : Val) → Adding (convert_by b E h label v given)
+    unfolding convert_by
+    convert_adding true h label v given = record { adds = λ s. (frame_adding kind.Native label (c.conversion h v)).adds s }
+    convert_adding false h label v given = record { adds = λ s. give_adds (gave given) s }
+
+    -- ---- `instanceof`
+
+    instance_by_adding : (v : Val) (x : AnyValue) (label : Label) (f : ℕ) → Adding (instance_by functions v x label f E)
+    unfolding instance_by
+    instance_by_adding v (value.Primitive p) label f = record { adds = λ s. give_adds (gave (truth_of false (union v.label label))) s }
+    instance_by_adding v (value.Object o) label f = record {
+      adds = λ s. and_adds s (with_outcome (property_of (union v.label label) (called_value label f) (value.Object (id f)) prototype_name s) (enter_access functions E)) (end_instance (union v.label label) o.0)
+          (outcome_adds s (property_of (union v.label label) (called_value label f) (value.Object (id f)) prototype_name s) (enter_access functions E)
+          ((conf_property bottom tables (union v.label label) (called_value label f) (value.Object (id f)) prototype_name).adds s) access_adding) (instance_end_adds (union v.label label) o.0);
+    }
+
+    instance_if_adding : (b : Bool) (v : Val) (label : Label) (f : ℕ) → Adding (instance_if functions b v label f E)
+    unfolding instance_if
+    instance_if_adding true v label f = record { adds = λ s. (instance_by_adding v v.value (union label (aim_of s.heap f).label) (aim_of s.heap f).target.function).adds s }
+    instance_if_adding false v label f = act_adding Value (conf_throw bottom tables kinds.TypeError label)
+
+    pub instance_adding : (v : Val) (label : Label) (f : AnyValue) → Adding (instance_value functions v label f E)
+    unfolding instance_value
+    instance_adding v label (value.Primitive p) = act_adding Value (conf_throw bottom tables kinds.TypeError label)
+    instance_adding v label (value.Object f) = record { adds = λ s. (instance_if_adding (is_function_in (slice_get s.heap f.0)) v label f.0).adds s }
 
   -- ---- `try`
 
@@ -269,8 +373,15 @@ module _ (tables : Tables) (inputs : Given) (functions : List FunctionCode) wher
   any_result One a = tt
   any_result Value a = tt
 
+  any_results : (vs : List Val) → Rels (λ (v u : Val). Unit {0}) vs vs
+  any_results [] = nils
+  any_results (v ∷ vs) = conses tt (any_results vs)
+
+  pub entered : {E D : Enters} → EnteringLinked (Unit {0}) (λ w (v u : Val). Unit {0}) (λ w (e d : Env ℕ). Unit {0}) (λ t w (m n : State → Plan). Adding m) E D → EntersAdding E
+  entered h = record { body = λ ss e. h.body tt ss e e tt; built_in = λ which construct vs. h.built_in tt which construct vs vs (any_results vs); conversion = λ kind v. h.conversion tt kind v v tt }
+
   -- the plans, linked with themselves
-  unfoldable pub adding : Link (planned tables inputs functions) (planned tables inputs functions)
+  unfoldable pub adding : Link (planned tables inputs set functions) (planned tables inputs set functions)
   adding = record {
     W = Unit {0};
     Le = λ v w. Unit {0};
@@ -294,16 +405,17 @@ module _ (tables : Tables) (inputs : Given) (functions : List FunctionCode) wher
     literal = λ w v. tt;
     unary = λ o {v = v} r. act_adding Value (conf_unary bottom tables o v);
     binary = λ o {v = v} {u = u} r q. act_adding Value (conf_given bottom tables (union v.label u.label) (binary_of o v.value u.value));
-    primitive = λ hint {v = v} r. act_adding Value (conf_unless bottom tables (is_object v.value) v);
-    comparable = λ {v = v} {u = u} r q. act_adding Value (conf_unless bottom tables (converts_beside v.value u.value) v);
-    direct = λ f {vs = vs} r. act_adding Value (conf_direct bottom tables inputs f vs);
-    unbuilt = λ t w. act_adding t (conf_ends bottom tables (as_plain (left not_built)));
-    act = λ a {vs = vs} r. act_adding Value (conf_act bottom tables a vs);
+    primitive = λ kind {v = v} r h. convert_adding (entered h) (is_object v.value) kind v.label v v;
+    comparable = λ {v = v} {u = u} r q h. convert_adding (entered h) (converts_beside v.value u.value) hint.Default (union v.label u.label) v (joined u.label v);
+    look = λ {v = v} f g r h. bind_adding One Value (λ u t. f (seen t.heap v.value) t) (act_adding One (conf_raise bottom tables v.label)) (λ u. record { adds = λ t. (h tt tt (seen t.heap v.value)).adds t });
+    throw = λ {v = v} r. act_adding Value (conf_throw_value bottom tables v);
+    leave = λ t w name. act_adding t (conf_ends bottom tables (as_plain (left name)));
+    act = λ a {vs = vs} r. act_adding Value (conf_act bottom tables inputs a vs);
     resolve = λ t {i = i} x f g p h. record { adds = λ s. (h tt tt (resolved s.records s.heap i x) (resolved s.records s.heap i x) tt).adds s };
     property = λ r q. tt;
-    get_value = λ {n = n} f g r h. act_adding Value (conf_value bottom tables n);
-    typeof_value = λ {n = n} f g r h. act_adding Value (conf_typeof bottom tables n);
-    put_value = λ {n = n} {v = v} f g r q h. act_adding One (conf_put bottom tables n v);
+    get_value = λ {n = n} {E = E} r h. record { adds = λ s. outcome_adds s (accessed n s) (enter_access functions E) ((conf_accessed bottom tables n).adds s) (access_adding (entered h)) };
+    typeof_value = λ {n = n} {E = E} r h. record { adds = λ s. outcome_adds s (accessed_for_typeof n s) (enter_access functions E) ((conf_typeof bottom tables n).adds s) (access_adding (entered h)) };
+    put_value = λ {n = n} {v = v} {E = E} r q h. record { adds = λ s. outcome_adds s (put_value n v s) (enter_putting functions E v) ((conf_put bottom tables n v).adds s) (putting_adding (entered h) v) };
     remove = λ {n = n} r. act_adding Value (conf_remove bottom tables n);
     fork = λ t {v = v} r l k. scope_adding kind.Branch v.label (end_branch t) (λ depth. choose_adding (truth v.value) (l tt tt) (k tt tt)) (branch_adds t);
     round = λ turn labels {e = e} f g r h. scope_adding (round_kind turn) bottom end_round (λ depth. h tt tt (with_around turn labels depth e) (with_around turn labels depth e) tt) round_adds;
@@ -312,16 +424,16 @@ module _ (tables : Tables) (inputs : Given) (functions : List FunctionCode) wher
     jump = λ leaving {e = e} {v = v} r q. act_adding One (conf_jumps bottom tables (aimed 0 leaving e) v);
     raise = λ leaving {e = e} names r. act_adding One (conf_raised_by bottom tables inputs leaving (aimed 0 leaving e) (named_origins tables inputs names));
     this_of = λ r. tt;
-    instance = λ {v = v} {f = f} m n r q h. act_adding Value (conf_instance bottom tables v f);
+    instance = λ {v = v} {f = f} r q h. instance_adding (entered h) v f.label f.value;
     declare = λ name {v = v} {e = e} f g r q h. record { adds = λ s. (h tt tt (with_place (length s.records) e) (with_place (length s.records) e) tt).adds (with_name e.place name v s) };
-    call = λ {f = f} {this = this} {vs = vs} m n r q rs h. call_adding f this vs m (λ ss e. h tt ss e e tt);
-    construct = λ {f = f} {vs = vs} m n r rs h. record { adds = λ s. (construct_adding (length s.heap) f vs m (λ ss e. h tt ss e e tt)).adds s };
+    call = λ {f = f} {this = this} {vs = vs} r q rs h. call_adding (entered h) f.label f.value this vs;
+    construct = λ {f = f} {vs = vs} r rs h. construct_adding (entered h) f.label f.value vs;
     attempt = λ handles finishes f g l h q. attempt_adding handles finishes f (l tt tt) (λ v. h tt tt v v tt) (q tt tt);
     keys = λ {v = v} f g r h. record { adds = λ s. (list_adding (key_list s.heap v.value) v.label f (λ ks. h tt tt ks)).adds s };
   }
 
   -- asking for the parts
-  pub asking_adding : Linked (planned tables inputs functions) (planned tables inputs functions) adding (asking tables inputs functions) (asking tables inputs functions)
+  pub asking_adding : Linked (planned tables inputs set functions) (planned tables inputs set functions) adding (asking tables inputs set functions) (asking tables inputs set functions)
   unfolding adding
   asking_adding = record {
     expr = λ e w i j p. record { adds = λ s. ask_adds (an_expr e i) s };
@@ -330,4 +442,5 @@ module _ (tables : Tables) (inputs : Given) (functions : List FunctionCode) wher
     named = λ labels stmt w e d r. record { adds = λ s. ask_adds (a_named labels stmt e) s };
     turn = λ round w e d r. record { adds = λ s. ask_adds (a_turn round e) s };
     visit = λ w v u rs e d r. record { adds = λ s. ask_adds (a_visit v e) s };
+    native = λ steps w vs us rs. record { adds = λ s. ask_adds (a_request steps vs) s };
   }

@@ -13,7 +13,7 @@ use Rattle.object_heap.specs.Arrays.{length_key, element_of, length_body, is_pas
 use Rattle.object_heap.specs.Acts.{under, with_rows, value_have, added, lengthened, stretched, add_absent, add_own, add}
 use Rattle.flow_meaning.specs.Scopes.{Val}
 use Rattle.low_equal.specs.Observed.{Sees, Hides}
-use Rattle.low_equal.specs.LowEqual.{Pairing, Alike, seen, hidden, SameValue, primitives, objects, SameObject, Agree, BodiesAgree, data_bodies, accessors, RowsAgree, row, InnersAgree, seen_rows, ShapesAgree, seen_shape, hidden_shape, ObjectsAgree, AreDistinct, HeapsAgree}
+use Rattle.low_equal.specs.LowEqual.{Pairing, Alike, seen, hidden, SameValue, primitives, objects, SameObject, Agree, BodiesAgree, data_bodies, accessors, RowsAgree, row, InnersAgree, seen_rows, ShapesAgree, seen_shape, hidden_shape, ObjectsAgree, AreDistinct, TargetBelow, HeapsAgree}
 use Rattle.low_equal.proofs.Labels.{sees_union, hides_first, hides_within}
 use Rattle.low_equal.proofs.Agreement.{alike_map, two}
 use Rattle.low_equal.proofs.Heaps.{get_below, with_objects, new_both}
@@ -178,7 +178,7 @@ module _ (observer : Label) where
   -- objects with a structure that is seen, and rows that agree
   pub level_new : {β : Pairing} {h g : List (Object Label)} (p q : Object Label) → p.class ≡ q.class → InnersAgree observer β p.inner q.inner → Alike observer p.link q.link (SameObject β p.proto q.proto)
       → Sees observer p.structure → p.structure ≡ q.structure → p.extensible ≡ q.extensible → RowsAgree observer β p.rows q.rows → AreDistinct p.rows
-      → ((o : ObjId) → p.proto ≡ Some o → o.0 < length h) → ((o : ObjId) → q.proto ≡ Some o → o.0 < length g) → HeapsAgree observer β h g
+      → (Sees observer p.link → (o : ObjId) → p.proto ≡ Some o → o.0 < length h) → (Sees observer q.link → (o : ObjId) → q.proto ≡ Some o → o.0 < length g) → TargetBelow observer (length h) p.inner → TargetBelow observer (length g) q.inner → HeapsAgree observer β h g
       → HeapsAgree observer (with_objects β (length h) (length g)) (h ++ p ∷ []) (g ++ q ∷ [])
-  level_new p q class inner links s e x rows d below beneath r = new_both observer p q (record { below = λ v. below; distinct = d }) (record { below = λ v. beneath; distinct = distinct_agree observer rows d })
+  level_new p q class inner links s e x rows d below beneath target other r = new_both observer p q (record { below = below; target = target; distinct = d }) (record { below = beneath; target = other; distinct = distinct_agree observer rows d })
       (record { class = class; inner = inner; links = links; shapes = seen_shape s e x rows }) r

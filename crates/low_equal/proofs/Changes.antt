@@ -47,7 +47,7 @@ becomes_under p rule need have {x} b = go (within need have)
     go false = ends
 
 pub formed_rows : (p : Object Label) (rows : Rows (Slot Label)) → (AreDistinct p.rows → AreDistinct rows) → StaysFormed (with_rows p rows) p
-formed_rows p rows f = record { distinct = f; proto = refl; link = refl }
+formed_rows p rows f = record { distinct = f; proto = refl; link = refl; inner = refl }
 
 makes_change : (rule : Rule) (have : Slot Label → Label) (new : Slot Label → Slot Label) (key : List ℕ) (need : Label) (p : Object Label) → Makes (with_rows p (changed key new p.rows)) p (change rule have new key need p)
 makes_change rule have new key need p = record { becomes = with_slot (own key p.rows) refl; formed = formed_rows p _ (distinct_altered key (λ s. Some (new s))) }
@@ -194,13 +194,13 @@ module _ (observer : Label) where
   raised_stands : (label : Label) (p : Object Label) → Hides observer p.structure → StandsFor observer (record p { structure = union p.structure label }) p
   raised_stands label p s = record {
     agrees = λ β q d r. record { class = r.class; inner = r.inner; links = r.links; shapes = hidden_shapes s (hides_first observer p.structure label s) (λ x. x) r.shapes };
-    formed = record { distinct = λ d. d; proto = refl; link = refl };
+    formed = record { distinct = λ d. d; proto = refl; link = refl; inner = refl };
   }
 
   prevented_stands : (p : Object Label) → Hides observer p.structure → StandsFor observer (record p { extensible = false }) p
   prevented_stands p s = record {
     agrees = λ β q d r. record { class = r.class; inner = r.inner; links = r.links; shapes = hidden_shapes s s (λ x. x) r.shapes };
-    formed = record { distinct = λ d. d; proto = refl; link = refl };
+    formed = record { distinct = λ d. d; proto = refl; link = refl; inner = refl };
   }
 
   pub still_raise_structure : (o : ℕ) (need label : Label) (h : List (Object Label)) → Hides observer need → StillHeap observer h (raise_structure o need label h)
@@ -302,7 +302,7 @@ module _ (observer : Label) where
   pub level_raise_structure : {β : Pairing} {h g : List (Object Label)} → HeapsAgree observer β h g → {i j : ℕ} {n m x y : Label} → Alike observer n m ((β.objects i j ≡ true) × Alike observer x y (Unit {0}))
       → ActsAfter observer β (raise_structure i n x h) (raise_structure j m y g)
   level_raise_structure r {i} {j} {n} {m} {x} {y} (seen s t z) = acts_level observer (raise_own_structure n x) (raise_own_structure m y) (λ p. record p { structure = union p.structure x }) (λ q. record q { structure = union q.structure y }) r z.0
-      (λ p e. record { becomes = becomes_under _ W7 n p.structure (makes refl); formed = record { distinct = λ d. d; proto = refl; link = refl } }) (λ q e. record { becomes = becomes_under _ W7 m q.structure (makes refl); formed = record { distinct = λ d. d; proto = refl; link = refl } })
+      (λ p e. record { becomes = becomes_under _ W7 n p.structure (makes refl); formed = record { distinct = λ d. d; proto = refl; link = refl; inner = refl } }) (λ q e. record { becomes = becomes_under _ W7 m q.structure (makes refl); formed = record { distinct = λ d. d; proto = refl; link = refl; inner = refl } })
       (λ p q e e' d d' a. record { class = a.class; inner = a.inner; links = a.links; shapes = shapes_raised z.1 a.shapes })
   level_raise_structure {h = h} {g = g} r {i} {j} {n} {m} {x} {y} (hidden s t) = acts_apart observer r (still_raise_structure i n x h s) (still_raise_structure j m y g t)
 
@@ -312,6 +312,6 @@ module _ (observer : Label) where
 
   pub level_prevent_extensions : {β : Pairing} {h g : List (Object Label)} → HeapsAgree observer β h g → {i j : ℕ} {n m : Label} → Alike observer n m (β.objects i j ≡ true) → ActsAfter observer β (prevent_extensions i n h) (prevent_extensions j m g)
   level_prevent_extensions r {i} {j} {n} {m} (seen s t z) = acts_level observer (prevent_own_extensions n) (prevent_own_extensions m) (λ p. record p { extensible = false }) (λ q. record q { extensible = false }) r z
-      (λ p e. record { becomes = becomes_under _ W7 n p.structure (makes refl); formed = record { distinct = λ d. d; proto = refl; link = refl } }) (λ q e. record { becomes = becomes_under _ W7 m q.structure (makes refl); formed = record { distinct = λ d. d; proto = refl; link = refl } })
+      (λ p e. record { becomes = becomes_under _ W7 n p.structure (makes refl); formed = record { distinct = λ d. d; proto = refl; link = refl; inner = refl } }) (λ q e. record { becomes = becomes_under _ W7 m q.structure (makes refl); formed = record { distinct = λ d. d; proto = refl; link = refl; inner = refl } })
       (λ p q e e' d d' a. record { class = a.class; inner = a.inner; links = a.links; shapes = shapes_prevented a.shapes })
   level_prevent_extensions {h = h} {g = g} r {i} {j} {n} {m} (hidden s t) = acts_apart observer r (still_prevent_extensions i n h s) (still_prevent_extensions j m g t)

@@ -6,19 +6,20 @@ use Rattle.flow_policy.specs.Policies.{Tables}
 use Rattle.flow_frames.specs.Frames.{context}
 use Rattle.js_values.specs.declared.ids.ObjId.{ObjId}
 use Rattle.js_values.specs.declared.value.Value.{Value}
-use Rattle.js_values.specs.declared.value.Value.TheVariants as value
+use Rattle.js_values.specs.declared.property.Body.{Body}
 use Rattle.js_values.specs.declared.property.Slot.{Slot}
 use Rattle.js_values.specs.declared.inner.Class.TheVariants as class
 use Rattle.js_values.specs.declared.inner.Inner.TheVariants.{Plain}
 use Rattle.js_values.specs.Objects.{Object, fresh_object}
 use Rattle.js_values.specs.Walks.{find, object_chain}
-use Rattle.es_meaning.specs.Plain.{undefined, prototype_name, object_or, object_or_default}
+use Rattle.es_meaning.specs.Definitions.{value_in}
+use Rattle.es_meaning.specs.Plain.{prototype_name, object_or, object_or_default}
 use Rattle.flow_meaning.specs.Scopes.{Val, Came, Left, State, given_back, construction}
 use Rattle.flow_meaning.specs.Tracked.{value_found, prototype_of, with_fresh}
 use Rattle.low_equal.specs.Observed.{Sees, Hides, IsSeen}
 use Rattle.low_equal.specs.LowEqual.{Pairing, Alike, seen, hidden, SameValue, primitives, objects, SameObject, both, Agree, BodiesAgree, data_bodies, accessors, plains, no_rows, seen_shape, no_keys, HeapsAgree, LowEqual}
 use Rattle.low_equal.specs.Laws.{Nothing}
-use Rattle.low_equal.proofs.Labels.{hides_first, hides_second, sees_second}
+use Rattle.low_equal.proofs.Labels.{not_both, hides_first, hides_second, sees_second}
 use Rattle.low_equal.proofs.Agreement.{agree_joined, agree_seen, alike_map, alike_join, records_more, both_map, two}
 use Rattle.low_equal.proofs.Heaps.{get_below, with_objects, extends_objects, new_both}
 use Rattle.low_equal.proofs.Walks as walks
@@ -37,18 +38,17 @@ module _ (observer : Label) (tables : Tables) where
   bodies_found s e not_found = seen s e primitives
   bodies_found {γ} {l = l} {m = m} s e (walks.found p x y marks b) = by_body b
     where
-      by_body : {i j : Label} {c d : Rattle.js_values.specs.declared.property.Body.Body} → BodiesAgree observer γ i j c d
-          → Agree observer γ (record { value = Rattle.es_meaning.specs.Plain.value_in c; label = union l i }) (record { value = Rattle.es_meaning.specs.Plain.value_in d; label = union m j })
+      by_body : {i j : Label} {c d : Body} → BodiesAgree observer γ i j c d
+          → Agree observer γ (record { value = value_in c; label = union l i }) (record { value = value_in d; label = union m j })
       by_body (data_bodies q) = alike_join observer (λ (k : Unit {0}) z. z) (seen s e tt) q
       by_body (accessors q) = alike_join observer (λ (k : Unit {0}) z. primitives) (seen s e tt) q
 
-  pub prototypes_agree : {γ : Pairing} {h g : List (Object Label)} {v u : Value} → HeapsAgree observer γ h g → SameValue γ v u → Agree observer γ (prototype_of h v) (prototype_of g u)
-  prototypes_agree r primitives = undefined_agree observer tables
-  prototypes_agree {γ} {h} {g} r (objects {o = o} {q = q} p) = by_walk (level_find observer r prototype_name p)
+  pub prototypes_agree : {γ : Pairing} {h g : List (Object Label)} {o q : ℕ} → HeapsAgree observer γ h g → γ.objects o q ≡ true → Agree observer γ (prototype_of h o) (prototype_of g q)
+  prototypes_agree {γ} {h} {g} {o} {q} r p = by_walk (level_find observer r prototype_name p)
     where
-      by_walk : Alike observer (find prototype_name (object_chain h o.0)).walk (find prototype_name (object_chain g q.0)).walk (FoundSame observer γ h g prototype_name (find prototype_name (object_chain h o.0)).at (find prototype_name (object_chain g q.0)).at)
-          → Agree observer γ (prototype_of h (value.Object o)) (prototype_of g (value.Object q))
-      by_walk (hidden a b) = hidden (hidden_value (find prototype_name (object_chain h o.0)).walk (find prototype_name (object_chain h o.0)).at a) (hidden_value (find prototype_name (object_chain g q.0)).walk (find prototype_name (object_chain g q.0)).at b)
+      by_walk : Alike observer (find prototype_name (object_chain h o)).walk (find prototype_name (object_chain g q)).walk (FoundSame observer γ h g prototype_name (find prototype_name (object_chain h o)).at (find prototype_name (object_chain g q)).at)
+          → Agree observer γ (prototype_of h o) (prototype_of g q)
+      by_walk (hidden a b) = hidden (hidden_value (find prototype_name (object_chain h o)).walk (find prototype_name (object_chain h o)).at a) (hidden_value (find prototype_name (object_chain g q)).walk (find prototype_name (object_chain g q)).at b)
       by_walk (seen a e x) = bodies_found a e x
 
   -- ---- what is made
@@ -69,8 +69,8 @@ module _ (observer : Label) (tables : Tables) where
       subst (λ l. LowEqual observer tables δ (with_fresh a s) (record t { heap = t.heap ++ fresh b l ∷ [] })) (same_context observer tables r w)
       (low_heap observer tables r
       (new_both observer (fresh a (context s.frames)) (fresh b (context s.frames))
-      (record { below = λ v n e. subst (λ (x : ObjId). x.0 < length s.heap) (same_Some _ n e) (default_below r.heap (agree_seen observer q (sees_second observer (context s.frames) a.label v))).0; distinct = no_keys })
-      (record { below = λ v n e. subst (λ (x : ObjId). x.0 < length t.heap) (same_Some _ n e) (by_label q (sees_second observer (context s.frames) b.label v)); distinct = no_keys })
+      (record { below = λ v n e. subst (λ (x : ObjId). x.0 < length s.heap) (same_Some _ n e) (default_below r.heap (agree_seen observer q (sees_second observer (context s.frames) a.label v))).0; target = tt; distinct = no_keys })
+      (record { below = λ v n e. subst (λ (x : ObjId). x.0 < length t.heap) (same_Some _ n e) (by_label q (sees_second observer (context s.frames) b.label v)); target = tt; distinct = no_keys })
       (record { class = refl; inner = plains; links = alike_join observer (λ (k : Unit {0}) z. same_default (r.heap.starts 0 (omega arith)) z) (seen w refl tt) q; shapes = seen_shape w refl refl no_rows }) r.heap)
       (record { paired = λ i j p. both_map (λ c d x. records_more observer (extends_objects γ (length s.heap) (length t.heap)) x) (r.records.paired i j p); one_to_one = r.records.one_to_one; left = r.records.left; right = r.records.right }))
     where
@@ -79,7 +79,7 @@ module _ (observer : Label) (tables : Tables) where
 
       by_label : Agree observer γ a b → Sees observer b.label → (object_or_default b.value).0 < length t.heap
       by_label (seen x e z) v = (default_below r.heap z).1
-      by_label (hidden x y) v = absurd (Rattle.low_equal.proofs.Labels.not_both observer b.label v y)
+      by_label (hidden x y) v = absurd (not_both observer b.label v y)
 
   -- an object that is returned, or the one that was made
   same_made : {γ : Pairing} (o q : ℕ) {v u : Value} → γ.objects o q ≡ true → SameValue γ v u → SameValue γ (object_or o v) (object_or q u)

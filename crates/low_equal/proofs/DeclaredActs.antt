@@ -1,11 +1,12 @@
--- Acts of a labelled run that enter no function keep a state of declared origins.
-use Rattle.std.proofs.Common.{ℕ, zero, suc, Bool, true, false, List, [], ◌∷◌, Option, Some, None, Result, Ok, Err, slice_get}
+-- What a labelled run does with references, and its turns, keeps a state of declared origins.
+use Rattle.std.proofs.Common.{ℕ, zero, suc, Bool, true, false, List, Option, Some, None, Result, Ok, Err, slice_get}
 use Rattle.origin_labels.specs.Label.{Label, bottom, union}
 use Rattle.flow_frames.specs.declared.faults.Rule.{Rule}
 use Rattle.flow_frames.specs.declared.faults.Rule.TheVariants.{W1}
 use Rattle.flow_frames.specs.Frames.{context}
 use Rattle.js_number.specs.declared.primitive.Primitive.{Primitive}
 use Rattle.js_number.specs.declared.primitive.Primitive.TheVariants as prims
+use Rattle.js_values.specs.declared.ids.ObjId.{ObjId}
 use Rattle.js_values.specs.declared.value.Value.{Value}
 use Rattle.js_values.specs.declared.value.Value.TheVariants as value
 use Rattle.js_values.specs.declared.property.Body.{Body}
@@ -20,19 +21,19 @@ use Rattle.prototype_walk.specs.declared.plan.PutPlan.TheVariants.{Write, Add, S
 use Rattle.prototype_walk.specs.Answers.{walk_of}
 use Rattle.prototype_walk.specs.Plans.{can_put}
 use Rattle.prototype_walk.specs.KeyLists.{Keys}
-use Rattle.es_meaning.specs.Outcomes.{Outcome}
-use Rattle.es_meaning.specs.Operations.{Ty, One, Res, Act, object_of, base_needed, object_needed, has_key, refused_declaration}
+use Rattle.es_meaning.specs.Outcomes.{Outcome, ret}
+use Rattle.es_meaning.specs.Operations.{Ty, One, Res}
 use Rattle.es_meaning.specs.Start.{global_object}
-use Rattle.es_meaning.specs.Plain.{others, Place, in_record, on_global, nowhere, binding_at, prototype_name}
+use Rattle.es_meaning.specs.Plain.{Place, in_record, on_global, nowhere, binding_at}
 use Rattle.flow_meaning.specs.Scopes.{Val, joined, Halt, State, Jump, L}
-use Rattle.flow_meaning.specs.Tracked.{given, unless_object, Reference, of_name, of_property, walk_from, bound, held, found_globally, found, property_of, named, get_value, typeof_value, assigned, assigned_to, acted, put_by, put_on, is_element_of, put, put_property, put_named, put_value, removed_if, removed_own, removed_in, remove_property, remove, make_object, needed, has, key_list, with_list, act, spend, argument, labels_of, is_instance, instance_of, instance_if, base_of}
+use Rattle.flow_meaning.specs.Tracked.{given, Reference, of_name, of_property, walk_from, bound, Access, has_value, has_getter, getter_or_none, held, global_value, found_globally, found, property_of, named, accessed, accessed_for_typeof, assigned, assigned_to, acted, own_in, Putting, is_put, has_setter, setter_found, setter_at, put_by, put_on, is_element_of, put, put_property, put_named, put_value, removed_if, removed_own, removed_in, remove_property, remove, key_list, with_list, spend, base_of}
 use Rattle.low_equal.proofs.DeclaredLabels as labels
-use Rattle.low_equal.proofs.DeclaredLabels.{Each, IfThere, each_push, each_at, own_bottom, own_union, own_context}
+use Rattle.low_equal.proofs.DeclaredLabels.{Each, IfThere, each_at, own_bottom, own_union, own_context}
 use Rattle.low_equal.proofs.DeclaredHeaps as heaps
-use Rattle.low_equal.proofs.DeclaredHeaps.{own_own, own_defined_all, own_write, own_remove, own_add, own_chain, own_find, own_can_put, own_keys, own_slots, own_linked}
+use Rattle.low_equal.proofs.DeclaredHeaps.{own_own, own_write, own_remove, own_add, own_chain, own_find, own_can_put, own_keys}
 use Rattle.low_equal.proofs.DeclaredRecords.{own_binding, own_assigned}
 use Rattle.low_equal.proofs.DeclaredStates as states
-use Rattle.low_equal.proofs.DeclaredStates.{bind_keeping, under_keeps, throw_keeps, raise_keeping, goes, ends_in}
+use Rattle.low_equal.proofs.DeclaredStates.{bind_keeping, keeps_then, ret_keeping, under_keeps, throw_keeps, raise_keeping, goes, ends_in}
 
 module _ (count : ℕ) where
   abbrev Own : Label → Type 0
@@ -76,48 +77,49 @@ module _ (count : ℕ) where
   given_keeping label (Ok v) q = record { keeps = λ s h. goes q h }
   given_keeping label (Err name) q = record { keeps = λ s h. ends_in tt h }
 
-  -- a value that isn't to be converted
-  pub unless_keeping : (b : Bool) (v : Val) → OwnVal v → Keeping OwnVal (unless_object b v)
-  unfolding unless_object
-  unless_keeping true v q = record { keeps = λ s h. ends_in tt h }
-  unless_keeping false v q = record { keeps = λ s h. goes q h }
-
   -- the value of a binding
   bound_keeps : (o : Option (Binding Val)) (s : State) → IfThere (λ b. Own b.value.label) o → OwnState s → Keeps OwnVal (bound o s)
   unfolding bound
   bound_keeps (Some b) s q h = goes q h
   bound_keeps None s q h = throw_keeps count OwnVal _ _ s (own_bottom count) h
 
+  -- what a read comes to
+  abbrev pub OwnAccess : Access → Type 0
+  OwnAccess (has_value v) = OwnVal v
+  OwnAccess (has_getter label f base) = Own label × OwnVal base
+
   -- what a property holds
-  held_keeps : (label : Label) (body : Body) (s : State) → Own label → OwnState s → Keeps OwnVal (held label body s)
-  unfolding held
-  held_keeps label (Data v) s q h = goes q h
-  held_keeps label (Accessor get set) s q h = ends_in tt h
+  own_getter_or_none : (label : Label) (get : Option ObjId) (base : Val) → Own label → OwnVal base → OwnAccess (getter_or_none label get base)
+  own_getter_or_none label None base q b = q
+  own_getter_or_none label (Some f) base q b = (q, b)
 
-  globally_keeps : (walk : Label) (f : Option (ℕ × Slot Label)) (s : State) → Own walk → IfThere (λ x. OwnSlot x.1) f → OwnState s → Keeps OwnVal (found_globally walk f s)
+  own_held : (label : Label) (base : Val) (body : Body) → Own label → OwnVal base → OwnAccess (held label base body)
+  own_held label base (Data v) q b = q
+  own_held label base (Accessor get set) q b = own_getter_or_none label get base q b
+
+  globally_keeps : (walk : Label) (f : Option (ℕ × Slot Label)) (s : State) → Own walk → IfThere (λ x. OwnSlot x.1) f → OwnState s → Keeps OwnAccess (found_globally walk f s)
   unfolding found_globally
-  globally_keeps walk (Some f) s p q h = held_keeps _ f.1.body s (own_union count walk f.1.label p q.0) h
-  globally_keeps walk None s p q h = throw_keeps count OwnVal _ _ s p h
+  globally_keeps walk (Some f) s p q h = goes (own_held _ global_value f.1.body (own_union count walk f.1.label p q.0) (own_bottom count)) h
+  globally_keeps walk None s p q h = throw_keeps count OwnAccess _ _ s p h
 
-  found_keeps : (place : Label) (f : Option (ℕ × Slot Label)) (s : State) → Own place → IfThere (λ x. OwnSlot x.1) f → OwnState s → Keeps OwnVal (found place f s)
-  unfolding found
-  found_keeps place (Some f) s p q h = held_keeps _ f.1.body s (own_union count place f.1.label p q.0) h
-  found_keeps place None s p q h = goes p h
+  own_access_found : (place : Label) (base : Val) (f : Option (ℕ × Slot Label)) → Own place → OwnVal base → IfThere (λ x. OwnSlot x.1) f → OwnAccess (found place base f)
+  own_access_found place base (Some f) p b q = own_held _ base f.1.body (own_union count place f.1.label p q.0) b
+  own_access_found place base None p b q = p
 
   -- the walk along an object
   pub own_walk_to : (key : List ℕ) (o : ℕ) (s : State) → OwnState s → OwnFound (find key (object_chain s.heap o))
   own_walk_to key o s h = own_find count key (object_chain s.heap o) (own_chain count s.heap o h.heap)
 
-  property_keeps : (label : Label) (v : Value) (key : List ℕ) (s : State) → Own label → OwnState s → Keeps OwnVal (property_of label v key s)
+  pub property_keeps : (label : Label) (base : Val) (v : Value) (key : List ℕ) (s : State) → Own label → OwnVal base → OwnState s → Keeps OwnAccess (property_of label base v key s)
   unfolding property_of
-  property_keeps label (value.Primitive p) key s q h = ends_in tt h
-  property_keeps label (value.Object o) key s q h = let w = own_walk_to key o.0 s h in found_keeps _ _ s (own_union count label _ q w.walk) w.at h
+  property_keeps label base (value.Primitive p) key s q b h = ends_in tt h
+  property_keeps label base (value.Object o) key s q b h = let w = own_walk_to key o.0 s h in goes (own_access_found _ base _ (own_union count label _ q w.walk) b w.at) h
 
-  named_keeps : (place : Place) (walk : Label) (x : List ℕ) (s : State) → Own walk → OwnState s → Keeps OwnVal (named place walk x s)
+  named_keeps : (place : Place) (walk : Label) (x : List ℕ) (s : State) → Own walk → OwnState s → Keeps OwnAccess (named place walk x s)
   unfolding named
-  named_keeps (in_record i) walk x s q h = bound_keeps (binding_at s.records i x) s (own_binding count s.records i x h.records) h
+  named_keeps (in_record i) walk x s q h = keeps_then count OwnVal OwnAccess (λ v. ret (has_value v)) (bound_keeps (binding_at s.records i x) s (own_binding count s.records i x h.records) h) (λ v p. ret_keeping count OwnAccess (has_value v) p)
   named_keeps on_global walk x s q h = let w = own_walk_to x global_object.0 s h in globally_keeps _ _ s (own_union count walk _ q w.walk) w.at h
-  named_keeps nowhere walk x s q h = throw_keeps count OwnVal _ _ s q h
+  named_keeps nowhere walk x s q h = throw_keeps count OwnAccess _ _ s q h
 
   -- ---- references
 
@@ -136,17 +138,17 @@ module _ (count : ℕ) where
   own_walk_from (Some i) walk q = own_bottom count
   own_walk_from None walk q = q
 
-  pub value_keeps : (n : Reference) (s : State) → OwnReference n → OwnState s → Keeps OwnVal (get_value n s)
-  unfolding get_value
-  value_keeps (of_name x place walk) s q h = named_keeps place walk x s q h
-  value_keeps (of_property v key label) s q h = property_keeps _ v.value key s (own_union count v.label label q.0 q.1) h
+  pub access_keeps : (n : Reference) (s : State) → OwnReference n → OwnState s → Keeps OwnAccess (accessed n s)
+  unfolding accessed
+  access_keeps (of_name x place walk) s q h = named_keeps place walk x s q h
+  access_keeps (of_property v key label) s q h = property_keeps _ v v.value key s (own_union count v.label label q.0 q.1) q.0 h
 
-  pub typeof_keeps : (n : Reference) (s : State) → OwnReference n → OwnState s → Keeps OwnVal (typeof_value n s)
-  unfolding typeof_value
-  typeof_keeps (of_name x (in_record i) walk) s q h = value_keeps (of_name x (in_record i) walk) s q h
-  typeof_keeps (of_name x on_global walk) s q h = value_keeps (of_name x on_global walk) s q h
+  pub typeof_keeps : (n : Reference) (s : State) → OwnReference n → OwnState s → Keeps OwnAccess (accessed_for_typeof n s)
+  unfolding accessed_for_typeof
+  typeof_keeps (of_name x (in_record i) walk) s q h = access_keeps (of_name x (in_record i) walk) s q h
+  typeof_keeps (of_name x on_global walk) s q h = access_keeps (of_name x on_global walk) s q h
   typeof_keeps (of_name x nowhere walk) s q h = goes q h
-  typeof_keeps (of_property v key label) s q h = value_keeps (of_property v key label) s q h
+  typeof_keeps (of_property v key label) s q h = access_keeps (of_property v key label) s q h
 
   -- a value for a binding
   assigned_keeps : (mutable : Bool) (have : Label) (name : List ℕ) (i : ℕ) (v : Val) (s : State) → Own have → OwnVal v → OwnState s → Keeps (OwnResult One) (assigned mutable have name i v s)
@@ -173,38 +175,59 @@ module _ (count : ℕ) where
   pub own_need : (label : Label) (s : State) → Own label → OwnState s → Own (union (context s.frames) label)
   own_need label s q h = own_union count (context s.frames) label (own_context count s.frames h.frames) q
 
+  -- what a put comes to
+  abbrev pub OwnPutting : Putting → Type 0
+  OwnPutting is_put = Unit {0}
+  OwnPutting (has_setter label f base) = Own label × OwnVal base
+
+  -- a setter that is found
+  setter_keeps : (label : Label) (base : Val) (f : Option ObjId) (s : State) → Own label → OwnVal base → OwnState s → Keeps OwnPutting (setter_found label base f s)
+  unfolding setter_found
+  setter_keeps label base None s q b h = throw_keeps count OwnPutting _ _ s q h
+  setter_keeps label base (Some f) s q b h = goes (q, b) h
+
+  setter_at_keeps : (label : Label) (base : Val) (slot : Option (Slot Label)) (s : State) → Own label → OwnVal base → IfThere OwnSlot slot → OwnState s → Keeps OwnPutting (setter_at label base slot s)
+  unfolding setter_at
+  setter_at_keeps label base None s q b k h = throw_keeps count OwnPutting _ _ s q h
+  setter_at_keeps label base (Some p) s q b k h = setter_keeps _ base _ s (own_union count label p.label q k.0) b h
+
+  -- what the key names in an object that there may be
+  own_named_in : (key : List ℕ) (p : Option (Object Label)) → IfThere OwnObject p → IfThere OwnSlot (own_in key p)
+  own_named_in key None h = tt
+  own_named_in key (Some p) h = own_own count key p.rows h.rows
+
   -- a put
-  put_by_keeps : (plan : PutPlan Label) (rule : Rule) (o : ℕ) (key : List ℕ) (label : Label) (v : Val) (s : State) → Own (walk_of plan) → Own label → OwnVal v → OwnState s → Keeps (OwnResult One) (put_by plan rule o key label v s)
+  put_by_keeps : (plan : PutPlan Label) (rule : Rule) (o : ℕ) (key : List ℕ) (label : Label) (base v : Val) (s : State) → Own (walk_of plan) → Own label → OwnVal base → OwnVal v → OwnState s → Keeps OwnPutting (put_by plan rule o key label base v s)
   unfolding put_by
-  put_by_keeps (Write walk) rule o key label v s w p q h = acted_keeps (OwnResult One) tt _ s tt (own_write count rule o key _ v s.heap (own_need _ s (own_union count label walk p w) h) q h.heap) h
-  put_by_keeps (Add walk) rule o key label v s w p q h = acted_keeps (OwnResult One) tt _ s tt (own_add count o key _ (Data v.value) v.label _ s.heap (own_need _ s (own_union count label walk p w) h) q h.heap) h
-  put_by_keeps (Refused walk) rule o key label v s w p q h = throw_keeps count (OwnResult One) _ _ s (own_union count label walk p w) h
-  put_by_keeps (Setter at walk) rule o key label v s w p q h = ends_in tt h
+  put_by_keeps (Write walk) rule o key label base v s w p b q h = acted_keeps OwnPutting is_put _ s tt (own_write count rule o key _ v s.heap (own_need _ s (own_union count label walk p w) h) q h.heap) h
+  put_by_keeps (Add walk) rule o key label base v s w p b q h = acted_keeps OwnPutting is_put _ s tt (own_add count o key _ (Data v.value) v.label _ s.heap (own_need _ s (own_union count label walk p w) h) q h.heap) h
+  put_by_keeps (Refused walk) rule o key label base v s w p b q h = throw_keeps count OwnPutting _ _ s (own_union count label walk p w) h
+  put_by_keeps (Setter at walk) rule o key label base v s w p b q h = setter_at_keeps _ base (own_in key (slice_get s.heap at.0)) s (own_union count label walk p w) b (own_named_in key (slice_get s.heap at.0) (each_at OwnObject s.heap at.0 h.heap)) h
 
-  put_on_keeps : (element : Bool) (rule : Rule) (o : ℕ) (key : List ℕ) (label : Label) (v : Val) (s : State) → Own label → OwnVal v → OwnState s → Keeps (OwnResult One) (put_on element rule o key label v s)
+  put_on_keeps : (element : Bool) (rule : Rule) (o : ℕ) (key : List ℕ) (label : Label) (base v : Val) (s : State) → Own label → OwnVal base → OwnVal v → OwnState s → Keeps OwnPutting (put_on element rule o key label base v s)
   unfolding put_on
-  put_on_keeps true rule o key label v s p q h = ends_in tt h
-  put_on_keeps false rule o key label v s p q h = put_by_keeps (can_put key (object_chain s.heap o)) rule o key label v s (own_can_put count key (object_chain s.heap o) (own_chain count s.heap o h.heap)) p q h
+  put_on_keeps true rule o key label base v s p b q h = ends_in tt h
+  put_on_keeps false rule o key label base v s p b q h = put_by_keeps (can_put key (object_chain s.heap o)) rule o key label base v s (own_can_put count key (object_chain s.heap o) (own_chain count s.heap o h.heap)) p b q h
 
-  put_object_keeps : (rule : Rule) (o : ℕ) (key : List ℕ) (label : Label) (v : Val) (s : State) → Own label → OwnVal v → OwnState s → Keeps (OwnResult One) (put rule o key label v s)
+  put_object_keeps : (rule : Rule) (o : ℕ) (key : List ℕ) (label : Label) (base v : Val) (s : State) → Own label → OwnVal base → OwnVal v → OwnState s → Keeps OwnPutting (put rule o key label base v s)
   unfolding put
-  put_object_keeps rule o key label v s p q h = put_on_keeps (is_element_of (slice_get s.heap o) key) rule o key label v s p q h
+  put_object_keeps rule o key label base v s p b q h = put_on_keeps (is_element_of (slice_get s.heap o) key) rule o key label base v s p b q h
 
-  put_property_keeps : (label : Label) (base : Value) (key : List ℕ) (v : Val) (s : State) → Own label → OwnVal v → OwnState s → Keeps (OwnResult One) (put_property label base key v s)
+  put_property_keeps : (label : Label) (base : Val) (b : Value) (key : List ℕ) (v : Val) (s : State) → Own label → OwnVal base → OwnVal v → OwnState s → Keeps OwnPutting (put_property label base b key v s)
   unfolding put_property
-  put_property_keeps label (value.Primitive b) key v s p q h = ends_in tt h
-  put_property_keeps label (value.Object o) key v s p q h = put_object_keeps _ o.0 key label v s p q h
+  put_property_keeps label base (value.Primitive b) key v s p k q h = ends_in tt h
+  put_property_keeps label base (value.Object o) key v s p k q h = put_object_keeps _ o.0 key label base v s p k q h
 
-  put_named_keeps : (place : Place) (walk : Label) (x : List ℕ) (v : Val) (s : State) → Own walk → OwnVal v → OwnState s → Keeps (OwnResult One) (put_named place walk x v s)
+  put_named_keeps : (place : Place) (walk : Label) (x : List ℕ) (v : Val) (s : State) → Own walk → OwnVal v → OwnState s → Keeps OwnPutting (put_named place walk x v s)
   unfolding put_named
-  put_named_keeps (in_record i) walk x v s p q h = assigned_to_keeps (binding_at s.records i x) x i v s (own_binding count s.records i x h.records) q h
-  put_named_keeps on_global walk x v s p q h = put_object_keeps _ _ x bottom v s (own_bottom count) q h
-  put_named_keeps nowhere walk x v s p q h = throw_keeps count (OwnResult One) _ _ s p h
+  put_named_keeps (in_record i) walk x v s p q h = keeps_then count (OwnResult One) OwnPutting (λ u. ret is_put) (assigned_to_keeps (binding_at s.records i x) x i v s (own_binding count s.records i x h.records) q h) (λ u p. ret_keeping count OwnPutting is_put tt)
+  put_named_keeps on_global walk x v s p q h = put_object_keeps _ _ x bottom global_value v s (own_bottom count) (own_bottom count) q h
+  put_named_keeps nowhere walk x v s p q h = throw_keeps count OwnPutting _ _ s p h
 
-  pub put_keeps : (n : Reference) (v : Val) (s : State) → OwnReference n → OwnVal v → OwnState s → Keeps (OwnResult One) (put_value n v s)
+  pub put_keeps : (n : Reference) (v : Val) (s : State) → OwnReference n → OwnVal v → OwnState s → Keeps OwnPutting (put_value n v s)
   unfolding put_value
   put_keeps (of_name x place walk) v s p q h = put_named_keeps place walk x v s p q h
-  put_keeps (of_property base key label) v s p q h = put_property_keeps _ base.value key v s (own_union count base.label label p.0 p.1) q h
+  put_keeps (of_property base key label) v s p q h = put_property_keeps _ base base.value key v s (own_union count base.label label p.0 p.1) p.0 q h
 
   -- a deletion
   removed_if_keeps : (b : Bool) (place : Label) (o : ℕ) (key : List ℕ) (s : State) → Own place → OwnState s → Keeps OwnVal (removed_if b place o key s)
@@ -232,24 +255,6 @@ module _ (count : ℕ) where
   remove_keeps (of_name x place walk) s q h = ends_in tt h
   remove_keeps (of_property base key label) s q h = remove_property_keeps _ base.value key s (own_union count base.label label q.0 q.1) h
 
-  -- ---- acts that enter no function
-
-  needed_keeps : (b : Bool) (v : Val) (s : State) → OwnVal v → OwnState s → Keeps OwnVal (needed b v s)
-  unfolding needed
-  needed_keeps true v s q h = goes q h
-  needed_keeps false v s q h = throw_keeps count OwnVal _ _ s q h
-
-  has_keeps : (label : Label) (key : List ℕ) (v : Value) (s : State) → Own label → OwnState s → Keeps OwnVal (has label key v s)
-  unfolding has
-  has_keeps label key (value.Primitive p) s q h = ends_in tt h
-  has_keeps label key (value.Object o) s q h = goes (own_union count label _ q (own_walk_to key o.0 s h).walk) h
-
-  make_keeps : (keys : List (List ℕ)) (vs : List Val) (s : State) → Each OwnVal vs → OwnState s → Keeps OwnVal (make_object keys vs s)
-  unfolding make_object
-  make_keeps keys vs s q h =
-      let here = own_context count s.frames h.frames in
-      goes (own_bottom count) (record { frames = h.frames; heap = each_push OwnObject s.heap _ h.heap (record { link = here; structure = here; rows = own_defined_all count keys _ [] (own_slots count (context s.frames) vs here q) tt }); records = h.records; lines = h.lines })
-
   -- the keys of a value
   pub own_list : (heap : List (Object Label)) (v : Value) → OwnHeap heap → IfThere (λ k. Own k.walk) (key_list heap v)
   own_list heap (value.Object o) h = own_keys count (object_chain heap o.0) (own_chain count heap o.0 h)
@@ -270,48 +275,3 @@ module _ (count : ℕ) where
   unfolding spend
   spend_keeps zero s h = ends_in tt h
   spend_keeps (suc n) s h = goes tt (record { frames = h.frames; heap = h.heap; records = h.records; lines = h.lines })
-
-  -- an argument
-  pub own_argument : (n : ℕ) (vs : List Val) → Each OwnVal vs → OwnVal (argument n vs)
-  own_argument n [] h = own_bottom count
-  own_argument zero (v ∷ vs) h = h.0
-  own_argument (suc n) (v ∷ vs) h = own_argument n vs h.1
-
-  -- the labels of arguments
-  pub own_labels : (vs : List Val) → Each OwnVal vs → Own (labels_of vs)
-  own_labels [] h = own_bottom count
-  own_labels (v ∷ vs) h = own_union count v.label (labels_of vs) h.0 (own_labels vs h.1)
-
-  -- those behind the first
-  pub own_others : (vs : List Val) → Each OwnVal vs → Each OwnVal (others vs)
-  own_others [] h = tt
-  own_others (v ∷ vs) h = h.1
-
-  pub act_keeping : (a : Act) (vs : List Val) → Each OwnVal vs → Keeping OwnVal (act a vs)
-  unfolding act
-  act_keeping (object_of keys) vs q = record { keeps = λ s h. make_keeps keys vs s q h }
-  act_keeping base_needed vs q = record { keeps = λ s h. needed_keeps _ _ s (own_argument 0 vs q) h }
-  act_keeping object_needed vs q = record { keeps = λ s h. needed_keeps _ _ s (own_argument 0 vs q) h }
-  act_keeping refused_declaration vs q = record { keeps = λ s h. throw_keeps count OwnVal _ _ s (own_bottom count) h }
-  act_keeping has_key vs q = record { keeps = λ s h. has_keeps _ _ _ s (own_union count _ _ (own_argument 0 vs q) (own_argument 1 vs q)) h }
-
-  -- ---- `instanceof`
-
-  -- whether an object is among the prototypes of another
-  is_instance_keeps : (label : Label) (o : ℕ) (v : Value) (s : State) → Own label → OwnState s → Keeps OwnVal (is_instance label o v s)
-  unfolding is_instance
-  is_instance_keeps label o (value.Primitive p) s q h = throw_keeps count OwnVal _ _ s q h
-  is_instance_keeps label o (value.Object proto) s q h = goes (own_union count label _ q (own_linked count proto.0 (object_chain s.heap o) (own_chain count s.heap o h.heap))) h
-
-  -- or the one that a function gives
-  instance_of_keeps : (v : Val) (base : Value) (f : Val) (s : State) → OwnVal v → OwnVal f → OwnState s → Keeps OwnVal (instance_of v base f s)
-  unfolding instance_of
-  instance_of_keeps v (value.Primitive p) f s q r h = goes (own_union count v.label f.label q r) h
-  instance_of_keeps v (value.Object o) f s q r h = (bind_keeping count OwnVal OwnVal _ (record { keeps = λ s h. property_keeps f.label f.value prototype_name s r h })
-      (λ proto p. record { keeps = λ s h. is_instance_keeps _ o.0 proto.value s (own_union count v.label _ q (own_union count f.label proto.label r p)) h })).keeps s h
-
-  -- of a value that may be no function
-  pub instance_keeps : (b : Bool) (v f : Val) (s : State) → OwnVal v → OwnVal f → OwnState s → Keeps OwnVal (instance_if b v f s)
-  unfolding instance_if
-  instance_keeps true v f s q r h = instance_of_keeps v v.value f s q r h
-  instance_keeps false v f s q r h = throw_keeps count OwnVal _ _ s r h

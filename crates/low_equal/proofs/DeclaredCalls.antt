@@ -1,24 +1,20 @@
--- Functions, calls and jumps of a labelled run keep a state of declared origins.
+-- Functions, what a call begins with, and jumps of a labelled run keep a state of declared origins.
 use Rattle.std.proofs.Common.{ℕ, List, length, Option, Some, None}
 use Rattle.origin_labels.specs.Label.{Label, bottom}
-use Rattle.flow_frames.specs.declared.kind.Kind.TheVariants as kind
 use Rattle.flow_frames.specs.Frames.{context}
-use Rattle.js_values.specs.declared.value.Value.{Value}
-use Rattle.js_values.specs.declared.value.Value.TheVariants as value
 use Rattle.js_values.specs.declared.property.Slot.{Slot}
 use Rattle.js_values.specs.Objects.{Object}
 use Rattle.js_values.specs.Records.{Bindings}
 use Rattle.js_values.specs.Walks.{object_chain}
-use Rattle.js_ast.specs.Trees.{Statements, Function, name_of, body_of}
+use Rattle.js_ast.specs.Trees.{Function, name_of, body_of}
 use Rattle.js_ast.specs.Functions.{FunctionCode}
 use Rattle.es_meaning.specs.Outcomes.{Outcome, Exit}
-use Rattle.es_meaning.specs.Environments.{Env, with_place, called_env, Leaving}
+use Rattle.es_meaning.specs.Environments.{Env, with_place, Leaving}
 use Rattle.es_meaning.specs.Operations.{Ty, One, Res}
 use Rattle.es_meaning.specs.Naming.{names_in_statements}
-use Rattle.es_meaning.specs.Functions.{Callee, not_callable, empty_callee, of_script, unbuilt_callee}
 use Rattle.es_meaning.specs.Plain.{prototype_name}
-use Rattle.flow_meaning.specs.Scopes.{Val, Halt, State, Jump, L, Came, ended, caught, Left, frame_of, given_back, answer, construction}
-use Rattle.flow_meaning.specs.Tracked.{make_function, callee_at, with_call, CallBody, entered, call, value_found, prototype_of, with_fresh, constructed, construct, jumps_to, raises, with_name, in_own_record}
+use Rattle.flow_meaning.specs.Scopes.{Val, Halt, State, Jump, L, frame_of}
+use Rattle.flow_meaning.specs.Tracked.{make_function, with_call, value_found, prototype_of, with_fresh, jumps_to, raises, with_name, in_own_record}
 use Rattle.low_equal.proofs.DeclaredLabels as labels
 use Rattle.low_equal.proofs.DeclaredLabels.{Each, IfThere, each_push, own_bottom, own_union, own_context, each_append}
 use Rattle.low_equal.proofs.DeclaredHeaps as heaps
@@ -26,7 +22,7 @@ use Rattle.low_equal.proofs.DeclaredHeaps.{own_chain, own_find, own_made, own_ar
 use Rattle.low_equal.proofs.DeclaredRecords as records
 use Rattle.low_equal.proofs.DeclaredRecords.{own_entry, own_own_name, own_labelled, own_joined}
 use Rattle.low_equal.proofs.DeclaredStates as states
-use Rattle.low_equal.proofs.DeclaredStates.{bind_keeping, ret_keeping, jump_keeps, throw_keeps, scope_keeping, frame_keeps, goes, ends_in}
+use Rattle.low_equal.proofs.DeclaredStates.{jump_keeps, frame_keeps, goes}
 
 module _ (count : ℕ) where
   abbrev Own : Label → Type 0
@@ -59,12 +55,6 @@ module _ (count : ℕ) where
   abbrev OwnResult : (t : Ty) → Res Val t → Type 0
   OwnResult t a = states.OwnResult count t a
 
-  abbrev OwnCame : {X : Type 0} → (X → Type 0) → Came X → Type 0
-  OwnCame Q c = states.OwnCame count Q c
-
-  abbrev OwnLeft : {X : Type 0} → (X → Type 0) → Left X → Type 0
-  OwnLeft Q l = states.OwnLeft count Q l
-
   -- ---- functions
 
   -- a function is made
@@ -83,12 +73,8 @@ module _ (count : ℕ) where
 
   -- ---- calls
 
-  -- a body
-  abbrev pub OwnBody : CallBody → Type 0
-  OwnBody body = (ss : Statements) (e : Env ℕ) → Keeping (OwnResult One) (body ss e)
-
   -- a call begins
-  call_own : (functions : List FunctionCode) (number : ℕ) (f : Function) (place : ℕ) (this : Val) (args : List Val) (s : State) → OwnVal this → Each OwnVal args → OwnState s → OwnState (with_call functions number f place this args s)
+  pub call_own : (functions : List FunctionCode) (number : ℕ) (f : Function) (place : ℕ) (this : Val) (args : List Val) (s : State) → OwnVal this → Each OwnVal args → OwnState s → OwnState (with_call functions number f place this args s)
   unfolding with_call
   call_own functions number f place this args s p q h =
       let here = own_context count s.frames h.frames in
@@ -107,27 +93,6 @@ module _ (count : ℕ) where
         lines = h.lines;
       }
 
-  -- in the frame of the call
-  entered_keeps : (functions : List FunctionCode) (callee : Callee) (label : Label) (this : Val) (args : List Val) (body : CallBody) (depth : ℕ) (s : State) → Own label → OwnVal this → Each OwnVal args → OwnBody body → OwnState s
-      → Keeps (OwnResult One) (entered functions callee label this args body depth s)
-  unfolding entered
-  entered_keeps functions not_callable label this args body depth s q p r k h = throw_keeps count (OwnResult One) _ _ s q h
-  entered_keeps functions empty_callee label this args body depth s q p r k h = goes tt h
-  entered_keeps functions unbuilt_callee label this args body depth s q p r k h = ends_in tt h
-  entered_keeps functions (of_script number f place) label this args body depth s q p r k h =
-      (k (body_of f) (called_env (length s.records) depth)).keeps (with_call functions number f place this args s) (call_own functions number f place this args s p r h)
-
-  -- what is returned
-  own_given_back : (c : Came (Unit {0})) → OwnCame (OwnResult One) c → OwnVal (given_back c)
-  own_given_back (ended u) q = own_bottom count
-  own_given_back (caught j) q = q
-
-  -- a call
-  pub call_keeping : (functions : List FunctionCode) (f this : Val) (args : List Val) (body : CallBody) → OwnVal f → OwnVal this → Each OwnVal args → OwnBody body → Keeping OwnVal (call functions f this args body)
-  call_keeping functions f this args body q p r k = bind_keeping count (OwnLeft (OwnResult One)) OwnVal _
-      (scope_keeping count (OwnResult One) kind.Call f.label _ q (λ depth. record { keeps = λ s h. entered_keeps functions (callee_at functions s.heap f.value) f.label this args body depth s q p r k h }))
-      (λ c l. ret_keeping count OwnVal (answer c) (own_union count (given_back c.how).label c.label (own_given_back c.how l.1) l.0))
-
   -- ---- constructions
 
   -- the prototype that a function gives
@@ -135,33 +100,15 @@ module _ (count : ℕ) where
   own_value_found walk None q h = q
   own_value_found walk (Some f) q h = own_union count walk f.1.label q h.0
 
-  -- that of a value
-  own_prototype : (heap : List (Object Label)) (v : Value) → OwnHeap heap → OwnVal (prototype_of heap v)
-  own_prototype heap (value.Primitive p) h = own_bottom count
-  own_prototype heap (value.Object o) h = let w = own_find count prototype_name (object_chain heap o.0) (own_chain count heap o.0 h) in own_value_found _ _ w.walk w.at
+  -- that of a function
+  pub own_prototype : (heap : List (Object Label)) (o : ℕ) → OwnHeap heap → OwnVal (prototype_of heap o)
+  own_prototype heap o h = let w = own_find count prototype_name (object_chain heap o) (own_chain count heap o h) in own_value_found _ _ w.walk w.at
 
   -- what is made
-  fresh_own : (proto : Val) (s : State) → OwnVal proto → OwnState s → OwnState (with_fresh proto s)
+  pub fresh_own : (proto : Val) (s : State) → OwnVal proto → OwnState s → OwnState (with_fresh proto s)
   fresh_own proto s q h =
       let here = own_context count s.frames h.frames in
-      record { frames = h.frames; heap = each_push OwnObject s.heap _ h.heap (record { link = own_union count (context s.frames) proto.label here q; structure = here; rows = tt }); records = h.records; lines = h.lines }
-
-  -- in the frame
-  constructed_keeps : (functions : List FunctionCode) (callee : Callee) (f : Val) (args : List Val) (body : CallBody) (depth : ℕ) (s : State) → OwnVal f → Each OwnVal args → OwnBody body → OwnState s → Keeps (OwnResult One) (constructed functions callee f args body depth s)
-  unfolding constructed
-  constructed_keeps functions not_callable f args body depth s q r k h = throw_keeps count (OwnResult One) _ _ s q h
-  constructed_keeps functions empty_callee f args body depth s q r k h = throw_keeps count (OwnResult One) _ _ s q h
-  constructed_keeps functions unbuilt_callee f args body depth s q r k h = ends_in tt h
-  constructed_keeps functions (of_script number code place) f args body depth s q r k h =
-      entered_keeps functions (of_script number code place) f.label _ args body depth (with_fresh (prototype_of s.heap f.value) s) q (own_bottom count) r k (fresh_own (prototype_of s.heap f.value) s (own_prototype s.heap f.value h.heap) h)
-
-  -- an object is made by a function
-  pub construct_keeping : (functions : List FunctionCode) (f : Val) (args : List Val) (body : CallBody) → OwnVal f → Each OwnVal args → OwnBody body → Keeping OwnVal (construct functions f args body)
-  construct_keeping functions f args body q r k = record {
-    keeps = λ s h. (bind_keeping count (OwnLeft (OwnResult One)) OwnVal _
-        (scope_keeping count (OwnResult One) kind.Call f.label _ q (λ depth. record { keeps = λ s h. constructed_keeps functions (callee_at functions s.heap f.value) f args body depth s q r k h }))
-        (λ c l. ret_keeping count OwnVal (construction (length s.heap) c) (own_union count (given_back c.how).label c.label (own_given_back c.how l.1) l.0))).keeps s h;
-  }
+      record { frames = h.frames; heap = each_push OwnObject s.heap _ h.heap (record { link = own_union count (context s.frames) proto.label here q; structure = here; inner = tt; rows = tt }); records = h.records; lines = h.lines }
 
   -- ---- jumps, directives and a record with one name
 

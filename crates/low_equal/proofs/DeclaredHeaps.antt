@@ -11,21 +11,27 @@ use Rattle.js_values.specs.declared.property.Body.TheVariants.{Data, Accessor}
 use Rattle.js_values.specs.declared.property.Marks.{Marks}
 use Rattle.js_values.specs.declared.property.Slot.{Slot}
 use Rattle.js_values.specs.Chains.{chain_within, beginning, onwards}
-use Rattle.js_values.specs.Objects.{Rows, Property, PlainObject, Object, own, row_or_none, altered, number_of}
+use Rattle.js_values.specs.declared.inner.Inner.{Inner}
+use Rattle.js_values.specs.declared.inner.Inner.TheVariants.{Plain, Script, Native, Bound}
+use Rattle.js_values.specs.Objects.{Rows, Property, PlainInner, plain, script, native, bound, PlainObject, Object, own, row_or_none, altered, number_of}
 use Rattle.js_values.specs.Walks.{Found, found_at, find, object_chain}
 use Rattle.object_heap.specs.Arrays.{element_of, length_key, is_past}
-use Rattle.object_heap.specs.Acts.{Acted, under, on_slot, change, with_rows, lengthened, stretched, add_absent, put_back, on_object, act_on, write, raise_existence, add, remove, raise_structure}
+use Rattle.object_heap.specs.Acts.{Acted, under, on_slot, change, with_rows, lengthened, stretched, add_absent, put_back, on_object, act_on, write, set_body, set_attributes, raise_existence, add, remove, raise_structure, prevent_extensions}
 use Rattle.prototype_walk.specs.declared.plan.PutPlan.{PutPlan}
 use Rattle.prototype_walk.specs.declared.plan.PutPlan.TheVariants.{Write, Add}
 use Rattle.prototype_walk.specs.Answers.{walk_of}
 use Rattle.prototype_walk.specs.Plans.{if_allowed, setter_plan, own_plan, inherited_plan, beyond_plan, plan_at, can_put}
 use Rattle.prototype_walk.specs.KeyLists.{existences, keys_after, keys}
-use Rattle.es_meaning.specs.Objects.{defined_over, defined, defined_all}
-use Rattle.es_meaning.specs.Functions.{elements_down, made_if}
-use Rattle.flow_meaning.specs.Erased.{made_rows, made_objects}
+use Rattle.es_meaning.specs.Operations.{Part, as_value, as_getter, as_setter, OwnPart, own_marks, own_value, own_getter, own_setter}
+use Rattle.es_meaning.specs.Objects.{defined_over}
+use Rattle.es_meaning.specs.Functions.{this_or, elements_down, accessor_rows, made_if}
+use Rattle.es_meaning.specs.Start.{function_rows}
+use Rattle.flow_meaning.specs.Erased.{made_inner, made_rows, made_objects}
 use Rattle.flow_meaning.specs.Scopes.{Val}
-use Rattle.flow_meaning.specs.Tracked.{data_slot, arguments_object, linked_from, linked_beyond, linked}
-use Rattle.low_equal.proofs.DeclaredLabels.{Each, IfThere, each_push, each_at, Own, own_bottom, own_union}
+use Rattle.flow_meaning.specs.Requested.{data_slot, half_label, with_part, with_parts, arguments_object, own_test, own_walk, part_label, known_of, value_label, body_label, length_name, own_label, length_label, bound_object, Aim, aim_behind, aim_in, aim_within, aim_of}
+use Rattle.flow_meaning.specs.Tracked.{linked_from, linked_beyond, linked}
+use Rattle.low_equal.proofs.DeclaredLabels.{Each, IfThere, each_push, each_append, each_at, Own, own_bottom, own_union}
+use Rattle.low_equal.proofs.DeclaredRecords.{own_labelled}
 
 module _ (count : ℕ) where
   -- ---- properties and objects
@@ -37,9 +43,20 @@ module _ (count : ℕ) where
   abbrev pub OwnRows : Rows (Slot Label) → Type 0
   OwnRows rows = Each (λ r. OwnSlot r.1) rows
 
+  abbrev pub OwnVal : Val → Type 0
+  OwnVal v = Own count v.label
+
+  -- the labels with which a bound function knows its target, its `this` and its arguments
+  abbrev pub OwnInner : Inner Label → Type 0
+  OwnInner Plain = Unit {0}
+  OwnInner (Script function place) = Unit {0}
+  OwnInner (Native which) = Unit {0}
+  OwnInner (Bound target label this args) = Own count label × OwnVal this × Each OwnVal args
+
   pub record OwnObject (p : Object Label) : Type 0 where
     pub link : Own count p.link
     pub structure : Own count p.structure
+    pub inner : OwnInner p.inner
     pub rows : OwnRows p.rows
 
   abbrev pub OwnHeap : List (Object Label) → Type 0
@@ -72,22 +89,43 @@ module _ (count : ℕ) where
   own_defined_over None key s rows q h = each_push (λ r. OwnSlot r.1) rows (key, s) h q
   own_defined_over (Some t) key s rows q h = own_altered key (λ t. Some s) (λ t p. q) rows h
 
-  pub own_defined_all : (keys : List (List ℕ)) (slots : List (Slot Label)) (rows : Rows (Slot Label)) → Each OwnSlot slots → OwnRows rows → OwnRows (defined_all keys slots rows)
-  own_defined_all [] slots rows q h = h
-  own_defined_all (key ∷ keys) [] rows q h = h
-  own_defined_all (key ∷ keys) (s ∷ slots) rows q h = own_defined_all keys slots (defined key s rows) q.1 (own_defined_over (own key rows) key s rows q.0 h)
+  -- a part of a literal, which joins the other half of its property
+  own_half : (part : Part) (old : Option (Slot Label)) → IfThere OwnSlot old → Own count (half_label part old)
+  own_half as_value old h = own_bottom count
+  own_half as_getter None h = own_bottom count
+  own_half as_getter (Some s) h = h.0
+  own_half as_setter None h = own_bottom count
+  own_half as_setter (Some s) h = h.0
+
+  own_part : (label : Label) (part : Part) (key : List ℕ) (v : Val) (rows : Rows (Slot Label)) → Own count label → OwnVal v → OwnRows rows → OwnRows (with_part label part key v rows)
+  own_part label part key v rows q k h =
+      let old = own_own key rows h in
+      own_defined_over (own key rows) key _ rows (own_union count _ _ (own_union count v.label label k q) (own_half part (own key rows) old), q) h
+
+  -- the properties of a literal
+  pub own_parts : (label : Label) (parts : List (Part × List ℕ)) (vs : List Val) (rows : Rows (Slot Label)) → Own count label → Each OwnVal vs → OwnRows rows → OwnRows (with_parts label parts vs rows)
+  own_parts label [] vs rows q k h = h
+  own_parts label (part ∷ parts) [] rows q k h = h
+  own_parts label (part ∷ parts) (v ∷ vs) rows q k h = own_parts label parts vs (with_part label part.0 part.1 v rows) q k.1 (own_part label part.0 part.1 v rows q k.0 h)
 
   -- ---- what is made in a context
 
   -- properties
-  own_made_rows : (label : Label) (rows : Rows Property) → Own count label → OwnRows (made_rows label rows)
+  pub own_made_rows : (label : Label) (rows : Rows Property) → Own count label → OwnRows (made_rows label rows)
   own_made_rows label [] q = tt
   own_made_rows label (r ∷ rows) q = ((q, q), own_made_rows label rows q)
+
+  -- bound functions
+  own_made_inner : (label : Label) (inner : PlainInner) → Own count label → OwnInner (made_inner label inner)
+  own_made_inner label plain q = tt
+  own_made_inner label (script function place) q = tt
+  own_made_inner label (native which) q = tt
+  own_made_inner label (bound target this args) q = (q, q, own_labelled count label args q)
 
   -- objects
   pub own_made : (label : Label) (objects : List PlainObject) → Own count label → OwnHeap (made_objects label objects)
   own_made label [] q = tt
-  own_made label (p ∷ objects) q = (record { link = q; structure = q; rows = own_made_rows label p.rows q }, own_made label objects q)
+  own_made label (p ∷ objects) q = (record { link = q; structure = q; inner = own_made_inner label p.inner q; rows = own_made_rows label p.rows q }, own_made label objects q)
 
   -- properties with values
   pub own_slots : (label : Label) (vs : List Val) → Own count label → Each (λ v. Own count v.label) vs → Each OwnSlot (map (data_slot label) vs)
@@ -101,7 +139,7 @@ module _ (count : ℕ) where
 
   -- that object
   pub own_arguments_object : (number place : ℕ) (args : List Val) (label : Label) → Own count label → Each (λ v. Own count v.label) args → OwnObject (arguments_object number place args label)
-  own_arguments_object number place args label q h = record { link = q; structure = q; rows = own_elements _ 0 _ ((q, q), tt) (own_slots label args q h) }
+  own_arguments_object number place args label q h = record { link = q; structure = q; inner = tt; rows = each_append (λ r. OwnSlot r.1) _ _ (own_elements _ 0 _ ((q, q), tt) (own_slots label args q h)) (own_made_rows label accessor_rows q) }
 
   -- one that is made where something is so
   pub own_made_if : (b : Bool) (p : Object Label) → OwnObject p → OwnHeap (made_if b p)
@@ -129,7 +167,7 @@ module _ (count : ℕ) where
   own_change : (rule : Rule) (have : Slot Label → Label) (new : Slot Label → Slot Label) (key : List ℕ) (need : Label) (p : Object Label) → Own count need → ((s : Slot Label) → OwnSlot s → Own count (have s)) → ((s : Slot Label) → OwnSlot s → OwnSlot (new s))
       → OwnObject p → OwnActed OwnObject (change rule have new key need p)
   own_change rule have new key need p q f g h = own_on_slot (own key p.rows) p _ (own_own key p.rows h.rows) h
-      (λ s k. own_under OwnObject rule need (have s) _ q (f s k) (record { link = h.link; structure = h.structure; rows = own_altered key (λ t. Some (new t)) g p.rows h.rows }))
+      (λ s k. own_under OwnObject rule need (have s) _ q (f s k) (record { link = h.link; structure = h.structure; inner = h.inner; rows = own_altered key (λ t. Some (new t)) g p.rows h.rows }))
 
   -- an object in a heap
   each_put : (heap : List (Object Label)) (o : ℕ) (p : Object Label) → OwnHeap heap → OwnObject p → OwnHeap (set heap o p)
@@ -152,28 +190,37 @@ module _ (count : ℕ) where
   pub own_write : (rule : Rule) (o : ℕ) (key : List ℕ) (need : Label) (v : Labelled Label) (heap : List (Object Label)) → Own count need → Own count v.label → OwnHeap heap → OwnActed OwnHeap (write rule o key need v heap)
   own_write rule o key need v heap q k h = own_act o _ heap h (λ p r. own_change rule _ _ key need p q (λ s t. own_union count s.label s.existence t.0 t.1) (λ s t. (own_union count v.label need k q, t.1)) r)
 
+  pub own_set_body : (o : ℕ) (key : List ℕ) (need : Label) (body : Body) (label : Label) (heap : List (Object Label)) → Own count need → Own count label → OwnHeap heap → OwnActed OwnHeap (set_body o key need body label heap)
+  own_set_body o key need body label heap q k h = own_act o _ heap h (λ p r. own_change _ _ _ key need p q (λ s t. own_union count s.label s.existence t.0 t.1) (λ s t. (own_union count label need k q, t.1)) r)
+
+  pub own_set_attributes : (o : ℕ) (key : List ℕ) (need : Label) (marks : Marks) (heap : List (Object Label)) → Own count need → OwnHeap heap → OwnActed OwnHeap (set_attributes o key need marks heap)
+  own_set_attributes o key need marks heap q h = own_act o _ heap h (λ p r. own_change _ _ _ key need p q (λ s t. t.1) (λ s t. t) r)
+
+  pub own_prevent : (o : ℕ) (need : Label) (heap : List (Object Label)) → Own count need → OwnHeap heap → OwnActed OwnHeap (prevent_extensions o need heap)
+  own_prevent o need heap q h = own_act o _ heap h (λ p r. own_under OwnObject W7 need p.structure _ q r.structure (record { link = r.link; structure = r.structure; inner = r.inner; rows = r.rows }))
+
   pub own_raise_existence : (o : ℕ) (key : List ℕ) (need label : Label) (heap : List (Object Label)) → Own count need → Own count label → OwnHeap heap → OwnActed OwnHeap (raise_existence o key need label heap)
   own_raise_existence o key need label heap q k h = own_act o _ heap h (λ p r. own_change _ _ _ key need p q (λ s t. t.1) (λ s t. (t.0, own_union count s.existence label t.1 k)) r)
 
   pub own_raise_structure : (o : ℕ) (need label : Label) (heap : List (Object Label)) → Own count need → Own count label → OwnHeap heap → OwnActed OwnHeap (raise_structure o need label heap)
-  own_raise_structure o need label heap q k h = own_act o _ heap h (λ p r. own_under OwnObject W7 need p.structure _ q r.structure (record { link = r.link; structure = own_union count p.structure label r.structure k; rows = r.rows }))
+  own_raise_structure o need label heap q k h = own_act o _ heap h (λ p r. own_under OwnObject W7 need p.structure _ q r.structure (record { link = r.link; structure = own_union count p.structure label r.structure k; inner = r.inner; rows = r.rows }))
 
   pub own_remove : (o : ℕ) (key : List ℕ) (need : Label) (heap : List (Object Label)) → Own count need → OwnHeap heap → OwnActed OwnHeap (remove o key need heap)
   own_remove o key need heap q h = own_act o _ heap h (λ p r. own_on_slot (own key p.rows) p _ (own_own key p.rows r.rows) r
-      (λ s t. own_under OwnObject W4 need s.existence _ q t.1 (own_under OwnObject W5 need p.structure _ q r.structure (record { link = r.link; structure = r.structure; rows = own_altered key (λ t. None) (λ t u. tt) p.rows r.rows }))))
+      (λ s t. own_under OwnObject W4 need s.existence _ q t.1 (own_under OwnObject W5 need p.structure _ q r.structure (record { link = r.link; structure = r.structure; inner = r.inner; rows = own_altered key (λ t. None) (λ t u. tt) p.rows r.rows }))))
 
   -- an added property, and the `length` of an array
   own_stretched : (i : Option ℕ) (length : Option (Slot Label)) (need : Label) (p : Object Label) (rows : Rows (Slot Label)) → Own count need → IfThere OwnSlot length → OwnObject p → OwnRows rows → OwnActed OwnObject (stretched i length need p rows)
-  own_stretched None length need p rows q k h r = record { link = h.link; structure = h.structure; rows = r }
-  own_stretched (Some i) None need p rows q k h r = record { link = h.link; structure = h.structure; rows = r }
+  own_stretched None length need p rows q k h r = record { link = h.link; structure = h.structure; inner = h.inner; rows = r }
+  own_stretched (Some i) None need p rows q k h r = record { link = h.link; structure = h.structure; inner = h.inner; rows = r }
   own_stretched (Some i) (Some s) need p rows q k h r = by_case (is_past i s.body)
     where
       longer : OwnObject (with_rows p (altered length_key (λ t. Some (lengthened i need t)) rows))
-      longer = record { link = h.link; structure = h.structure; rows = own_altered length_key (λ t. Some (lengthened i need t)) (λ t u. (own_union count t.label need u.0 q, u.1)) rows r }
+      longer = record { link = h.link; structure = h.structure; inner = h.inner; rows = own_altered length_key (λ t. Some (lengthened i need t)) (λ t u. (own_union count t.label need u.0 q, u.1)) rows r }
 
       by_case : (b : Bool) → OwnActed OwnObject (cond b (under W2 need (union s.label s.existence) (Ok (with_rows p (altered length_key (λ t. Some (lengthened i need t)) rows)))) (Ok (with_rows p rows)))
       by_case true = own_under OwnObject W2 need _ _ q (own_union count s.label s.existence k.0 k.1) longer
-      by_case false = record { link = h.link; structure = h.structure; rows = r }
+      by_case false = record { link = h.link; structure = h.structure; inner = h.inner; rows = r }
 
   own_add_absent : (o : Option (Slot Label)) (key : List ℕ) (need : Label) (body : Body) (label : Label) (marks : Marks) (p : Object Label) → Own count need → Own count label → OwnObject p → OwnActed OwnObject (add_absent o key need body label marks p)
   own_add_absent (Some s) key need body label marks p q k h = h
@@ -235,17 +282,17 @@ module _ (count : ℕ) where
   own_allowed true plan walk q k = q
   own_allowed false plan walk q k = k
 
-  own_setter : (at : ℕ) (f : Option ObjId) (label walk : Label) → Own count label → Own count walk → Own count (walk_of (setter_plan at f label walk))
-  own_setter at None label walk q k = own_union count walk label k q
-  own_setter at (Some f) label walk q k = k
+  own_setter_plan : (at : ℕ) (f : Option ObjId) (label walk : Label) → Own count label → Own count walk → Own count (walk_of (setter_plan at f label walk))
+  own_setter_plan at None label walk q k = own_union count walk label k q
+  own_setter_plan at (Some f) label walk q k = k
 
   own_own_plan : (o : ℕ) (s : Slot Label) (body : Body) (walk : Label) → OwnSlot s → Own count walk → Own count (walk_of (own_plan o s body walk))
   own_own_plan o s (Data v) walk q k = own_allowed s.marks.writable (Write walk) walk k k
-  own_own_plan o s (Accessor get set) walk q k = own_setter o set s.label walk q.0 k
+  own_own_plan o s (Accessor get set) walk q k = own_setter_plan o set s.label walk q.0 k
 
   own_inherited : (b : Bool) (at : ℕ) (s : Slot Label) (body : Body) (walk : Label) → OwnSlot s → Own count walk → Own count (walk_of (inherited_plan b at s body walk))
   own_inherited b at s (Data v) walk q k = own_allowed (b && s.marks.writable) (Add walk) walk k k
-  own_inherited b at s (Accessor get set) walk q k = own_setter at set s.label walk q.0 k
+  own_inherited b at s (Accessor get set) walk q k = own_setter_plan at set s.label walk q.0 k
 
   own_beyond : (b : Bool) (f : Option (ℕ × Slot Label)) (walk : Label) → IfThere (λ x. OwnSlot x.1) f → Own count walk → Own count (walk_of (beyond_plan b f walk))
   own_beyond b None walk q k = own_allowed b (Add walk) walk k k
@@ -270,3 +317,78 @@ module _ (count : ℕ) where
 
   pub own_keys : (objects : List (ℕ × Object Label)) → OwnChain objects → Own count (keys objects).walk
   own_keys objects h = own_keys_after [] objects h
+
+  -- ---- own properties
+
+  -- the own test of a key
+  pub own_own_test : (o : Option (Slot Label)) (structure : Label) → IfThere OwnSlot o → Own count structure → Own count (own_test o structure)
+  own_own_test None structure q h = h
+  own_own_test (Some s) structure q h = q.1
+
+  pub own_own_walk : (key : List ℕ) (p : Option (Object Label)) → IfThere OwnObject p → Own count (own_walk key p)
+  own_own_walk key None h = own_bottom count
+  own_own_walk key (Some p) h = own_own_test (own key p.rows) p.structure (own_own key p.rows h.rows) h.structure
+
+  -- what is known of one
+  own_part_label : (part : OwnPart) (label : Label) → Own count label → Own count (part_label part label)
+  own_part_label own_marks label q = own_bottom count
+  own_part_label own_value label q = q
+  own_part_label own_getter label q = q
+  own_part_label own_setter label q = q
+
+  pub own_known : (part : OwnPart) (label structure : Label) (s : Option (Slot Label)) → Own count label → Own count structure → IfThere OwnSlot s → OwnVal (known_of part label structure s)
+  own_known part label structure None q k h = own_union count label structure q k
+  own_known part label structure (Some s) q k h = own_union count _ _ (own_union count label s.existence q h.1) (own_part_label part s.label h.0)
+
+  -- its value label, where it is there
+  pub own_value_label : (s : Option (Slot Label)) → IfThere OwnSlot s → Own count (value_label s)
+  own_value_label None h = own_bottom count
+  own_value_label (Some s) h = h.0
+
+  pub own_body_label : (b : Bool) (given old : Label) → Own count given → Own count old → Own count (body_label b given old)
+  own_body_label true given old q k = own_union count given old q k
+  own_body_label false given old q k = q
+
+  -- ---- bound functions
+
+  own_own_label : (s : Option (Slot Label)) (structure : Label) → IfThere OwnSlot s → Own count structure → Own count (own_label s structure)
+  own_own_label None structure h q = q
+  own_own_label (Some s) structure h q = own_union count s.existence s.label h.1 h.0
+
+  -- the `length` of the target
+  pub own_length_label : (p : Option (Object Label)) → IfThere OwnObject p → Own count (length_label p)
+  own_length_label None h = own_bottom count
+  own_length_label (Some p) h = own_own_label (own length_name p.rows) p.structure (own_own length_name p.rows h.rows) h.structure
+
+  pub own_bound_object : (target : ObjId) (given : Label) (this : Val) (args : List Val) (known : Label) (n : ℕ) (label : Label) → Own count given → OwnVal this → Each OwnVal args → Own count known → Own count label
+      → OwnObject (bound_object target given this args known n label)
+  own_bound_object target given this args known n label g t a k q =
+      record { link = q; structure = q; inner = (g, t, a); rows = ((own_union count _ label (own_union count given known g k) q, q), own_made_rows label function_rows q) }
+
+  -- what a bound function comes to
+  pub record OwnAim (aim : Aim) : Type 0 where
+    pub this : IfThere OwnVal aim.target.this
+    pub args : Each OwnVal aim.target.args
+    pub label : Own count aim.label
+
+  pub own_this_or : (kept : Option Val) (this : Val) → IfThere OwnVal kept → OwnVal this → OwnVal (this_or kept this)
+  own_this_or None this k q = q
+  own_this_or (Some kept) this k q = k
+
+  own_aim_behind : (next : ℕ → Aim) → ((o : ℕ) → OwnAim (next o)) → (o : ℕ) (inner : Inner Label) → OwnInner inner → OwnAim (aim_behind next o inner)
+  own_aim_behind next h o Plain q = record { this = tt; args = tt; label = own_bottom count }
+  own_aim_behind next h o (Script function place) q = record { this = tt; args = tt; label = own_bottom count }
+  own_aim_behind next h o (Native which) q = record { this = tt; args = tt; label = own_bottom count }
+  own_aim_behind next h o (Bound target label this args) q = let r = h target.0 in
+      record { this = own_this_or (next target.0).target.this this r.this q.1; args = each_append OwnVal (next target.0).target.args args r.args q.2; label = own_union count label _ q.0 r.label }
+
+  own_aim_in : (next : ℕ → Aim) → ((o : ℕ) → OwnAim (next o)) → (o : ℕ) (p : Option (Object Label)) → IfThere OwnObject p → OwnAim (aim_in next o p)
+  own_aim_in next h o None q = record { this = tt; args = tt; label = own_bottom count }
+  own_aim_in next h o (Some p) q = own_aim_behind next h o p.inner q.inner
+
+  own_aim_within : (heap : List (Object Label)) (n o : ℕ) → OwnHeap heap → OwnAim (aim_within heap n o)
+  own_aim_within heap zero o h = record { this = tt; args = tt; label = own_bottom count }
+  own_aim_within heap (suc n) o h = own_aim_in (aim_within heap n) (λ j. own_aim_within heap n j h) o (slice_get heap o) (each_at OwnObject heap o h)
+
+  pub own_aim_of : (heap : List (Object Label)) (o : ℕ) → OwnHeap heap → OwnAim (aim_of heap o)
+  own_aim_of heap o h = own_aim_within heap (suc o) o h

@@ -1,10 +1,12 @@
 -- Labels of which each origin is declared, and lists of what has such labels.
-use Rattle.std.proofs.Common.{ℕ, zero, suc, ◌+◌, ◌<◌, Bool, true, false, ◌==◌, cond, nat_lt, List, [], ◌∷◌, ◌++◌, take, drop, Option, Some, None, slice_get, slice_set}
+use Rattle.std.proofs.Common.{◌≡◌, ℕ, zero, suc, ◌+◌, ◌<◌, Bool, true, false, ◌==◌, cond, nat_lt, List, [], ◌∷◌, ◌++◌, take, drop, Option, Some, None, slice_get, slice_set, ltb-true}
 use Rattle.std.specs.List.{AllByRecursion}
+use Rattle.std.proofs.lemmas.Bool.{and_parts}
 use Rattle.origin_labels.specs.Label.{Label, bottom, union, with_origin, label_of}
 use Rattle.flow_frames.specs.Frames.{Frame, context, inside}
 use Rattle.flow_frames.specs.Held.{meant_at}
 use Rattle.flow_frames.specs.Changes.{changed_at, raised}
+use Rattle.es_meaning.specs.Requested.{are_origins}
 
 -- ---- lists of which each element is so
 
@@ -84,6 +86,11 @@ module _ (count : ℕ) where
   unfolding label_of
   own_label_of [] h = own_bottom
   own_label_of (k ∷ origins) h = own_with k (label_of origins) h.0 (own_label_of origins h.1)
+
+  -- origins that pass the test
+  pub own_origins : (origins : List ℕ) → are_origins count origins ≡ true → Each (λ origin. origin < count) origins
+  own_origins [] e = tt
+  own_origins (k ∷ origins) e = let both = and_parts (nat_lt k count) (are_origins count origins) e in (ltb-true k count both.0, own_origins origins both.1)
 
   -- ---- frames
 

@@ -10,15 +10,15 @@ use Rattle.flow_frames.specs.Held.{meant_at}
 use Rattle.flow_frames.specs.Changes.{pushed}
 use Rattle.js_values.specs.Objects.{Object}
 use Rattle.js_values.specs.Records.{Record}
+use Rattle.native_protocol.specs.declared.request.ErrorKind.{ErrorKind}
 use Rattle.es_meaning.specs.Outcomes as es
 use Rattle.es_meaning.specs.Outcomes.{Outcome, Goes, Jumps, Ends, ret, and_then, ◌>>=◌}
 use Rattle.es_meaning.specs.Environments.{Env, with_around}
 use Rattle.es_meaning.specs.Operations.{Ty, One, Res}
 use Rattle.es_meaning.specs.Operations.{Value as a_value}
 use Rattle.es_meaning.specs.Operators.{truth}
-use Rattle.es_meaning.specs.Start.{ErrorKind}
 use Rattle.es_meaning.specs.Plain.{choose, is_throw}
-use Rattle.flow_meaning.specs.Scopes.{Val, Halt, as_plain, stopped, State, Jump, L, guard, under, innermost, raise, reached, jump_to, jump, cut_to, pushed_on, Came, ended, caught, Left, popped, scope, given_by, depending, settled, fork, round_kind, round, again, raise_frame, stay, quiet, react, resume, finish, tried, attempt}
+use Rattle.flow_meaning.specs.Scopes.{Val, Halt, as_plain, stopped, State, Jump, L, guard, under, innermost, raise, reached, jump_to, jump, cut_to, pushed_on, Came, ended, caught, Left, popped, scope, given_by, depending, settled, settled_value, fork, round_kind, round, again, raise_frame, stay, quiet, react, resume, finish, tried, attempt}
 use Rattle.flow_meaning.specs.Tracked.{ends, with_error, throw_error}
 use Rattle.low_equal.proofs.DeclaredLabels as labels
 use Rattle.low_equal.proofs.DeclaredLabels.{Each, each_push, each_take, own_bottom, own_union, own_context, own_inside, own_meant, own_raised, own_quieted}
@@ -74,7 +74,7 @@ module _ (count : ℕ) where
   OwnResult a_value v = Own v.label
 
   -- what follows an outcome
-  keeps_then : {X Y : Type 0} (Q : X → Type 0) (R : Y → Type 0) {o : Outcome Halt Jump X State} (f : X → L Y) → Keeps Q o → ((a : X) → Q a → Keeping R (f a)) → Keeps R (and_then o f)
+  pub keeps_then : {X Y : Type 0} (Q : X → Type 0) (R : Y → Type 0) {o : Outcome Halt Jump X State} (f : X → L Y) → Keeps Q o → ((a : X) → Q a → Keeping R (f a)) → Keeps R (and_then o f)
   keeps_then Q R f (goes {a = a} {s = s} q h) k = (k a q).keeps s h
   keeps_then Q R f (jumps q h) k = jumps q h
   keeps_then Q R f (ends_in q h) k = ends_in q h
@@ -88,7 +88,7 @@ module _ (count : ℕ) where
   ret_keeping Q a q = record { keeps = λ s h. goes q h }
 
   -- one of two
-  choose_keeping : {X : Type 0} {Q : X → Type 0} (b : Bool) {m n : L X} → Keeping Q m → Keeping Q n → Keeping Q (choose b m n)
+  pub choose_keeping : {X : Type 0} {Q : X → Type 0} (b : Bool) {m n : L X} → Keeping Q m → Keeping Q n → Keeping Q (choose b m n)
   choose_keeping true h k = h
   choose_keeping false h k = k
 
@@ -128,7 +128,7 @@ module _ (count : ℕ) where
   unfolding throw_error
   throw_keeps Q k cause s p h =
       let here = own_context count s.frames h.frames in
-      jump_keeps Q cause _ (with_error k s) p p (record { frames = h.frames; heap = each_push OwnObject s.heap _ h.heap (record { link = here; structure = here; rows = tt }); records = h.records; lines = h.lines })
+      jump_keeps Q cause _ (with_error k s) p p (record { frames = h.frames; heap = each_push OwnObject s.heap _ h.heap (record { link = here; structure = here; inner = tt; rows = tt }); records = h.records; lines = h.lines })
 
   -- the label of what was left, and what its end was come to with
   abbrev pub OwnCame : {X : Type 0} → (X → Type 0) → Came X → Type 0
@@ -178,6 +178,10 @@ module _ (count : ℕ) where
   -- the result of a branch
   own_settled : (t : Ty) (l : Left (Res Val t)) → OwnLeft (OwnResult t) l → OwnResult t (settled t l)
   own_settled t l q = own_depending t l.label (given_by t l.how) q.0 (own_given_by t l.how q.1)
+
+  -- a value that is given in a frame of its own
+  pub framed_keeping : (k : Kind) (label : Label) (m : ℕ → L Val) → Own label → ((depth : ℕ) → Keeping OwnVal (m depth)) → Keeping OwnVal (scope k label m >>= λ c. ret (settled_value c))
+  framed_keeping k label m q l = bind_keeping (OwnLeft OwnVal) OwnVal _ (scope_keeping OwnVal k label m q l) (λ c p. ret_keeping OwnVal (settled_value c) (own_settled a_value c p))
 
   -- a branch
   pub fork_keeping : (t : Ty) (v : Val) {m n : L (Res Val t)} → Own v.label → Keeping (OwnResult t) m → Keeping (OwnResult t) n → Keeping (OwnResult t) (fork t v m n)

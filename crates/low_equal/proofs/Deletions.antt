@@ -8,23 +8,23 @@ use Rattle.js_values.specs.declared.value.Value.TheVariants as value
 use Rattle.js_values.specs.declared.property.Marks.{Marks}
 use Rattle.js_values.specs.declared.property.Slot.{Slot}
 use Rattle.js_values.specs.Objects.{Object, own}
-use Rattle.es_meaning.specs.Outcomes.{Outcome}
-use Rattle.es_meaning.specs.Start.{type_error}
-use Rattle.flow_meaning.specs.Scopes.{Val, Halt, State, Jump}
+use Rattle.native_protocol.specs.declared.request.ErrorKind.TheVariants as kinds
+use Rattle.flow_meaning.specs.Scopes.{Val, State}
 use Rattle.flow_meaning.specs.Tracked.{throw_error, Reference, of_name, of_property, truth_of, removed_if, removed_own, removed_in, remove_property, remove}
 use Rattle.low_equal.specs.Observed.{Sees, Hides, IsSeen}
 use Rattle.low_equal.specs.LowEqual.{Pairing, Alike, seen, hidden, SameValue, primitives, objects, Agree, ObjectsAgree, LowEqual}
 use Rattle.low_equal.specs.Runs.{Confined, InStep, go, Lockstep}
 use Rattle.low_equal.proofs.Labels.{sees_union, hides_first, hides_second}
 use Rattle.low_equal.proofs.Agreement.{extends_refl, alike_join, Two, two}
-use Rattle.low_equal.proofs.States.{same_refl, same_context}
+use Rattle.low_equal.proofs.States.{same_context}
 use Rattle.low_equal.proofs.Steps.{conf_ret, conf_ends}
 use Rattle.low_equal.proofs.Acts.{conf_throw, thrown_both}
 use Rattle.low_equal.proofs.Changes.{still_remove, level_remove}
 use Rattle.low_equal.proofs.Walks as walks
 use Rattle.low_equal.proofs.Walks.{FoundSame, not_found, level_find, level_own, OwnSame, names_nothing, names_both}
-use Rattle.low_equal.proofs.References.{ReferencesAgree, in_records, on_globals, nowheres, found_first, found_second, properties, references_more, conf_at, Silent, silent_goes, silent_ends, silent_both, both_end, HiddenVal, hidden_agree, silent_throw, seen_other}
-use Rattle.low_equal.proofs.Puts.{still_acted, fits_acted, adds_acted, silent_acted, acted_after}
+use Rattle.low_equal.proofs.Mute.{Mum, HiddenVal, mum_ret, mum_ends, mum_at, mum_throw, values_apart}
+use Rattle.low_equal.proofs.HeapSteps.{still_acted, fits_acted, adds_acted, mute_acted, acted_after}
+use Rattle.low_equal.proofs.References.{ReferencesAgree, in_records, on_globals, nowheres, found_first, found_second, properties, references_more, conf_at, both_end, seen_other}
 
 module _ (observer : Label) (tables : Tables) where
   -- ---- deletions
@@ -36,7 +36,7 @@ module _ (observer : Label) (tables : Tables) where
     fits = λ s. fits_acted observer tables _ _ s;
     adds = λ s. adds_acted observer tables _ _ s;
   }
-  conf_removed_if false place o key = conf_at observer tables (λ s. throw_error type_error place) (λ s. conf_throw observer tables {X = Val} type_error place)
+  conf_removed_if false place o key = conf_at observer tables (λ s. throw_error kinds.TypeError place) (λ s. conf_throw observer tables {X = Val} kinds.TypeError place)
 
   conf_removed_own : (p : Option (Slot Label)) (label structure : Label) (o : ℕ) (key : List ℕ) → Confined observer tables (removed_own p label structure o key)
   unfolding removed_own
@@ -58,29 +58,33 @@ module _ (observer : Label) (tables : Tables) where
   conf_remove (of_name x place walk) = conf_ends observer tables _
   conf_remove (of_property base key label) = conf_at observer tables (λ s. remove_property (union base.label label) base.value key) (λ s. conf_remove_property _ base.value key)
 
-  silent_removed_if : (b : Bool) (place : Label) (o : ℕ) (key : List ℕ) (s : State) → Hides observer place → IsSeen observer s → Silent observer tables (HiddenVal observer tables) s (removed_if b place o key s)
+  -- ---- with labels that are hidden
+
+  abbrev Hid : Val → Type 0
+  Hid v = HiddenVal observer tables v
+
+  mum_removed_if : (b : Bool) (place : Label) (o : ℕ) (key : List ℕ) → Hides observer place → Mum observer tables Hid (removed_if b place o key)
   unfolding removed_if
-  silent_removed_if true place o key s h w = silent_acted observer tables (HiddenVal observer tables) _ _ s h (still_remove observer o key _ s.heap (hides_second observer (context s.frames) place h))
-  silent_removed_if false place o key s h w = silent_throw observer tables (HiddenVal observer tables) type_error place s h w
+  mum_removed_if true place o key h = record { mute = λ s w. mute_acted observer tables Hid _ _ s h (still_remove observer o key _ s.heap (hides_second observer (context s.frames) place h)) }
+  mum_removed_if false place o key h = mum_at observer tables Hid (λ s. throw_error kinds.TypeError place) (λ s. mum_throw observer tables Hid kinds.TypeError place h)
 
-  silent_removed_own : (p : Option (Slot Label)) (label structure : Label) (o : ℕ) (key : List ℕ) (s : State) → Hides observer (union label (walks.own_walk structure p)) → IsSeen observer s → Silent observer tables (HiddenVal observer tables) s (removed_own p label structure o key s)
+  mum_removed_own : (p : Option (Slot Label)) (label structure : Label) (o : ℕ) (key : List ℕ) → Hides observer (union label (walks.own_walk structure p)) → Mum observer tables Hid (removed_own p label structure o key)
   unfolding removed_own
-  silent_removed_own None label structure o key s h w = silent_goes (same_refl observer tables s) refl refl h
-  silent_removed_own (Some p) label structure o key s h w = silent_removed_if p.marks.configurable _ o key s h w
+  mum_removed_own None label structure o key h = mum_ret observer tables Hid h
+  mum_removed_own (Some p) label structure o key h = mum_at observer tables Hid (λ s. removed_if p.marks.configurable (union label p.existence) o key) (λ s. mum_removed_if p.marks.configurable (union label p.existence) o key h)
 
-  silent_removed_in : (p : Option (Object Label)) (label : Label) (o : ℕ) (key : List ℕ) (s : State) → Hides observer label → IsSeen observer s → Silent observer tables (HiddenVal observer tables) s (removed_in p label o key s)
+  mum_removed_in : (p : Option (Object Label)) (label : Label) (o : ℕ) (key : List ℕ) → Hides observer label → Mum observer tables Hid (removed_in p label o key)
   unfolding removed_in
-  silent_removed_in None label o key s h w = silent_goes (same_refl observer tables s) refl refl h
-  silent_removed_in (Some p) label o key s h w = silent_removed_own (own key p.rows) label p.structure o key s (hides_first observer label (walks.own_walk p.structure (own key p.rows)) h) w
+  mum_removed_in None label o key h = mum_ret observer tables Hid h
+  mum_removed_in (Some p) label o key h = mum_at observer tables Hid (λ s. removed_own (own key p.rows) label p.structure o key)
+      (λ s. mum_removed_own (own key p.rows) label p.structure o key (hides_first observer label (walks.own_walk p.structure (own key p.rows)) h))
 
-  silent_remove_property : (label : Label) (base : Value) (key : List ℕ) (s : State) → Hides observer label → IsSeen observer s → Silent observer tables (HiddenVal observer tables) s (remove_property label base key s)
+  pub mum_remove_property : (label : Label) (base : Value) (key : List ℕ) → Hides observer label → Mum observer tables Hid (remove_property label base key)
   unfolding remove_property
-  silent_remove_property label (value.Primitive p) key s h w = silent_ends refl
-  silent_remove_property label (value.Object o) key s h w = silent_removed_in (slice_get s.heap o.0) label o.0 key s h w
+  mum_remove_property label (value.Primitive p) key h = mum_ends observer tables Hid _
+  mum_remove_property label (value.Object o) key h = mum_at observer tables Hid (λ s. removed_in (slice_get s.heap o.0) label o.0 key) (λ s. mum_removed_in (slice_get s.heap o.0) label o.0 key h)
 
-  values_apart : {γ : Pairing} {s t : State} {o p : Outcome Halt Jump Val State} → LowEqual observer tables γ s t → IsSeen observer s → Silent observer tables (HiddenVal observer tables) s o → Silent observer tables (HiddenVal observer tables) t p
-      → InStep observer tables (Agree observer) γ o p
-  values_apart r w a b = silent_both observer tables (Agree observer) (hidden_agree observer tables) r w a b
+  -- ---- in two runs
 
   truth_agree : {γ : Pairing} (b : Bool) {l m : Label} → Sees observer l → l ≡ m → Agree observer γ (truth_of b l) (truth_of b m)
   truth_agree b h e = seen h e primitives
@@ -90,7 +94,7 @@ module _ (observer : Label) (tables : Tables) where
   unfolding removed_if
   removed_if_after true i j key {l} {m} s t h e p r w = acted_after observer tables (Agree observer) s t
       (level_remove observer r.heap (seen (sees_union observer (context s.frames) l w h) (ap₂ union (same_context observer tables r w) e) (p, refl))) (truth_agree true h e) r w
-  removed_if_after false i j key {l} {m} s t h e p r w = thrown_both observer tables (Agree observer) type_error s t (seen h e tt) r w
+  removed_if_after false i j key {l} {m} s t h e p r w = thrown_both observer tables (Agree observer) kinds.TypeError s t (seen h e tt) r w
 
   removed_own_after : {γ : Pairing} {o u : Option (Slot Label)} (i j : ℕ) (key : List ℕ) {l m : Label} (a b : Label) (s t : State) → Sees observer l → l ≡ m → Sees observer (walks.own_walk a o) → walks.own_walk a o ≡ walks.own_walk b u → OwnSame observer γ o u
       → γ.objects i j ≡ true → LowEqual observer tables γ s t → IsSeen observer s → InStep observer tables (Agree observer) γ (removed_own o l a i key s) (removed_own u m b j key t)
@@ -111,8 +115,8 @@ module _ (observer : Label) (tables : Tables) where
     where
       by_test : Alike observer (walks.own_walk z.one.structure (own key z.one.rows)) (walks.own_walk z.other.structure (own key z.other.rows)) (OwnSame observer γ (own key z.one.rows) (own key z.other.rows))
           → InStep observer tables (Agree observer) γ (removed_own (own key z.one.rows) l z.one.structure i key s) (removed_own (own key z.other.rows) m z.other.structure j key t)
-      by_test (hidden a b) = values_apart r w (silent_removed_own (own key z.one.rows) l z.one.structure i key s (hides_second observer l (walks.own_walk z.one.structure (own key z.one.rows)) a) w)
-          (silent_removed_own (own key z.other.rows) m z.other.structure j key t (hides_second observer m (walks.own_walk z.other.structure (own key z.other.rows)) b) (seen_other observer tables r w))
+      by_test (hidden a b) = values_apart observer tables r w ((mum_removed_own (own key z.one.rows) l z.one.structure i key (hides_second observer l (walks.own_walk z.one.structure (own key z.one.rows)) a)).mute s w)
+          ((mum_removed_own (own key z.other.rows) m z.other.structure j key (hides_second observer m (walks.own_walk z.other.structure (own key z.other.rows)) b)).mute t (seen_other observer tables r w))
       by_test (seen a b o) = removed_own_after i j key z.one.structure z.other.structure s t h e a b o p r w
 
   remove_property_after : {γ : Pairing} {b c : Value} (key : List ℕ) {l m : Label} (s t : State) → Sees observer l → l ≡ m → SameValue γ b c → LowEqual observer tables γ s t → IsSeen observer s
@@ -126,7 +130,7 @@ module _ (observer : Label) (tables : Tables) where
   removes_after {γ} {b} {c} {x} {y} {l} {m} s t z k r w = by_label (alike_join observer (λ p q. (p, q)) z k)
     where
       by_label : Alike observer (union b.label l) (union c.label m) (SameValue γ b.value c.value × (x ≡ y)) → InStep observer tables (Agree observer) γ (remove_property (union b.label l) b.value x s) (remove_property (union c.label m) c.value y t)
-      by_label (hidden d e) = values_apart r w (silent_remove_property _ b.value x s d w) (silent_remove_property _ c.value y t e (seen_other observer tables r w))
+      by_label (hidden d e) = values_apart observer tables r w ((mum_remove_property _ b.value x d).mute s w) ((mum_remove_property _ c.value y e).mute t (seen_other observer tables r w))
       by_label (seen d e p) = subst (λ i. InStep observer tables (Agree observer) γ (remove_property (union b.label l) b.value x s) (remove_property (union c.label m) c.value i t)) p.1 (remove_property_after x s t d e p.0 r w)
 
   remove_after : {γ : Pairing} {n m : Reference} (s t : State) → ReferencesAgree observer γ n m → LowEqual observer tables γ s t → IsSeen observer s → InStep observer tables (Agree observer) γ (remove n s) (remove m t)

@@ -20,7 +20,7 @@ use Rattle.es_meaning.specs.Plain as plain
 use Rattle.es_meaning.specs.Plain.{Line, State, P, choose, leaves_it, is_return, ended_round}
 use Rattle.flow_meaning.specs.Erased.{erased_heap, erased_records, unlabelled}
 use Rattle.flow_meaning.specs.Scopes as tracked
-use Rattle.flow_meaning.specs.Scopes.{Val, Halt, as_plain, stopped, L, guard, under, pushed_on, cut_to, innermost, raised_in, raise, catching, reached, jump_to, jump, Came, ended, caught, Left, popped, scope, given_by, depending, settled}
+use Rattle.flow_meaning.specs.Scopes.{Val, Halt, as_plain, stopped, L, guard, under, pushed_on, cut_to, innermost, raised_in, raise, catching, reached, jump_to, jump, Came, ended, caught, Left, popped, scope, given_by, depending, settled, settled_value}
 use Rattle.low_equal.specs.Erasure.{erased_lines}
 
 -- ---- what is left without labels
@@ -286,34 +286,50 @@ aim_throws (tries b ∷ w) = aim_throws w
 -- ---- outcomes and computations
 
 -- the outcome without labels is the other, where a jump goes to the frame of the mark that the other stops at; or a broken rule stopped it, and its
--- lines are a front of the other's
-pub data Yields (t : Ty) (w : List Mark) : Outcome Halt tracked.Jump (Res Val t) tracked.State → Outcome es.Halt plain.Jump (Res Value t) State → Type 0 where
-  goes : {a : Res Val t} {s : tracked.State} → Shaped w s.frames → Yields t w (Goes a s) (Goes (erased_result t a) (erased s))
-  jumps : {j : tracked.Jump} {s : tracked.State} → Shaped (first j.exit w) s.frames → j.to ≡ aim j.exit w → Yields t w (Jumps j s) (Jumps (erased_jump j) (erased s))
-  ends : {halt : es.Halt} {s : tracked.State} → Yields t w (Ends (as_plain halt) s) (Ends halt (erased s))
-  stops : {rule : Rule} {need have : Label} {s : tracked.State} {p : Outcome es.Halt plain.Jump (Res Value t) State} → within need have ≡ false → Extends (erased_lines s.lines) p
-      → Yields t w (Ends (stopped rule need have) s) p
+-- lines are a front of the other's. What it gives is without labels what the other gives
+pub data YieldsBy {X Y : Type 0} (erase : X → Y) (w : List Mark) : Outcome Halt tracked.Jump X tracked.State → Outcome es.Halt plain.Jump Y State → Type 0 where
+  goes : {a : X} {s : tracked.State} → Shaped w s.frames → YieldsBy erase w (Goes a s) (Goes (erase a) (erased s))
+  jumps : {j : tracked.Jump} {s : tracked.State} → Shaped (first j.exit w) s.frames → j.to ≡ aim j.exit w → YieldsBy erase w (Jumps j s) (Jumps (erased_jump j) (erased s))
+  ends : {halt : es.Halt} {s : tracked.State} → YieldsBy erase w (Ends (as_plain halt) s) (Ends halt (erased s))
+  stops : {rule : Rule} {need have : Label} {s : tracked.State} {p : Outcome es.Halt plain.Jump Y State} → within need have ≡ false → Extends (erased_lines s.lines) p
+      → YieldsBy erase w (Ends (stopped rule need have) s) p
+
+abbrev pub Yields : (t : Ty) → List Mark → Outcome Halt tracked.Jump (Res Val t) tracked.State → Outcome es.Halt plain.Jump (Res Value t) State → Type 0
+Yields t w o p = YieldsBy (erased_result t) w o p
 
 -- from each state with the frames of these marks the labelled computation yields what the unlabelled one does, and the unlabelled one only adds lines
-pub record Lift (t : Ty) (w : List Mark) (m : L (Res Val t)) (n : P (Res Value t)) : Type 0 where
-  pub yields : (s : tracked.State) → Shaped w s.frames → Yields t w (m s) (n (erased s))
+pub record LiftBy {X Y : Type 0} (erase : X → Y) (w : List Mark) (m : L X) (n : P Y) : Type 0 where
+  pub yields : (s : tracked.State) → Shaped w s.frames → YieldsBy erase w (m s) (n (erased s))
   pub extends : (s : State) → Extends s.lines (n s)
 
+abbrev pub Lift : (t : Ty) → List Mark → L (Res Val t) → P (Res Value t) → Type 0
+Lift t w m n = LiftBy (erased_result t) w m n
+
 -- outcomes that go on, by equations
-pub goes_to : {t : Ty} {w : List Mark} {a : Res Val t} {s : tracked.State} {b : Res Value t} {u : State} → Shaped w s.frames → erased_result t a ≡ b → erased s ≡ u → Yields t w (Goes a s) (Goes b u)
-goes_to {t} {w} {a} {s} {b} {u} r p q = subst (λ x. Yields t w (Goes a s) (Goes x u)) p (subst (λ x. Yields t w (Goes a s) (Goes (erased_result t a) x)) q (goes r))
+pub goes_to : {X Y : Type 0} {erase : X → Y} {w : List Mark} {a : X} {s : tracked.State} {b : Y} {u : State} → Shaped w s.frames → erase a ≡ b → erased s ≡ u → YieldsBy erase w (Goes a s) (Goes b u)
+goes_to {erase = erase} {w = w} {a = a} {s = s} {u = u} r p q = subst (λ x. YieldsBy erase w (Goes a s) (Goes x u)) p (subst (λ x. YieldsBy erase w (Goes a s) (Goes (erase a) x)) q (goes r))
 
 -- what a labelled computation gives is given without labels
+pub ret_by : {X Y : Type 0} {erase : X → Y} {w : List Mark} (a : X) (b : Y) → erase a ≡ b → LiftBy erase w (ret a) (ret b)
+ret_by a b e = record { yields = λ s r. goes_to r e refl; extends = goes_extends b }
+
 pub ret_lifts : (t : Ty) (w : List Mark) (a : Res Val t) (b : Res Value t) → erased_result t a ≡ b → Lift t w (ret a) (ret b)
-ret_lifts t w a b e = record { yields = λ s r. goes_to r e refl; extends = goes_extends b }
+ret_lifts t w a b e = ret_by a b e
 
 -- computations that follow each other, at one outcome
-pub yields_bind : {t u : Ty} {w : List Mark} {o : Outcome Halt tracked.Jump (Res Val t) tracked.State} {p : Outcome es.Halt plain.Jump (Res Value t) State} (f : Res Val t → L (Res Val u)) (g : Res Value t → P (Res Value u))
-    → Yields t w o p → ((a : Res Val t) → Lift u w (f a) (g (erased_result t a))) → ((a : Res Value t) (s : State) → Extends s.lines (g a s)) → Yields u w (and_then o f) (and_then p g)
+pub yields_bind : {X Y A B : Type 0} {erase : X → Y} {others : A → B} {w : List Mark} {o : Outcome Halt tracked.Jump X tracked.State} {p : Outcome es.Halt plain.Jump Y State} (f : X → L A) (g : Y → P B)
+    → YieldsBy erase w o p → ((a : X) → LiftBy others w (f a) (g (erase a))) → ((a : Y) (s : State) → Extends s.lines (g a s)) → YieldsBy others w (and_then o f) (and_then p g)
 yields_bind f g (goes {a = a} {s = s} r) h k = (h a).yields s r
 yields_bind f g (jumps r e) h k = jumps r e
 yields_bind f g ends h k = ends
 yields_bind f g (stops {p = p} broken x) h k = stops broken (extends_bind _ p g x k)
+
+-- computations that follow each other, where each unlabelled result is that of a labelled one
+pub bind_by : {X Y A B : Type 0} {erase : X → Y} {others : A → B} {w : List Mark} (back : Y → X) → ((y : Y) → erase (back y) ≡ y) → {m : L X} {n : P Y} (f : X → L A) (g : Y → P B)
+    → LiftBy erase w m n → ((a : X) → LiftBy others w (f a) (g (erase a))) → LiftBy others w (m >>= f) (n >>= g)
+bind_by back is {n = n} f g l h =
+    let more : (a : _) (s : State) → Extends s.lines (g a s) = λ a s. subst (λ x. Extends s.lines (g x s)) (is a) ((h (back a)).extends s) in
+    record { yields = λ s r. yields_bind f g (l.yields s r) h more; extends = λ s. extends_bind s.lines (n s) g (l.extends s) more }
 
 -- each unlabelled result is that of a labelled one
 labelled_result : (t : Ty) → Res Value t → Res Val t
@@ -329,35 +345,33 @@ labelled_result_is a_value v = refl
 -- computations that follow each other
 pub bind_lifts : (t u : Ty) (w : List Mark) {m : L (Res Val t)} {n : P (Res Value t)} (f : Res Val t → L (Res Val u)) (g : Res Value t → P (Res Value u))
     → Lift t w m n → ((a : Res Val t) → Lift u w (f a) (g (erased_result t a))) → Lift u w (m >>= f) (n >>= g)
-bind_lifts t u w {n = n} f g l h =
-    let more : (a : Res Value t) (s : State) → Extends s.lines (g a s) = λ a s. subst (λ x. Extends s.lines (g x s)) (labelled_result_is t a) ((h (labelled_result t a)).extends s) in
-    record { yields = λ s r. yields_bind f g (l.yields s r) h more; extends = λ s. extends_bind s.lines (n s) g (l.extends s) more }
+bind_lifts t u w f g l h = bind_by (labelled_result t) (labelled_result_is t) f g l h
 
 -- where the test of a rule has this answer, the run goes on as what the rule guards, or stops
-guard_yields : {t : Ty} {w : List Mark} (b : Bool) (rule : Rule) (need have : Label) (m : L (Res Val t)) (s : tracked.State) {p : Outcome es.Halt plain.Jump (Res Value t) State}
-    → within need have ≡ b → Yields t w (m s) p → Extends (erased_lines s.lines) p → Yields t w (guard b rule need have m s) p
+guard_yields : {X Y : Type 0} {erase : X → Y} {w : List Mark} (b : Bool) (rule : Rule) (need have : Label) (m : L X) (s : tracked.State) {p : Outcome es.Halt plain.Jump Y State}
+    → within need have ≡ b → YieldsBy erase w (m s) p → Extends (erased_lines s.lines) p → YieldsBy erase w (guard b rule need have m s) p
 unfolding guard
 guard_yields true rule need have m s e y x = y
 guard_yields false rule need have m s e y x = stops e x
 
 -- a rule goes on as what it guards, or stops
-pub under_yields : {t : Ty} {w : List Mark} (rule : Rule) (need have : Label) (m : L (Res Val t)) (s : tracked.State) {p : Outcome es.Halt plain.Jump (Res Value t) State}
-    → Yields t w (m s) p → Extends (erased_lines s.lines) p → Yields t w (under rule need have m s) p
+pub under_yields : {X Y : Type 0} {erase : X → Y} {w : List Mark} (rule : Rule) (need have : Label) (m : L X) (s : tracked.State) {p : Outcome es.Halt plain.Jump Y State}
+    → YieldsBy erase w (m s) p → Extends (erased_lines s.lines) p → YieldsBy erase w (under rule need have m s) p
 under_yields rule need have m s y x = guard_yields (within need have) rule need have m s refl y x
 
 -- ---- jumps
 
 -- a jump that aims at the frame of its exit
-pub jump_yields : {t : Ty} {w : List Mark} (cause : Label) (j : tracked.Jump) (s : tracked.State) → j.to ≡ aim j.exit w → Shaped w s.frames → Yields t w (jump cause j s) (Jumps (erased_jump j) (erased s))
+pub jump_yields : {X Y : Type 0} {erase : X → Y} {w : List Mark} (cause : Label) (j : tracked.Jump) (s : tracked.State) → j.to ≡ aim j.exit w → Shaped w s.frames → YieldsBy erase w (jump cause j s) (Jumps (erased_jump j) (erased s))
 unfolding jump jump_to
-jump_yields {t} {w} cause j s e r =
+jump_yields {w = w} cause j s e r =
     let there : reached j.to s.frames ≡ length (first j.exit w) = ap (λ to. reached to s.frames) e ∙ reached_first j.exit r in
     under_yields W9 _ _ _ s (jumps (subst (λ depth. Shaped (first j.exit w) (take (suc depth) s.frames)) (sym there) (cut_first j.exit r)) e) (jumps_extends (erased_jump j) (erased s))
 
 -- ---- scopes
 
 -- one of two
-pub choose_lifts : {t : Ty} {w : List Mark} (b : Bool) {m n : L (Res Val t)} {m' n' : P (Res Value t)} → Lift t w m m' → Lift t w n n' → Lift t w (choose b m n) (choose b m' n')
+pub choose_lifts : {X Y : Type 0} {erase : X → Y} {w : List Mark} (b : Bool) {m n : L X} {m' n' : P Y} → LiftBy erase w m m' → LiftBy erase w n n' → LiftBy erase w (choose b m n) (choose b m' n')
 choose_lifts true h k = h
 choose_lifts false h k = k
 
@@ -428,6 +442,10 @@ pub fork_lifts : (t : Ty) {w : List Mark} (v : Val) (b : Bool) {m n : L (Res Val
 fork_lifts t v b {m} {n} {m'} {n'} h k =
     let l = choose_lifts b h k in
     record { yields = λ s r. passing_yields (settled t) (settled_is t) (λ j. not_caught) (scope_pops passes kind.Branch v.label refl (λ depth. choose b m n) (choose b m' n') l s r); extends = l.extends }
+
+-- a value that is given in a frame of its own, at which no jump stops
+pub frame_lifts : {w : List Mark} (k : Kind) (label : Label) → is_try k ≡ false → (f : ℕ → L Val) (g : P Value) → Lift a_value (passes ∷ w) (f (suc (length w))) g → Lift a_value w (scope k label f >>= λ c. ret (settled_value c)) g
+frame_lifts k label e f g l = record { yields = λ s r. passing_yields {t = a_value} (settled a_value) (settled_is a_value) (λ j. not_caught) (scope_pops passes k label e f g l s r); extends = l.extends }
 
 -- ---- loops and turns: what leaves them ends there
 

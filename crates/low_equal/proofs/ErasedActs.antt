@@ -1,16 +1,14 @@
--- The acts of a labelled computation are those of the unlabelled one.
-use Rattle.std.proofs.Common.{◌≡◌, ℕ, zero, suc, Bool, true, false, List, [], ◌∷◌, ◌++◌, map, length, cond, Option, Some, None, Result, Ok, Err, slice_get, slice_set, refl, sym, ◌∙◌, ap, ap₂, subst}
+-- What a labelled computation does with references, and its turns, is what the unlabelled one does.
+use Rattle.std.proofs.Common.{◌≡◌, ℕ, zero, suc, Bool, true, false, List, [], ◌∷◌, ◌++◌, length, cond, Option, Some, None, Result, Ok, Err, slice_get, slice_set, refl, sym, ◌∙◌, ap, ap₂, subst}
 use Rattle.std.specs.Option.{option_map}
-use Rattle.std.proofs.lemmas.List.{map_push}
 use Rattle.origin_labels.specs.Label.{Label, bottom, union}
 use Rattle.origin_labels.specs.Names.{same_name}
 use Rattle.flow_frames.specs.declared.faults.Rule.{Rule}
-use Rattle.flow_frames.specs.declared.faults.Rule.TheVariants.{W1, W2, W11, W12}
-use Rattle.flow_policy.specs.Policies.{Tables}
-use Rattle.flow_policy.specs.Inputs.{Given}
+use Rattle.flow_frames.specs.declared.faults.Rule.TheVariants.{W1, W2}
 use Rattle.js_number.specs.declared.primitive.Primitive.{Primitive}
 use Rattle.js_number.specs.declared.primitive.Primitive.TheVariants.{Undefined, Null, Num, Str}
 use Rattle.js_number.specs.declared.primitive.Primitive.TheVariants as prims
+use Rattle.js_values.specs.declared.ids.ObjId.{ObjId}
 use Rattle.js_values.specs.declared.value.Value.{Value}
 use Rattle.js_values.specs.declared.value.Value.TheVariants as value
 use Rattle.js_values.specs.declared.property.Body.{Body}
@@ -20,29 +18,31 @@ use Rattle.js_values.specs.Chains.{beginning, onwards, chain_within}
 use Rattle.js_values.specs.Objects.{Property, PlainObject, Object, own}
 use Rattle.js_values.specs.Records.{Binding, Bindings, Record, found, rebound, if_has, first_with, lookup, bound_in}
 use Rattle.js_values.specs.Walks.{plain_chain, object_chain, plain_find, find}
+use Rattle.native_protocol.specs.declared.request.ErrorKind.{ErrorKind}
+use Rattle.native_protocol.specs.declared.request.Seen.TheVariants as seen_as
 use Rattle.object_heap.specs.Acts.{Acted}
 use Rattle.prototype_walk.specs.declared.plan.PutPlan.{PutPlan}
+use Rattle.prototype_walk.specs.declared.plan.PutPlan.TheVariants.{Setter}
 use Rattle.prototype_walk.specs.KeyLists.{Keys}
 use Rattle.js_ast.specs.declared.operators.UnaryOperator.{UnaryOperator}
 use Rattle.es_meaning.specs.Outcomes as es
-use Rattle.es_meaning.specs.Outcomes.{throws, Goes, Ends}
-use Rattle.es_meaning.specs.Operations.{Ty, One, Res, Direct, read, print, lbl, upgs, upge, Act, object_of, base_needed, object_needed, has_key, refused_declaration}
+use Rattle.es_meaning.specs.Outcomes.{throws, Outcome, Goes, Ends, ret, and_then}
+use Rattle.es_meaning.specs.Operations.{Ty, One, Res}
 use Rattle.es_meaning.specs.Operations.{Value as a_value}
-use Rattle.es_meaning.specs.Operators.{an_object, is_object, unary_of}
+use Rattle.es_meaning.specs.Operators.{unary_of}
+use Rattle.es_meaning.specs.Definitions.{setter_in}
 use Rattle.es_meaning.specs.Objects.{Plan, writes, adds, refuses, calls, made_by_script, own_in}
-use Rattle.es_meaning.specs.Start.{id, ErrorKind, global_object}
+use Rattle.es_meaning.specs.Start.{id, global_object}
 use Rattle.es_meaning.specs.Start as start
 use Rattle.es_meaning.specs.Plain as plain
-use Rattle.es_meaning.specs.Plain.{State, P, argument_or, others, channel_of, origins_of, undefined, seen_of, with_value, assigned_in, Place, in_record, on_global, nowhere, place_from, resolved, key_text, binding_at, is_coercible, is_found}
-use Rattle.es_meaning.proofs.Link.{Rels, nils, conses}
-use Rattle.flow_meaning.specs.Erased.{erased_slot, erased_object, erased_heap, erased_bindings, erased_record, erased_records}
+use Rattle.es_meaning.specs.Plain.{State, P, seen_of, with_value, assigned_in, Place, in_record, on_global, nowhere, place_from, resolved, binding_at}
+use Rattle.flow_meaning.specs.Erased.{erased_slot, erased_object, erased_heap, erased_bindings, erased_record, erased_records, unlabelled}
 use Rattle.flow_meaning.specs.Scopes as scopes
-use Rattle.flow_meaning.specs.Scopes.{Val, L, joined}
+use Rattle.flow_meaning.specs.Scopes.{Val, Halt, L, joined}
 use Rattle.flow_meaning.specs.Tracked as tracked
-use Rattle.flow_meaning.specs.Tracked.{error_jump, with_error, argument}
-use Rattle.low_equal.specs.Erasure.{erased_line}
-use Rattle.low_equal.proofs.Erased.{Mark, aim_throws, Shaped, erased_result, erased, Extends, goes_extends, jumps_extends, ends_extends, Yields, goes, ends, stops, goes_to, jump_yields, under_yields, Lift, bind_lifts, raise_lifts}
-use Rattle.low_equal.proofs.ErasedHeaps.{length_erased, pushed_erased, object_erased, own_erased, Does, does, breaks, write_does, add_does, remove_does, raise_structure_does, raise_existence_does, erased_found, find_erased, enumerable_erased, Plans, both_write, both_add, both_refuse, both_call, HasNot, NamesNoElement, can_put_erased, no_element, literal_erased}
+use Rattle.flow_meaning.specs.Tracked.{error_jump, with_error}
+use Rattle.low_equal.proofs.Erased.{Mark, aim_throws, Shaped, erased_result, erased, Extends, goes_extends, jumps_extends, ends_extends, extends_bind, YieldsBy, Yields, goes, ends, stops, LiftBy, Lift, goes_to, ret_by, yields_bind, jump_yields, under_yields, bind_lifts, raise_lifts}
+use Rattle.low_equal.proofs.ErasedHeaps.{length_erased, pushed_erased, object_erased, own_erased, Does, does, breaks, write_does, add_does, remove_does, erased_found, find_erased, enumerable_erased, Plans, both_write, both_add, both_refuse, both_call, HasNot, HasSetter, NamesNoElement, can_put_erased, no_element}
 
 -- ---- records without labels
 
@@ -159,11 +159,11 @@ resolved_erased records heap i name =
 -- ---- exceptions
 
 -- the engine throws
-pub throws_yields : {t : Ty} {w : List Mark} (kind : ErrorKind) (cause : Label) (s : scopes.State) → Shaped w s.frames → Yields t w (tracked.throw_error kind cause s) (plain.throw_error kind (erased s))
+pub throws_yields : {X Y : Type 0} {erase : X → Y} {w : List Mark} (kind : ErrorKind) (cause : Label) (s : scopes.State) → Shaped w s.frames → YieldsBy erase w (tracked.throw_error kind cause s) (plain.throw_error kind (erased s))
 unfolding tracked.throw_error plain.throw_error
-throws_yields {t} {w} kind cause s r =
-    subst (λ n. Yields t w (tracked.throw_error kind cause s) (es.Jumps (record { exit = throws; value = value.Object (id n) }) (record (erased s) { heap = erased_heap s.heap ++ start.engine_error kind ∷ [] }))) (sym (length_erased s.heap))
-    (subst (λ ps. Yields t w (tracked.throw_error kind cause s) (es.Jumps (record { exit = throws; value = value.Object (id (length s.heap)) }) (record (erased s) { heap = ps }))) (pushed_erased s.heap _)
+throws_yields {erase = erase} {w = w} kind cause s r =
+    subst (λ n. YieldsBy erase w (tracked.throw_error kind cause s) (es.Jumps (record { exit = throws; value = value.Object (id n) }) (record (erased s) { heap = erased_heap s.heap ++ start.engine_error kind ∷ [] }))) (sym (length_erased s.heap))
+    (subst (λ ps. YieldsBy erase w (tracked.throw_error kind cause s) (es.Jumps (record { exit = throws; value = value.Object (id (length s.heap)) }) (record (erased s) { heap = ps }))) (pushed_erased s.heap _)
     (jump_yields cause (error_jump cause (length s.heap)) (with_error kind s) (sym (aim_throws w)) r))
 
 -- which prints nothing
@@ -190,15 +190,15 @@ pub given_lifts : {w : List Mark} (label : Label) (r : Result Primitive (List �
 given_lifts label r = record { yields = given_yields label r; extends = given_extends r }
 
 -- what can be asked of an object that there may be
-class_erased : (o : Option (Object Label)) → seen_of (λ p. an_object p.class) (option_map erased_object o) ≡ seen_of (λ p. an_object p.class) o
+class_erased : (o : Option (Object Label)) → seen_of (λ p. seen_as.Object p.class) (option_map erased_object o) ≡ seen_of (λ p. seen_as.Object p.class) o
 class_erased None = refl
 class_erased (Some p) = refl
 
 -- and of a value
-seen_erased : (heap : List (Object Label)) (v : Value) → plain.seen (erased_heap heap) v ≡ tracked.seen heap v
+pub seen_erased : (heap : List (Object Label)) (v : Value) → plain.seen (erased_heap heap) v ≡ tracked.seen heap v
 unfolding plain.seen tracked.seen
 seen_erased heap (value.Primitive p) = refl
-seen_erased heap (value.Object o) = ap (seen_of (λ p. an_object p.class)) (object_erased heap o.0) ∙ class_erased (slice_get heap o.0)
+seen_erased heap (value.Object o) = ap (seen_of (λ p. seen_as.Object p.class)) (object_erased heap o.0) ∙ class_erased (slice_get heap o.0)
 
 -- an operator in front of a value
 pub unary_lifts : {w : List Mark} (o : UnaryOperator) (v : Val) → Lift a_value w (λ s. tracked.given v.label (unary_of o (tracked.seen s.heap v.value)) s) (λ s. plain.given (unary_of o (plain.seen s.heap v.value)) s)
@@ -206,12 +206,6 @@ unary_lifts {w} o v = record {
   yields = λ s r. subst (λ x. Yields a_value w (tracked.given v.label (unary_of o (tracked.seen s.heap v.value)) s) (plain.given (unary_of o x) (erased s))) (sym (seen_erased s.heap v.value)) (given_yields v.label (unary_of o (tracked.seen s.heap v.value)) s r);
   extends = λ s. given_extends (unary_of o (plain.seen s.heap v.value)) s;
 }
-
--- a value that isn't to be converted
-pub unless_lifts : {w : List Mark} (b : Bool) (v : Val) → Lift a_value w (tracked.unless_object b v) (plain.unless_object b v.value)
-unfolding tracked.unless_object plain.unless_object
-unless_lifts true v = record { yields = λ s r. ends; extends = ends_extends _ }
-unless_lifts false v = record { yields = λ s r. goes r; extends = goes_extends _ }
 
 -- ---- the value of a reference
 
@@ -227,77 +221,88 @@ unfolding plain.bound
 bound_extends (Some b) s = goes_extends _ s
 bound_extends None s = throws_extends _ s
 
--- what a property holds
-held_yields : {w : List Mark} (label : Label) (body : Body) (s : scopes.State) → Shaped w s.frames → Yields a_value w (tracked.held label body s) (plain.held body (erased s))
-unfolding tracked.held plain.held
-held_yields label (Data v) s r = goes r
-held_yields label (Accessor get set) s r = ends
+-- what a read comes to, without labels, and with the empty ones
+abbrev pub erased_access : tracked.Access → plain.Access
+erased_access (tracked.has_value v) = plain.has_value v.value
+erased_access (tracked.has_getter label f base) = plain.has_getter f base.value
+
+abbrev pub labelled_access : plain.Access → tracked.Access
+labelled_access (plain.has_value v) = tracked.has_value (unlabelled v)
+labelled_access (plain.has_getter f base) = tracked.has_getter bottom f (unlabelled base)
+
+pub labelled_access_is : (a : plain.Access) → erased_access (labelled_access a) ≡ a
+labelled_access_is (plain.has_value v) = refl
+labelled_access_is (plain.has_getter f base) = refl
+
+-- a value that is read
+access_yields : {w : List Mark} {o : Outcome Halt scopes.Jump Val scopes.State} {p : Outcome es.Halt plain.Jump Value State} → Yields a_value w o p → YieldsBy erased_access w (and_then o (λ v. ret (tracked.has_value v))) (and_then p (λ v. ret (plain.has_value v)))
+access_yields y = yields_bind (λ v. ret (tracked.has_value v)) (λ v. ret (plain.has_value v)) y (λ v. ret_by (tracked.has_value v) (plain.has_value v.value) refl) (λ v u. goes_extends _ u)
 
 -- which prints nothing
-held_extends : (body : Body) (s : State) → Extends s.lines (plain.held body s)
-unfolding plain.held
-held_extends (Data v) s = goes_extends _ s
-held_extends (Accessor get set) s = ends_extends _ s
+access_extends : (lines : List plain.Line) (p : Outcome es.Halt plain.Jump Value State) → Extends lines p → Extends lines (and_then p (λ v. ret (plain.has_value v)))
+access_extends lines p x = extends_bind lines p (λ v. ret (plain.has_value v)) x (λ v u. goes_extends _ u)
 
--- the value of a name of the global object, or an exception
-globally_yields : {w : List Mark} (walk : Label) (f : Option (ℕ × Slot Label)) (s : scopes.State) → Shaped w s.frames → Yields a_value w (tracked.found_globally walk f s) (plain.found_globally (erased_found f) (erased s))
+-- what a property holds: a value, or a getter, if there is one
+getter_erased : (label : Label) (get : Option ObjId) (base : Val) → erased_access (tracked.getter_or_none label get base) ≡ plain.getter_or_none get base.value
+getter_erased label None base = refl
+getter_erased label (Some f) base = refl
+
+held_erased : (label : Label) (base : Val) (body : Body) → erased_access (tracked.held label base body) ≡ plain.held base.value body
+held_erased label base (Data v) = refl
+held_erased label base (Accessor get set) = getter_erased label get base
+
+-- a name of the global object, or an exception
+globally_yields : {w : List Mark} (walk : Label) (f : Option (ℕ × Slot Label)) (s : scopes.State) → Shaped w s.frames → YieldsBy erased_access w (tracked.found_globally walk f s) (plain.found_globally (erased_found f) (erased s))
 unfolding tracked.found_globally plain.found_globally
-globally_yields walk (Some f) s r = held_yields _ f.1.body s r
+globally_yields walk (Some f) s r = goes_to r (held_erased _ tracked.global_value f.1.body) refl
 globally_yields walk None s r = throws_yields _ _ s r
 
 -- which prints nothing
 globally_extends : (f : Option (ℕ × Property)) (s : State) → Extends s.lines (plain.found_globally f s)
 unfolding plain.found_globally
-globally_extends (Some f) s = held_extends f.1.body s
+globally_extends (Some f) s = goes_extends _ s
 globally_extends None s = throws_extends _ s
 
--- the value of a property, or undefined
-found_yields : {w : List Mark} (place : Label) (f : Option (ℕ × Slot Label)) (s : scopes.State) → Shaped w s.frames → Yields a_value w (tracked.found place f s) (plain.found (erased_found f) (erased s))
-unfolding tracked.found plain.found
-found_yields place (Some f) s r = held_yields _ f.1.body s r
-found_yields place None s r = goes r
+-- a property, or undefined
+access_found : (place : Label) (base : Val) (f : Option (ℕ × Slot Label)) → erased_access (tracked.found place base f) ≡ plain.found base.value (erased_found f)
+access_found place base (Some f) = held_erased _ base f.1.body
+access_found place base None = refl
 
--- which prints nothing
-found_extends : (f : Option (ℕ × Property)) (s : State) → Extends s.lines (plain.found f s)
-unfolding plain.found
-found_extends (Some f) s = held_extends f.1.body s
-found_extends None s = goes_extends _ s
-
--- the value of a property of a value
-pub property_lifts : {w : List Mark} (label : Label) (v : Value) (key : List ℕ) → Lift a_value w (tracked.property_of label v key) (plain.property_of v key)
+-- a property of a value
+pub property_lifts : {w : List Mark} (label : Label) (base : Val) (v : Value) (key : List ℕ) → base.value ≡ v → LiftBy erased_access w (tracked.property_of label base v key) (plain.property_of v key)
 unfolding tracked.property_of plain.property_of
-property_lifts label (value.Primitive p) key = record { yields = λ s r. ends; extends = ends_extends _ }
-property_lifts {w} label (value.Object o) key = record {
-  yields = λ s r. subst (λ f. Yields a_value w (tracked.property_of label (value.Object o) key s) (plain.found f (erased s))) (sym (find_erased key s.heap o.0)) (found_yields _ (find key (object_chain s.heap o.0)).at s r);
-  extends = λ s. found_extends (plain_find key (plain_chain s.heap o.0)) s;
+property_lifts label base (value.Primitive p) key e = record { yields = λ s r. ends; extends = ends_extends _ }
+property_lifts label base (value.Object o) key e = record {
+  yields = λ s r. goes_to r (access_found _ base (find key (object_chain s.heap o.0)).at ∙ ap₂ (λ b f. plain.found b f) e (sym (find_erased key s.heap o.0))) refl;
+  extends = λ s. goes_extends _ s;
 }
 
--- the value of a name
-named_lifts : {w : List Mark} (place : Place) (walk : Label) (name : List ℕ) → Lift a_value w (tracked.named place walk name) (plain.named place name)
+-- a name
+named_lifts : {w : List Mark} (place : Place) (walk : Label) (name : List ℕ) → LiftBy erased_access w (tracked.named place walk name) (plain.named place name)
 unfolding tracked.named plain.named
 named_lifts {w} (in_record i) walk name = record {
-  yields = λ s r. subst (λ o. Yields a_value w (tracked.bound (binding_at s.records i name) s) (plain.bound o (erased s))) (sym (binding_erased s.records i name)) (bound_yields (binding_at s.records i name) s r);
-  extends = λ s. bound_extends (binding_at s.records i name) s;
+  yields = λ s r. subst (λ o. YieldsBy erased_access w (tracked.as_access (tracked.bound (binding_at s.records i name)) s) (plain.as_access (plain.bound o) (erased s))) (sym (binding_erased s.records i name)) (access_yields (bound_yields (binding_at s.records i name) s r));
+  extends = λ s. access_extends s.lines _ (bound_extends (binding_at s.records i name) s);
 }
 named_lifts {w} on_global walk name = record {
-  yields = λ s r. subst (λ f. Yields a_value w (tracked.named on_global walk name s) (plain.found_globally f (erased s))) (sym (find_erased name s.heap global_object.0)) (globally_yields _ (find name (object_chain s.heap global_object.0)).at s r);
+  yields = λ s r. subst (λ f. YieldsBy erased_access w (tracked.named on_global walk name s) (plain.found_globally f (erased s))) (sym (find_erased name s.heap global_object.0)) (globally_yields _ (find name (object_chain s.heap global_object.0)).at s r);
   extends = λ s. globally_extends (plain_find name (plain_chain s.heap global_object.0)) s;
 }
 named_lifts nowhere walk name = record { yields = λ s r. throws_yields _ _ s r; extends = throws_extends _ }
 
--- the value of a reference
-pub get_value_lifts : {w : List Mark} (n : tracked.Reference) → Lift a_value w (tracked.get_value n) (plain.get_value (erased_reference n))
-unfolding tracked.get_value plain.get_value
-get_value_lifts (tracked.of_name name place walk) = named_lifts place walk name
-get_value_lifts (tracked.of_property v key label) = property_lifts _ v.value key
+-- a reference
+pub accessed_lifts : {w : List Mark} (n : tracked.Reference) → LiftBy erased_access w (tracked.accessed n) (plain.accessed (erased_reference n))
+unfolding tracked.accessed plain.accessed
+accessed_lifts (tracked.of_name name place walk) = let l = named_lifts place walk name in record { yields = l.yields; extends = l.extends }
+accessed_lifts (tracked.of_property v key label) = let l = property_lifts _ v v.value key refl in record { yields = l.yields; extends = l.extends }
 
 -- or undefined where a name stands nowhere
-pub typeof_value_lifts : {w : List Mark} (n : tracked.Reference) → Lift a_value w (tracked.typeof_value n) (plain.typeof_value (erased_reference n))
-unfolding tracked.typeof_value plain.typeof_value
-typeof_value_lifts (tracked.of_name name nowhere walk) = record { yields = λ s r. goes r; extends = goes_extends _ }
-typeof_value_lifts (tracked.of_name name (in_record i) walk) = let l = get_value_lifts (tracked.of_name name (in_record i) walk) in record { yields = l.yields; extends = l.extends }
-typeof_value_lifts (tracked.of_name name on_global walk) = let l = get_value_lifts (tracked.of_name name on_global walk) in record { yields = l.yields; extends = l.extends }
-typeof_value_lifts (tracked.of_property v key label) = let l = get_value_lifts (tracked.of_property v key label) in record { yields = l.yields; extends = l.extends }
+pub typeof_lifts : {w : List Mark} (n : tracked.Reference) → LiftBy erased_access w (tracked.accessed_for_typeof n) (plain.accessed_for_typeof (erased_reference n))
+unfolding tracked.accessed_for_typeof plain.accessed_for_typeof
+typeof_lifts (tracked.of_name name nowhere walk) = record { yields = λ s r. goes r; extends = goes_extends _ }
+typeof_lifts (tracked.of_name name (in_record i) walk) = let l = accessed_lifts (tracked.of_name name (in_record i) walk) in record { yields = l.yields; extends = l.extends }
+typeof_lifts (tracked.of_name name on_global walk) = let l = accessed_lifts (tracked.of_name name on_global walk) in record { yields = l.yields; extends = l.extends }
+typeof_lifts (tracked.of_property v key label) = let l = accessed_lifts (tracked.of_property v key label) in record { yields = l.yields; extends = l.extends }
 
 -- ---- it is given a value
 
@@ -330,36 +335,63 @@ assigned_to_extends (Some b) name i v s = assigned_extends b.mutable name i v s
 assigned_to_extends None name i v s = throws_extends _ s
 
 -- an act on the heap, or a stop by a rule
-acted_yields : (t : Ty) (a : Res Val t) {w : List Mark} {g : List PlainObject} {x : Acted (List (Object Label))} (s : scopes.State) → Shaped w s.frames → Does erased_heap g x
-    → Yields t w (tracked.acted {X = Res Val t} a x s) (Goes (erased_result t a) (record (erased s) { heap = g }))
+pub acted_by : {X Y : Type 0} {erase : X → Y} (a : X) {w : List Mark} {g : List PlainObject} {x : Acted (List (Object Label))} (s : scopes.State) → Shaped w s.frames → Does erased_heap g x
+    → YieldsBy erase w (tracked.acted a x s) (Goes (erase a) (record (erased s) { heap = g }))
 unfolding tracked.acted
-acted_yields t a s r (does e) = goes_to r refl (ap (λ (h : List PlainObject). record (erased s) { heap = h }) e)
-acted_yields t a {g = g} s r (breaks e) = stops e (goes_extends _ (record (erased s) { heap = g }))
+acted_by a s r (does e) = goes_to r refl (ap (λ (h : List PlainObject). record (erased s) { heap = h }) e)
+acted_by a {g = g} s r (breaks e) = stops e (goes_extends _ (record (erased s) { heap = g }))
+
+pub acted_yields : (t : Ty) (a : Res Val t) {w : List Mark} {g : List PlainObject} {x : Acted (List (Object Label))} (s : scopes.State) → Shaped w s.frames → Does erased_heap g x
+    → Yields t w (tracked.acted {X = Res Val t} a x s) (Goes (erased_result t a) (record (erased s) { heap = g }))
+acted_yields t a s r d = acted_by a s r d
+
+-- what a put comes to, without labels, and with the empty ones
+abbrev pub erased_putting : tracked.Putting → plain.Putting
+erased_putting tracked.is_put = plain.is_put
+erased_putting (tracked.has_setter label f base) = plain.has_setter f base.value
+
+abbrev pub labelled_putting : plain.Putting → tracked.Putting
+labelled_putting plain.is_put = tracked.is_put
+labelled_putting (plain.has_setter f base) = tracked.has_setter bottom f (unlabelled base)
+
+pub labelled_putting_is : (a : plain.Putting) → erased_putting (labelled_putting a) ≡ a
+labelled_putting_is plain.is_put = refl
+labelled_putting_is (plain.has_setter f base) = refl
+
+-- a setter that is found
+setter_yields : {w : List Mark} (label : Label) (base : Val) (f : ObjId) (slot : Option (Slot Label)) (x : Slot Label) (s : scopes.State) → slot ≡ Some x → setter_in x.body ≡ Some f → Shaped w s.frames
+    → YieldsBy erased_putting w (tracked.setter_at label base slot s) (Goes (plain.has_setter f base.value) (erased s))
+unfolding tracked.setter_at tracked.setter_found
+setter_yields {w} label base f slot x s e q r =
+    subst (λ y. YieldsBy erased_putting w (tracked.setter_at label base y s) (Goes (plain.has_setter f base.value) (erased s))) (sym e)
+    (subst (λ y. YieldsBy erased_putting w (tracked.setter_found (union label x.label) base y s) (Goes (plain.has_setter f base.value) (erased s))) (sym q) (goes r))
 
 -- a put, as is planned
-put_by_yields : {w : List Mark} (rule : Rule) (o : ℕ) (key : List ℕ) (label : Label) (v : Val) (s : scopes.State) {p : PutPlan Label} {q : Plan} → Shaped w s.frames → NamesNoElement s.heap o key
-    → Plans (HasNot s.heap o key) p q → Yields One w (tracked.put_by p rule o key label v s) (plain.put_by q o key v.value (erased s))
+put_by_yields : {w : List Mark} (rule : Rule) (o : ℕ) (key : List ℕ) (label : Label) (base v : Val) (s : scopes.State) {p : PutPlan Label} {q : Plan} → base.value ≡ value.Object (id o) → Shaped w s.frames → NamesNoElement s.heap o key
+    → Plans (HasNot s.heap o key) (HasSetter s.heap key) p q → YieldsBy erased_putting w (tracked.put_by p rule o key label base v s) (plain.put_by q o key v.value (erased s))
 unfolding tracked.put_by plain.put_by
-put_by_yields rule o key label v s r free both_write = acted_yields One tt s r (write_does rule o key _ v s.heap)
-put_by_yields rule o key label v s r free (both_add absent) = acted_yields One tt s r (add_does o key _ v made_by_script s.heap absent free)
-put_by_yields rule o key label v s r free both_refuse = throws_yields _ _ s r
-put_by_yields rule o key label v s r free both_call = ends
+put_by_yields rule o key label base v s b r free both_write = acted_by tracked.is_put s r (write_does rule o key _ v s.heap)
+put_by_yields rule o key label base v s b r free (both_add absent) = acted_by tracked.is_put s r (add_does o key _ (Data v.value) v.label made_by_script s.heap absent free)
+put_by_yields rule o key label base v s b r free both_refuse = throws_yields _ _ s r
+put_by_yields {w} rule o key label base v s b r free (both_call {at = at} {f = f} {walk = walk} h) =
+    subst (λ x. YieldsBy erased_putting w (tracked.put_by (Setter at walk) rule o key label base v s) (Goes (plain.has_setter f x) (erased s))) b
+    (setter_yields (union label walk) base f (tracked.own_in key (slice_get s.heap at.0)) h.slot s h.stands h.setter r)
 
 -- which prints nothing
 put_by_extends : (plan : Plan) (o : ℕ) (key : List ℕ) (v : Value) (s : State) → Extends s.lines (plain.put_by plan o key v s)
 unfolding plain.put_by
-put_by_extends writes o key v s = goes_extends tt (record s { heap = _ })
-put_by_extends adds o key v s = goes_extends tt (record s { heap = _ })
+put_by_extends writes o key v s = goes_extends plain.is_put (record s { heap = _ })
+put_by_extends adds o key v s = goes_extends plain.is_put (record s { heap = _ })
 put_by_extends refuses o key v s = throws_extends _ s
-put_by_extends (calls f) o key v s = ends_extends _ s
+put_by_extends (calls f) o key v s = goes_extends _ s
 
 -- an element of an array, or another property
-put_on_yields : {w : List Mark} (b : Bool) (rule : Rule) (o : ℕ) (key : List ℕ) (label : Label) (v : Val) (s : scopes.State) → Shaped w s.frames → tracked.is_element_of (slice_get s.heap o) key ≡ b
-    → Yields One w (tracked.put_on b rule o key label v s) (plain.put_on b o key v.value (erased s))
+put_on_yields : {w : List Mark} (b : Bool) (rule : Rule) (o : ℕ) (key : List ℕ) (label : Label) (base v : Val) (s : scopes.State) → base.value ≡ value.Object (id o) → Shaped w s.frames → tracked.is_element_of (slice_get s.heap o) key ≡ b
+    → YieldsBy erased_putting w (tracked.put_on b rule o key label base v s) (plain.put_on b o key v.value (erased s))
 unfolding tracked.put_on plain.put_on
-put_on_yields true rule o key label v s r e = ends
-put_on_yields false rule o key label v s r e =
-    put_by_yields rule o key label v s r (λ p d. no_element p.class key (sym (ap (λ x. tracked.is_element_of x key) d) ∙ e)) (can_put_erased key s.heap o)
+put_on_yields true rule o key label base v s q r e = ends
+put_on_yields false rule o key label base v s q r e =
+    put_by_yields rule o key label base v s q r (λ p d. no_element p.class key (sym (ap (λ x. tracked.is_element_of x key) d) ∙ e)) (can_put_erased key s.heap o)
 
 -- which prints nothing
 put_on_extends : (b : Bool) (o : ℕ) (key : List ℕ) (v : Value) (s : State) → Extends s.lines (plain.put_on b o key v s)
@@ -373,35 +405,43 @@ element_erased None key = refl
 element_erased (Some p) key = refl
 
 -- a put on an object
-put_lifts : {w : List Mark} (rule : Rule) (o : ℕ) (key : List ℕ) (label : Label) (v : Val) → Lift One w (tracked.put rule o key label v) (plain.put o key v.value)
+put_lifts : {w : List Mark} (rule : Rule) (o : ℕ) (key : List ℕ) (label : Label) (base v : Val) → base.value ≡ value.Object (id o) → LiftBy erased_putting w (tracked.put rule o key label base v) (plain.put o key v.value)
 unfolding tracked.put plain.put
-put_lifts {w} rule o key label v = record {
-  yields = λ s r. subst (λ b. Yields One w (tracked.put rule o key label v s) (plain.put_on b o key v.value (erased s))) (sym (ap (λ x. plain.is_element_of x key) (object_erased s.heap o) ∙ element_erased (slice_get s.heap o) key))
-      (put_on_yields (tracked.is_element_of (slice_get s.heap o) key) rule o key label v s r refl);
+put_lifts {w} rule o key label base v q = record {
+  yields = λ s r. subst (λ b. YieldsBy erased_putting w (tracked.put rule o key label base v s) (plain.put_on b o key v.value (erased s))) (sym (ap (λ x. plain.is_element_of x key) (object_erased s.heap o) ∙ element_erased (slice_get s.heap o) key))
+      (put_on_yields (tracked.is_element_of (slice_get s.heap o) key) rule o key label base v s q r refl);
   extends = λ s. put_on_extends (plain.is_element_of (slice_get s.heap o) key) o key v.value s;
 }
 
 -- on a value
-put_property_lifts : {w : List Mark} (label : Label) (base : Value) (key : List ℕ) (v : Val) → Lift One w (tracked.put_property label base key v) (plain.put_property base key v.value)
+put_property_lifts : {w : List Mark} (label : Label) (base : Val) (b : Value) (key : List ℕ) (v : Val) → base.value ≡ b → LiftBy erased_putting w (tracked.put_property label base b key v) (plain.put_property b key v.value)
 unfolding tracked.put_property plain.put_property
-put_property_lifts label (value.Primitive p) key v = record { yields = λ s r. ends; extends = ends_extends _ }
-put_property_lifts label (value.Object o) key v = let l = put_lifts W2 o.0 key label v in record { yields = l.yields; extends = l.extends }
+put_property_lifts label base (value.Primitive p) key v e = record { yields = λ s r. ends; extends = ends_extends _ }
+put_property_lifts label base (value.Object o) key v e = let l = put_lifts W2 o.0 key label base v e in record { yields = l.yields; extends = l.extends }
+
+-- a value that is put into a binding
+putting_yields : {w : List Mark} {o : Outcome Halt scopes.Jump (Unit {0}) scopes.State} {p : Outcome es.Halt plain.Jump (Unit {0}) State} → Yields One w o p → YieldsBy erased_putting w (and_then o (λ u. ret tracked.is_put)) (and_then p (λ u. ret plain.is_put))
+putting_yields y = yields_bind (λ u. ret tracked.is_put) (λ u. ret plain.is_put) y (λ u. ret_by tracked.is_put plain.is_put refl) (λ u t. goes_extends _ t)
+
+-- which prints nothing
+putting_extends : (lines : List plain.Line) (p : Outcome es.Halt plain.Jump (Unit {0}) State) → Extends lines p → Extends lines (and_then p (λ u. ret plain.is_put))
+putting_extends lines p x = extends_bind lines p (λ u. ret plain.is_put) x (λ u t. goes_extends _ t)
 
 -- for a name
-put_named_lifts : {w : List Mark} (place : Place) (walk : Label) (name : List ℕ) (v : Val) → Lift One w (tracked.put_named place walk name v) (plain.put_named place name v.value)
+put_named_lifts : {w : List Mark} (place : Place) (walk : Label) (name : List ℕ) (v : Val) → LiftBy erased_putting w (tracked.put_named place walk name v) (plain.put_named place name v.value)
 unfolding tracked.put_named plain.put_named
 put_named_lifts {w} (in_record i) walk name v = record {
-  yields = λ s r. subst (λ o. Yields One w (tracked.assigned_to (binding_at s.records i name) name i v s) (plain.assigned_to o name i v.value (erased s))) (sym (binding_erased s.records i name)) (assigned_to_yields (binding_at s.records i name) name i v s r);
-  extends = λ s. assigned_to_extends (binding_at s.records i name) name i v.value s;
+  yields = λ s r. subst (λ o. YieldsBy erased_putting w (tracked.as_putting (tracked.assigned_to (binding_at s.records i name) name i v) s) (plain.as_putting (plain.assigned_to o name i v.value) (erased s))) (sym (binding_erased s.records i name)) (putting_yields (assigned_to_yields (binding_at s.records i name) name i v s r));
+  extends = λ s. putting_extends s.lines _ (assigned_to_extends (binding_at s.records i name) name i v.value s);
 }
-put_named_lifts on_global walk name v = let l = put_lifts W1 global_object.0 name bottom v in record { yields = l.yields; extends = l.extends }
+put_named_lifts on_global walk name v = let l = put_lifts W1 global_object.0 name bottom tracked.global_value v refl in record { yields = l.yields; extends = l.extends }
 put_named_lifts nowhere walk name v = record { yields = λ s r. throws_yields _ _ s r; extends = throws_extends _ }
 
 -- a reference is given a value
-pub put_value_lifts : {w : List Mark} (n : tracked.Reference) (v : Val) → Lift One w (tracked.put_value n v) (plain.put_value (erased_reference n) v.value)
+pub put_value_lifts : {w : List Mark} (n : tracked.Reference) (v : Val) → LiftBy erased_putting w (tracked.put_value n v) (plain.put_value (erased_reference n) v.value)
 unfolding tracked.put_value plain.put_value
-put_value_lifts (tracked.of_name name place walk) v = put_named_lifts place walk name v
-put_value_lifts (tracked.of_property base key label) v = put_property_lifts _ base.value key v
+put_value_lifts (tracked.of_name name place walk) v = let l = put_named_lifts place walk name v in record { yields = l.yields; extends = l.extends }
+put_value_lifts (tracked.of_property base key label) v = let l = put_property_lifts _ base base.value key v refl in record { yields = l.yields; extends = l.extends }
 
 -- ---- it is deleted
 
@@ -473,65 +513,8 @@ pub spend_lifts : (w : List Mark) → Lift One w (λ s. tracked.spend s.turns s)
 spend_lifts w = record { yields = λ s r. spend_yields s.turns s r; extends = λ s. spend_extends s.turns s }
 
 -- a computation that ends
-pub ends_lifts : {t : Ty} {w : List Mark} (halt : es.Halt) → Lift t w (tracked.ends halt) (λ s. Ends halt s)
+pub ends_lifts : {X Y : Type 0} {erase : X → Y} {w : List Mark} (halt : es.Halt) → LiftBy erase w (tracked.ends halt) (λ s. Ends halt s)
 ends_lifts halt = record { yields = λ s r. ends; extends = ends_extends halt }
-
--- ---- acts
-
--- the values of labelled arguments
-pub values_are : {vs : List Val} {us : List Value} → Rels (λ v r. v.value ≡ r) vs us → map (λ v. v.value) vs ≡ us
-values_are nils = refl
-values_are (conses e r) = ap₂ (λ x xs. x ∷ xs) e (values_are r)
-
--- an argument, without its label
-argument_erased : (n : ℕ) (vs : List Val) → argument_or undefined n (map (λ v. v.value) vs) ≡ (argument n vs).value
-argument_erased n [] = refl
-argument_erased zero (v ∷ vs) = refl
-argument_erased (suc n) (v ∷ vs) = argument_erased n vs
-
--- the arguments behind the first, without their labels
-others_erased : (vs : List Val) → others (map (λ v. v.value) vs) ≡ map (λ v. v.value) (others vs)
-others_erased [] = refl
-others_erased (v ∷ vs) = refl
-
--- an object of a literal
-make_lifts : {w : List Mark} (keys : List (List ℕ)) (vs : List Val) → Lift a_value w (tracked.make_object keys vs) (plain.make_object keys (map (λ v. v.value) vs))
-unfolding tracked.make_object plain.make_object
-make_lifts keys vs = record {
-  yields = λ s r. goes_to r (ap (λ n. value.Object (id n)) (sym (length_erased s.heap))) (ap (λ (h : List PlainObject). record (erased s) { heap = h }) (pushed_erased s.heap _ ∙ ap (λ p. erased_heap s.heap ++ p ∷ []) (literal_erased keys vs _)));
-  extends = λ s. goes_extends _ (record s { heap = _ });
-}
-
--- a value that is needed
-needed_lifts : {w : List Mark} (b : Bool) (v : Val) → Lift a_value w (tracked.needed b v) (plain.needed b v.value)
-unfolding tracked.needed plain.needed
-needed_lifts true v = record { yields = λ s r. goes r; extends = goes_extends _ }
-needed_lifts false v = record { yields = λ s r. throws_yields _ _ s r; extends = throws_extends _ }
-
--- whether something is found
-is_found_erased : (f : Option (ℕ × Slot Label)) → is_found (erased_found f) ≡ is_found f
-is_found_erased None = refl
-is_found_erased (Some f) = refl
-
--- whether an object has a key
-has_lifts : {w : List Mark} (label : Label) (key : List ℕ) (v : Value) → Lift a_value w (tracked.has label key v) (plain.has key v)
-unfolding tracked.has plain.has
-has_lifts label key (value.Primitive p) = record { yields = λ s r. ends; extends = ends_extends _ }
-has_lifts label key (value.Object o) = record {
-  yields = λ s r. goes_to r (ap (λ b. value.Primitive (prims.Bool b)) (sym (ap (λ f. is_found f) (find_erased key s.heap o.0) ∙ is_found_erased (find key (object_chain s.heap o.0)).at))) refl;
-  extends = λ s. goes_extends _ s;
-}
-
--- an act on values
-pub act_lifts : {w : List Mark} (f : Act) (vs : List Val) → Lift a_value w (tracked.act f vs) (plain.act f (map (λ v. v.value) vs))
-unfolding tracked.act plain.act
-act_lifts (object_of keys) vs = make_lifts keys vs
-act_lifts refused_declaration vs = record { yields = λ s r. throws_yields _ _ s r; extends = throws_extends _ }
-act_lifts {w} base_needed vs = subst (λ x. Lift a_value w (tracked.act base_needed vs) (plain.needed (is_coercible x) x)) (sym (argument_erased 0 vs)) (needed_lifts _ (argument 0 vs))
-act_lifts {w} object_needed vs = subst (λ x. Lift a_value w (tracked.act object_needed vs) (plain.needed (is_object x) x)) (sym (argument_erased 0 vs)) (needed_lifts _ (argument 0 vs))
-act_lifts {w} has_key vs =
-    subst (λ x. Lift a_value w (tracked.act has_key vs) (plain.has (key_text x) (argument_or undefined 1 (map (λ v. v.value) vs)))) (sym (argument_erased 0 vs))
-    (subst (λ x. Lift a_value w (tracked.act has_key vs) (plain.has (key_text (argument 0 vs).value) x)) (sym (argument_erased 1 vs)) (has_lifts _ _ (argument 1 vs).value))
 
 -- ---- the keys of a value
 
@@ -567,79 +550,3 @@ keys_lifts {w} v f g h = record {
       ((with_list_lifts (tracked.key_list s.heap v.value) v.label f g h).yields s r);
   extends = λ s. with_list_extends (plain.key_list s.heap v.value) g (λ keys. (h keys).extends) s;
 }
-
--- ---- the functions of the product
-
-module _ (tables : Tables) (inputs : Given) where
-  -- a read of a channel, or of none
-  read_lifts : {w : List Mark} (i : Option ℕ) (name : Label) → Lift a_value w (tracked.read_channel tables inputs i name) (plain.read_channel tables inputs i)
-  unfolding tracked.read_channel plain.read_channel
-  read_lifts None name = record { yields = λ s r. ends; extends = ends_extends _ }
-  read_lifts (Some i) name = record { yields = λ s r. under_yields W11 _ _ _ s (goes r) (goes_extends _ (record (erased s) { positions = _ })); extends = λ s. goes_extends _ (record s { positions = _ }) }
-
-  -- the text of a primitive value
-  print_value_lifts : {w : List Mark} (i : ℕ) (label : Label) (v : Value) → Lift a_value w (tracked.print_value tables inputs i label v) (plain.print_value tables inputs i v)
-  unfolding tracked.print_value plain.print_value
-  print_value_lifts i label (value.Object o) = record { yields = λ s r. ends; extends = ends_extends _ }
-  print_value_lifts i label (value.Primitive v) = record {
-    yields = λ s r. under_yields W12 _ _ _ s (goes_to r refl (ap (λ (x : List plain.Line). record (erased s) { lines = x }) (map_push erased_line s.lines _))) (record { rest = _; lines_are = refl });
-    extends = λ s. record { rest = _; lines_are = refl };
-  }
-
-  -- a line on a channel, or on none
-  print_lifts : {w : List Mark} (i : Option ℕ) (name : Label) (v : Val) → Lift a_value w (tracked.print_channel tables inputs i name v) (plain.print_channel tables inputs i v.value)
-  unfolding tracked.print_channel plain.print_channel
-  print_lifts None name v = record { yields = λ s r. ends; extends = ends_extends _ }
-  print_lifts (Some i) name v = let l = print_value_lifts i _ v.value in record { yields = l.yields; extends = l.extends }
-
-  -- origins that are joined to a label, or that the policy does not have
-  label_lifts : {w : List Mark} (origins : Option (List ℕ)) (names : Label) (v : Val) → Lift a_value w (tracked.label_by tables inputs origins names v) (plain.label_by tables inputs origins v.value)
-  unfolding tracked.label_by plain.label_by
-  label_lifts None names v = record { yields = λ s r. ends; extends = ends_extends _ }
-  label_lifts (Some origins) names v = record { yields = λ s r. goes r; extends = goes_extends _ }
-
-  -- the structure of an object is raised, by origins that the policy has
-  raise_structure_lifts : {w : List Mark} (origins : Option (List ℕ)) (label : Label) (o : ℕ) → Lift a_value w (tracked.raise_structure tables inputs origins label o) (plain.raise_by tables inputs origins)
-  unfolding tracked.raise_structure plain.raise_by
-  raise_structure_lifts None label o = record { yields = λ s r. ends; extends = ends_extends _ }
-  raise_structure_lifts (Some origins) label o = record { yields = λ s r. acted_yields a_value _ s r (raise_structure_does o _ _ s.heap); extends = goes_extends _ }
-
-  -- and the existence of a property
-  raise_existence_lifts : {w : List Mark} (origins : Option (List ℕ)) (label : Label) (o : ℕ) (key : List ℕ) → Lift a_value w (tracked.raise_existence tables inputs origins label o key) (plain.raise_by tables inputs origins)
-  unfolding tracked.raise_existence plain.raise_by
-  raise_existence_lifts None label o key = record { yields = λ s r. ends; extends = ends_extends _ }
-  raise_existence_lifts (Some origins) label o key = record { yields = λ s r. acted_yields a_value _ s r (raise_existence_does o key _ _ s.heap); extends = goes_extends _ }
-
-  -- of a value that may be an object
-  raise_of_lifts : {w : List Mark} (v : Value) (label : Label) (names : List Val) → Lift a_value w (tracked.raise_of tables inputs v label names) (plain.raise_of tables inputs (is_object v) (map (λ v. v.value) names))
-  unfolding tracked.raise_of plain.raise_of
-  raise_of_lifts (value.Primitive p) label names = record { yields = λ s r. throws_yields _ _ s r; extends = throws_extends _ }
-  raise_of_lifts (value.Object o) label names = let l = raise_structure_lifts (tracked.names_in tables inputs names) _ o.0 in record { yields = l.yields; extends = l.extends }
-
-  -- of a property of it, whose key is no object
-  raise_at_lifts : {w : List Mark} (v : Value) (label : Label) (key : Val) (names : List Val)
-      → Lift a_value w (tracked.raise_at tables inputs v label key names) (plain.raise_at tables inputs (is_object v) key.value (map (λ v. v.value) names))
-  unfolding tracked.raise_at plain.raise_at
-  raise_at_lifts (value.Primitive p) label key names = record { yields = λ s r. throws_yields _ _ s r; extends = throws_extends _ }
-  raise_at_lifts {w} (value.Object o) label key names =
-      let l = bind_lifts a_value a_value w _ _ (unless_lifts (is_object key.value) key) (λ k. raise_existence_lifts (tracked.names_in tables inputs names) _ o.0 (key_text k.value)) in
-      record { yields = l.yields; extends = l.extends }
-
-  -- a call of a function of the product
-  pub direct_lifts : {w : List Mark} (f : Direct) (vs : List Val) → Lift a_value w (tracked.direct tables inputs f vs) (plain.direct tables inputs f (map (λ v. v.value) vs))
-  unfolding tracked.direct plain.direct
-  direct_lifts {w} read vs = subst (λ x. Lift a_value w (tracked.direct tables inputs read vs) (plain.read_channel tables inputs (channel_of tables.inputs x))) (sym (argument_erased 0 vs)) (read_lifts _ _)
-  direct_lifts {w} print vs =
-      subst (λ x. Lift a_value w (tracked.direct tables inputs print vs) (plain.print_channel tables inputs (channel_of tables.outputs x) (argument_or undefined 1 (map (λ v. v.value) vs)))) (sym (argument_erased 0 vs))
-      (subst (λ x. Lift a_value w (tracked.direct tables inputs print vs) (plain.print_channel tables inputs (channel_of tables.outputs (argument 0 vs).value) x)) (sym (argument_erased 1 vs)) (print_lifts _ _ (argument 1 vs)))
-  direct_lifts {w} lbl vs =
-      subst (λ x. Lift a_value w (tracked.direct tables inputs lbl vs) (plain.label_by tables inputs (origins_of tables.origins (others (map (λ v. v.value) vs))) x)) (sym (argument_erased 0 vs))
-      (subst (λ xs. Lift a_value w (tracked.direct tables inputs lbl vs) (plain.label_by tables inputs (origins_of tables.origins xs) (argument 0 vs).value)) (sym (others_erased vs)) (label_lifts _ _ (argument 0 vs)))
-  direct_lifts {w} upgs vs =
-      subst (λ x. Lift a_value w (tracked.direct tables inputs upgs vs) (plain.raise_of tables inputs (is_object x) (others (map (λ v. v.value) vs)))) (sym (argument_erased 0 vs))
-      (subst (λ xs. Lift a_value w (tracked.direct tables inputs upgs vs) (plain.raise_of tables inputs (is_object (argument 0 vs).value) xs)) (sym (others_erased vs)) (raise_of_lifts (argument 0 vs).value _ (others vs)))
-  direct_lifts {w} upge vs =
-      subst (λ x. Lift a_value w (tracked.direct tables inputs upge vs) (plain.raise_at tables inputs (is_object x) (argument_or undefined 1 (map (λ v. v.value) vs)) (others (others (map (λ v. v.value) vs))))) (sym (argument_erased 0 vs))
-      (subst (λ x. Lift a_value w (tracked.direct tables inputs upge vs) (plain.raise_at tables inputs (is_object (argument 0 vs).value) x (others (others (map (λ v. v.value) vs))))) (sym (argument_erased 1 vs))
-      (subst (λ xs. Lift a_value w (tracked.direct tables inputs upge vs) (plain.raise_at tables inputs (is_object (argument 0 vs).value) (argument 1 vs).value xs)) (sym (ap (λ xs. others xs) (others_erased vs) ∙ others_erased (others vs)))
-      (raise_at_lifts (argument 0 vs).value _ (argument 1 vs) (others (others vs)))))

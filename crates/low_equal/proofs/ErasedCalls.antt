@@ -1,17 +1,15 @@
--- Functions, calls, jumps and `try` of a labelled computation are those of the unlabelled one.
-use Rattle.std.proofs.Common.{◌≡◌, ℕ, suc, pos, Bool, true, false, ◌||◌, ◌&&◌, cond, nat_eq, nat_lt, List, [], ◌∷◌, ◌++◌, map, length, take, ◌-◌, Option, Some, None, slice_get, codes, refl, sym, ◌∙◌, ap, ap₂, subst, true≢false, arith}
-use Rattle.std.specs.List.{list_any}
+-- The ends of calls, jumps, `try`, and how a call begins, of a labelled computation are those of the unlabelled one.
+use Rattle.std.proofs.Common.{◌≡◌, ℕ, suc, pos, Bool, true, false, ◌||◌, ◌&&◌, nat_lt, List, [], ◌∷◌, ◌++◌, map, length, take, ◌-◌, Option, Some, None, codes, refl, sym, ◌∙◌, ap, ap₂, subst, true≢false, arith}
 use Rattle.std.specs.Option.{option_map}
 use Rattle.std.proofs.lemmas.Bool.{lt-ltb, le-ltb}
 use Rattle.std.proofs.lemmas.List.{take_at}
-use Rattle.origin_labels.specs.Label.{Label, bottom, union, within}
+use Rattle.origin_labels.specs.Label.{Label, bottom, within}
 use Rattle.flow_frames.specs.declared.kind.Kind.TheVariants as kind
 use Rattle.flow_frames.specs.declared.faults.Rule.{Rule}
 use Rattle.flow_frames.specs.declared.faults.Rule.TheVariants.{W10}
 use Rattle.flow_frames.specs.Frames.{context, Frame}
 use Rattle.flow_frames.specs.Changes.{changed_at}
 use Rattle.js_number.specs.declared.primitive.Primitive.TheVariants.{Num}
-use Rattle.js_number.specs.declared.primitive.Primitive.TheVariants as prims
 use Rattle.js_number.specs.Conversions.{text_of}
 use Rattle.js_values.specs.declared.value.Value.{Value}
 use Rattle.js_values.specs.declared.value.Value.TheVariants as value
@@ -19,31 +17,30 @@ use Rattle.js_values.specs.declared.property.Body.TheVariants.{Data}
 use Rattle.js_values.specs.declared.property.Slot.{Slot}
 use Rattle.js_values.specs.Objects.{Rows, Property, PlainObject, Object}
 use Rattle.js_values.specs.Records.{Binding, Bindings, Record, found}
-use Rattle.js_values.specs.Walks.{object_chain, find}
-use Rattle.js_ast.specs.Trees.{Ident, Function, name_of, params_of, body_of, Statements}
+use Rattle.js_ast.specs.Trees.{Ident, Function, name_of, params_of, body_of}
 use Rattle.js_ast.specs.Functions.{FunctionCode}
 use Rattle.es_meaning.specs.Outcomes as es
 use Rattle.es_meaning.specs.Outcomes.{Exit, Outcome, Goes, Jumps, Ends, ret, and_then, ◌>>=◌}
 use Rattle.es_meaning.specs.Operations.{One}
 use Rattle.es_meaning.specs.Operations.{Value as a_value}
-use Rattle.es_meaning.specs.Environments.{Env, called_env, Leaving}
+use Rattle.es_meaning.specs.Environments.{Leaving}
 use Rattle.es_meaning.specs.Declared.{declared_functions, declared_statements}
 use Rattle.es_meaning.specs.Naming.{names_in_statements}
-use Rattle.es_meaning.specs.Functions.{env_id, function_objects, objects_of, references_of, behind_functions, closes_over, own_name, Callee, not_callable, empty_callee, of_script, unbuilt_callee, is_function, callee_of, elements_down, arguments_rows, binds, bound_by, kept_by, with_parameters, with_functions, with_arguments, with_variables, name_text, Entry, entry_bindings, entry_record, made_if}
+use Rattle.es_meaning.specs.Functions.{env_id, function_objects, objects_of, references_of, behind_functions, closes_over, own_name, elements_down, arguments_rows, accessor_rows, binds, bound_by, kept_by, with_parameters, with_functions, with_arguments, with_variables, name_text, Entry, entry_bindings, entry_record, made_if}
 use Rattle.es_meaning.specs.Functions as functions_of
 use Rattle.es_meaning.specs.Objects.{made_by_script, defined}
 use Rattle.es_meaning.specs.Start.{id, built_in}
 use Rattle.es_meaning.specs.Plain as plain
-use Rattle.es_meaning.specs.Plain.{State, P, choose, undefined, is_return, is_throw, ended_call, ended_construction, object_or, handled_throw, finished, value_in, object_or_default, prototype_name}
+use Rattle.es_meaning.specs.Plain.{State, P, choose, undefined, is_return, is_throw, ended_call, ended_construction, handled_throw, finished}
 use Rattle.flow_meaning.specs.Erased.{erased_rows, erased_object, erased_heap, erased_bindings, erased_record, erased_records, labelled_by, labelled_values, made_objects, unlabelled}
 use Rattle.flow_meaning.specs.Scopes as scopes
-use Rattle.flow_meaning.specs.Scopes.{Val, Halt, L, joined, Came, ended, caught, Left, popped, stay, scope, pushed_on, answer, construction, quiet, quieted_in, react, resume, finish, tried, innermost, raise_frame, frame_of}
+use Rattle.flow_meaning.specs.Scopes.{Val, Halt, L, joined, Came, ended, caught, Left, popped, stay, scope, pushed_on, answer, construction, quiet, quieted_in, react, resume, finish, tried, raise_frame, frame_of}
+use Rattle.flow_meaning.specs.Requested.{data_slot, arguments_object}
 use Rattle.flow_meaning.specs.Tracked as tracked
-use Rattle.flow_meaning.specs.Tracked.{CallBody, data_slot}
 use Rattle.low_equal.specs.Erasure.{erased_lines}
-use Rattle.low_equal.proofs.Erased.{erased_jump, erased, Extends, goes_extends, jumps_extends, ends_extends, extends_more, extends_bind, Mark, calls, tries, catches, aim, first, Shaped, choose_true, choose_false, length_shaped, first_most, pushed_shaped, raised_shaped, Yields, goes, jumps, ends, stops, Lift, goes_to, ret_lifts, yields_bind, bind_lifts, under_yields, jump_yields, choose_lifts, Pops, went, stayed, passed, halts, breaks, not_aimed, popped_pops, scope_pops, passing_yields, not_caught, actives, activity, length_actives}
-use Rattle.low_equal.proofs.ErasedHeaps.{defined_erased, length_erased, object_erased, appended_erased, objects_made, erased_chain, chain_erased, erased_found, find_erased}
-use Rattle.low_equal.proofs.ErasedActs.{property_lifts, found_erased, rebound_erased, erased_binding, throws_yields, throws_extends}
+use Rattle.low_equal.proofs.Erased.{erased_jump, erased, Extends, goes_extends, jumps_extends, extends_more, extends_bind, Mark, calls, tries, catches, aim, first, Shaped, choose_true, choose_false, length_shaped, first_most, pushed_shaped, raised_shaped, Yields, goes, jumps, ends, stops, Lift, goes_to, ret_lifts, yields_bind, under_yields, jump_yields, choose_lifts, Pops, went, stayed, passed, halts, breaks, not_aimed, popped_pops, scope_pops, passing_yields, not_caught, actives, activity, length_actives}
+use Rattle.low_equal.proofs.ErasedHeaps.{defined_erased, length_erased, appended_erased, rows_appended, rows_made, objects_made, values_of, values_length}
+use Rattle.low_equal.proofs.ErasedActs.{found_erased, rebound_erased, erased_binding}
 
 -- ---- the end of a call
 
@@ -56,7 +53,7 @@ aimed_call j e = by_case (is_return j) e
     by_case false q = q
 
 -- it prints nothing
-call_extends : (lines : List plain.Line) (p : Outcome es.Halt plain.Jump (Unit {0}) State) → Extends lines p → Extends lines (ended_call p)
+pub call_extends : (lines : List plain.Line) (p : Outcome es.Halt plain.Jump (Unit {0}) State) → Extends lines p → Extends lines (ended_call p)
 unfolding ended_call
 call_extends lines (Goes a s) x = record { rest = x.rest; lines_are = x.lines_are }
 call_extends lines (Jumps j s) x = by_case (is_return j.exit)
@@ -79,13 +76,13 @@ pub call_lifts : {w : List Mark} (label : Label) (f : ℕ → L (Unit {0})) (g :
 call_lifts label f g h = record { yields = λ s r. call_yields (scope_pops calls kind.Call label refl f g h s r); extends = λ s. call_extends s.lines (g s) (h.extends s) }
 
 -- and of a construction
-made_extends : (fresh : ℕ) (lines : List plain.Line) (p : Outcome es.Halt plain.Jump Value State) → Extends lines p → Extends lines (ended_construction fresh p)
+pub made_extends : (fresh : ℕ) (lines : List plain.Line) (p : Outcome es.Halt plain.Jump Value State) → Extends lines p → Extends lines (ended_construction fresh p)
 unfolding ended_construction
 made_extends fresh lines (Goes a s) x = record { rest = x.rest; lines_are = x.lines_are }
 made_extends fresh lines (Jumps j s) x = record { rest = x.rest; lines_are = x.lines_are }
 made_extends fresh lines (Ends halt s) x = record { rest = x.rest; lines_are = x.lines_are }
 
-made_yields : (fresh : ℕ) {w : List Mark} {o : Outcome Halt scopes.Jump (Left (Unit {0})) scopes.State} {p : Outcome es.Halt plain.Jump (Unit {0}) State} → Pops One calls w o p
+pub made_yields : (fresh : ℕ) {w : List Mark} {o : Outcome Halt scopes.Jump (Left (Unit {0})) scopes.State} {p : Outcome es.Halt plain.Jump (Unit {0}) State} → Pops One calls w o p
     → Yields a_value w (and_then o (λ c. ret (construction fresh c))) (ended_construction fresh (ended_call p))
 unfolding ended_call ended_construction
 made_yields fresh (went r) = goes r
@@ -233,9 +230,6 @@ bindings_appended : (bindings more : Bindings Val) → erased_bindings (bindings
 bindings_appended [] more = refl
 bindings_appended (b ∷ bindings) more = ap (λ bs. erased_binding b ∷ bs) (bindings_appended bindings more)
 
-abbrev values_of : List Val → List Value
-values_of vs = map (λ v. v.value) vs
-
 bound_by_erased : (o : Option (Binding Val)) (name : List ℕ) (v : Val) (bindings : Bindings Val) → erased_bindings (bound_by o name v bindings) ≡ bound_by (option_map erased_binding o) name v.value (erased_bindings bindings)
 bound_by_erased None name v bindings = bindings_appended bindings (binds true name v)
 bound_by_erased (Some b) name v bindings = sym (rebound_erased name v bindings)
@@ -287,7 +281,7 @@ joined_values : (label : Label) (vs : List Val) → values_of (map (joined label
 joined_values label [] = refl
 joined_values label (v ∷ vs) = ap (λ us. v.value ∷ us) (joined_values label vs)
 
-labelled_are : (label : Label) (vs : List Value) → values_of (labelled_values label vs) ≡ vs
+pub labelled_are : (label : Label) (vs : List Value) → values_of (labelled_values label vs) ≡ vs
 labelled_are label [] = refl
 labelled_are label (v ∷ vs) = ap (λ us. v ∷ us) (labelled_are label vs)
 
@@ -300,16 +294,15 @@ elements_erased : (label : Label) (rows : Rows (Slot Label)) (n : ℕ) (vs : Lis
 elements_erased label rows n [] = refl
 elements_erased label rows n (v ∷ vs) = defined_erased (text_of (Num (pos n))) (data_slot label v) (elements_down rows (suc n) (map (data_slot label) vs)) ∙ ap (defined (text_of (Num (pos n))) (element v.value)) (elements_erased label rows (suc n) vs)
 
-values_length : (vs : List Val) → length (values_of vs) ≡ length vs
-values_length [] = refl
-values_length (v ∷ vs) = ap suc (values_length vs)
-
 abbrev length_property : ℕ → Property
 length_property n = functions_of.property_with (value.Primitive (Num (pos n))) built_in
 
-arguments_erased : (number place : ℕ) (vs : List Val) (label : Label) → erased_object (tracked.arguments_object number place vs label) ≡ functions_of.arguments_object number place (values_of vs)
+arguments_erased : (number place : ℕ) (vs : List Val) (label : Label) → erased_object (arguments_object number place vs label) ≡ functions_of.arguments_object number place (values_of vs)
 arguments_erased number place vs label = ap (λ (rows : Rows Property). record (functions_of.arguments_object number place []) { rows = rows })
+    (rows_appended (arguments_rows (record { body = Data (value.Primitive (Num (pos (length vs)))); label = label; existence = label; marks = built_in }) (map (data_slot label) vs)) _
+    ∙ ap₂ (λ (rows more : Rows Property). rows ++ more)
     (elements_erased label ((codes "length", record { body = Data (value.Primitive (Num (pos (length vs)))); label = label; existence = label; marks = built_in }) ∷ []) 0 vs ∙ ap (λ n. arguments_rows (length_property n) (map element (values_of vs))) (sym (values_length vs)))
+    (rows_made label accessor_rows))
 
 made_if_erased : (b : Bool) (p : Object Label) (q : PlainObject) → erased_object p ≡ q → erased_heap (made_if b p) ≡ made_if b q
 made_if_erased true p q e = ap (λ (x : PlainObject). x ∷ []) e
@@ -350,120 +343,11 @@ begins_erased functions number f place base vs s =
       arguments = value.Object (id (behind_functions (length s.heap) declared));
     })) (joined_values here vs) (labelled_are here _)))
 
-with_call_erased : (functions : List FunctionCode) (number : ℕ) (f : Function) (place : ℕ) (base : Val) (vs : List Val) (s : scopes.State)
+pub with_call_erased : (functions : List FunctionCode) (number : ℕ) (f : Function) (place : ℕ) (base : Val) (vs : List Val) (s : scopes.State)
     → erased (tracked.with_call functions number f place base vs s) ≡ plain.with_call functions number f place base.value (values_of vs) (erased s)
 unfolding plain.with_call
 with_call_erased functions number f place base vs s =
     begins_erased functions number f place base vs s ∙ ap₂ (λ o here. begins functions number f place base.value (values_of vs) o here (erased s)) (sym (length_erased s.heap)) (sym (records_length s.records))
-
--- what a value is for a call
-callee_in_erased : (functions : List FunctionCode) (o : Option (Object Label)) → plain.callee_in functions (option_map erased_object o) ≡ tracked.callee_in functions o
-callee_in_erased functions None = refl
-callee_in_erased functions (Some p) = refl
-
-pub callee_erased : (functions : List FunctionCode) (heap : List (Object Label)) (v : Value) → plain.callee_at functions (erased_heap heap) v ≡ tracked.callee_at functions heap v
-unfolding plain.callee_at tracked.callee_at
-callee_erased functions heap (value.Primitive p) = refl
-callee_erased functions heap (value.Object o) = ap (plain.callee_in functions) (object_erased heap o.0) ∙ callee_in_erased functions (slice_get heap o.0)
-
--- bodies in the record of a call, in whose frame they are
-abbrev pub PlainBody : Type 0
-PlainBody = Statements → Env (Unit {0}) → P (Unit {0})
-
-abbrev pub Bodies : List Mark → CallBody → PlainBody → Type 0
-Bodies w f g = (ss : Statements) (i : ℕ) → Lift One (calls ∷ w) (f ss (called_env i (suc (length w)))) (g ss (called_env i tt))
-
--- a call begins without a line
-call_prints_nothing : (functions : List FunctionCode) (number : ℕ) (f : Function) (place : ℕ) (base : Value) (vs : List Value) (s : State) → (plain.with_call functions number f place base vs s).lines ≡ s.lines
-unfolding plain.with_call
-call_prints_nothing functions number f place base vs s = refl
-
--- and leaves the frames
-frames_kept : (functions : List FunctionCode) (number : ℕ) (f : Function) (place : ℕ) (base : Val) (vs : List Val) (s : scopes.State) {w : List Mark} → Shaped w s.frames → Shaped w (tracked.with_call functions number f place base vs s).frames
-unfolding tracked.with_call
-frames_kept functions number f place base vs s r = r
-
-entered_yields : (functions : List FunctionCode) (callee : Callee) {w : List Mark} (label : Label) (base : Val) (vs : List Val) (f : CallBody) (g : PlainBody) → Bodies w f g → (s : scopes.State) → Shaped (calls ∷ w) s.frames
-    → Yields One (calls ∷ w) (tracked.entered functions callee label base vs f (suc (length w)) s) (plain.entered functions callee base.value (values_of vs) g (erased s))
-unfolding tracked.entered plain.entered
-entered_yields functions not_callable label base vs f g h s r = throws_yields _ _ s r
-entered_yields functions empty_callee label base vs f g h s r = goes r
-entered_yields functions unbuilt_callee label base vs f g h s r = ends
-entered_yields functions (of_script number code place) {w} label base vs f g h s r =
-    subst (λ n. Yields One (calls ∷ w) (f (body_of code) (called_env (length s.records) (suc (length w))) (tracked.with_call functions number code place base vs s))
-    (g (body_of code) (called_env n tt) (plain.with_call functions number code place base.value (values_of vs) (erased s)))) (sym (records_length s.records))
-    (subst (λ u. Yields One (calls ∷ w) (f (body_of code) (called_env (length s.records) (suc (length w))) (tracked.with_call functions number code place base vs s)) (g (body_of code) (called_env (length s.records) tt) u))
-    (with_call_erased functions number code place base vs s)
-    ((h (body_of code) (length s.records)).yields (tracked.with_call functions number code place base vs s) (frames_kept functions number code place base vs s r)))
-
-entered_extends : (functions : List FunctionCode) (callee : Callee) {w : List Mark} (base : Value) (vs : List Value) (f : CallBody) (g : PlainBody) → Bodies w f g → (s : State) → Extends s.lines (plain.entered functions callee base vs g s)
-unfolding plain.entered
-entered_extends functions not_callable base vs f g h s = throws_extends _ s
-entered_extends functions empty_callee base vs f g h s = goes_extends tt s
-entered_extends functions unbuilt_callee base vs f g h s = ends_extends _ s
-entered_extends functions (of_script number code place) base vs f g h s =
-    subst (λ lines. Extends lines (g (body_of code) (called_env (length s.records) tt) (plain.with_call functions number code place base vs s))) (call_prints_nothing functions number code place base vs s)
-    ((h (body_of code) (length s.records)).extends (plain.with_call functions number code place base vs s))
-
-pub calls_lift : (functions : List FunctionCode) {w : List Mark} (v base : Val) (vs : List Val) (f : CallBody) (g : PlainBody) → Bodies w f g
-    → Lift a_value w (tracked.call functions v base vs f) (λ s. ended_call (plain.entered functions (plain.callee_at functions s.heap v.value) base.value (values_of vs) g s))
-calls_lift functions {w} v base vs f g h = call_lifts v.label (λ depth s. tracked.entered functions (tracked.callee_at functions s.heap v.value) v.label base vs f depth s) (λ s. plain.entered functions (plain.callee_at functions s.heap v.value) base.value (values_of vs) g s)
-    (record {
-      yields = λ s r. subst (λ c. Yields One (calls ∷ w) (tracked.entered functions (tracked.callee_at functions s.heap v.value) v.label base vs f (suc (length w)) s) (plain.entered functions c base.value (values_of vs) g (erased s)))
-          (sym (callee_erased functions s.heap v.value)) (entered_yields functions (tracked.callee_at functions s.heap v.value) v.label base vs f g h s r);
-      extends = λ s. entered_extends functions (plain.callee_at functions s.heap v.value) base.value (values_of vs) f g h s;
-    })
-
--- ---- an object is constructed
-
--- the value of a property that is found
-found_value : (walk : Label) (f : Option (ℕ × Slot Label)) → plain.value_found (erased_found f) ≡ (tracked.value_found walk f).value
-found_value walk None = refl
-found_value walk (Some f) = refl
-
-prototype_erased : (heap : List (Object Label)) (v : Value) → plain.prototype_of (erased_heap heap) v ≡ object_or_default (tracked.prototype_of heap v).value
-prototype_erased heap (value.Primitive p) = refl
-prototype_erased heap (value.Object o) = ap (λ f. object_or_default (plain.value_found f)) (find_erased prototype_name heap o.0) ∙ ap object_or_default (found_value (find prototype_name (object_chain heap o.0)).walk (find prototype_name (object_chain heap o.0)).at)
-
-fresh_erased : (v : Value) (s : scopes.State) → erased (tracked.with_fresh (tracked.prototype_of s.heap v) s) ≡ plain.with_fresh (plain.prototype_of (erased_heap s.heap) v) (erased s)
-fresh_erased v s =
-    ap (λ (h : List PlainObject). record (erased s) { heap = h }) (appended_erased s.heap _)
-    ∙ ap (λ proto. plain.with_fresh proto (erased s)) (sym (prototype_erased s.heap v))
-
-constructed_yields : (functions : List FunctionCode) (callee : Callee) {w : List Mark} (v : Val) (vs : List Val) (f : CallBody) (g : PlainBody) → Bodies w f g → (s : scopes.State) → Shaped (calls ∷ w) s.frames
-    → Yields One (calls ∷ w) (tracked.constructed functions callee v vs f (suc (length w)) s) (plain.constructed functions callee v.value (values_of vs) g (erased s))
-unfolding tracked.constructed plain.constructed
-constructed_yields functions not_callable v vs f g h s r = throws_yields _ _ s r
-constructed_yields functions empty_callee v vs f g h s r = throws_yields _ _ s r
-constructed_yields functions unbuilt_callee v vs f g h s r = ends
-constructed_yields functions (of_script number code place) {w} v vs f g h s r =
-    let made = tracked.with_fresh (tracked.prototype_of s.heap v.value) s in
-    let base = unlabelled (value.Object (id (length s.heap))) in
-    let run = tracked.entered functions (of_script number code place) v.label base vs f (suc (length w)) made in
-    subst (λ n. Yields One (calls ∷ w) run (plain.entered functions (of_script number code place) (value.Object (id n)) (values_of vs) g (plain.with_fresh (plain.prototype_of (erased_heap s.heap) v.value) (erased s)))) (sym (length_erased s.heap))
-    (subst (λ u. Yields One (calls ∷ w) run (plain.entered functions (of_script number code place) (value.Object (id (length s.heap))) (values_of vs) g u)) (fresh_erased v.value s)
-    (entered_yields functions (of_script number code place) v.label base vs f g h made r))
-
-constructed_extends : (functions : List FunctionCode) (callee : Callee) {w : List Mark} (v : Value) (vs : List Value) (f : CallBody) (g : PlainBody) → Bodies w f g → (s : State) → Extends s.lines (plain.constructed functions callee v vs g s)
-unfolding plain.constructed
-constructed_extends functions not_callable v vs f g h s = throws_extends _ s
-constructed_extends functions empty_callee v vs f g h s = throws_extends _ s
-constructed_extends functions unbuilt_callee v vs f g h s = ends_extends _ s
-constructed_extends functions (of_script number code place) v vs f g h s = entered_extends functions (of_script number code place) (value.Object (id (length s.heap))) vs f g h (plain.with_fresh (plain.prototype_of s.heap v) s)
-
-pub constructs_lift : (functions : List FunctionCode) {w : List Mark} (v : Val) (vs : List Val) (f : CallBody) (g : PlainBody) → Bodies w f g
-    → Lift a_value w (tracked.construct functions v vs f) (λ s. ended_construction (length s.heap) (ended_call (plain.constructed functions (plain.callee_at functions s.heap v.value) v.value (values_of vs) g s)))
-constructs_lift functions {w} v vs f g h =
-    let l : Lift One (calls ∷ w) (λ s. tracked.constructed functions (tracked.callee_at functions s.heap v.value) v vs f (suc (length w)) s) (λ s. plain.constructed functions (plain.callee_at functions s.heap v.value) v.value (values_of vs) g s) = record {
-      yields = λ s r. subst (λ c. Yields One (calls ∷ w) (tracked.constructed functions (tracked.callee_at functions s.heap v.value) v vs f (suc (length w)) s) (plain.constructed functions c v.value (values_of vs) g (erased s)))
-          (sym (callee_erased functions s.heap v.value)) (constructed_yields functions (tracked.callee_at functions s.heap v.value) v vs f g h s r);
-      extends = λ s. constructed_extends functions (plain.callee_at functions s.heap v.value) v.value (values_of vs) f g h s;
-    } in
-    record {
-      yields = λ s r. subst (λ n. Yields a_value w (tracked.construct functions v vs f s) (ended_construction n (ended_call (plain.constructed functions (plain.callee_at functions (erased_heap s.heap) v.value) v.value (values_of vs) g (erased s))))) (sym (length_erased s.heap))
-          (made_yields (length s.heap) (scope_pops calls kind.Call v.label refl (λ depth s. tracked.constructed functions (tracked.callee_at functions s.heap v.value) v vs f depth s) (λ s. plain.constructed functions (plain.callee_at functions s.heap v.value) v.value (values_of vs) g s) l s r));
-      extends = λ s. made_extends (length s.heap) s.lines _ (call_extends s.lines _ (l.extends s));
-    }
 
 -- ---- a function is made
 
@@ -484,53 +368,4 @@ function_lifts functions {w} f place = record {
       (records_appended s.records _ ∙ ap (λ (rs : List (Record Value)). erased_records s.records ++ rs) (own_name_erased (name_of f) place (labelled_by (context s.frames) (value.Object (id (length s.heap))))))
       ∙ ap₂ (λ o here. makes functions f place o here (erased s)) (sym (length_erased s.heap)) (sym (records_length s.records)));
   extends = λ s. goes_extends _ (makes functions f place (length s.heap) (length s.records) s);
-}
-
--- ---- `instanceof`
-
-function_in_erased : (o : Option (Object Label)) → plain.is_function_in (option_map erased_object o) ≡ tracked.is_function_in o
-function_in_erased None = refl
-function_in_erased (Some p) = refl
-
-function_at_erased : (heap : List (Object Label)) (v : Value) → plain.is_function_at (erased_heap heap) v ≡ tracked.is_function_at heap v
-function_at_erased heap (value.Primitive p) = refl
-function_at_erased heap (value.Object o) = ap plain.is_function_in (object_erased heap o.0) ∙ function_in_erased (slice_get heap o.0)
-
--- whether an object is among others
-linked_test : (b : Bool) (link : Label) (rest : tracked.Linked) → (b || rest.is) ≡ (cond b (record { is = true; links = link }) (tracked.linked_beyond link rest)).is
-linked_test true link rest = refl
-linked_test false link rest = refl
-
-from_erased : (proto : ℕ) (link : Label) (chain : List (ℕ × Object Label)) → list_any (λ e. nat_eq e.0 proto) (erased_chain chain) ≡ (tracked.linked_from proto link chain).is
-from_erased proto link [] = refl
-from_erased proto link (e ∷ chain) = ap (λ b. nat_eq e.0 proto || b) (from_erased proto e.1.link chain) ∙ linked_test (nat_eq e.0 proto) link (tracked.linked_from proto e.1.link chain)
-
-linked_erased : (proto : ℕ) (chain : List (ℕ × Object Label)) → plain.is_prototype_in proto (erased_chain chain) ≡ (tracked.linked proto chain).is
-linked_erased proto [] = refl
-linked_erased proto (e ∷ chain) = from_erased proto e.1.link chain
-
-is_instance_lifts : {w : List Mark} (label : Label) (o : ℕ) (v : Value) → Lift a_value w (tracked.is_instance label o v) (plain.is_instance o v)
-unfolding tracked.is_instance plain.is_instance
-is_instance_lifts label o (value.Primitive p) = record { yields = λ s r. throws_yields _ _ s r; extends = throws_extends _ }
-is_instance_lifts label o (value.Object proto) = record {
-  yields = λ s r. goes_to r (ap (λ b. value.Primitive (prims.Bool b)) (sym (ap (plain.is_prototype_in proto.0) (chain_erased s.heap o) ∙ linked_erased proto.0 (object_chain s.heap o)))) refl;
-  extends = λ s. goes_extends _ s;
-}
-
-instance_of_lifts : {w : List Mark} (v : Val) (base : Value) (f : Val) → Lift a_value w (tracked.instance_of v base f) (plain.instance_of base f.value)
-unfolding tracked.instance_of plain.instance_of
-instance_of_lifts v (value.Primitive p) f = record { yields = λ s r. goes r; extends = goes_extends _ }
-instance_of_lifts {w} v (value.Object o) f =
-    let l = bind_lifts a_value a_value w _ (λ proto. plain.is_instance o.0 proto) (property_lifts f.label f.value prototype_name) (λ proto. is_instance_lifts (union v.label (union f.label proto.label)) o.0 proto.value) in
-    record { yields = l.yields; extends = l.extends }
-
-instance_if_lifts : {w : List Mark} (b : Bool) (v f : Val) → Lift a_value w (tracked.instance_if b v f) (plain.instance_if b v.value f.value)
-unfolding tracked.instance_if plain.instance_if
-instance_if_lifts true v f = let l = instance_of_lifts v v.value f in record { yields = l.yields; extends = l.extends }
-instance_if_lifts false v f = record { yields = λ s r. throws_yields _ _ s r; extends = throws_extends _ }
-
-pub instance_lifts : {w : List Mark} (v f : Val) → Lift a_value w (λ s. tracked.instance_if (tracked.is_function_at s.heap f.value) v f s) (λ s. plain.instance_if (plain.is_function_at s.heap f.value) v.value f.value s)
-instance_lifts {w} v f = record {
-  yields = λ s r. subst (λ b. Yields a_value w (tracked.instance_if (tracked.is_function_at s.heap f.value) v f s) (plain.instance_if b v.value f.value (erased s))) (sym (function_at_erased s.heap f.value)) ((instance_if_lifts (tracked.is_function_at s.heap f.value) v f).yields s r);
-  extends = λ s. (instance_if_lifts {w = w} (plain.is_function_at s.heap f.value) v f).extends s;
 }

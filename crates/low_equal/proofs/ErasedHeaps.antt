@@ -1,6 +1,6 @@
 -- Objects without their labels: an act on a labelled heap is the act on the heap without labels, up to a broken rule, and what is found along prototypes
 -- is the same.
-use Rattle.std.proofs.Common.{◌≡◌, ℕ, zero, suc, Bool, true, false, cond, ◌&&◌, not, List, [], ◌∷◌, ◌++◌, map, length, set, Option, Some, None, Ok, Err, slice_get, refl, sym, ◌∙◌, ap, ap₂, subst, true≢false}
+use Rattle.std.proofs.Common.{◌≡◌, ℕ, zero, suc, Bool, true, false, cond, ◌&&◌, not, List, [], ◌∷◌, ◌++◌, map, length, set, Option, Some, None, Ok, Err, slice_get, codes, refl, sym, ◌∙◌, ap, ap₂, subst, true≢false}
 use Rattle.std.specs.Option.{option_map}
 use Rattle.std.proofs.lemmas.List.{set-get_or}
 use Rattle.std.proofs.lemmas.Option.{none-some, same_Some, get_or_from_slice_get}
@@ -19,6 +19,8 @@ use Rattle.js_values.specs.declared.inner.Class.{Class}
 use Rattle.js_values.specs.declared.inner.Class.TheVariants as class
 use Rattle.js_values.specs.Numerals.{index_of}
 use Rattle.js_values.specs.declared.value.Value.{Value}
+use Rattle.js_values.specs.declared.inner.Inner.{Inner}
+use Rattle.js_values.specs.declared.inner.Inner.TheVariants.{Plain, Script, Native, Bound}
 use Rattle.js_values.specs.Objects.{Rows, Property, PlainInner, plain as plain_inner, script, native, bound, PlainObject, Object, number_of, own, row_or_none, altered, changed, with_row, keys_of}
 use Rattle.js_values.specs.Chains.{beginning, onwards, chain_within}
 use Rattle.js_values.specs.Walks.{plain_chain, object_chain, plain_found_at, plain_find, Found, found_at, find}
@@ -30,14 +32,21 @@ use Rattle.prototype_walk.specs.declared.plan.PutPlan.{PutPlan}
 use Rattle.prototype_walk.specs.declared.plan.PutPlan.TheVariants.{Write, Add, Setter, Refused}
 use Rattle.prototype_walk.specs.Plans as walks
 use Rattle.prototype_walk.specs.KeyLists as lists
+use Rattle.es_meaning.specs.BuiltIns.{BuiltIns}
+use Rattle.es_meaning.specs.Definitions.{setter_in}
+use Rattle.es_meaning.specs.Functions.{Target, this_or, bound_behind}
+use Rattle.es_meaning.specs.Operations.{Part}
 use Rattle.es_meaning.specs.Objects as plain
-use Rattle.es_meaning.specs.Objects.{defined_over, defined_all, Plan, writes, adds, refuses, calls, is_index, is_element, replaced, with_object, with_value}
-use Rattle.es_meaning.specs.Plain.{data_property, first_heap}
-use Rattle.es_meaning.specs.Plain as meaning
+use Rattle.es_meaning.specs.Objects.{defined, defined_over, Plan, writes, adds, refuses, calls, is_index, is_element, replaced, with_object, with_value}
+use Rattle.es_meaning.specs.Start.{count_property, function_rows}
+use Rattle.es_meaning.specs.Plain.{first_heap}
+use Rattle.es_meaning.specs.Requested as requested
+use Rattle.es_meaning.specs.Requested.{part_body, part_marks}
 use Rattle.flow_meaning.specs.Erased.{erased_values, erased_inner, erased_slot, erased_rows, erased_object, erased_heap, labelled_values, made_inner, made_rows, made_object, made_objects, unlabelled_heap}
 use Rattle.flow_meaning.specs.Scopes.{Val}
+use Rattle.flow_meaning.specs.Requested as labelled
+use Rattle.flow_meaning.specs.Requested.{property_in, part_slot, Aim}
 use Rattle.flow_meaning.specs.Tracked as tracked
-use Rattle.flow_meaning.specs.Tracked.{data_slot}
 
 -- ---- lists of objects
 
@@ -146,7 +155,7 @@ does_under {X} {Y} {erase} {y} rule need have {go_on} d = by_case (within need h
     by_case false e = breaks e
 
 -- an act on an object of the heap
-act_on_does : (act : Act) (to : PlainObject → PlainObject) (o : ℕ) (heap : List (Object Label)) → ((p : Object Label) → slice_get heap o ≡ Some p → Does erased_object (to (erased_object p)) (act p))
+pub act_on_does : (act : Act) (to : PlainObject → PlainObject) (o : ℕ) (heap : List (Object Label)) → ((p : Object Label) → slice_get heap o ≡ Some p → Does erased_object (to (erased_object p)) (act p))
     → Does erased_heap (with_object o to (erased_heap heap)) (act_on o act heap)
 act_on_does act to o heap h = subst (λ x. Does erased_heap (replaced x o to (erased_heap heap)) (act_on o act heap)) (sym (object_erased heap o)) (there (slice_get heap o) refl)
   where
@@ -172,7 +181,7 @@ on_slot_does key to p act h = there (own key p.rows) refl
     there (Some s) e = h s
 
 -- a property is changed
-change_does : (rule : Rule) (have : Slot Label → Label) (from : Slot Label → Slot Label) (to : Property → Property) (key : List ℕ) (need : Label) (p : Object Label) → ((s : Slot Label) → erased_slot (from s) ≡ to (erased_slot s))
+pub change_does : (rule : Rule) (have : Slot Label → Label) (from : Slot Label → Slot Label) (to : Property → Property) (key : List ℕ) (need : Label) (p : Object Label) → ((s : Slot Label) → erased_slot (from s) ≡ to (erased_slot s))
     → Does erased_object (plain.with_rows (erased_object p) (changed key to (erased_rows p.rows))) (change rule have from key need p)
 change_does rule have from to key need p h =
     on_slot_does key (λ q. Some (to q)) p _ (λ s. does_under rule need (have s) (rows_does p _ _ (altered_erased key (λ x. Some (from x)) (λ q. Some (to q)) (λ x. ap (λ (q : Property). Some q) (h x)) p.rows)))
@@ -190,18 +199,22 @@ abbrev pub NamesNoElement : List (Object Label) → ℕ → List ℕ → Type 0
 NamesNoElement heap o key = (p : Object Label) → slice_get heap o ≡ Some p → element_of p.class key ≡ None
 
 -- a property is added that the object hasn't, and that is no element
-pub add_does : (o : ℕ) (key : List ℕ) (need : Label) (v : Labelled Label) (marks : Marks) (heap : List (Object Label)) → HasNot heap o key → NamesNoElement heap o key
-    → Does erased_heap (plain.add o key v.value marks (erased_heap heap)) (acts.add o key need (Data v.value) v.label marks heap)
-add_does o key need v marks heap absent free = act_on_does _ _ o heap (λ p e. there p (absent p e) (free p e))
+pub add_does : (o : ℕ) (key : List ℕ) (need : Label) (body : Body) (label : Label) (marks : Marks) (heap : List (Object Label)) → HasNot heap o key → NamesNoElement heap o key
+    → Does erased_heap (with_object o (λ p. plain.with_rows p (with_row key (record { body = body; marks = marks }) p.rows)) (erased_heap heap)) (acts.add o key need body label marks heap)
+add_does o key need body label marks heap absent free = act_on_does _ _ o heap (λ p e. there p (absent p e) (free p e))
   where
     there : (p : Object Label) → own key p.rows ≡ None → element_of p.class key ≡ None
-        → Does erased_object (plain.with_rows (erased_object p) (with_row key (record { body = Data v.value; marks = marks }) (erased_rows p.rows))) (acts.add_own key need (Data v.value) v.label marks p)
+        → Does erased_object (plain.with_rows (erased_object p) (with_row key (record { body = body; marks = marks }) (erased_rows p.rows))) (acts.add_own key need body label marks p)
     there p e f =
-        subst (λ x. Does erased_object (plain.with_rows (erased_object p) (with_row key (record { body = Data v.value; marks = marks }) (erased_rows p.rows))) (add_absent x key need (Data v.value) v.label marks p)) (sym e)
+        subst (λ x. Does erased_object (plain.with_rows (erased_object p) (with_row key (record { body = body; marks = marks }) (erased_rows p.rows))) (add_absent x key need body label marks p)) (sym e)
         (does_under W3 need p.structure
         (subst
-        (λ x. Does erased_object (plain.with_rows (erased_object p) (with_row key (record { body = Data v.value; marks = marks }) (erased_rows p.rows))) (stretched x (own length_key p.rows) need p (with_row key (added need (Data v.value) v.label marks p.structure) p.rows)))
-        (sym f) (rows_does p _ _ (with_row_erased key (added need (Data v.value) v.label marks p.structure) p.rows))))
+        (λ x. Does erased_object (plain.with_rows (erased_object p) (with_row key (record { body = body; marks = marks }) (erased_rows p.rows))) (stretched x (own length_key p.rows) need p (with_row key (added need body label marks p.structure) p.rows)))
+        (sym f) (rows_does p _ _ (with_row_erased key (added need body label marks p.structure) p.rows))))
+
+-- an object can't be extended any more
+pub prevent_does : (o : ℕ) (need : Label) (heap : List (Object Label)) → Does erased_heap (with_object o (λ p. record p { extensible = false }) (erased_heap heap)) (acts.prevent_extensions o need heap)
+prevent_does o need heap = act_on_does _ (λ p. record p { extensible = false }) o heap (λ p e. does_under W7 need p.structure (does refl))
 
 -- a property is removed
 pub remove_does : (o : ℕ) (key : List ℕ) (need : Label) (heap : List (Object Label)) → Does erased_heap (plain.remove o key (erased_heap heap)) (acts.remove o key need heap)
@@ -287,61 +300,104 @@ keys_along met (e ∷ objects) =
 pub enumerable_erased : (heap : List (Object Label)) (o : ℕ) → plain.enumerable_keys (plain_chain (erased_heap heap) o) ≡ (lists.keys (object_chain heap o)).keys
 enumerable_erased heap o = ap plain.enumerable_keys (chain_erased heap o) ∙ keys_along [] (object_chain heap o)
 
+-- ---- what stands at a number on the way
+
+-- the first object that has a key has that property
+abbrev AtFound : List (Object Label) → List ℕ → Option (ℕ × Slot Label) → Type 0
+AtFound heap key None = Unit {0}
+AtFound heap key (Some f) = tracked.own_in key (slice_get heap f.0) ≡ Some f.1
+
+-- each object of a chain stands at its number
+data Stands (heap : List (Object Label)) : List (ℕ × Object Label) → Type 0 where
+  none_stand : Stands heap []
+  one_stands : {i : ℕ} {p : Object Label} {objects : List (ℕ × Object Label)} → slice_get heap i ≡ Some p → Stands heap objects → Stands heap ((i, p) ∷ objects)
+
+onwards_stand : (heap : List (Object Label)) (o : Option ℕ) (f : ℕ → List (ℕ × Object Label)) → ((i : ℕ) → Stands heap (f i)) → Stands heap (onwards o f)
+onwards_stand heap None f h = none_stand
+onwards_stand heap (Some i) f h = h i
+
+beginning_stands : (heap : List (Object Label)) (i : ℕ) (o : Option (Object Label)) (f : ℕ → List (ℕ × Object Label)) → slice_get heap i ≡ o → ((i : ℕ) → Stands heap (f i)) → Stands heap (beginning i o (λ p. onwards (proto_of p) f))
+beginning_stands heap i None f e h = none_stand
+beginning_stands heap i (Some p) f e h = one_stands e (onwards_stand heap (proto_of p) f h)
+
+within_stands : (heap : List (Object Label)) (n i : ℕ) → Stands heap (chain_within proto_of heap n i)
+within_stands heap zero i = none_stand
+within_stands heap (suc n) i = beginning_stands heap i (slice_get heap i) (chain_within proto_of heap n) refl (within_stands heap n)
+
+found_stands : (heap : List (Object Label)) (key : List ℕ) (i : ℕ) (p : Object Label) (s : Option (Slot Label)) (rest : Found) → slice_get heap i ≡ Some p → own key p.rows ≡ s → AtFound heap key rest.at → AtFound heap key (found_at i p s rest).at
+found_stands heap key i p None rest e q h = h
+found_stands heap key i p (Some s) rest e q h = ap (tracked.own_in key) e ∙ q
+
+at_found : (heap : List (Object Label)) (key : List ℕ) {objects : List (ℕ × Object Label)} → Stands heap objects → AtFound heap key (find key objects).at
+at_found heap key none_stand = tt
+at_found heap key (one_stands {i = i} {p = p} {objects = objects} e h) = found_stands heap key i p (own key p.rows) (find key objects) e refl (at_found heap key h)
+
 -- ---- what a put does
 
--- the same without labels, where this holds of what is added
-pub data Plans (Absent : Type 0) : PutPlan Label → Plan → Type 0 where
-  both_write : {walk : Label} → Plans Absent (Write walk) writes
-  both_add : {walk : Label} → Absent → Plans Absent (Add walk) adds
-  both_refuse : {walk : Label} → Plans Absent (Refused walk) refuses
-  both_call : {at f : ObjId} {walk : Label} → Plans Absent (Setter at walk) (calls f)
+-- the property that the key names in the object with this number has this setter
+pub record HasSetter (heap : List (Object Label)) (key : List ℕ) (at f : ObjId) : Type 0 where
+  pub slot : Slot Label
+  pub stands : tracked.own_in key (slice_get heap at.0) ≡ Some slot
+  pub setter : setter_in slot.body ≡ Some f
 
--- a setter that there may be
-setter_plans : {A : Type 0} (at : ℕ) (set : Option ObjId) (label walk : Label) → Plans A (walks.setter_plan at set label walk) (plain.setter_plan set)
-setter_plans at None label walk = both_refuse
-setter_plans at (Some f) label walk = both_call
+-- the same without labels, where this holds of what is added, and that of a setter
+pub data Plans (Absent : Type 0) (Calls : ObjId → ObjId → Type 0) : PutPlan Label → Plan → Type 0 where
+  both_write : {walk : Label} → Plans Absent Calls (Write walk) writes
+  both_add : {walk : Label} → Absent → Plans Absent Calls (Add walk) adds
+  both_refuse : {walk : Label} → Plans Absent Calls (Refused walk) refuses
+  both_call : {at f : ObjId} {walk : Label} → Calls at f → Plans Absent Calls (Setter at walk) (calls f)
 
--- what a property of the object allows
-own_plans : {A : Type 0} (o : ℕ) (s : Slot Label) (body : Body) (walk : Label) → Plans A (walks.own_plan o s body walk) (plain.own_plan (erased_slot s) body)
-own_plans {A} o s (Data v) walk = by_case s.marks.writable
-  where
-    by_case : (b : Bool) → Plans A (walks.if_allowed b (Write walk) walk) (plain.if_allowed b writes)
-    by_case true = both_write
-    by_case false = both_refuse
-own_plans o s (Accessor get set) walk = setter_plans o set s.label walk
+module _ (heap : List (Object Label)) (key : List ℕ) where
+  -- a setter that there may be
+  setter_plans : {A : Type 0} (at : ℕ) (set : Option ObjId) (s : Slot Label) (label walk : Label) → tracked.own_in key (slice_get heap at) ≡ Some s → setter_in s.body ≡ set → Plans A (HasSetter heap key) (walks.setter_plan at set label walk) (plain.setter_plan set)
+  setter_plans at None s label walk e q = both_refuse
+  setter_plans at (Some f) s label walk e q = both_call (record { slot = s; stands = e; setter = q })
 
--- a property may be added
-adding_plans : {A : Type 0} → A → (b : Bool) (walk : Label) → Plans A (walks.if_allowed b (Add walk) walk) (plain.if_allowed b adds)
-adding_plans a true walk = both_add a
-adding_plans a false walk = both_refuse
+  -- what a property of the object allows
+  own_plans : {A : Type 0} (o : ℕ) (s : Slot Label) (body : Body) (walk : Label) → tracked.own_in key (slice_get heap o) ≡ Some s → s.body ≡ body → Plans A (HasSetter heap key) (walks.own_plan o s body walk) (plain.own_plan (erased_slot s) body)
+  own_plans {A} o s (Data v) walk e q = by_case s.marks.writable
+    where
+      by_case : (b : Bool) → Plans A (HasSetter heap key) (walks.if_allowed b (Write walk) walk) (plain.if_allowed b writes)
+      by_case true = both_write
+      by_case false = both_refuse
+  own_plans o s (Accessor get set) walk e q = setter_plans o set s s.label walk e (ap setter_in q)
 
--- what the prototypes allow
-inherited_plans : {A : Type 0} → A → (extensible : Bool) (at : ℕ) (s : Slot Label) (body : Body) (walk : Label) → Plans A (walks.inherited_plan extensible at s body walk) (plain.inherited_plan extensible (erased_slot s) body)
-inherited_plans a extensible at s (Data v) walk = adding_plans a (extensible && s.marks.writable) walk
-inherited_plans a extensible at s (Accessor get set) walk = setter_plans at set s.label walk
+  -- a property may be added
+  adding_plans : {A : Type 0} → A → (b : Bool) (walk : Label) → Plans A (HasSetter heap key) (walks.if_allowed b (Add walk) walk) (plain.if_allowed b adds)
+  adding_plans a true walk = both_add a
+  adding_plans a false walk = both_refuse
 
-beyond_plans : {A : Type 0} → A → (extensible : Bool) (f : Option (ℕ × Slot Label)) (walk : Label) → Plans A (walks.beyond_plan extensible f walk) (plain.beyond_plan extensible (erased_found f))
-beyond_plans a extensible None walk = adding_plans a extensible walk
-beyond_plans a extensible (Some f) walk = inherited_plans a extensible f.0 f.1 f.1.body walk
+  -- what the prototypes allow
+  inherited_plans : {A : Type 0} → A → (extensible : Bool) (at : ℕ) (s : Slot Label) (body : Body) (walk : Label) → tracked.own_in key (slice_get heap at) ≡ Some s → s.body ≡ body
+      → Plans A (HasSetter heap key) (walks.inherited_plan extensible at s body walk) (plain.inherited_plan extensible (erased_slot s) body)
+  inherited_plans a extensible at s (Data v) walk e q = adding_plans a (extensible && s.marks.writable) walk
+  inherited_plans a extensible at s (Accessor get set) walk e q = setter_plans at set s s.label walk e (ap setter_in q)
 
--- the object, or its prototypes
-plans_at : {A : Type 0} (o : ℕ) (p : Object Label) (s : Option (Slot Label)) (rest : Found) → (s ≡ None → A) → Plans A (walks.plan_at o p s rest) (plain.plan_at (erased_object p) (option_map erased_slot s) (erased_found rest.at))
-plans_at o p (Some s) rest h = own_plans o s s.body s.existence
-plans_at o p None rest h = beyond_plans (h refl) p.extensible rest.at _
+  beyond_plans : {A : Type 0} → A → (extensible : Bool) (f : Option (ℕ × Slot Label)) (walk : Label) → AtFound heap key f → Plans A (HasSetter heap key) (walks.beyond_plan extensible f walk) (plain.beyond_plan extensible (erased_found f))
+  beyond_plans a extensible None walk h = adding_plans a extensible walk
+  beyond_plans a extensible (Some f) walk h = inherited_plans a extensible f.0 f.1 f.1.body walk h refl
+
+  -- the object, or its prototypes
+  plans_at : {A : Type 0} (o : ℕ) (p : Object Label) (s : Option (Slot Label)) (rest : Found) → slice_get heap o ≡ Some p → own key p.rows ≡ s → AtFound heap key rest.at → (s ≡ None → A)
+      → Plans A (HasSetter heap key) (walks.plan_at o p s rest) (plain.plan_at (erased_object p) (option_map erased_slot s) (erased_found rest.at))
+  plans_at o p (Some s) rest e q f h = own_plans o s s.body s.existence (ap (tracked.own_in key) e ∙ q) refl
+  plans_at o p None rest e q f h = beyond_plans (h refl) p.extensible rest.at _ f
 
 -- what a put on an object does: nothing is added that is there
-pub can_put_erased : (key : List ℕ) (heap : List (Object Label)) (o : ℕ) → Plans (HasNot heap o key) (walks.can_put key (object_chain heap o)) (plain.can_put key (plain_chain (erased_heap heap) o))
-can_put_erased key heap o = subst (λ c. Plans (HasNot heap o key) (walks.can_put key (object_chain heap o)) (plain.can_put key c)) (sym (chain_erased heap o)) (there (slice_get heap o) refl)
+pub can_put_erased : (key : List ℕ) (heap : List (Object Label)) (o : ℕ) → Plans (HasNot heap o key) (HasSetter heap key) (walks.can_put key (object_chain heap o)) (plain.can_put key (plain_chain (erased_heap heap) o))
+can_put_erased key heap o =
+    subst (λ c. Plans (HasNot heap o key) (HasSetter heap key) (walks.can_put key (object_chain heap o)) (plain.can_put key c)) (sym (chain_erased heap o)) (there (slice_get heap o) refl)
   where
     behind : Object Label → List (ℕ × Object Label)
     behind p = onwards (proto_of p) (chain_within proto_of heap o)
 
-    there : (x : Option (Object Label)) → slice_get heap o ≡ x → Plans (HasNot heap o key) (walks.can_put key (beginning o x behind)) (plain.can_put key (erased_chain (beginning o x behind)))
+    there : (x : Option (Object Label)) → slice_get heap o ≡ x → Plans (HasNot heap o key) (HasSetter heap key) (walks.can_put key (beginning o x behind)) (plain.can_put key (erased_chain (beginning o x behind)))
     there None e = both_refuse
     there (Some p) e =
-        subst (λ f. Plans (HasNot heap o key) (walks.can_put key ((o, p) ∷ behind p)) (plain.plan_at (erased_object p) (own key (erased_rows p.rows)) f)) (sym (along_erased key (behind p)))
-        (subst (λ s. Plans (HasNot heap o key) (walks.can_put key ((o, p) ∷ behind p)) (plain.plan_at (erased_object p) s (erased_found (find key (behind p)).at))) (sym (own_erased key p.rows))
-        (plans_at o p (own key p.rows) (find key (behind p)) (λ none q d. ap (λ (x : Object Label). own key x.rows) (same_Some q p (sym d ∙ e)) ∙ none)))
+        subst (λ f. Plans (HasNot heap o key) (HasSetter heap key) (walks.can_put key ((o, p) ∷ behind p)) (plain.plan_at (erased_object p) (own key (erased_rows p.rows)) f)) (sym (along_erased key (behind p)))
+        (subst (λ s. Plans (HasNot heap o key) (HasSetter heap key) (walks.can_put key ((o, p) ∷ behind p)) (plain.plan_at (erased_object p) s (erased_found (find key (behind p)).at))) (sym (own_erased key p.rows))
+        (plans_at heap key o p (own key p.rows) (find key (behind p)) e refl (at_found heap key (onwards_stand heap (proto_of p) (chain_within proto_of heap o) (within_stands heap o)))
+        (λ none q d. ap (λ (x : Object Label). own key x.rows) (same_Some q p (sym d ∙ e)) ∙ none)))
 
 -- a key that names no element
 no_index : (n : Option ℕ) → is_index n ≡ false → n ≡ None
@@ -370,17 +426,73 @@ defined_here (Some t) key s rows = altered_erased key (λ x. Some s) (λ q. Some
 pub defined_erased : (key : List ℕ) (s : Slot Label) (rows : Rows (Slot Label)) → erased_rows (plain.defined key s rows) ≡ plain.defined key (erased_slot s) (erased_rows rows)
 defined_erased key s rows = defined_here (own key rows) key s rows ∙ ap (λ x. defined_over x key (erased_slot s) (erased_rows rows)) (sym (own_erased key rows))
 
--- keys are given values in turn
-defined_all_erased : (label : Label) (keys : List (List ℕ)) (vs : List Val) (rows : Rows (Slot Label))
-    → erased_rows (defined_all keys (map (data_slot label) vs) rows) ≡ defined_all keys (map data_property (map (λ v. v.value) vs)) (erased_rows rows)
-defined_all_erased label [] vs rows = refl
-defined_all_erased label (key ∷ keys) [] rows = refl
-defined_all_erased label (key ∷ keys) (v ∷ vs) rows =
-    defined_all_erased label keys vs (plain.defined key (data_slot label v) rows) ∙ ap (defined_all keys (map data_property (map (λ v. v.value) vs))) (defined_erased key (data_slot label v) rows)
+-- a part, which joins the other half of its property
+pub property_is : (s : Option (Slot Label)) → property_in s ≡ option_map erased_slot s
+property_is None = refl
+property_is (Some s) = refl
+
+part_erased : (label : Label) (part : Part) (key : List ℕ) (v : Val) (rows : Rows (Slot Label)) → erased_rows (labelled.with_part label part key v rows) ≡ requested.with_part part key v.value (erased_rows rows)
+part_erased label part key v rows =
+    defined_erased key (part_slot label part (own key rows) v) rows
+    ∙ ap (λ old. defined key (record { body = part_body part old v.value; marks = part_marks part }) (erased_rows rows)) (property_is (own key rows) ∙ sym (own_erased key rows))
+
+-- parts in turn
+parts_erased : (label : Label) (parts : List (Part × List ℕ)) (vs : List Val) (rows : Rows (Slot Label))
+    → erased_rows (labelled.with_parts label parts vs rows) ≡ requested.with_parts parts (map (λ v. v.value) vs) (erased_rows rows)
+parts_erased label [] vs rows = refl
+parts_erased label (part ∷ parts) [] rows = refl
+parts_erased label (part ∷ parts) (v ∷ vs) rows =
+    parts_erased label parts vs (labelled.with_part label part.0 part.1 v rows) ∙ ap (requested.with_parts parts (map (λ v. v.value) vs)) (part_erased label part.0 part.1 v rows)
 
 -- the object
-pub literal_erased : (keys : List (List ℕ)) (vs : List Val) (label : Label) → erased_object (tracked.literal_object keys vs label) ≡ meaning.literal_object keys (map (λ v. v.value) vs)
-literal_erased keys vs label = ap (plain.with_rows (meaning.literal_object [] [])) (defined_all_erased label keys vs [])
+pub literal_erased : (parts : List (Part × List ℕ)) (vs : List Val) (label : Label) → erased_object (labelled.literal_object parts vs label) ≡ requested.literal_object parts (map (λ v. v.value) vs)
+literal_erased parts vs label = ap (plain.with_rows (requested.literal_object [] [])) (parts_erased label parts vs [])
+
+-- ---- bound functions
+
+abbrev pub values_of : List Val → List Value
+values_of vs = map (λ v. v.value) vs
+
+values_erased : (vs : List Val) → erased_values vs ≡ values_of vs
+values_erased [] = refl
+values_erased (v ∷ vs) = ap (λ us. v.value ∷ us) (values_erased vs)
+
+pub values_length : (vs : List Val) → length (values_of vs) ≡ length vs
+values_length [] = refl
+values_length (v ∷ vs) = ap suc (values_length vs)
+
+pub values_appended : (vs us : List Val) → values_of (vs ++ us) ≡ values_of vs ++ values_of us
+values_appended [] us = refl
+values_appended (v ∷ vs) us = ap (λ xs. v.value ∷ xs) (values_appended vs us)
+
+-- what they come to
+abbrev pub erased_target : Target Val → Target Value
+erased_target target = record { function = target.function; this = option_map (λ v. v.value) target.this; args = values_of target.args }
+
+pub this_erased : (kept : Option Val) (this : Val) → this_or (option_map (λ v. v.value) kept) this.value ≡ (this_or kept this).value
+this_erased None this = refl
+this_erased (Some kept) this = refl
+
+behind_target : (this : Val) (args : List Val) (rest : Target Val) → bound_behind this.value (values_of args) (erased_target rest) ≡ erased_target (bound_behind this args rest)
+behind_target this args rest = ap₂ (λ base us. record { function = rest.function; this = Some base; args = us }) (this_erased rest.this this) (sym (values_appended rest.args args))
+
+aim_behind_erased : (f : ℕ → Aim) (g : ℕ → Target Value) → ((o : ℕ) → g o ≡ erased_target (f o).target) → (o : ℕ) (inner : Inner Label) → requested.target_behind g o (erased_inner inner) ≡ erased_target (labelled.aim_behind f o inner).target
+aim_behind_erased f g h o Plain = refl
+aim_behind_erased f g h o (Script function place) = refl
+aim_behind_erased f g h o (Native which) = refl
+aim_behind_erased f g h o (Bound target label this args) = ap₂ (λ us rest. bound_behind this.value us rest) (values_erased args) (h target.0) ∙ behind_target this args (f target.0).target
+
+aim_in_erased : (f : ℕ → Aim) (g : ℕ → Target Value) → ((o : ℕ) → g o ≡ erased_target (f o).target) → (o : ℕ) (p : Option (Object Label)) → requested.target_in g o (option_map erased_object p) ≡ erased_target (labelled.aim_in f o p).target
+aim_in_erased f g h o None = refl
+aim_in_erased f g h o (Some p) = aim_behind_erased f g h o p.inner
+
+aim_within_erased : (heap : List (Object Label)) (n o : ℕ) → requested.target_within (erased_heap heap) n o ≡ erased_target (labelled.aim_within heap n o).target
+aim_within_erased heap zero o = refl
+aim_within_erased heap (suc n) o =
+    ap (requested.target_in (requested.target_within (erased_heap heap) n) o) (object_erased heap o) ∙ aim_in_erased (labelled.aim_within heap n) (requested.target_within (erased_heap heap) n) (aim_within_erased heap n) o (slice_get heap o)
+
+pub aim_erased : (heap : List (Object Label)) (o : ℕ) → requested.target_of (erased_heap heap) o ≡ erased_target (labelled.aim_of heap o).target
+aim_erased heap o = aim_within_erased heap (suc o) o
 
 -- ---- the start
 
@@ -395,7 +507,7 @@ inner_made label (script number place) = refl
 inner_made label (native which) = refl
 inner_made label (bound target this args) = ap (bound target this) (values_made label args)
 
-rows_made : (label : Label) (rows : Rows Property) → erased_rows (made_rows label rows) ≡ rows
+pub rows_made : (label : Label) (rows : Rows Property) → erased_rows (made_rows label rows) ≡ rows
 rows_made label [] = refl
 rows_made label (r ∷ rows) = ap (λ (rs : Rows Property). r ∷ rs) (rows_made label rows)
 
@@ -406,6 +518,16 @@ pub objects_made : (label : Label) (objects : List PlainObject) → erased_heap 
 objects_made label [] = refl
 objects_made label (p ∷ objects) = ap₂ (λ q ps. q ∷ ps) (object_made label p) (objects_made label objects)
 
+-- a bound function that is made
+pub bound_erased : (target : ObjId) (given : Label) (this : Val) (args : List Val) (known : Label) (count : ℕ) (label : Label) → erased_object (labelled.bound_object target given this args known count label) ≡ requested.bound_object target this.value (values_of args) count
+bound_erased target given this args known count label =
+    ap₂ (λ us (rows : Rows Property). record (requested.bound_object target this.value us count) { rows = (codes "length", count_property count) ∷ rows }) (values_erased args) (rows_made label function_rows)
+
+-- further properties
+pub rows_appended : (rows more : Rows (Slot Label)) → erased_rows (rows ++ more) ≡ erased_rows rows ++ erased_rows more
+rows_appended [] more = refl
+rows_appended (r ∷ rows) more = ap (λ (rs : Rows Property). (r.0, erased_slot r.1) ∷ rs) (rows_appended rows more)
+
 -- further objects
 pub appended_erased : (heap objects : List (Object Label)) → erased_heap (heap ++ objects) ≡ erased_heap heap ++ erased_heap objects
 appended_erased [] objects = refl
@@ -413,5 +535,5 @@ appended_erased (p ∷ heap) objects = ap (λ ps. erased_object p ∷ ps) (appen
 
 -- the objects that a run starts with
 -- with their labels, and without
-pub first_heap_erased : (program : Statements) → erased_heap (unlabelled_heap (first_heap program)) ≡ first_heap program
-first_heap_erased program = objects_made bottom (first_heap program)
+pub first_heap_erased : (set : BuiltIns) (program : Statements) → erased_heap (unlabelled_heap (first_heap set program)) ≡ first_heap set program
+first_heap_erased set program = objects_made bottom (first_heap set program)

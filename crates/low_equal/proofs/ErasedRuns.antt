@@ -12,27 +12,32 @@ use Rattle.js_values.specs.Records.{Record}
 use Rattle.js_ast.specs.Trees.{Statements}
 use Rattle.js_ast.specs.Functions.{FunctionCode, functions_of}
 use Rattle.es_meaning.specs.Outcomes as es
-use Rattle.es_meaning.specs.Outcomes.{Exit, returns, leaves, left, out_of_turns, Outcome, Goes, Jumps, Ends, ret, ◌>>=◌}
+use Rattle.es_meaning.specs.BuiltIns.{BuiltIns}
+use Rattle.es_meaning.specs.Outcomes.{Exit, throws, returns, leaves, left, out_of_turns, Outcome, Goes, Jumps, Ends, ret, ◌>>=◌}
 use Rattle.es_meaning.specs.Environments.{Around, Env, with_around, with_place, called_env, Leaving, thrown, returned, left_by, same_mark, is_label, find_around, aimed}
 use Rattle.es_meaning.specs.Functions.{env_id, binds}
 use Rattle.es_meaning.specs.Operations.{Ty, One, Res, Ops}
 use Rattle.es_meaning.specs.Operations.{Value as a_value}
-use Rattle.es_meaning.specs.Operators.{is_object, truth, converts_beside, binary_of, not_built}
+use Rattle.native_protocol.specs.declared.request.Seen.{Seen}
+use Rattle.es_meaning.specs.Operators.{truth, binary_of}
 use Rattle.es_meaning.specs.Evaluation.{program_step}
 use Rattle.es_meaning.specs.Plain as plain
 use Rattle.es_meaning.specs.Plain.{State, P, ended_round, may_declare, outermost_env, plain_run}
-use Rattle.es_meaning.proofs.Link.{Rel, Link, program_linked}
+use Rattle.es_meaning.proofs.Link.{Rel, Rels, nils, conses, EnteringLinked, Link}
+use Rattle.es_meaning.proofs.RequestLinks.{program_linked}
 use Rattle.flow_meaning.specs.Erased.{erased_heap, erased_records, unlabelled}
 use Rattle.flow_meaning.specs.Scopes as scopes
-use Rattle.flow_meaning.specs.Scopes.{Val, Halt, L, round_kind}
+use Rattle.flow_meaning.specs.Scopes.{Val, Halt, L, raise, jump, round_kind}
 use Rattle.flow_meaning.specs.Tracked as tracked
-use Rattle.flow_meaning.specs.Tracked.{CallBody, tracked_run}
+use Rattle.flow_meaning.specs.Tracked.{tracked_run}
 use Rattle.low_equal.specs.Erasure.{Erases, goes_on, IsErasing}
 use Rattle.low_equal.specs.Erasure as erasure
-use Rattle.low_equal.proofs.Erased.{erased_result, erased, lines_behind, ends_extends, Mark, passes, calls, rounds, tries, aim, aim_throws, Shaped, cond_true, cond_false, by_test, Yields, goes, jumps, ends, stops, Lift, ret_lifts, bind_lifts, fork_lifts, round_lifts, again_lifts}
-use Rattle.low_equal.proofs.ErasedHeaps.{first_heap_erased}
-use Rattle.low_equal.proofs.ErasedCalls.{attempt_lifts, jumps_lifts, no_jump_lifts, raises_lifts, records_length, records_appended, PlainBody, Bodies, calls_lift, constructs_lift, function_lifts, instance_lifts}
-use Rattle.low_equal.proofs.ErasedActs.{erased_reference, resolved_erased, given_lifts, unary_lifts, unless_lifts, get_value_lifts, typeof_value_lifts, put_value_lifts, remove_lifts, spend_lifts, ends_lifts, values_are, act_lifts, keys_lifts, direct_lifts}
+use Rattle.low_equal.proofs.Erased.{erased_result, erased, lines_behind, jumps_extends, ends_extends, Mark, passes, calls, rounds, tries, aim, aim_throws, Shaped, cond_true, cond_false, by_test, Yields, goes, jumps, ends, stops, LiftBy, Lift, ret_lifts, bind_lifts, jump_yields, raise_lifts, fork_lifts, round_lifts, again_lifts}
+use Rattle.low_equal.proofs.ErasedHeaps.{first_heap_erased, values_of}
+use Rattle.low_equal.proofs.ErasedActs.{erased_reference, resolved_erased, seen_erased, given_lifts, unary_lifts, remove_lifts, spend_lifts, ends_lifts, keys_lifts}
+use Rattle.low_equal.proofs.ErasedRequests.{values_are, act_lifts}
+use Rattle.low_equal.proofs.ErasedCalls.{attempt_lifts, jumps_lifts, no_jump_lifts, raises_lifts, records_length, records_appended, function_lifts}
+use Rattle.low_equal.proofs.ErasedEntering.{Enters, value_lifts, construct_lifts, get_lifts, typeof_get_lifts, put_lifts, primitive_lifts, comparable_lifts, instance_lifts}
 
 -- a value, and what is left of it without its label
 abbrev Same : List Mark → Val → Value → Type 0
@@ -55,8 +60,8 @@ labelled_reference_is (plain.of_name name place) = refl
 labelled_reference_is (plain.of_property v key) = refl
 
 -- the unlabelled computation of equal values
-at_equal : {A : Type 0} {t : Ty} {w : List Mark} {m : L (Res Val t)} {a b : A} (n : A → P (Res Value t)) → a ≡ b → Lift t w m (n a) → Lift t w m (n b)
-at_equal {t = t} {w = w} {m = m} n e l = subst (λ x. Lift t w m (n x)) e l
+at_equal : {A X Y : Type 0} {erase : X → Y} {w : List Mark} {m : L X} {a b : A} (n : A → P Y) → a ≡ b → LiftBy erase w m (n a) → LiftBy erase w m (n b)
+at_equal {erase = erase} {w = w} {m = m} n e l = subst (λ x. LiftBy erase w m (n x)) e l
 
 -- ---- environments: each handle is the depth of the frame at which its jumps stop
 
@@ -144,13 +149,41 @@ aims_lift : {w : List Mark} {to : Option (Exit × ℕ)} {there : Option (Exit ×
 aims_lift v aims_nowhere = no_jump_lifts v
 aims_lift v (aims_at {exit = exit} {to = to} e) = jumps_lifts exit to v e
 
-module _ (tables : Tables) (inputs : Given) (functions : List FunctionCode) where
+-- ---- what is entered, looks and throws
+
+-- the values of a list
+rels_of : (vs : List Val) → Rels (λ (v : Val) (r : Value). v.value ≡ r) vs (values_of vs)
+rels_of [] = nils
+rels_of (v ∷ vs) = conses refl (rels_of vs)
+
+-- a body is entered in the record and the frame of a call
+enters_of : {E : tracked.Enters} {D : plain.Enters} → EnteringLinked (List Mark) Same Reaches Lift E D → Enters E D
+enters_of h = record {
+  body = λ w ss i. h.body (calls ∷ w) ss (called_env i (suc (length w))) (called_env i tt) (record { place = refl; call = refl; around = no_handles });
+  built_in = λ w which construct vs. h.built_in w which construct vs (values_of vs) (rels_of vs);
+  conversion = λ w wanted v. h.conversion w wanted v v.value refl;
+}
+
+-- a look raises the innermost frame, which is nothing without labels
+look_lifts : {w : List Mark} (v : Val) (f : Seen → L Val) (g : Seen → P Value) → ((seen : Seen) → Lift a_value w (f seen) (g seen))
+    → Lift a_value w (raise v.label >>= λ u s. f (tracked.seen s.heap v.value) s) (λ s. g (plain.seen s.heap v.value) s)
+look_lifts {w} v f g h =
+    let l = bind_lifts One a_value w (λ u s. f (tracked.seen s.heap v.value) s) (λ u s. g (plain.seen s.heap v.value) s) (raise_lifts v.label) (λ u. record {
+      yields = λ s r. subst (λ x. Yields a_value w (f (tracked.seen s.heap v.value) s) (g x (erased s))) (sym (seen_erased s.heap v.value)) ((h (tracked.seen s.heap v.value)).yields s r);
+      extends = λ s. (h (plain.seen s.heap v.value)).extends s;
+    }) in
+    record { yields = l.yields; extends = l.extends }
+
+throw_lifts : {w : List Mark} (v : Val) → Lift a_value w (jump bottom (record { exit = throws; to = 0; value = v })) (λ s. Jumps (record { exit = throws; value = v.value }) s)
+throw_lifts {w} v = record { yields = λ s r. jump_yields bottom (record { exit = throws; to = 0; value = v }) s (sym (aim_throws w)) r; extends = λ s. jumps_extends _ s }
+
+module _ (tables : Tables) (inputs : Given) (set : BuiltIns) (functions : List FunctionCode) where
   -- both meanings
   abbrev A : Ops
-  A = tracked.labelled tables inputs functions
+  A = tracked.labelled tables inputs set functions
 
   abbrev B : Ops
-  B = plain.plain tables inputs functions
+  B = plain.plain tables inputs set functions
 
   -- a name is resolved
   resolve_lifts : (t : Ty) {w : List Mark} (i : ℕ) (x : List ℕ) (f : tracked.Reference → L (Res Val t)) (g : plain.Reference → P (Res Value t)) → ((n : tracked.Reference) (m : plain.Reference) → erased_reference n ≡ m → Lift t w (f n) (g m))
@@ -195,12 +228,8 @@ module _ (tables : Tables) (inputs : Given) (functions : List FunctionCode) wher
       plain_name : ℕ → ℕ → State → State
       plain_name n place s = record s { records = s.records ++ record { outer = Some (env_id place); bindings = binds true name v.value } ∷ [] }
 
-  -- a body in the record of a call
-  bodies : {w : List Mark} (f : CallBody) (g : PlainBody) → ((w' : List Mark) (ss : Statements) (e : Env ℕ) (d : Env (Unit {0})) → Reaches w' e d → Lift One w' (f ss e) (g ss d)) → Bodies w f g
-  bodies {w} f g h ss i = h (calls ∷ w) ss (called_env i (suc (length w))) (called_env i tt) (record { place = refl; call = refl; around = no_handles })
-
   -- the operations with labels and those without
-  pub erasing : Link (tracked.labelled tables inputs functions) (plain.plain tables inputs functions)
+  pub erasing : Link (tracked.labelled tables inputs set functions) (plain.plain tables inputs set functions)
   erasing = record {
     W = List Mark;
     Le = SameAims;
@@ -224,46 +253,49 @@ module _ (tables : Tables) (inputs : Given) (functions : List FunctionCode) wher
     literal = λ w v. refl;
     unary = λ o {v} r. at_equal (B.unary o) r (unary_lifts o v);
     binary = λ o {v} {u} {v'} {u'} r q. at_equal (λ x. B.binary o x u') r (at_equal (λ x. B.binary o v.value x) q (given_lifts _ (binary_of o v.value u.value)));
-    primitive = λ hint {v} r. at_equal (B.primitive hint) r (unless_lifts (is_object v.value) v);
-    comparable = λ {v} {u} {v'} {u'} r q. at_equal (λ x. B.comparable x u') r (at_equal (λ x. B.comparable v.value x) q (unless_lifts (converts_beside v.value u.value) v));
-    direct = λ f {vs} rs. at_equal (B.direct f) (values_are rs) (direct_lifts tables inputs f vs);
-    unbuilt = λ t w. ends_lifts (left not_built);
-    act = λ f {vs} rs. at_equal (B.act f) (values_are rs) (act_lifts f vs);
-    resolve = λ t {w} {i} x f g p h. at_equal (λ j. B.resolve t j x g) p (resolve_lifts t i x f g (h w (λ j. refl)));
-    property = λ {v = v} r q. ap₂ (λ x y. B.property x y) r q;
-    get_value = λ {n = n} f g r h. at_equal (λ m. B.get_value m g) r (get_value_lifts n);
-    typeof_value = λ {n = n} f g r h. at_equal (λ m. B.typeof_value m g) r (typeof_value_lifts n);
-    put_value = λ {n = n} {v = v} {v' = v'} f g r q h. at_equal (λ m. B.put_value m v' g) r (at_equal (λ x. B.put_value (erased_reference n) x g) q (put_value_lifts n v));
-    remove = λ {n = n} r. at_equal B.remove r (remove_lifts n);
-    fork = λ t {w = w} {v = v} {m' = m'} {n' = n'} r h k. at_equal (λ x. B.fork t x m' n') r (fork_lifts t v (truth v.value) (h (passes ∷ w) (λ j. refl)) (k (passes ∷ w) (λ j. refl)));
-    round = λ turn labels f g r h. round_link turn labels f g r (λ w. h w tt);
-    again = λ {v = v} {m' = m'} {n' = n'} r h k. at_equal (λ x. B.again x m' n') r (again_lifts v (truth v.value) h k);
+    primitive = λ kind {v = v} {E = E} {D = D} r h. at_equal (λ x. B.primitive kind x D) r (primitive_lifts functions E D (enters_of h) kind v);
+    comparable = λ {v = v} {u = u} {u' = u'} {E = E} {D = D} r q h. at_equal (λ x. B.comparable x u' D) r (at_equal (λ x. B.comparable v.value x D) q (comparable_lifts functions E D (enters_of h) v u));
+    act = λ f {vs} rs. at_equal (B.act f) (values_are rs) (act_lifts tables inputs f vs);
+    look = λ {w = w} {v = v} f g r h. at_equal (λ x. B.look x g) r (look_lifts v f g (h w (λ j. refl)));
     function = λ f {i = i} p. at_equal (B.function f) p (function_lifts functions f i);
     jump = λ leaving {d = d} {v = v} r q. at_equal (λ x. B.jump leaving d x) q (aims_lift v (all_aims leaving r));
     raise = λ leaving {e = e} names r. raised_lifts leaving (aimed 0 leaving e) (tracked.named_origins tables inputs names);
+    throw = λ {v = v} r. at_equal B.throw r (throw_lifts v);
+    leave = λ t w name. ends_lifts (left name);
+    resolve = λ t {w} {i} x f g p h. at_equal (λ j. B.resolve t j x g) p (resolve_lifts t i x f g (h w (λ j. refl)));
+    get_value = λ {n = n} {E = E} {D = D} r h. at_equal (λ m. B.get_value m D) r (get_lifts functions E D (enters_of h) n);
+    typeof_value = λ {n = n} {E = E} {D = D} r h. at_equal (λ m. B.typeof_value m D) r (typeof_get_lifts functions E D (enters_of h) n);
+    put_value = λ {n = n} {v = v} {v' = v'} {E = E} {D = D} r q h. at_equal (λ m. B.put_value m v' D) r (at_equal (λ x. B.put_value (erased_reference n) x D) q (put_lifts functions E D (enters_of h) n v));
+    property = λ {v = v} r q. ap₂ (λ x y. B.property x y) r q;
+    remove = λ {n = n} r. at_equal B.remove r (remove_lifts n);
     this_of = λ {n = n} r. base_is n ∙ ap B.this_of r;
-    instance = λ {v = v} {f = f} {f' = f'} m n r q h. at_equal (λ x. B.instance x f' n) r (at_equal (λ x. B.instance v.value x n) q (instance_lifts v f));
-    declare = λ {w = w} name {v = v} {d = d} f g r q h. at_equal (λ x. B.declare name x d g) r (declare_lifts name v f g q (h w (λ j. refl)));
-    call = λ {f = f} {this = b} {f' = f'} {this' = b'} {vs = vs} {us = us} m n r q rs h. at_equal (λ x. B.call x b' us n) r (at_equal (λ x. B.call f.value x us n) q (at_equal (λ xs. B.call f.value b.value xs n) (values_are rs) (calls_lift functions f b vs m n (bodies m n h))));
-    construct = λ {f = f} {vs = vs} {us = us} m n r rs h. at_equal (λ x. B.construct x us n) r (at_equal (λ xs. B.construct f.value xs n) (values_are rs) (constructs_lift functions f vs m n (bodies m n h)));
-    attempt = λ {w = w} handles finishes f g l h q. attempt_lifts handles finishes f g (l (tries true ∷ w) (λ j. refl)) (λ b v. h (tries b ∷ w) (λ j. refl) v v.value refl) (q (tries false ∷ w) (λ j. refl));
+    instance = λ {v = v} {f = f} {f' = f'} {E = E} {D = D} r q h. at_equal (λ x. B.instance x f' D) r (at_equal (λ x. B.instance v.value x D) q (instance_lifts functions E D (enters_of h) f.value v f.label));
+    fork = λ t {w = w} {v = v} {m' = m'} {n' = n'} r h k. at_equal (λ x. B.fork t x m' n') r (fork_lifts t v (truth v.value) (h (passes ∷ w) (λ j. refl)) (k (passes ∷ w) (λ j. refl)));
+    round = λ turn labels f g r h. round_link turn labels f g r (λ w. h w tt);
+    again = λ {v = v} {m' = m'} {n' = n'} r h k. at_equal (λ x. B.again x m' n') r (again_lifts v (truth v.value) h k);
     keys = λ {w = w} {v = v} f g r h. at_equal (λ x. B.keys x g) r (keys_lifts v f g (h w (λ j. refl)));
+    declare = λ {w = w} name {v = v} {d = d} f g r q h. at_equal (λ x. B.declare name x d g) r (declare_lifts name v f g q (h w (λ j. refl)));
+    call = λ {f = f} {this = b} {f' = f'} {this' = b'} {vs = vs} {us = us} {E = E} {D = D} r q rs h.
+        at_equal (λ x. B.call x b' us D) r (at_equal (λ x. B.call f.value x us D) q (at_equal (λ xs. B.call f.value b.value xs D) (values_are rs) (value_lifts functions E D (enters_of h) f.value f.label b vs)));
+    construct = λ {f = f} {vs = vs} {us = us} {E = E} {D = D} r rs h.
+        at_equal (λ x. B.construct x us D) r (at_equal (λ xs. B.construct f.value xs D) (values_are rs) (construct_lifts functions E D (enters_of h) set f.value f.label vs));
+    attempt = λ {w = w} handles finishes f g l h q. attempt_lifts handles finishes f g (l (tries true ∷ w) (λ j. refl)) (λ b v. h (tries b ∷ w) (λ j. refl) v v.value refl) (q (tries false ∷ w) (λ j. refl));
   }
 
   -- a script's runs
-  program_lifts : (n : ℕ) (may : Bool) (program : Statements) → Lift One [] (program_step (tracked.timed tables inputs functions) n may program (outermost_env 0)) (program_step (plain.timed tables inputs functions) n may program (outermost_env tt))
+  program_lifts : (n : ℕ) (may : Bool) (program : Statements) → Lift One [] (program_step (tracked.timed tables inputs set functions) set n may program (outermost_env 0)) (program_step (plain.timed tables inputs set functions) set n may program (outermost_env tt))
   unfolding erasing
-  program_lifts n may program = program_linked (tracked.timed tables inputs functions) (plain.timed tables inputs functions) erasing spend_lifts (λ t w. ends_lifts out_of_turns) n may program (record { place = refl; call = refl; around = no_handles })
+  program_lifts n may program = program_linked (tracked.timed tables inputs set functions) (plain.timed tables inputs set functions) erasing spend_lifts set (λ t w. ends_lifts out_of_turns) n may program (record { place = refl; call = refl; around = no_handles })
 
 -- ---- the start
 
 -- a run with labels starts as one without
-start_erased : (tables : Tables) (inputs : Given) (program : Statements) (turns : ℕ) → erased (tracked.start tables inputs program turns) ≡ plain.start tables inputs program turns
-start_erased tables inputs program turns = ap (λ (heap : List PlainObject). record (plain.start tables inputs program turns) { heap = heap }) (first_heap_erased program)
+start_erased : (set : BuiltIns) (tables : Tables) (inputs : Given) (program : Statements) (turns : ℕ) → erased (tracked.start tables inputs set program turns) ≡ plain.start tables inputs set program turns
+start_erased set tables inputs program turns = ap (λ (heap : List PlainObject). record (plain.start tables inputs set program turns) { heap = heap }) (first_heap_erased set program)
 
 -- in the Root
-start_shaped : (tables : Tables) (inputs : Given) (program : Statements) (turns : ℕ) → Shaped [] (tracked.start tables inputs program turns).frames
-start_shaped tables inputs program turns = record { shape = refl }
+start_shaped : (set : BuiltIns) (tables : Tables) (inputs : Given) (program : Statements) (turns : ℕ) → Shaped [] (tracked.start tables inputs set program turns).frames
+start_shaped set tables inputs program turns = record { shape = refl }
 
 -- ---- runs
 
@@ -283,6 +315,7 @@ run_erased (stops {rule = rule} {need = need} {have = have} {p = p} broken x) = 
 -- erasure
 pub is_erasing : IsErasing
 unfolding tracked_run plain_run
-is_erasing tables inputs program turns =
-    run_erased (subst (λ u. Yields One [] (program_step (tracked.timed tables inputs (functions_of program)) turns (may_declare program) program (outermost_env 0) (tracked.start tables inputs program turns)) (program_step (plain.timed tables inputs (functions_of program)) turns (may_declare program) program (outermost_env tt) u))
-    (start_erased tables inputs program turns) ((program_lifts tables inputs (functions_of program) turns (may_declare program) program).yields (tracked.start tables inputs program turns) (start_shaped tables inputs program turns)))
+is_erasing set tables inputs program turns =
+    let run = program_step (tracked.timed tables inputs set (functions_of program)) set turns (may_declare set program) program (outermost_env 0) (tracked.start tables inputs set program turns) in
+    run_erased (subst (λ u. Yields One [] run (program_step (plain.timed tables inputs set (functions_of program)) set turns (may_declare set program) program (outermost_env tt) u))
+    (start_erased set tables inputs program turns) ((program_lifts tables inputs set (functions_of program) turns (may_declare set program) program).yields (tracked.start tables inputs set program turns) (start_shaped set tables inputs program turns)))

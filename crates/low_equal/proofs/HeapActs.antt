@@ -7,7 +7,7 @@ use Rattle.flow_frames.specs.declared.faults.FlowStop.{FlowStop}
 use Rattle.js_values.specs.Objects.{Object}
 use Rattle.object_heap.specs.Acts.{Acted, Act, act_on, on_object, put_back}
 use Rattle.low_equal.specs.Observed.{Sees}
-use Rattle.low_equal.specs.LowEqual.{Pairing, ObjectsAgree, Both, AreDistinct, IsFormed, FormedAt, HeapsAgree}
+use Rattle.low_equal.specs.LowEqual.{Pairing, ObjectsAgree, Both, AreDistinct, TargetBelow, IsFormed, FormedAt, HeapsAgree}
 use Rattle.low_equal.proofs.Agreement.{two, both_by}
 use Rattle.low_equal.proofs.Heaps.{heap_sym, new_left}
 
@@ -27,14 +27,15 @@ set_other (z ∷ xs) (suc i) (suc j) x n = set_other xs i j x (λ e. n (ap suc e
 
 -- ---- objects in the place of others
 
--- the keys are as distinct as before, and the prototype is the same
+-- the keys are as distinct as before, and the prototype and what else the object is are the same
 pub record StaysFormed (new old : Object Label) : Type 0 where
   pub distinct : AreDistinct old.rows → AreDistinct new.rows
   pub proto : new.proto ≡ old.proto
   pub link : new.link ≡ old.link
+  pub inner : new.inner ≡ old.inner
 
 pub still_formed : {observer : Label} {new old : Object Label} (o : ℕ) → StaysFormed new old → IsFormed observer o old → IsFormed observer o new
-still_formed {observer} o s w = record { below = λ v q e. w.below (subst (Sees observer) s.link v) q (sym s.proto ∙ e); distinct = s.distinct w.distinct }
+still_formed {observer} o s w = record { below = λ v q e. w.below (subst (Sees observer) s.link v) q (sym s.proto ∙ e); target = subst (TargetBelow observer o) (sym s.inner) w.target; distinct = s.distinct w.distinct }
 
 formed_set : {observer : Label} (h : List (Object Label)) (i : ℕ) (new old : Object Label) → slice_get h i ≡ Some old → StaysFormed new old → (o : ℕ) → FormedAt observer h o → FormedAt observer (set h i new) o
 formed_set {observer} h i new old here s o w p e = ⊎_elim (λ q. same q) (λ q. w p (sym (set_other h i o new q) ∙ e)) (cases_eq i o)
@@ -84,12 +85,12 @@ module _ (observer : Label) where
   same_new h p = record { looks = λ β k r. new_left observer p r }
 
   pub stands_same : (p : Object Label) → StandsFor p p
-  stands_same p = record { agrees = λ β q d r. r; formed = record { distinct = λ d. d; proto = refl; link = refl } }
+  stands_same p = record { agrees = λ β q d r. r; formed = record { distinct = λ d. d; proto = refl; link = refl; inner = refl } }
 
   pub stands_trans : {a b c : Object Label} → StandsFor a b → StandsFor b c → StandsFor a c
   stands_trans x y = record {
     agrees = λ β q d r. x.agrees β q (y.formed.distinct d) (y.agrees β q d r);
-    formed = record { distinct = λ d. x.formed.distinct (y.formed.distinct d); proto = x.formed.proto ∙ y.formed.proto; link = x.formed.link ∙ y.formed.link };
+    formed = record { distinct = λ d. x.formed.distinct (y.formed.distinct d); proto = x.formed.proto ∙ y.formed.proto; link = x.formed.link ∙ y.formed.link; inner = x.formed.inner ∙ y.formed.inner };
   }
 
   set_left : {β : Pairing} {h g : List (Object Label)} (i : ℕ) (new old : Object Label) → slice_get h i ≡ Some old → StandsFor new old → HeapsAgree observer β h g → HeapsAgree observer β (set h i new) g

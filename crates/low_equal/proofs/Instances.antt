@@ -1,34 +1,36 @@
 -- `instanceof`: where it isn't seen, and in two runs.
-use Rattle.std.proofs.Common.{◌≡◌, ℕ, List, [], ◌∷◌, Bool, true, false, cond, Option, Some, None, nat_eq, ⊎_elim, refl, sym, ◌∙◌, ap, ap₂, subst, true≢false}
+use Rattle.std.proofs.Common.{◌≡◌, ℕ, List, [], ◌∷◌, Bool, true, false, cond, nat_eq, slice_get, refl, sym, ◌∙◌, ap₂, subst, true≢false}
 use Rattle.std.proofs.lemmas.Bool.{eqb-true, eq-eqb}
 use Rattle.origin_labels.specs.Label.{Label, union}
 use Rattle.flow_policy.specs.Policies.{Tables}
-use Rattle.flow_frames.specs.Frames.{Frame, context}
 use Rattle.js_values.specs.declared.ids.ObjId.{ObjId}
 use Rattle.js_values.specs.declared.value.Value.{Value}
 use Rattle.js_values.specs.declared.value.Value.TheVariants as value
-use Rattle.js_values.specs.declared.property.Body.{Body}
-use Rattle.js_values.specs.declared.property.Body.TheVariants.{Data, Accessor}
-use Rattle.js_values.specs.declared.property.Slot.{Slot}
-use Rattle.js_values.specs.declared.inner.Class.{Class}
 use Rattle.js_values.specs.Objects.{Object}
 use Rattle.js_values.specs.Walks.{object_chain}
-use Rattle.es_meaning.specs.Outcomes.{Outcome, Goes, and_then, ◌>>=◌}
-use Rattle.es_meaning.specs.Functions.{is_function}
-use Rattle.es_meaning.specs.Start.{type_error}
+use Rattle.native_protocol.specs.declared.request.ErrorKind.TheVariants as kinds
+use Rattle.js_ast.specs.Functions.{FunctionCode}
+use Rattle.es_meaning.specs.Outcomes.{Goes, ◌>>=◌}
+use Rattle.es_meaning.specs.Start.{id}
 use Rattle.es_meaning.specs.Plain.{prototype_name}
-use Rattle.flow_meaning.specs.Scopes.{Val, Halt, State, Jump, L}
-use Rattle.flow_meaning.specs.Tracked.{throw_error, truth_of, held, found as found_at, property_of, Linked, linked_beyond, linked_from, linked, is_function_at, is_instance, instance_of, instance_if}
+use Rattle.flow_meaning.specs.Scopes.{Val, State, L}
+use Rattle.flow_meaning.specs.Requested.{Aim, aim_of, is_function_in}
+use Rattle.flow_meaning.specs.Tracked.{throw_error, truth_of, Access, property_of, Enters, called_value, entered_access, Linked, linked_beyond, linked_from, linked, is_instance, instance_by, instance_of, instance_if, instance_value, instance}
 use Rattle.low_equal.specs.Observed.{Sees, Hides, IsSeen}
-use Rattle.low_equal.specs.LowEqual.{Pairing, IsOneToOne, Alike, seen, hidden, SameValue, primitives, objects, Agree, HeapsAgree, LowEqual}
+use Rattle.low_equal.specs.LowEqual.{Pairing, IsOneToOne, Alike, seen, hidden, SameValue, primitives, objects, Agree, LowEqual}
 use Rattle.low_equal.specs.Runs.{Confined, InStep, go, Lockstep}
-use Rattle.low_equal.proofs.Labels.{sees_or_hides, sees_union, hides_first, hides_second, hidden_part}
-use Rattle.low_equal.proofs.Agreement.{extends_refl, alike_join, agree_more, two}
+use Rattle.low_equal.proofs.Labels.{sees_bottom, sees_union, hides_first, hides_second}
+use Rattle.low_equal.proofs.Agreement.{extends_refl, alike_map, alike_join, value_more, agree_more}
 use Rattle.low_equal.proofs.Walks.{ChainsAgree, no_objects, hidden_link, seen_link, chains_agree}
-use Rattle.low_equal.proofs.States.{same_refl, same_trans}
+use Rattle.low_equal.proofs.States.{low_seen}
 use Rattle.low_equal.proofs.Steps.{conf_ret, conf_bind, lock_bind}
 use Rattle.low_equal.proofs.Acts.{conf_throw, thrown_both}
-use Rattle.low_equal.proofs.References.{conf_at, Silent, silent_goes, silent_ends, silent_both, HiddenVal, hidden_agree, silent_throw, seen_other, conf_property, property_after}
+use Rattle.low_equal.proofs.Mute.{Mum, HiddenVal, mum_ret, mum_at, mum_bind, mum_throw, values_apart, lock_hidden}
+use Rattle.low_equal.proofs.References.{AccessesAgree, HiddenAccess, conf_at, conf_property, mum_property, lock_property}
+use Rattle.low_equal.proofs.News.{function_at_same}
+use Rattle.low_equal.proofs.Aims.{aims_agree}
+use Rattle.low_equal.proofs.Calls.{EntersConfined, EntersInStep}
+use Rattle.low_equal.proofs.Accesses.{conf_access, mum_access, lock_access}
 
 -- ---- the links up to an object
 
@@ -71,153 +73,160 @@ module _ (observer : Label) where
     from_agree s e (seen_link t x y more) = linked_tests t.pair s e (from_agree x y more)
 
     linked_agree : {c d : List (ℕ × Object Label)} → ChainsAgree observer β h g c d → LinkedAlike (linked proto c) (linked other d)
-    linked_agree no_objects = seen (Rattle.low_equal.proofs.Labels.sees_bottom observer) refl refl
+    linked_agree no_objects = seen (sees_bottom observer) refl refl
     linked_agree (hidden_link {p = a} {q = b} {c = c} {d = d} t x y) = hidden (hidden_from proto a.link c x) (hidden_from other b.link d y)
     linked_agree (seen_link t x y more) = from_agree x y more
 
-module _ (observer : Label) (tables : Tables) where
+module _ (observer : Label) (tables : Tables) (functions : List FunctionCode) where
   abbrev Hid : Val → Type 0
   Hid v = HiddenVal observer tables v
 
-  -- ---- each alone
+  abbrev HiddenRead : Access → Type 0
+  HiddenRead a = HiddenAccess observer tables a
 
-  conf_is : (label : Label) (o : ℕ) (v : Value) → Confined observer tables (is_instance label o v)
+  -- ---- the links of an object
+
+  pub conf_is : (label : Label) (o : ℕ) (v : Value) → Confined observer tables (is_instance label o v)
   unfolding is_instance
-  conf_is label o (value.Primitive p) = conf_at observer tables (λ s. throw_error type_error label) (λ s. conf_throw observer tables {X = Val} type_error label)
+  conf_is label o (value.Primitive p) = conf_at observer tables (λ s. throw_error kinds.TypeError label) (λ s. conf_throw observer tables {X = Val} kinds.TypeError label)
   conf_is label o (value.Object q) = conf_at observer tables (λ s t. Goes (truth_of (linked q.0 (object_chain s.heap o)).is (union label (linked q.0 (object_chain s.heap o)).links)) t) (λ s. conf_ret observer tables _)
 
-  -- what is done with the prototype
-  abbrev at_proto : Val → ℕ → Val → Val → L Val
-  at_proto v o f proto = is_instance (union v.label (union f.label proto.label)) o proto.value
-
-  conf_of : (v : Val) (x : Value) (f : Val) → Confined observer tables (instance_of v x f)
-  unfolding instance_of
-  conf_of v (value.Primitive p) f = conf_ret observer tables _
-  conf_of v (value.Object o) f = conf_at observer tables (λ s. property_of f.label f.value prototype_name >>= at_proto v o.0 f) (λ s. conf_bind observer tables (at_proto v o.0 f) (conf_property observer tables f.label f.value prototype_name) (λ a. conf_is _ o.0 a.value))
-
-  conf_if : (b : Bool) (v f : Val) → Confined observer tables (instance_if b v f)
-  unfolding instance_if
-  conf_if true v f = conf_at observer tables (λ s. instance_of v v.value f) (λ s. conf_of v v.value f)
-  conf_if false v f = conf_at observer tables (λ s. throw_error type_error f.label) (λ s. conf_throw observer tables {X = Val} type_error f.label)
-
-  pub conf_instance : (v f : Val) → Confined observer tables (λ s. instance_if (is_function_at s.heap f.value) v f s)
-  conf_instance v f = conf_at observer tables (λ s. instance_if (is_function_at s.heap f.value) v f) (λ s. conf_if _ v f)
-
-  -- ---- with hidden labels
-
-  silent_is : (label : Label) (o : ℕ) (v : Value) (s : State) → Hides observer label → IsSeen observer s → Silent observer tables Hid s (is_instance label o v s)
+  mum_is : (label : Label) (o : ℕ) (v : Value) → Hides observer label → Mum observer tables Hid (is_instance label o v)
   unfolding is_instance
-  silent_is label o (value.Primitive p) s h w = silent_throw observer tables Hid type_error label s h w
-  silent_is label o (value.Object q) s h w = silent_goes (same_refl observer tables s) refl refl (hides_first observer label (linked q.0 (object_chain s.heap o)).links h)
+  mum_is label o (value.Primitive p) h = mum_at observer tables Hid (λ s. throw_error kinds.TypeError label) (λ s. mum_throw observer tables Hid kinds.TypeError label h)
+  mum_is label o (value.Object q) h = mum_at observer tables Hid (λ s t. Goes (truth_of (linked q.0 (object_chain s.heap o)).is (union label (linked q.0 (object_chain s.heap o)).links)) t) (λ s. mum_ret observer tables Hid (hides_first observer label _ h))
 
-  abbrev Any : Val → Type 0
-  Any v = Unit {0}
-
-  quiet_held : (label : Label) (body : Body) (s : State) → Silent observer tables Any s (held label body s)
-  unfolding held
-  quiet_held label (Data v) s = silent_goes (same_refl observer tables s) refl refl tt
-  quiet_held label (Accessor get set) s = silent_ends refl
-
-  quiet_found : (place : Label) (f : Option (ℕ × Slot Label)) (s : State) → Silent observer tables Any s (found_at place f s)
-  unfolding found_at
-  quiet_found place (Some f) s = quiet_held _ f.1.body s
-  quiet_found place None s = silent_goes (same_refl observer tables s) refl refl tt
-
-  quiet_property : (label : Label) (v : Value) (key : List ℕ) (s : State) → Silent observer tables Any s (property_of label v key s)
-  unfolding property_of
-  quiet_property label (value.Primitive p) key s = silent_ends refl
-  quiet_property label (value.Object o) key s = quiet_found _ _ s
-
-  silent_more : {X : Type 0} {P : X → Type 0} {s t : State} {o : Outcome Halt Jump X State} → Rattle.low_equal.specs.Runs.Same observer tables s t → s.frames ≡ t.frames → s.lines ≡ t.lines → Silent observer tables P t o → Silent observer tables P s o
-  silent_more x f l (silent_goes y g m p) = silent_goes (same_trans observer tables x y) (f ∙ g) (l ∙ m) p
-  silent_more x f l (silent_ends m) = silent_ends (l ∙ m)
-
-  silent_then : {X Y : Type 0} {P : X → Type 0} {Q : Y → Type 0} {s : State} {o : Outcome Halt Jump X State} (k : X → L Y) → IsSeen observer s → ((a : X) (t : State) → P a → IsSeen observer t → Silent observer tables Q t (k a t)) → Silent observer tables P s o → Silent observer tables Q s (and_then o k)
-  silent_then k w h (silent_goes {a = a} {t = t} x f l p) = silent_more x f l (h a t p (subst (λ (fs : List Frame). Sees observer (context fs)) f w))
-  silent_then k w h (silent_ends l) = silent_ends l
-
-  hidden_both : (v f proto : Label) → Hides observer (union v f) → Hides observer (union v (union f proto))
-  hidden_both v f proto h = ⊎_elim (λ x. hides_first observer v (union f proto) x) (λ x. hides_second observer v (union f proto) (hides_first observer f proto x)) (hidden_part observer v f h)
-
-  silent_of : (v : Val) (x : Value) (f : Val) (s : State) → Hides observer (union v.label f.label) → IsSeen observer s → Silent observer tables Hid s (instance_of v x f s)
-  unfolding instance_of
-  silent_of v (value.Primitive p) f s h w = silent_goes (same_refl observer tables s) refl refl h
-  silent_of v (value.Object o) f s h w = silent_then (at_proto v o.0 f) w (λ a t p z. silent_is _ o.0 a.value t (hidden_both v.label f.label a.label h) z) (quiet_property f.label f.value prototype_name s)
-
-  silent_if : (b : Bool) (v f : Val) (s : State) → Hides observer f.label → IsSeen observer s → Silent observer tables Hid s (instance_if b v f s)
-  unfolding instance_if
-  silent_if true v f s h w = silent_of v v.value f s (hides_second observer v.label f.label h) w
-  silent_if false v f s h w = silent_throw observer tables Hid type_error f.label s h w
-
-  -- ---- in two runs
-
+  -- of paired objects
   is_objects : {γ : Pairing} (l m : Label) (o q : ℕ) (a b : ObjId) (s t : State) → Sees observer l → l ≡ m → γ.objects o q ≡ true → γ.objects a.0 b.0 ≡ true → LowEqual observer tables γ s t → IsSeen observer s
       → InStep observer tables (Agree observer) γ (is_instance l o (value.Object a) s) (is_instance m q (value.Object b) t)
   unfolding is_instance
-  is_objects {γ} l m o q a b s t h e p z r w = go γ (extends_refl γ) r w
-      (agrees (linked_agree observer γ s.heap t.heap r.heap.one_to_one a.0 b.0 z (chains_agree observer γ s.heap t.heap r.heap p)))
+  is_objects {γ} l m o q a b s t h e p z r w =
+      go γ (extends_refl γ) r w (truths_agree (alike_join observer (λ (u : Unit {0}) k. k) (seen h e tt) (linked_agree observer γ s.heap t.heap r.heap.one_to_one a.0 b.0 z (chains_agree observer γ s.heap t.heap r.heap p))))
     where
-      same_truth : {x y : Bool} → x ≡ y → SameValue γ (truth_of x l).value (truth_of y m).value
-      same_truth {x} d = subst (λ k. SameValue γ (truth_of x l).value (truth_of k m).value) d primitives
-
-      agrees : {x y : Linked} → LinkedAlike observer x y → Agree observer γ (truth_of x.is (union l x.links)) (truth_of y.is (union m y.links))
-      agrees c = alike_join observer (λ (k : Unit {0}) d. same_truth d) (seen h e tt) c
+      truths_agree : {x y : Bool} {i j : Label} → Alike observer i j (x ≡ y) → Agree observer γ (truth_of x i) (truth_of y j)
+      truths_agree {x} {y} {i} {j} z = alike_map observer (λ k. subst (λ b. SameValue γ (truth_of x i).value (truth_of b j).value) k primitives) z
 
   is_after : {γ : Pairing} (l m : Label) (o q : ℕ) {x y : Value} (s t : State) → Sees observer l → l ≡ m → γ.objects o q ≡ true → SameValue γ x y → LowEqual observer tables γ s t → IsSeen observer s
       → InStep observer tables (Agree observer) γ (is_instance l o x s) (is_instance m q y t)
   unfolding is_instance
-  is_after l m o q s t h e p primitives r w = thrown_both observer tables (Agree observer) type_error s t (seen h e tt) r w
+  is_after l m o q s t h e p primitives r w = thrown_both observer tables (Agree observer) kinds.TypeError s t (seen h e tt) r w
   is_after l m o q s t h e p (objects {o = a} {q = b} z) r w = is_objects l m o q a b s t h e p z r w
 
-  lock_proto : {γ : Pairing} (v u f k : Val) (o q : ℕ) (a b : Val) → Sees observer v.label → v.label ≡ u.label → Sees observer f.label → f.label ≡ k.label → γ.objects o q ≡ true → Agree observer γ a b → Lockstep observer tables (Agree observer) γ (at_proto v o f a) (at_proto u q k b)
-  lock_proto v u f k o q a b h e i d p (hidden x y) = record {
-    steps = λ δ n s t r w. silent_both observer tables (Agree observer) (hidden_agree observer tables) r w
-        (silent_is _ o a.value s (hides_second observer v.label (union f.label a.label) (hides_second observer f.label a.label x)) w) (silent_is _ q b.value t (hides_second observer u.label (union k.label b.label) (hides_second observer k.label b.label y)) (seen_other observer tables r w));
-  }
-  lock_proto v u f k o q a b h e i d p (seen x y z) = record {
-    steps = λ δ n s t r w. is_after _ _ o q s t (sees_union observer v.label (union f.label a.label) h (sees_union observer f.label a.label i x)) (ap₂ union e (ap₂ union d y)) (n.objects _ _ p)
-        (Rattle.low_equal.proofs.Agreement.value_more observer n z) r w;
-  }
+  lock_is : {β : Pairing} (l m : Label) (o q : ℕ) {x y : Value} → Alike observer l m (SameValue β x y) → β.objects o q ≡ true → Lockstep observer tables (Agree observer) β (is_instance l o x) (is_instance m q y)
+  lock_is l m o q {x} {y} (hidden h k) p = lock_hidden observer tables (mum_is l o x h) (mum_is m q y k)
+  lock_is l m o q (seen h e z) p = record { steps = λ γ i s t r w. is_after l m o q s t h e (i.objects _ _ p) (value_more observer i z) r w }
 
-  of_seen : {γ : Pairing} (v u f k : Val) {x y : Value} (s t : State) → Sees observer v.label → v.label ≡ u.label → Sees observer f.label → f.label ≡ k.label → SameValue γ x y → SameValue γ f.value k.value → LowEqual observer tables γ s t → IsSeen observer s
-      → InStep observer tables (Agree observer) γ (instance_of v x f s) (instance_of u y k t)
-  unfolding instance_of
-  of_seen {γ} v u f k s t h e i d primitives z r w = go γ (extends_refl γ) r w (seen (sees_union observer v.label f.label h i) (ap₂ union e d) primitives)
-  of_seen {γ} v u f k s t h e i d (objects {o = o} {q = q} p) z r w =
-      (lock_bind observer tables (Agree observer) (Agree observer) (at_proto v o.0 f) (at_proto u q.0 k)
-      (record { steps = λ δ n a b l y. property_after observer tables f.label k.label prototype_name i d (Rattle.low_equal.proofs.Agreement.value_more observer n z) l y })
-      (λ a. conf_is _ o.0 a.value) (λ a. conf_is _ q.0 a.value)
-      (λ δ n a b c. lock_proto v u f k o.0 q.0 a b h e i d (n.objects _ _ p) c)).steps γ (extends_refl γ) s t r w
+  -- ---- one run
 
-  of_after : {γ : Pairing} (v u f k : Val) (s t : State) → Agree observer γ v u → Agree observer γ f k → LowEqual observer tables γ s t → IsSeen observer s → InStep observer tables (Agree observer) γ (instance_of v v.value f s) (instance_of u u.value k t)
-  of_after v u f k s t (hidden a b) c r w = silent_both observer tables (Agree observer) (hidden_agree observer tables) r w
-      (silent_of v v.value f s (hides_first observer v.label f.label a) w) (silent_of u u.value k t (hides_first observer u.label k.label b) (seen_other observer tables r w))
-  of_after v u f k s t (seen a b x) (hidden c d) r w = silent_both observer tables (Agree observer) (hidden_agree observer tables) r w
-      (silent_of v v.value f s (hides_second observer v.label f.label c) w) (silent_of u u.value k t (hides_second observer u.label k.label d) (seen_other observer tables r w))
-  of_after v u f k s t (seen a b x) (seen c d y) r w = of_seen v u f k s t a b c d x y r w
+  -- what is done with the prototype
+  abbrev at_proto : Label → ℕ → Val → L Val
+  at_proto label o proto = is_instance (union label proto.label) o proto.value
 
-  -- whether a value is a function
-  functions_same : {γ : Pairing} {h g : List (Object Label)} {x y : Value} → HeapsAgree observer γ h g → SameValue γ x y → is_function_at h x ≡ is_function_at g y
-  functions_same r primitives = refl
-  functions_same {h = h} {g = g} r (objects {o = o} {q = q} p) =
-      let t = two (r.paired o.0 q.0 p) in
-      ap in_place t.is_one ∙ ap (λ (c : Class). is_function c) t.related.class ∙ sym (ap in_place t.is_other)
-    where
-      in_place : Option (Object Label) → Bool
-      in_place x = Rattle.flow_meaning.specs.Tracked.is_function_in x
+  module _ {E : Enters} (c : EntersConfined observer tables E) where
+    abbrev reads : Label → Label → ℕ → L Val
+    reads place label f = property_of place (called_value label f) (value.Object (id f)) prototype_name >>= entered_access functions E
 
-  if_after : {γ : Pairing} (b c : Bool) (v u f k : Val) (s t : State) → b ≡ c → Alike observer f.label k.label (Unit {0}) → Agree observer γ v u → Agree observer γ f k → LowEqual observer tables γ s t → IsSeen observer s → InStep observer tables (Agree observer) γ (instance_if b v f s) (instance_if c u k t)
-  unfolding instance_if
-  if_after true true v u f k s t e l a d r w = of_after v u f k s t a d r w
-  if_after false false v u f k s t e l a d r w = thrown_both observer tables (Agree observer) type_error s t l r w
-  if_after true false v u f k s t e l a d r w = absurd (true≢false e)
-  if_after false true v u f k s t e l a d r w = absurd (true≢false (sym e))
+    conf_reads : (place label : Label) (f : ℕ) → Confined observer tables (reads place label f)
+    conf_reads place label f = conf_bind observer tables (entered_access functions E) (conf_property observer tables place (called_value label f) (value.Object (id f)) prototype_name) (λ a. conf_access observer tables functions c a)
 
-  instance_after : {γ : Pairing} (v u f k : Val) (s t : State) → Agree observer γ v u → Agree observer γ f k → LowEqual observer tables γ s t → IsSeen observer s
-      → InStep observer tables (Agree observer) γ (instance_if (is_function_at s.heap f.value) v f s) (instance_if (is_function_at t.heap k.value) u k t)
-  instance_after v u f k s t a (hidden c d) r w = silent_both observer tables (Agree observer) (hidden_agree observer tables) r w (silent_if _ v f s c w) (silent_if _ u k t d (seen_other observer tables r w))
-  instance_after v u f k s t a (seen c d y) r w = if_after _ _ v u f k s t (functions_same r.heap y) (seen c d tt) a (seen c d y) r w
+    conf_by : (v : Val) (x : Value) (label : Label) (f : ℕ) → Confined observer tables (instance_by functions v x label f E)
+    unfolding instance_by
+    conf_by v (value.Primitive p) label f = conf_ret observer tables _
+    conf_by v (value.Object o) label f = conf_at observer tables (λ s. reads (union v.label label) label f >>= at_proto (union v.label label) o.0)
+        (λ s. conf_bind observer tables (at_proto (union v.label label) o.0) (conf_reads (union v.label label) label f) (λ a. conf_is _ o.0 a.value))
 
-  pub lock_instance : {β : Pairing} {v u f k : Val} → Agree observer β v u → Agree observer β f k
-      → Lockstep observer tables (Agree observer) β (λ s. instance_if (is_function_at s.heap f.value) v f s) (λ s. instance_if (is_function_at s.heap k.value) u k s)
-  lock_instance {v = v} {u = u} {f = f} {k = k} a b = record { steps = λ γ e s t r w. instance_after v u f k s t (agree_more observer e a) (agree_more observer e b) r w }
+    conf_of : (v : Val) (label : Label) (aim : Aim) → Confined observer tables (instance_of functions v label aim E)
+    unfolding instance_of
+    conf_of v label aim = conf_by v v.value (union label aim.label) aim.target.function
+
+    conf_if : (b : Bool) (v : Val) (label : Label) (f : ℕ) → Confined observer tables (instance_if functions b v label f E)
+    unfolding instance_if
+    conf_if true v label f = conf_at observer tables (λ s. instance_of functions v label (aim_of s.heap f) E) (λ s. conf_of v label (aim_of s.heap f))
+    conf_if false v label f = conf_at observer tables (λ s. throw_error kinds.TypeError label) (λ s. conf_throw observer tables {X = Val} kinds.TypeError label)
+
+    conf_value : (v : Val) (label : Label) (x : Value) → Confined observer tables (instance_value functions v label x E)
+    unfolding instance_value
+    conf_value v label (value.Primitive p) = conf_at observer tables (λ s. throw_error kinds.TypeError label) (λ s. conf_throw observer tables {X = Val} kinds.TypeError label)
+    conf_value v label (value.Object f) = conf_at observer tables (λ s. instance_if functions (is_function_in (slice_get s.heap f.0)) v label f.0 E) (λ s. conf_if _ v label f.0)
+
+    pub conf_instance : (v f : Val) → Confined observer tables (instance functions v f E)
+    conf_instance v f = conf_value v f.label f.value
+
+    -- under a hidden label
+    mum_by : (v : Val) (x : Value) (label : Label) (f : ℕ) → Hides observer (union v.label label) → Mum observer tables Hid (instance_by functions v x label f E)
+    unfolding instance_by
+    mum_by v (value.Primitive p) label f h = mum_ret observer tables Hid h
+    mum_by v (value.Object o) label f h = mum_at observer tables Hid (λ s. reads (union v.label label) label f >>= at_proto (union v.label label) o.0)
+        (λ s. mum_bind observer tables Hid Hid (at_proto (union v.label label) o.0)
+        (mum_bind observer tables HiddenRead Hid (entered_access functions E) (mum_property observer tables (union v.label label) (called_value label f) (value.Object (id f)) prototype_name h) (λ a k. mum_access observer tables functions c a k))
+        (λ a k. mum_is (union (union v.label label) a.label) o.0 a.value (hides_first observer (union v.label label) a.label h)))
+
+    mum_of : (v : Val) (label : Label) (aim : Aim) → Hides observer (union label aim.label) → Mum observer tables Hid (instance_of functions v label aim E)
+    unfolding instance_of
+    mum_of v label aim h = mum_by v v.value (union label aim.label) aim.target.function (hides_second observer v.label (union label aim.label) h)
+
+    mum_of_value : (v : Val) (label : Label) (aim : Aim) → Hides observer v.label → Mum observer tables Hid (instance_of functions v label aim E)
+    unfolding instance_of
+    mum_of_value v label aim h = mum_by v v.value (union label aim.label) aim.target.function (hides_first observer v.label (union label aim.label) h)
+
+    mum_if : (b : Bool) (v : Val) (label : Label) (f : ℕ) → Hides observer label → Mum observer tables Hid (instance_if functions b v label f E)
+    unfolding instance_if
+    mum_if true v label f h = mum_at observer tables Hid (λ s. instance_of functions v label (aim_of s.heap f) E) (λ s. mum_of v label (aim_of s.heap f) (hides_first observer label (aim_of s.heap f).label h))
+    mum_if false v label f h = mum_at observer tables Hid (λ s. throw_error kinds.TypeError label) (λ s. mum_throw observer tables Hid kinds.TypeError label h)
+
+    mum_value : (v : Val) (label : Label) (x : Value) → Hides observer label → Mum observer tables Hid (instance_value functions v label x E)
+    unfolding instance_value
+    mum_value v label (value.Primitive p) h = mum_at observer tables Hid (λ s. throw_error kinds.TypeError label) (λ s. mum_throw observer tables Hid kinds.TypeError label h)
+    mum_value v label (value.Object f) h = mum_at observer tables Hid (λ s. instance_if functions (is_function_in (slice_get s.heap f.0)) v label f.0 E) (λ s. mum_if _ v label f.0 h)
+
+  -- ---- two runs
+
+  module _ {E D : Enters} (ce : EntersConfined observer tables E) (cd : EntersConfined observer tables D) (in_step : EntersInStep observer tables E D) where
+    lock_reads : {β : Pairing} (i j l m : Label) (f g : ℕ) → Sees observer i → i ≡ j → Alike observer l m (Unit {0}) → β.objects f g ≡ true → Lockstep observer tables (Agree observer) β (reads ce i l f) (reads cd j m g)
+    lock_reads i j l m f g h e a p =
+        lock_bind observer tables (AccessesAgree observer) (Agree observer) (entered_access functions E) (entered_access functions D)
+        (lock_property observer tables prototype_name (seen h e (objects p)) (alike_map observer (λ u. objects p) a))
+        (λ x. conf_access observer tables functions ce x) (λ x. conf_access observer tables functions cd x) (λ γ k x y z. lock_access observer tables functions ce cd in_step z)
+
+    by_objects : {β : Pairing} (v u : Val) (o q : ℕ) (l m : Label) (f g : ℕ) → Sees observer (union v.label l) → union v.label l ≡ union u.label m → Alike observer l m (Unit {0}) → β.objects f g ≡ true → β.objects o q ≡ true
+        → Lockstep observer tables (Agree observer) β (reads ce (union v.label l) l f >>= at_proto (union v.label l) o) (reads cd (union u.label m) m g >>= at_proto (union u.label m) q)
+    by_objects v u o q l m f g h e a p z =
+        lock_bind observer tables (Agree observer) (Agree observer) (at_proto (union v.label l) o) (at_proto (union u.label m) q) (lock_reads (union v.label l) (union u.label m) l m f g h e a p)
+        (λ x. conf_is _ o x.value) (λ x. conf_is _ q x.value)
+        (λ γ k x y b. lock_is (union (union v.label l) x.label) (union (union u.label m) y.label) o q (alike_join observer (λ (i : Unit {0}) j. j) (seen h e tt) b) (k.objects _ _ z))
+
+    by_after : {γ : Pairing} (v u : Val) {x y : Value} (l m : Label) (f g : ℕ) (s t : State) → Sees observer (union v.label l) → union v.label l ≡ union u.label m → Alike observer l m (Unit {0}) → γ.objects f g ≡ true → SameValue γ x y → LowEqual observer tables γ s t → IsSeen observer s
+        → InStep observer tables (Agree observer) γ (instance_by functions v x l f E s) (instance_by functions u y m g D t)
+    unfolding instance_by
+    by_after {γ} v u l m f g s t h e a p primitives r w = go γ (extends_refl γ) r w (seen h e primitives)
+    by_after {γ} v u l m f g s t h e a p (objects {o = o} {q = q} z) r w = (by_objects v u o.0 q.0 l m f g h e a p z).steps γ (extends_refl γ) s t r w
+
+    -- by whether the object is seen, and by whether the targets are
+    of_seen : {γ : Pairing} (v u : Val) (l m : Label) (a b : Aim) (s t : State) → Alike observer (union l a.label) (union m b.label) (γ.objects a.target.function b.target.function ≡ true) → Agree observer γ v u → LowEqual observer tables γ s t → IsSeen observer s
+        → InStep observer tables (Agree observer) γ (instance_of functions v l a E s) (instance_of functions u m b D t)
+    unfolding instance_of
+    of_seen v u l m a b s t (hidden c d) q r w = values_apart observer tables r w ((mum_of ce v l a c).mute s w) ((mum_of cd u m b d).mute t (low_seen observer tables r w))
+    of_seen v u l m a b s t (seen c d p) (hidden h k) r w = values_apart observer tables r w ((mum_of_value ce v l a h).mute s w) ((mum_of_value cd u m b k).mute t (low_seen observer tables r w))
+    of_seen v u l m a b s t (seen c d p) (seen h k x) r w =
+        by_after v u (union l a.label) (union m b.label) a.target.function b.target.function s t (sees_union observer v.label (union l a.label) h c) (ap₂ union k d) (seen c d tt) p x r w
+
+    if_after : {γ : Pairing} (b c : Bool) (v u : Val) (l m : Label) (f g : ℕ) (s t : State) → b ≡ c → Sees observer l → l ≡ m → γ.objects f g ≡ true → Agree observer γ v u → LowEqual observer tables γ s t → IsSeen observer s
+        → InStep observer tables (Agree observer) γ (instance_if functions b v l f E s) (instance_if functions c u m g D t)
+    unfolding instance_if
+    if_after {γ} true true v u l m f g s t e h d p a r w = of_seen v u l m _ _ s t (alike_join observer (λ (i : Unit {0}) j. j.function) (seen h d tt) (aims_agree observer r.heap p)) a r w
+    if_after false false v u l m f g s t e h d p a r w = thrown_both observer tables (Agree observer) kinds.TypeError s t (seen h d tt) r w
+    if_after true false v u l m f g s t e h d p a r w = absurd (true≢false e)
+    if_after false true v u l m f g s t e h d p a r w = absurd (true≢false (sym e))
+
+    value_after : {γ : Pairing} (v u : Val) (l m : Label) {x y : Value} (s t : State) → Sees observer l → l ≡ m → SameValue γ x y → Agree observer γ v u → LowEqual observer tables γ s t → IsSeen observer s
+        → InStep observer tables (Agree observer) γ (instance_value functions v l x E s) (instance_value functions u m y D t)
+    unfolding instance_value
+    value_after v u l m s t h e primitives a r w = thrown_both observer tables (Agree observer) kinds.TypeError s t (seen h e tt) r w
+    value_after v u l m s t h e (objects {o = f} {q = g} p) a r w = if_after _ _ v u l m f.0 g.0 s t (function_at_same observer r.heap (objects {o = f} {q = g} p)) h e p a r w
+
+    lock_value : {β : Pairing} {v u : Val} {l m : Label} {x y : Value} → Agree observer β v u → Alike observer l m (SameValue β x y) → Lockstep observer tables (Agree observer) β (instance_value functions v l x E) (instance_value functions u m y D)
+    lock_value {v = v} {u = u} {l = l} {m = m} {x = x} {y = y} a (hidden h k) = lock_hidden observer tables (mum_value ce v l x h) (mum_value cd u m y k)
+    lock_value {v = v} {u = u} {l = l} {m = m} a (seen h e z) = record { steps = λ γ i s t r w. value_after v u l m s t h e (value_more observer i z) (agree_more observer i a) r w }
+
+    pub lock_instance : {β : Pairing} {v u f g : Val} → Agree observer β v u → Agree observer β f g → Lockstep observer tables (Agree observer) β (instance functions v f E) (instance functions u g D)
+    lock_instance a b = lock_value a b

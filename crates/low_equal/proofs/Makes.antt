@@ -3,8 +3,10 @@ use Rattle.std.proofs.Common.{◌≡◌, ℕ, zero, suc, ◌+◌, ◌<◌, Bool,
 use Rattle.std.proofs.lemmas.Option.{same_Some}
 use Rattle.origin_labels.specs.Label.{Label}
 use Rattle.flow_policy.specs.Policies.{Tables}
-use Rattle.js_values.specs.Objects.{Object}
-use Rattle.es_meaning.specs.Start.{start_heap}
+use Rattle.js_values.specs.declared.property.Body.TheVariants.{Accessor}
+use Rattle.js_values.specs.declared.property.Slot.{Slot}
+use Rattle.js_values.specs.Objects.{Rows, Object}
+use Rattle.es_meaning.specs.Start.{start_heap, fixed, function_rows, caller_accessor, arguments_accessor}
 use Rattle.flow_frames.specs.Frames.{context}
 use Rattle.js_values.specs.declared.ids.ObjId.{ObjId}
 use Rattle.js_values.specs.declared.ids.EnvId.{EnvId}
@@ -15,11 +17,11 @@ use Rattle.js_ast.specs.Functions.{FunctionCode}
 use Rattle.es_meaning.specs.Outcomes.{Outcome, Goes}
 use Rattle.es_meaning.specs.Start.{id}
 use Rattle.es_meaning.specs.Functions.{env_id, function_objects, closes_over, own_name}
-use Rattle.flow_meaning.specs.Erased.{labelled_by, made_objects, unlabelled}
+use Rattle.flow_meaning.specs.Erased.{labelled_by, made_rows, made_objects, unlabelled}
 use Rattle.flow_meaning.specs.Scopes.{Val, Halt, State, Jump}
 use Rattle.flow_meaning.specs.Tracked.{make_function}
 use Rattle.low_equal.specs.Observed.{Sees, IsSeen}
-use Rattle.low_equal.specs.LowEqual.{Pairing, IsOneToOne, Extends, seen, primitives, objects, both, within, Agree, data_bodies, no_rows, row, scripts, plains, seen_shape, ObjectsAgree, bindings, no_bindings, Both, no_keys, one_more, nowhere, IsFormed, FormedAt, HeapsAgree, ScopesAgree, LowEqual}
+use Rattle.low_equal.specs.LowEqual.{Pairing, IsOneToOne, Extends, seen, primitives, objects, both, within, Agree, data_bodies, accessors, RowsAgree, no_rows, row, scripts, plains, seen_shape, ObjectsAgree, bindings, no_bindings, Both, AreDistinct, no_keys, one_more, nowhere, IsFormed, FormedAt, HeapsAgree, ScopesAgree, LowEqual}
 use Rattle.low_equal.specs.Runs.{Confined, InStep, go, Lockstep}
 use Rattle.low_equal.proofs.Labels.{sees_bottom}
 use Rattle.low_equal.proofs.Agreement.{objects_more, records_more, both_map, two, both_by}
@@ -117,27 +119,39 @@ module _ (observer : Label) where
 
   -- ---- the objects of a function
 
+  -- an accessor of the start objects, which is its own getter and setter
+  pub accessor_row : {γ : Pairing} (name : List ℕ) (o : ObjId) (l : Label) {rs qs : Rows (Slot Label)} → Sees observer l → γ.objects o.0 o.0 ≡ true → RowsAgree observer γ rs qs
+      → RowsAgree observer γ ((name, record { body = Accessor (Some o) (Some o); label = l; existence = l; marks = fixed }) ∷ rs) ((name, record { body = Accessor (Some o) (Some o); label = l; existence = l; marks = fixed }) ∷ qs)
+  accessor_row name o l v p r = row (seen v refl (refl, accessors (seen v refl (both p, both p)))) r
+
+  -- the properties that each function has behind its own
+  pub function_rows_agree : {γ : Pairing} (l : Label) → Sees observer l → ((o : ℕ) → o < length start_heap → γ.objects o o ≡ true) → RowsAgree observer γ (made_rows l function_rows) (made_rows l function_rows)
+  function_rows_agree l v starts = accessor_row (codes "caller") caller_accessor l v (starts 13 (omega arith)) (accessor_row (codes "arguments") arguments_accessor l v (starts 14 (omega arith)) no_rows)
+
+  function_distinct : (l : Label) (a b : Slot Label) → AreDistinct ((codes "length", a) ∷ (codes "prototype", b) ∷ made_rows l function_rows)
+  function_distinct l a b = one_more (own_absent (codes "length") _ refl) (one_more (own_absent (codes "prototype") _ refl) (one_more (own_absent (codes "caller") _ refl) (one_more nowhere no_keys)))
+
   pub function_news : {γ : Pairing} (functions : List FunctionCode) (o q place other : ℕ) (f : Function) (l : Label) (ps qs : List (Object Label)) → Sees observer l → γ.objects o q ≡ true → γ.objects (suc o) (suc q) ≡ true → γ.records place other ≡ true
-      → γ.objects 0 0 ≡ true → γ.objects 9 9 ≡ true → 9 < o → 9 < q → News γ (suc (suc o)) (suc (suc q)) ps qs
+      → ((n : ℕ) → n < length start_heap → γ.objects n n ≡ true) → 9 < o → 9 < q → News γ (suc (suc o)) (suc (suc q)) ps qs
       → News γ o q (made_objects l (function_objects functions o place f) ++ ps) (made_objects l (function_objects functions q other f) ++ qs)
   unfolding function_objects
-  function_news functions o q place other f l ps qs v first second r zero_pair nine_pair h k more =
+  function_news functions o q place other f l ps qs v first second r starts h k more =
       news
-      (record { below = λ x i e. subst (λ (y : ObjId). y.0 < o) (same_Some _ i e) h; distinct = one_more (own_absent (codes "length") _ refl) (one_more nowhere no_keys) })
-      (record { below = λ x i e. subst (λ (y : ObjId). y.0 < q) (same_Some _ i e) k; distinct = one_more (own_absent (codes "length") _ refl) (one_more nowhere no_keys) })
+      (record { below = λ x i e. subst (λ (y : ObjId). y.0 < o) (same_Some _ i e) h; target = tt; distinct = function_distinct l _ _ })
+      (record { below = λ x i e. subst (λ (y : ObjId). y.0 < q) (same_Some _ i e) k; target = tt; distinct = function_distinct l _ _ })
       (record {
         class = refl;
         inner = scripts r;
-        links = seen v refl (both nine_pair);
-        shapes = seen_shape v refl refl (row (seen v refl (refl, data_bodies (seen v refl primitives))) (row (seen v refl (refl, data_bodies (seen v refl (objects second)))) no_rows));
+        links = seen v refl (both (starts 9 (omega arith)));
+        shapes = seen_shape v refl refl (row (seen v refl (refl, data_bodies (seen v refl primitives))) (row (seen v refl (refl, data_bodies (seen v refl (objects second)))) (function_rows_agree l v starts)));
       })
       (news
-      (record { below = λ x i e. subst (λ (y : ObjId). y.0 < suc o) (same_Some _ i e) (omega arith); distinct = one_more nowhere no_keys })
-      (record { below = λ x i e. subst (λ (y : ObjId). y.0 < suc q) (same_Some _ i e) (omega arith); distinct = one_more nowhere no_keys })
+      (record { below = λ x i e. subst (λ (y : ObjId). y.0 < suc o) (same_Some _ i e) (omega arith); target = tt; distinct = one_more nowhere no_keys })
+      (record { below = λ x i e. subst (λ (y : ObjId). y.0 < suc q) (same_Some _ i e) (omega arith); target = tt; distinct = one_more nowhere no_keys })
       (record {
         class = refl;
         inner = plains;
-        links = seen v refl (both zero_pair);
+        links = seen v refl (both (starts 0 (omega arith)));
         shapes = seen_shape v refl refl (row (seen v refl (refl, data_bodies (seen v refl (objects first)))) no_rows);
       }) more)
 
@@ -197,7 +211,7 @@ module _ (observer : Label) (tables : Tables) where
   unfolding function_objects
   heaps_made {γ} functions f l s t records i j v h p r =
       agree_all observer (news_both observer refl refl
-      (function_news observer functions (length s.heap) (length t.heap) i j f l [] [] v (first_made γ s t) (second_made γ s t) p (kept_made γ s t 0 0 (r.heap.starts 0 (omega arith))) (kept_made γ s t 9 9 (r.heap.starts 9 (omega arith)))
+      (function_news observer functions (length s.heap) (length t.heap) i j f l [] [] v (first_made γ s t) (second_made γ s t) p (λ n lt. kept_made γ s t n n (r.heap.starts n lt))
       (start_stands observer r.heap 9 (omega arith)) (start_stands observer (low_sym observer tables r).heap 9 (omega arith)) (no_news))
       (agree_at observer (record { objects = kept_made γ s t; records = h }) r.heap))
 

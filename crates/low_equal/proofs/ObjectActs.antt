@@ -1,98 +1,156 @@
--- Acts that enter no function, and the keys of a value: where the cause can't be seen, and in two runs.
-use Rattle.std.proofs.Common.{◌≡◌, ℕ, ◌<◌, List, [], ◌∷◌, length, Bool, true, false, Option, Some, None, refl, sym, ◌∙◌, ap, ap₂, subst, true≢false, arith}
+-- Acts on values and objects that enter no function, literals, and the keys of a value: where the cause can't be seen, and in two runs.
+use Rattle.std.proofs.Common.{◌≡◌, ℕ, zero, suc, ◌<◌, List, [], ◌∷◌, ◌++◌, length, Bool, true, false, cond, Option, Some, None, is_some, refl, sym, ◌∙◌, ap, ap₂, subst, true≢false, arith}
+use Rattle.std.proofs.lemmas.Option.{none-some, same_Some}
+use Rattle.origin_labels.specs.Names.{same_name}
 use Rattle.origin_labels.specs.Label.{Label, bottom, union}
 use Rattle.flow_policy.specs.Policies.{Tables}
 use Rattle.flow_frames.specs.Frames.{context}
+use Rattle.js_number.specs.declared.primitive.Primitive.TheVariants as prims
+use Rattle.native_protocol.specs.declared.request.ErrorKind.TheVariants as kinds
 use Rattle.js_values.specs.declared.ids.ObjId.{ObjId}
 use Rattle.js_values.specs.declared.value.Value.{Value}
 use Rattle.js_values.specs.declared.value.Value.TheVariants as value
+use Rattle.js_values.specs.declared.property.Body.{Body}
 use Rattle.js_values.specs.declared.property.Slot.{Slot}
-use Rattle.js_values.specs.Objects.{Object, own}
+use Rattle.js_values.specs.Objects.{Rows, Object, own, changed, with_row}
 use Rattle.js_values.specs.Walks.{find, object_chain}
-use Rattle.es_meaning.specs.Outcomes.{Goes}
-use Rattle.es_meaning.specs.Start.{type_error}
-use Rattle.flow_meaning.specs.Scopes.{Val, State, L}
-use Rattle.flow_meaning.specs.Tracked.{throw_error, truth_of}
+use Rattle.prototype_walk.specs.KeyLists.{Keys}
+use Rattle.es_meaning.specs.Outcomes.{Outcome, Goes, ◌>>=◌}
+use Rattle.es_meaning.specs.Operations.{Part, as_value, as_getter, as_setter}
+use Rattle.es_meaning.specs.Operators.{is_object}
+use Rattle.es_meaning.specs.Objects.{defined_over}
+use Rattle.es_meaning.specs.Definitions.{getter_in, setter_in}
+use Rattle.es_meaning.specs.Start.{id}
+use Rattle.es_meaning.specs.Plain.{key_text, is_coercible, is_found}
+use Rattle.es_meaning.specs.Requested.{function_in, part_body}
+use Rattle.es_meaning.proofs.Link.{Rels, nils, conses}
+use Rattle.flow_meaning.specs.Erased.{unlabelled}
+use Rattle.flow_meaning.specs.Scopes.{Val, Halt, State, Jump, L, raise}
+use Rattle.flow_meaning.specs.Tracked.{throw_error, truth_of, make_object, needed, has, argument, key_list, with_list}
+use Rattle.flow_meaning.specs.Requested.{property_in, half_label, part_slot, with_parts, literal_object}
 use Rattle.low_equal.specs.Observed.{Sees, Hides, IsSeen}
-use Rattle.low_equal.specs.LowEqual.{Pairing, Extends, Alike, seen, hidden, SameValue, primitives, objects, Agree, data_bodies, HeapsAgree, LowEqual}
+use Rattle.low_equal.specs.LowEqual.{Pairing, Extends, Alike, seen, hidden, SameValue, primitives, objects, SameObject, neither, both, Agree, BodiesAgree, data_bodies, accessors, SlotsAgree, RowsAgree, no_rows, plains, AreDistinct, no_keys, HeapsAgree, LowEqual}
 use Rattle.low_equal.specs.Runs.{Confined, InStep, go, Lockstep}
 use Rattle.low_equal.specs.Laws.{Nothing}
-use Rattle.low_equal.proofs.Labels.{sees_union, hides_first, hides_second, sees_bottom}
-use Rattle.low_equal.proofs.Agreement.{extends_refl, alike_map, alike_join, agree_more}
+use Rattle.low_equal.proofs.Labels.{not_both, sees_union, hides_first, hides_second, sees_bottom}
+use Rattle.low_equal.proofs.Agreement.{extends_refl, extends_trans, alike_map, alike_join, agree_more, records_more, both_map}
 use Rattle.low_equal.proofs.Lines.{front_refl}
-use Rattle.low_equal.proofs.States.{low_heap, same_refl, same_context}
-use Rattle.low_equal.proofs.Steps.{still_goes, conf_ret, conf_ends, ends_first, ends_second}
-use Rattle.low_equal.proofs.Acts.{conf_throw, thrown_both}
-use Rattle.low_equal.proofs.References.{conf_at, Silent, silent_goes, silent_ends, silent_both, both_end, HiddenVal, hidden_agree, silent_throw, seen_other}
-use Rattle.std.proofs.Common.{map}
-use Rattle.std.specs.Option.{is_some}
-use Rattle.js_number.specs.declared.primitive.Primitive.TheVariants as prims
-use Rattle.js_values.specs.Objects.{Rows}
-use Rattle.prototype_walk.specs.KeyLists.{Keys}
-use Rattle.es_meaning.specs.Operations.{Act, object_of, base_needed, object_needed, has_key, refused_declaration}
-use Rattle.es_meaning.specs.Operators.{is_object}
-use Rattle.es_meaning.specs.Objects.{defined_over, defined_all}
-use Rattle.es_meaning.specs.Plain.{key_text, is_coercible, is_found}
-use Rattle.es_meaning.proofs.Link.{Rels, nils, conses}
-use Rattle.flow_meaning.specs.Tracked.{data_slot, literal_object, make_object, needed, has, act, argument, key_list, with_list}
-use Rattle.low_equal.specs.LowEqual.{RowsAgree, no_rows, AreDistinct, no_keys, IsFormed, plains, both, SlotsAgree}
-use Rattle.low_equal.proofs.Agreement.{records_more, both_map}
 use Rattle.low_equal.proofs.Heaps.{with_objects, extends_objects, pair_new, new_left, start_stands}
-use Rattle.low_equal.proofs.Acts.{conf_raise, lock_raise}
-use Rattle.low_equal.proofs.Steps.{conf_bind, lock_bind}
-use Rattle.low_equal.proofs.States.{low_sym}
-use Rattle.low_equal.proofs.Agreement.{extends_trans}
-use Rattle.low_equal.proofs.References.{undefined_agree}
-use Rattle.std.proofs.lemmas.Option.{same_Some}
-use Rattle.std.proofs.Common.{zero, suc}
-use Rattle.es_meaning.specs.Outcomes.{◌>>=◌}
-use Rattle.flow_meaning.specs.Scopes.{raise}
 use Rattle.low_equal.proofs.Rows as rows
 use Rattle.low_equal.proofs.Rows.{own_absent, distinct_altered, distinct_with_row, own_agree, altered_both, with_row_both}
 use Rattle.low_equal.proofs.Additions.{level_new}
+use Rattle.low_equal.proofs.States.{low_sym, low_heap, same_context}
+use Rattle.low_equal.proofs.Steps.{still_goes, conf_ret, conf_ends, conf_bind, lock_bind, ends_first, ends_second}
+use Rattle.low_equal.proofs.Acts.{conf_throw, thrown_both, conf_raise, lock_raise}
 use Rattle.low_equal.proofs.Walks.{level_there, level_keys}
+use Rattle.low_equal.proofs.Mute.{Mum, HiddenVal, mum_ret, mum_ends, mum_at, mum_throw, values_apart}
+use Rattle.low_equal.proofs.References.{conf_at, both_end, undefined_agree, seen_other}
+
+-- ---- rows of a literal: each exists under a label that is seen
+
+module _ (observer : Label) where
+  data AreSeen : Rows (Slot Label) → Type 0 where
+    no_more : AreSeen []
+    one_seen : {key : List ℕ} {s : Slot Label} {rs : Rows (Slot Label)} → Sees observer s.existence → AreSeen rs → AreSeen ((key, s) ∷ rs)
+
+  own_is_seen : (key : List ℕ) (s : Slot Label) {rs : Rows (Slot Label)} → AreSeen rs → own key rs ≡ Some s → Sees observer s.existence
+  own_is_seen key s no_more e = absurd (none-some s e)
+  own_is_seen key s (one_seen {key = j} {s = x} {rs = rs} v d) e = at_first (same_name j key) e (λ f. own_is_seen key s d f)
+    where
+      at_first : (b : Bool) → cond b (Some x) (own key rs) ≡ Some s → (own key rs ≡ Some s → Sees observer s.existence) → Sees observer s.existence
+      at_first true f h = subst (λ (y : Slot Label). Sees observer y.existence) (same_Some x s f) v
+      at_first false f h = h f
+
+  seen_with_row : (key : List ℕ) (s : Slot Label) {rs : Rows (Slot Label)} → Sees observer s.existence → AreSeen rs → AreSeen (with_row key s rs)
+  seen_with_row key s v no_more = one_seen v no_more
+  seen_with_row key s v (one_seen u d) = one_seen u (seen_with_row key s v d)
+
+  seen_changed : (key : List ℕ) (s : Slot Label) {rs : Rows (Slot Label)} → Sees observer s.existence → AreSeen rs → AreSeen (changed key (λ z. s) rs)
+  seen_changed key s v no_more = no_more
+  seen_changed key s v (one_seen {key = j} {s = x} {rs = rs} u d) = at_first (same_name j key) (seen_changed key s v d)
+    where
+      at_first : (b : Bool) → AreSeen (changed key (λ z. s) rs) → AreSeen (cond b ((j, s) ∷ rs) ((j, x) ∷ changed key (λ z. s) rs))
+      at_first true h = one_seen v d
+      at_first false h = one_seen u h
+
+  seen_over : (o : Option (Slot Label)) (key : List ℕ) (s : Slot Label) {rs : Rows (Slot Label)} → Sees observer s.existence → AreSeen rs → AreSeen (defined_over o key s rs)
+  seen_over None key s v d = seen_with_row key s v d
+  seen_over (Some x) key s v d = seen_changed key s v d
+
+  -- ---- values that are the same
+
+  functions_same : {γ : Pairing} {v u : Value} → SameValue γ v u → SameObject γ (function_in v) (function_in u)
+  functions_same primitives = neither
+  functions_same (objects p) = both p
+
+  pub getters_same : {γ : Pairing} {l m : Label} {a b : Body} → BodiesAgree observer γ l m a b → Alike observer l m (SameObject γ (getter_in a) (getter_in b))
+  getters_same (data_bodies r) = alike_map observer (λ x. neither) r
+  getters_same (accessors r) = alike_map observer (λ x. x.0) r
+
+  pub setters_same : {γ : Pairing} {l m : Label} {a b : Body} → BodiesAgree observer γ l m a b → Alike observer l m (SameObject γ (setter_in a) (setter_in b))
+  setters_same (data_bodies r) = alike_map observer (λ x. neither) r
+  setters_same (accessors r) = alike_map observer (λ x. x.1) r
+
+  -- what a part gives its property, beside one that was there or none
+  module _ {γ : Pairing} (l : Label) (h : Sees observer l) where
+    abbrev under_context : {v u : Val} → Agree observer γ v u → Alike observer (union v.label l) (union u.label l) (SameValue γ v.value u.value)
+    under_context a = alike_join observer (λ x (y : Unit {0}). x) a (seen h refl tt)
+
+    part_bodies : (part : Part) {o u : Option (Slot Label)} {v w : Val} → rows.OwnAgree observer γ o u → ((s : Slot Label) → o ≡ Some s → Sees observer s.existence) → Agree observer γ v w
+        → BodiesAgree observer γ (union (union v.label l) (half_label part o)) (union (union w.label l) (half_label part u)) (part_body part (property_in o) v.value) (part_body part (property_in u) w.value)
+    part_bodies as_value q f a = data_bodies (alike_join observer (λ x (y : Unit {0}). x) (under_context a) (seen (sees_bottom observer) refl tt))
+    part_bodies as_getter rows.neither_names f a = accessors (alike_join observer (λ x (y : Unit {0}). (functions_same x, neither)) (under_context a) (seen (sees_bottom observer) refl tt))
+    part_bodies as_setter rows.neither_names f a = accessors (alike_join observer (λ x (y : Unit {0}). (neither, functions_same x)) (under_context a) (seen (sees_bottom observer) refl tt))
+    part_bodies as_getter (rows.both_name (seen p e z)) f a = accessors (alike_join observer (λ x y. (functions_same x, y)) (under_context a) (setters_same z.1))
+    part_bodies as_setter (rows.both_name (seen p e z)) f a = accessors (alike_join observer (λ x y. (y, functions_same x)) (under_context a) (getters_same z.1))
+    part_bodies as_getter (rows.both_name {s = s} (hidden p e)) f a = absurd (not_both observer s.existence (f s refl) p)
+    part_bodies as_setter (rows.both_name {s = s} (hidden p e)) f a = absurd (not_both observer s.existence (f s refl) p)
 
 module _ (observer : Label) (tables : Tables) where
+  abbrev Hid : Val → Type 0
+  Hid v = HiddenVal observer tables v
+
   -- ---- a value that is needed
 
-  conf_needed : (b : Bool) (v : Val) → Confined observer tables (needed b v)
+  pub conf_needed : (b : Bool) (v : Val) → Confined observer tables (needed b v)
   unfolding needed
   conf_needed true v = conf_ret observer tables v
-  conf_needed false v = conf_at observer tables (λ s. throw_error type_error v.label) (λ s. conf_throw observer tables {X = Val} type_error v.label)
+  conf_needed false v = conf_at observer tables (λ s. throw_error kinds.TypeError v.label) (λ s. conf_throw observer tables {X = Val} kinds.TypeError v.label)
 
-  silent_needed : (b : Bool) (v : Val) (s : State) → Hides observer v.label → IsSeen observer s → Silent observer tables (HiddenVal observer tables) s (needed b v s)
+  mum_needed : (b : Bool) (v : Val) → Hides observer v.label → Mum observer tables Hid (needed b v)
   unfolding needed
-  silent_needed true v s h w = silent_goes (same_refl observer tables s) refl refl h
-  silent_needed false v s h w = silent_throw observer tables (HiddenVal observer tables) type_error v.label s h w
+  mum_needed true v h = mum_ret observer tables Hid h
+  mum_needed false v h = mum_at observer tables Hid (λ s. throw_error kinds.TypeError v.label) (λ s. mum_throw observer tables Hid kinds.TypeError v.label h)
 
   needed_same : {γ : Pairing} (b : Bool) {v u : Val} (s t : State) → Agree observer γ v u → Alike observer v.label u.label (Unit {0}) → LowEqual observer tables γ s t → IsSeen observer s → InStep observer tables (Agree observer) γ (needed b v s) (needed b u t)
   unfolding needed
   needed_same true s t a e r w = go _ (extends_refl _) r w a
-  needed_same false s t a e r w = thrown_both observer tables (Agree observer) type_error s t e r w
+  needed_same false s t a e r w = thrown_both observer tables (Agree observer) kinds.TypeError s t e r w
 
-  needed_after : {γ : Pairing} (b c : Bool) {v u : Val} (s t : State) → Agree observer γ v u → (SameValue γ v.value u.value → b ≡ c) → LowEqual observer tables γ s t → IsSeen observer s → InStep observer tables (Agree observer) γ (needed b v s) (needed c u t)
-  needed_after b c {v} {u} s t (hidden h k) f r w = silent_both observer tables (Agree observer) (hidden_agree observer tables) r w (silent_needed b v s h w) (silent_needed c u t k (seen_other observer tables r w))
+  pub needed_after : {γ : Pairing} (b c : Bool) {v u : Val} (s t : State) → Agree observer γ v u → (SameValue γ v.value u.value → b ≡ c) → LowEqual observer tables γ s t → IsSeen observer s → InStep observer tables (Agree observer) γ (needed b v s) (needed c u t)
+  needed_after b c {v} {u} s t (hidden h k) f r w = values_apart observer tables r w ((mum_needed b v h).mute s w) ((mum_needed c u k).mute t (seen_other observer tables r w))
   needed_after {γ} b c {v} {u} s t (seen h e p) f r w = subst (λ x. InStep observer tables (Agree observer) γ (needed b v s) (needed x u t)) (f p) (needed_same b s t (seen h e p) (seen h e tt) r w)
 
-  coercible_same : {γ : Pairing} {v u : Value} → SameValue γ v u → is_coercible v ≡ is_coercible u
+  pub coercible_same : {γ : Pairing} {v u : Value} → SameValue γ v u → is_coercible v ≡ is_coercible u
   coercible_same primitives = refl
   coercible_same (objects p) = refl
 
-  object_same : {γ : Pairing} {v u : Value} → SameValue γ v u → is_object v ≡ is_object u
+  pub object_same : {γ : Pairing} {v u : Value} → SameValue γ v u → is_object v ≡ is_object u
   object_same primitives = refl
   object_same (objects p) = refl
 
   -- ---- whether a key is there
 
-  conf_has : (label : Label) (key : List ℕ) (v : Value) → Confined observer tables (has label key v)
+  pub conf_has : (label : Label) (key : List ℕ) (v : Value) → Confined observer tables (has label key v)
   unfolding has
   conf_has label key (value.Primitive p) = conf_ends observer tables _
   conf_has label key (value.Object o) = conf_at observer tables (λ s t. Goes (truth_of (is_found (find key (object_chain s.heap o.0)).at) (union label (find key (object_chain s.heap o.0)).walk)) t) (λ s. conf_ret observer tables _)
 
-  silent_has : (label : Label) (key : List ℕ) (v : Value) (s : State) → Hides observer label → Silent observer tables (HiddenVal observer tables) s (has label key v s)
+  mum_has : (label : Label) (key : List ℕ) (v : Value) → Hides observer label → Mum observer tables Hid (has label key v)
   unfolding has
-  silent_has label key (value.Primitive p) s h = silent_ends refl
-  silent_has label key (value.Object o) s h = silent_goes (same_refl observer tables s) refl refl (hides_first observer label (find key (object_chain s.heap o.0)).walk h)
+  mum_has label key (value.Primitive p) h = mum_ends observer tables Hid _
+  mum_has label key (value.Object o) h = mum_at observer tables Hid (λ s t. Goes (truth_of (is_found (find key (object_chain s.heap o.0)).at) (union label (find key (object_chain s.heap o.0)).walk)) t)
+      (λ s. mum_ret observer tables Hid (hides_first observer label (find key (object_chain s.heap o.0)).walk h))
 
   found_is : {A : Type 0} (o : Option A) → is_found o ≡ is_some o
   found_is None = refl
@@ -118,13 +176,13 @@ module _ (observer : Label) (tables : Tables) where
   key_same primitives = refl
   key_same (objects p) = refl
 
-  has_after : {γ : Pairing} {k j v u : Val} (s t : State) → Agree observer γ k j → Agree observer γ v u → LowEqual observer tables γ s t → IsSeen observer s
+  pub has_after : {γ : Pairing} {k j v u : Val} (s t : State) → Agree observer γ k j → Agree observer γ v u → LowEqual observer tables γ s t → IsSeen observer s
       → InStep observer tables (Agree observer) γ (has (union k.label v.label) (key_text k.value) v.value s) (has (union j.label u.label) (key_text j.value) u.value t)
   has_after {γ} {k} {j} {v} {u} s t a b r w = by_label (alike_join observer (λ p q. (p, q)) a b)
     where
       by_label : Alike observer (union k.label v.label) (union j.label u.label) (SameValue γ k.value j.value × SameValue γ v.value u.value)
           → InStep observer tables (Agree observer) γ (has (union k.label v.label) (key_text k.value) v.value s) (has (union j.label u.label) (key_text j.value) u.value t)
-      by_label (hidden d e) = silent_both observer tables (Agree observer) (hidden_agree observer tables) r w (silent_has _ (key_text k.value) v.value s d) (silent_has _ (key_text j.value) u.value t e)
+      by_label (hidden d e) = values_apart observer tables r w ((mum_has _ (key_text k.value) v.value d).mute s w) ((mum_has _ (key_text j.value) u.value e).mute t (seen_other observer tables r w))
       by_label (seen d e p) = subst (λ x. InStep observer tables (Agree observer) γ (has (union k.label v.label) (key_text k.value) v.value s) (has (union j.label u.label) x u.value t)) (key_same p.0)
           (has_same (key_text k.value) (union k.label v.label) (union j.label u.label) s t d e p.1 r w)
 
@@ -135,22 +193,19 @@ module _ (observer : Label) (tables : Tables) where
   distinct_over None key x {rs} e d = distinct_with_row key x (own_absent key rs e) d
   distinct_over (Some y) key x e d = distinct_altered key (λ z. Some x) d
 
-  distinct_all : (ks : List (List ℕ)) (xs : List (Slot Label)) {rs : Rows (Slot Label)} → AreDistinct rs → AreDistinct (defined_all ks xs rs)
-  distinct_all [] xs d = d
-  distinct_all (k ∷ ks) [] d = d
-  distinct_all (k ∷ ks) (x ∷ xs) {rs} d = distinct_all ks xs (distinct_over (own k rs) k x refl d)
-
-  literal_formed : (ks : List (List ℕ)) (vs : List Val) (l : Label) (n : ℕ) → 0 < n → IsFormed observer n (literal_object ks vs l)
-  literal_formed ks vs l n h = record { below = λ v q e. subst (λ (o : ObjId). o.0 < n) (same_Some _ q e) h; distinct = distinct_all ks (map (data_slot l) vs) no_keys }
+  distinct_parts : (l : Label) (parts : List (Part × List ℕ)) (vs : List Val) {rs : Rows (Slot Label)} → AreDistinct rs → AreDistinct (with_parts l parts vs rs)
+  distinct_parts l [] vs d = d
+  distinct_parts l (part ∷ parts) [] d = d
+  distinct_parts l (part ∷ parts) (v ∷ vs) {rs} d = distinct_parts l parts vs (distinct_over (own part.1 rs) part.1 (part_slot l part.0 (own part.1 rs) v) refl d)
 
   -- the first object stands
   first_stands : {γ : Pairing} {h g : List (Object Label)} → HeapsAgree observer γ h g → 0 < length h
   first_stands {h = h} r = start_stands observer r 0 (omega arith)
 
-  conf_make : (ks : List (List ℕ)) (vs : List Val) → Confined observer tables (make_object ks vs)
+  pub conf_make : (parts : List (Part × List ℕ)) (vs : List Val) → Confined observer tables (make_object parts vs)
   unfolding make_object
-  conf_make ks vs = record {
-    still = λ s p. still_goes observer tables _ (record { looks = λ β u r. low_heap observer tables r (new_left observer (literal_object ks vs (context s.frames)) r.heap) r.records; frames = refl }) refl refl;
+  conf_make parts vs = record {
+    still = λ s p. still_goes observer tables _ (record { looks = λ β u r. low_heap observer tables r (new_left observer (literal_object parts vs (context s.frames)) r.heap) r.records; frames = refl }) refl refl;
     fits = λ s. omega arith;
     adds = λ s. front_refl s.lines;
   }
@@ -160,56 +215,44 @@ module _ (observer : Label) (tables : Tables) where
   rows_over key rows.neither_names a r = with_row_both observer key a r
   rows_over key (rows.both_name z) a r = altered_both observer key _ _ (λ s t q. rows.both_name a) r
 
-  rows_all : {γ : Pairing} (ks : List (List ℕ)) {l m : Label} {vs us : List Val} {rs qs : Rows (Slot Label)} → Sees observer l → l ≡ m → Rels (Agree observer γ) vs us → RowsAgree observer γ rs qs
-      → RowsAgree observer γ (defined_all ks (map (data_slot l) vs) rs) (defined_all ks (map (data_slot m) us) qs)
-  rows_all [] h e a r = r
-  rows_all (k ∷ ks) h e nils r = r
-  rows_all (k ∷ ks) {l} {m} h e (conses {a = v} {b = u} a bs) r = rows_all ks h e bs (rows_over k (own_agree observer k r) (seen h e (refl, data_bodies (alike_join observer (λ x (y : Unit {0}). x) a (seen h e tt)))) r)
+  parts_agree : {γ : Pairing} (parts : List (Part × List ℕ)) (l : Label) {vs us : List Val} {rs qs : Rows (Slot Label)} → Sees observer l → Rels (Agree observer γ) vs us → AreSeen observer rs → RowsAgree observer γ rs qs
+      → RowsAgree observer γ (with_parts l parts vs rs) (with_parts l parts us qs)
+  parts_agree [] l h a d r = r
+  parts_agree (part ∷ parts) l h nils d r = r
+  parts_agree {γ} (part ∷ parts) l {rs = rs} {qs = qs} h (conses {a = v} {b = u} a bs) d r =
+      let slots = part_bodies observer l h part.0 (own_agree observer part.1 r) (λ s e. own_is_seen observer part.1 s d e) a in
+      parts_agree parts l h bs (seen_over observer (own part.1 rs) part.1 (part_slot l part.0 (own part.1 rs) v) h d)
+      (rows_over part.1 (own_agree observer part.1 r) (seen h refl (refl, slots)) r)
 
-  make_after : {γ : Pairing} (ks : List (List ℕ)) {vs us : List Val} (s t : State) → Rels (Agree observer γ) vs us → LowEqual observer tables γ s t → IsSeen observer s → InStep observer tables (Agree observer) γ (make_object ks vs s) (make_object ks us t)
-  unfolding make_object
-  make_after {γ} ks {vs} {us} s t a r w =
-      let e = same_context observer tables r w in
-      let p = literal_object ks vs (context s.frames) in
-      let q = literal_object ks us (context t.frames) in
-      let δ = with_objects γ (length s.heap) (length t.heap) in
+  -- what is made under a label
+  abbrev literal_made : List (Part × List ℕ) → List Val → Label → State → Outcome Halt Jump Val State
+  literal_made parts vs l s = Goes (unlabelled (value.Object (id (length s.heap)))) (record s { heap = s.heap ++ literal_object parts vs l ∷ [] })
+
+  made_after : {γ : Pairing} (parts : List (Part × List ℕ)) {vs us : List Val} (l : Label) (s t : State) → Sees observer l → Rels (Agree observer γ) vs us → LowEqual observer tables γ s t → IsSeen observer s
+      → InStep observer tables (Agree observer) γ (literal_made parts vs l s) (literal_made parts us l t)
+  made_after {γ} parts {vs} {us} l s t h a r w =
       let more = extends_objects γ (length s.heap) (length t.heap) in
-      go δ more
+      go (with_objects γ (length s.heap) (length t.heap)) more
       (low_heap observer tables r
-      (level_new observer p q refl plains (seen w e (both (r.heap.starts 0 (omega arith)))) w e refl (rows_all ks w e a no_rows) (distinct_all ks (map (data_slot (context s.frames)) vs) no_keys)
-      (λ o x. subst (λ (y : ObjId). y.0 < length s.heap) (same_Some _ o x) (first_stands r.heap)) (λ o x. subst (λ (y : ObjId). y.0 < length t.heap) (same_Some _ o x) (first_stands (low_sym observer tables r).heap)) r.heap)
+      (level_new observer (literal_object parts vs l) (literal_object parts us l) refl plains (seen h refl (both (r.heap.starts 0 (omega arith)))) h refl refl (parts_agree parts l h a no_more no_rows) (distinct_parts l parts vs no_keys)
+      (λ v o x. subst (λ (y : ObjId). y.0 < length s.heap) (same_Some _ o x) (first_stands r.heap)) (λ v o x. subst (λ (y : ObjId). y.0 < length t.heap) (same_Some _ o x) (first_stands (low_sym observer tables r).heap)) tt tt r.heap)
       (record { paired = λ i j z. both_map (λ c d x. records_more observer more x) (r.records.paired i j z); one_to_one = r.records.one_to_one; left = r.records.left; right = r.records.right }))
       w (seen (sees_bottom observer) refl (objects (pair_new γ.objects (length s.heap) (length t.heap))))
 
-  -- ---- acts
+  pub make_after : {γ : Pairing} (parts : List (Part × List ℕ)) {vs us : List Val} (s t : State) → Rels (Agree observer γ) vs us → LowEqual observer tables γ s t → IsSeen observer s → InStep observer tables (Agree observer) γ (make_object parts vs s) (make_object parts us t)
+  unfolding make_object
+  make_after {γ} parts {vs} {us} s t a r w = subst (λ l. InStep observer tables (Agree observer) γ (literal_made parts vs (context s.frames) s) (literal_made parts us l t)) (same_context observer tables r w) (made_after parts (context s.frames) s t w a r w)
 
-  pub conf_act : (a : Act) (vs : List Val) → Confined observer tables (act a vs)
-  unfolding act
-  conf_act (object_of ks) vs = conf_make ks vs
-  conf_act base_needed vs = conf_needed _ _
-  conf_act object_needed vs = conf_needed _ _
-  conf_act refused_declaration vs = conf_at observer tables (λ s. throw_error type_error bottom) (λ s. conf_throw observer tables {X = Val} type_error bottom)
-  conf_act has_key vs = conf_has _ _ _
+  -- ---- arguments
 
   pub argument_agree : {γ : Pairing} (n : ℕ) {vs us : List Val} → Rels (Agree observer γ) vs us → Agree observer γ (argument n vs) (argument n us)
   argument_agree n nils = undefined_agree observer tables
   argument_agree zero (conses a bs) = a
   argument_agree (suc n) (conses a bs) = argument_agree n bs
 
-  act_after : {γ : Pairing} (a : Act) {vs us : List Val} (s t : State) → Rels (Agree observer γ) vs us → LowEqual observer tables γ s t → IsSeen observer s → InStep observer tables (Agree observer) γ (act a vs s) (act a us t)
-  unfolding act
-  act_after (object_of ks) s t a r w = make_after ks s t a r w
-  act_after base_needed s t a r w = needed_after _ _ s t (argument_agree 0 a) coercible_same r w
-  act_after object_needed s t a r w = needed_after _ _ s t (argument_agree 0 a) object_same r w
-  act_after refused_declaration s t a r w = thrown_both observer tables (Agree observer) type_error s t (seen (sees_bottom observer) refl tt) r w
-  act_after has_key s t a r w = has_after s t (argument_agree 0 a) (argument_agree 1 a) r w
-
   pub rels_more : {β γ : Pairing} {vs us : List Val} → Extends β γ → Rels (Agree observer β) vs us → Rels (Agree observer γ) vs us
   rels_more e nils = nils
   rels_more e (conses a bs) = conses (agree_more observer e a) (rels_more e bs)
-
-  pub lock_act : {β : Pairing} (a : Act) {vs us : List Val} → Rels (Agree observer β) vs us → Lockstep observer tables (Agree observer) β (act a vs) (act a us)
-  lock_act a q = record { steps = λ γ e s t r w. act_after a s t (rels_more e q) r w }
 
   -- ---- the keys of a value
 

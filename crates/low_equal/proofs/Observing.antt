@@ -1,6 +1,6 @@
 -- Two labelled readings are linked by what an observer can tell: in worlds in which the runs are in step, and in that in which each goes by itself.
 use Rattle.std.proofs.Common.{◌≡◌, ℕ, zero, suc, List, [], ◌∷◌, Bool, true, false, Option, refl, ◌∙◌, ap, ap₂, subst}
-use Rattle.origin_labels.specs.Label.{Label, bottom}
+use Rattle.origin_labels.specs.Label.{Label, bottom, union}
 use Rattle.flow_policy.specs.Policies.{Tables}
 use Rattle.flow_policy.specs.Inputs.{Given}
 use Rattle.flow_policy.specs.Observed as policy
@@ -10,36 +10,44 @@ use Rattle.js_values.specs.declared.value.Value.TheVariants as value
 use Rattle.es_meaning.specs.Outcomes.{ret, ◌>>=◌}
 use Rattle.es_meaning.specs.Environments.{Env, with_around, aimed}
 use Rattle.js_ast.specs.Functions.{FunctionCode}
-use Rattle.es_meaning.specs.Operations.{Ty, One, Res, Calling, directly, calls, constructs, Visit}
+use Rattle.es_meaning.specs.BuiltIns.{BuiltIns}
+use Rattle.es_meaning.specs.Operations.{Ty, One, Res, Calling, calls, constructs, Visit}
 use Rattle.es_meaning.specs.Operations.{Value as a_value}
 use Rattle.es_meaning.specs.Operators.{is_object, truth, converts_beside}
 use Rattle.js_ast.specs.Trees.{Statements}
-use Rattle.es_meaning.specs.Evaluation.{eval, program_step}
+use Rattle.native_protocol.specs.declared.hint.Hint.TheVariants as hint
+use Rattle.native_protocol.specs.declared.request.Seen.{Seen}
+use Rattle.es_meaning.specs.Evaluation.{eval, program_step, entering}
 use Rattle.es_meaning.specs.Plain.{choose}
 use Rattle.es_meaning.proofs.Link as link
-use Rattle.es_meaning.proofs.Link.{Rel, Rels, nils, conses, Visits, visits_of, Callings, both_direct, both_call, both_construct, Link, Linked, linked, ticking_linked, begun_linked}
+use Rattle.es_meaning.proofs.Link.{Rel, Rels, nils, conses, EnteringLinked, Visits, visits_of, Callings, both_call, both_construct, Link, Linked, entering_linked}
+use Rattle.es_meaning.proofs.RequestLinks as requests
+use Rattle.es_meaning.proofs.RequestLinks.{linked, ticking_linked, begun_linked}
 use Rattle.flow_meaning.specs.Erased.{unlabelled}
-use Rattle.flow_meaning.specs.Scopes.{Val, L, Came, Left, given_by, settled, fork, round_kind, round, again}
-use Rattle.flow_meaning.specs.Tracked.{Reference, resolved, key_list, with_list, jumps_to, raised_by, named_origins, base_of, labelled, timed}
+use Rattle.flow_meaning.specs.Scopes.{Val, joined, L, Left, settled, raise, fork, round_kind, round, again}
+use Rattle.flow_meaning.specs.Tracked.{Reference, Access, Putting, seen as seen_in, resolved, key_list, with_list, Enters, entered_access, entered_putting, jumps_to, raised_by, named_origins, base_of, labelled, timed}
 use Rattle.low_equal.specs.Observed.{Sees}
-use Rattle.low_equal.specs.LowEqual.{Pairing, Extends, seen, hidden, SameValue, primitives, objects, Agree}
+use Rattle.low_equal.specs.LowEqual.{Pairing, Extends, seen, SameValue, primitives, objects, Agree, AllAgree}
 use Rattle.low_equal.specs.Runs.{Confined, Lockstep}
 use Rattle.low_equal.specs.Laws.{EnvsAgree, VisitsAgree, Nothing, IsConfining, IsLockstep}
-use Rattle.low_equal.proofs.Labels.{hides_second, sees_bottom}
-use Rattle.low_equal.proofs.Agreement.{extends_refl, extends_trans, alike_map, agree_more, agree_joined, agree_seen, label_alike}
-use Rattle.low_equal.proofs.References.{ReferencesAgree, in_records, on_globals, nowheres, found_first, found_second, properties, references_more, resolved_agree, undefined_agree, conf_value, lock_value, conf_typeof, lock_typeof}
-use Rattle.low_equal.proofs.Puts.{conf_put, lock_put}
+use Rattle.low_equal.proofs.Labels.{sees_bottom}
+use Rattle.low_equal.proofs.Agreement.{extends_refl, extends_trans, alike_map, alike_join, agree_more, agree_joined, agree_seen, label_alike}
+use Rattle.low_equal.proofs.References.{ReferencesAgree, in_records, on_globals, nowheres, found_first, found_second, properties, references_more, AccessesAgree, resolved_agree, undefined_agree, conf_accessed, lock_accessed, conf_typeof, lock_typeof}
+use Rattle.low_equal.proofs.Puts.{PuttingsAgree, conf_put, lock_put}
 use Rattle.low_equal.proofs.Deletions.{conf_remove, lock_remove}
-use Rattle.low_equal.proofs.ObjectActs.{key_same, conf_act, lock_act, conf_keys, lock_keys}
+use Rattle.low_equal.proofs.ObjectActs.{key_same, conf_keys, lock_keys}
+use Rattle.low_equal.proofs.AllActs.{conf_act, lock_act}
+use Rattle.low_equal.proofs.Looks.{conf_look, lock_look, conf_throw_value, lock_throw_value}
 use Rattle.low_equal.proofs.Lines.{front_refl}
-use Rattle.low_equal.proofs.Steps.{CameAgree, both_ended, both_caught, LeftAgree, conf_ret, conf_ends, conf_bind, conf_scope, lock_ret, lock_bind, lock_scope, ends_first, ends_second}
-use Rattle.low_equal.proofs.Acts.{conf_jump, conf_raise, lock_raise, conf_tick, lock_tick, conf_given, conf_unary, lock_unary, lock_binary, conf_unless, lock_unless}
-use Rattle.low_equal.proofs.Directs.{conf_direct, lock_direct}
+use Rattle.low_equal.proofs.Steps.{LeftAgree, conf_ret, conf_ends, conf_bind, conf_scope, lock_ret, lock_bind, lock_scope, ends_first, ends_second}
+use Rattle.low_equal.proofs.Acts.{conf_jump, conf_raise, lock_raise, conf_tick, lock_tick, conf_given, conf_unary, lock_unary, lock_binary}
 use Rattle.low_equal.proofs.Entries.{conf_declare, lock_declare}
 use Rattle.low_equal.proofs.Makes.{conf_function, lock_function}
-use Rattle.low_equal.proofs.Calls.{Lists, ends, begins, conf_call, conf_construct}
-use Rattle.low_equal.proofs.CallsAgree.{lock_call, lock_construct}
-use Rattle.low_equal.proofs.Instances.{conf_instance, lock_instance}
+use Rattle.low_equal.proofs.Aims.{rels_of}
+use Rattle.low_equal.proofs.Calls.{EntersConfined, EntersInStep, conf_choose, conf_call_value, conf_construct_value}
+use Rattle.low_equal.proofs.CallsAgree.{settled_agree, lock_call_value, lock_construct_value}
+use Rattle.low_equal.proofs.Accesses.{conf_access, lock_access, conf_putting, lock_putting, conf_converted, lock_converted}
+use Rattle.low_equal.proofs.Instances.{conf_is, conf_instance, lock_instance}
 use Rattle.low_equal.proofs.Jumps.{aimed_same, conf_jumps, lock_jumps, conf_raised_by, lock_raised_by, conf_attempt, lock_attempt}
 
 -- the runs are in step, with these pairs; or each goes by itself
@@ -85,6 +93,26 @@ envs_more h r = record { place = h.records _ _ r.place; call = r.call; around = 
 truth_same : {β : Pairing} {v u : Value} → SameValue β v u → truth v ≡ truth u
 truth_same primitives = refl
 truth_same (objects p) = refl
+
+-- both are objects, or neither is
+object_same : {β : Pairing} {v u : Value} → SameValue β v u → is_object v ≡ is_object u
+object_same primitives = refl
+object_same (objects p) = refl
+
+-- and both are converted beside others, or neither is
+beside_same : {β : Pairing} {v u x y : Value} → SameValue β v u → SameValue β x y → converts_beside v x ≡ converts_beside u y
+beside_same primitives q = refl
+beside_same (objects p) primitives = refl
+beside_same (objects p) (objects q) = refl
+
+-- values in registers
+any_list : {observer : Label} (vs : List Val) → Rels (Related (Agree observer) Apart) vs vs
+any_list [] = nils
+any_list (v ∷ vs) = conses any (any_list vs)
+
+together : {observer : Label} {β : Pairing} {vs us : List Val} → Rels (Agree observer β) vs us → Rels (Related (Agree observer) (Together β)) vs us
+together nils = nils
+together (conses r q) = conses (related r) (together q)
 
 module _ (observer : Label) (tables : Tables) where
   -- results that agree
@@ -149,10 +177,6 @@ module _ (observer : Label) (tables : Tables) where
 
   -- ---- scopes
 
-  conf_choose : {X : Type 0} {m n : L X} (b : Bool) → Confined observer tables m → Confined observer tables n → Confined observer tables (choose b m n)
-  conf_choose true c d = c
-  conf_choose false c d = d
-
   -- where a value is seen, the same is chosen
   pick : (t : Ty) (b c : Bool) {m n m' n' : L (Res Val t)} (β : Pairing) → Lockstep observer tables (Results t) β m m' → Lockstep observer tables (Results t) β n n' → b ≡ c → Lockstep observer tables (Results t) β (choose b m n) (choose c m' n')
   pick t b c {m} {n} {m'} {n'} β l k p = subst (λ x. Lockstep observer tables (Results t) β (choose b m n) (choose x m' n')) p (go b)
@@ -167,19 +191,14 @@ module _ (observer : Label) (tables : Tables) where
   -- what a branch gives
   settled_both : (t : Ty) {γ : Pairing} (c d : Left (Res Val t)) → LeftAgree observer tables (Results t) γ c d → Results t γ (settled t c) (settled t d)
   settled_both One c d r = tt
-  settled_both a_value c d (hidden h k) = hidden (hides_second observer (given_by a_value c.how).label c.label h) (hides_second observer (given_by a_value d.how).label d.label k)
-  settled_both a_value c d (seen p e r) = agree_joined observer (seen p e tt) (given_both r)
-    where
-      given_both : {γ : Pairing} {x y : Came Val} → CameAgree observer tables (Agree observer) γ x y → Agree observer γ (given_by a_value x) (given_by a_value y)
-      given_both (both_ended q) = q
-      given_both (both_caught q) = undefined_agree observer tables
+  settled_both a_value c d r = settled_agree observer tables c d r
 
   fork_link : (t : Ty) {w : World} {v u : Val} {m n m' n' : L (Res Val t)} → Related (Agree observer) w v u → ((w' : World) → Le w w' → Lift t w' m m') → ((w' : World) → Le w w' → Lift t w' n n') → Lift t w (fork t v m n) (fork t u m' n')
   fork_link t {w} {v} {u} {m} {n} {m'} {n'} r l k =
       let a = l w (le_itself w) in
       let b = k w (le_itself w) in
-      let c : (d : ℕ) → Confined observer tables (choose (truth v.value) m n) = λ d. conf_choose (truth v.value) a.left b.left in
-      let c' : (d : ℕ) → Confined observer tables (choose (truth u.value) m' n') = λ d. conf_choose (truth u.value) a.right b.right in
+      let c : (d : ℕ) → Confined observer tables (choose (truth v.value) m n) = λ d. conf_choose observer tables (truth v.value) a.left b.left in
+      let c' : (d : ℕ) → Confined observer tables (choose (truth u.value) m' n') = λ d. conf_choose observer tables (truth u.value) a.right b.right in
       let f : Left (Res Val t) → L (Res Val t) = λ x. ret (settled t x) in
       lift w (conf_bind observer tables f (conf_scope observer tables kind.Branch v.label c) (λ x. conf_ret observer tables (settled t x)))
       (conf_bind observer tables f (conf_scope observer tables kind.Branch u.label c') (λ x. conf_ret observer tables (settled t x)))
@@ -208,8 +227,8 @@ module _ (observer : Label) (tables : Tables) where
 
   again_link : {w : World} {v u : Val} {m n m' n' : L (Unit {0})} → Related (Agree observer) w v u → Lift One w m m' → Lift One w n n' → Lift One w (again v m n) (again u m' n')
   again_link {w} {v} {u} {m} {n} {m'} {n'} r l k =
-      let c = conf_choose (truth v.value) l.left k.left in
-      let d = conf_choose (truth u.value) l.right k.right in
+      let c = conf_choose observer tables (truth v.value) l.left k.left in
+      let d = conf_choose observer tables (truth u.value) l.right k.right in
       lift w (conf_bind observer tables _ (conf_raise observer tables v.label) (λ a. c)) (conf_bind observer tables _ (conf_raise observer tables u.label) (λ a. d))
       (λ β e. let q = value_in e r in
       lock_bind observer tables (λ γ a b. truth v.value ≡ truth u.value) Nothing _ _ (lock_raise observer tables (truth v.value ≡ truth u.value) (label_alike observer q) (truth_seen q)) (λ a. c) (λ a. d)
@@ -240,9 +259,64 @@ module _ (observer : Label) (tables : Tables) where
             (h (Together γ) (le_along e (grows g)) (resolved s.records s.heap i x) (resolved u.records u.heap j x) (related a)).step.steps γ (extends_refl γ) s u l v;
       })
 
-  module _ (functions : List FunctionCode) (first second : Given) (agree : policy.Agree observer tables first second) where
+  look_link : {w : World} {v u : Val} (k k' : Seen → L Val) → Related (Agree observer) w v u → ((w' : World) → Le w w' → (x : Seen) → Lift a_value w' (k x) (k' x))
+      → Lift a_value w (raise v.label >>= λ a s. k (seen_in s.heap v.value) s) (raise u.label >>= λ a s. k' (seen_in s.heap u.value) s)
+  look_link {w} {v} {u} k k' r h =
+      let c : (x : Seen) → Confined observer tables (k x) = λ x. (h Apart parts x).left in
+      let d : (x : Seen) → Confined observer tables (k' x) = λ x. (h Apart parts x).right in
+      lift w (conf_look observer tables v k c) (conf_look observer tables u k' d) (λ β e. lock_look observer tables (Agree observer) v u k k' (value_in e r) c d (λ γ x z. (h (Together γ) (le_along e (grows x)) z).step))
+
+  -- ---- how what is called is entered
+
+  abbrev Entered : Enters → Enters → Type 0
+  Entered E D = EnteringLinked World (Related (Agree observer)) (Related EnvsAgree) Lift E D
+
+  entered_left : {E D : Enters} → Entered E D → EntersConfined observer tables E
+  entered_left h = record {
+    body = λ ss e. (h.body Apart ss e e any).left;
+    built_in = λ which construct vs. (h.built_in Apart which construct vs vs (any_list vs)).left;
+    conversion = λ kind v. (h.conversion Apart kind v v any).left;
+  }
+
+  entered_right : {E D : Enters} → Entered E D → EntersConfined observer tables D
+  entered_right h = record {
+    body = λ ss e. (h.body Apart ss e e any).right;
+    built_in = λ which construct vs. (h.built_in Apart which construct vs vs (any_list vs)).right;
+    conversion = λ kind v. (h.conversion Apart kind v v any).right;
+  }
+
+  entered_step : {E D : Enters} → Entered E D → EntersInStep observer tables E D
+  entered_step h = record {
+    body = λ β ss e d r. (h.body (Together β) ss e d (related r)).step;
+    built_in = λ β which construct vs us r. (h.built_in (Together β) which construct vs us (together r)).step;
+    conversion = λ β kind v u r. (h.conversion (Together β) kind v u (related r)).step;
+  }
+
+  module _ (set : BuiltIns) (functions : List FunctionCode) (first second : Given) (agree : policy.Agree observer tables first second) where
+    -- a read, which may enter a getter
+    read_link : {w : World} {m n : L Access} {E D : Enters} → Confined observer tables m → Confined observer tables n → ((β : Pairing) → Le w (Together β) → Lockstep observer tables (AccessesAgree observer) β m n) → Entered E D
+        → Lift a_value w (m >>= entered_access functions E) (n >>= entered_access functions D)
+    read_link {w} {E = E} {D = D} c d l h =
+        let x = entered_left h in
+        let y = entered_right h in
+        let cf : (a : Access) → Confined observer tables (entered_access functions E a) = λ a. conf_access observer tables functions x a in
+        let cg : (a : Access) → Confined observer tables (entered_access functions D a) = λ a. conf_access observer tables functions y a in
+        lift w (conf_bind observer tables (entered_access functions E) c cf) (conf_bind observer tables (entered_access functions D) d cg)
+        (λ β e. lock_bind observer tables (AccessesAgree observer) (Agree observer) (entered_access functions E) (entered_access functions D) (l β e) cf cg (λ γ z a b q. lock_access observer tables functions x y (entered_step h) q))
+
+    -- a put, which may enter a setter
+    put_link : {w : World} {m n : L Putting} {v u : Val} {E D : Enters} → Related (Agree observer) w v u → Confined observer tables m → Confined observer tables n → ((β : Pairing) → Le w (Together β) → Lockstep observer tables (PuttingsAgree observer) β m n) → Entered E D
+        → Lift One w (m >>= entered_putting functions E v) (n >>= entered_putting functions D u)
+    put_link {w} {v = v} {u = u} {E = E} {D = D} r c d l h =
+        let x = entered_left h in
+        let y = entered_right h in
+        let cf : (a : Putting) → Confined observer tables (entered_putting functions E v a) = λ a. conf_putting observer tables functions x v a in
+        let cg : (a : Putting) → Confined observer tables (entered_putting functions D u a) = λ a. conf_putting observer tables functions y u a in
+        lift w (conf_bind observer tables (entered_putting functions E v) c cf) (conf_bind observer tables (entered_putting functions D u) d cg)
+        (λ β e. lock_bind observer tables (PuttingsAgree observer) Nothing (entered_putting functions E v) (entered_putting functions D u) (l β e) cf cg (λ γ z a b q. lock_putting observer tables functions x y (entered_step h) (agree_more observer z (value_in e r)) q))
+
     -- the labelled meanings on two inputs
-    pub observed : Link (labelled tables first functions) (labelled tables second functions)
+    pub observed : Link (labelled tables first set functions) (labelled tables second set functions)
     observed = record {
       W = World;
       Le = Le;
@@ -266,17 +340,20 @@ module _ (observer : Label) (tables : Tables) where
       literal = literal_in;
       unary = λ {w = w} o {v = v} {v' = u} r. lift w (conf_unary observer tables o v) (conf_unary observer tables o u) (λ β e. lock_unary observer tables o (value_in e r));
       binary = λ {w = w} o r q. lift w (conf_given observer tables _ _) (conf_given observer tables _ _) (λ β e. lock_binary observer tables o (value_in e r) (value_in e q));
-      primitive = λ {w = w} hint {v = v} {v' = u} r. lift w (conf_unless observer tables (is_object v.value) v) (conf_unless observer tables (is_object u.value) u) (λ β e. lock_unless observer tables (is_object v.value) (is_object u.value) (value_in e r));
-      comparable = λ {w = w} {v = v} {u = u} {v' = v'} {u' = u'} r q. lift w (conf_unless observer tables (converts_beside v.value u.value) v) (conf_unless observer tables (converts_beside v'.value u'.value) v')
-          (λ β e. lock_unless observer tables (converts_beside v.value u.value) (converts_beside v'.value u'.value) (value_in e r));
-      direct = λ {w = w} f r. lift w (conf_direct observer tables first f _) (conf_direct observer tables second f _) (λ β e. lock_direct observer tables first second agree f (rels_in e r));
-      unbuilt = λ t w. lift w (conf_ends observer tables _) (conf_ends observer tables _) (λ β e. record { steps = λ γ d s u r v. ends_first observer tables (Results t) r (front_refl u.lines) });
+      primitive = λ {w = w} kind {v = v} {v' = u} r h. lift w (conf_converted observer tables functions (entered_left h) (is_object v.value) kind v.label v v) (conf_converted observer tables functions (entered_right h) (is_object u.value) kind u.label u u)
+          (λ β e. lock_converted observer tables functions (entered_left h) (entered_right h) (entered_step h) kind v.label u.label (alike_map observer object_same (value_in e r)) (λ k. k) (λ k. k) (value_in e r) (value_in e r));
+      comparable = λ {w = w} {v = v} {u = u} {v' = v'} {u' = u'} r q h. lift w (conf_converted observer tables functions (entered_left h) (converts_beside v.value u.value) hint.Default (union v.label u.label) v (joined u.label v))
+          (conf_converted observer tables functions (entered_right h) (converts_beside v'.value u'.value) hint.Default (union v'.label u'.label) v' (joined u'.label v'))
+          (λ β e. lock_converted observer tables functions (entered_left h) (entered_right h) (entered_step h) hint.Default (union v.label u.label) (union v'.label u'.label) (alike_join observer beside_same (value_in e r) (value_in e q)) (λ k. k) (λ k. k) (value_in e r) (agree_joined observer (label_alike observer (value_in e q)) (value_in e r)));
+      look = look_link;
+      throw = λ {w = w} {v = v} {v' = u} r. lift w (conf_throw_value observer tables v) (conf_throw_value observer tables u) (λ β e. lock_throw_value observer tables (Agree observer) (value_in e r));
+      leave = λ t w name. lift w (conf_ends observer tables _) (conf_ends observer tables _) (λ β e. record { steps = λ γ d s u r v. ends_first observer tables (Results t) r (front_refl u.lines) });
       resolve = resolve_link;
-      act = λ {w = w} a {vs = vs} {us = us} r. lift w (conf_act observer tables a vs) (conf_act observer tables a us) (λ β e. lock_act observer tables a (rels_in e r));
+      act = λ {w = w} f {vs = vs} {us = us} r. lift w (conf_act observer tables first f vs) (conf_act observer tables second f us) (λ β e. lock_act observer tables first second agree f (rels_in e r));
       property = λ r q. property_in r q;
-      get_value = λ {w = w} {n = n} {n' = m} k k' r h. lift w (conf_value observer tables n) (conf_value observer tables m) (λ β e. lock_value observer tables (reference_in e r));
-      typeof_value = λ {w = w} {n = n} {n' = m} k k' r h. lift w (conf_typeof observer tables n) (conf_typeof observer tables m) (λ β e. lock_typeof observer tables (reference_in e r));
-      put_value = λ {w = w} {n = n} {n' = m} {v = v} {v' = u} k k' r q h. lift w (conf_put observer tables n v) (conf_put observer tables m u) (λ β e. lock_put observer tables (reference_in e r) (value_in e q));
+      get_value = λ {n = n} {n' = m} r h. read_link (conf_accessed observer tables n) (conf_accessed observer tables m) (λ β e. lock_accessed observer tables (reference_in e r)) h;
+      typeof_value = λ {n = n} {n' = m} r h. read_link (conf_typeof observer tables n) (conf_typeof observer tables m) (λ β e. lock_typeof observer tables (reference_in e r)) h;
+      put_value = λ {n = n} {n' = m} {v = v} {v' = u} r q h. put_link q (conf_put observer tables n v) (conf_put observer tables m u) (λ β e. lock_put observer tables (reference_in e r) (value_in e q)) h;
       remove = λ {w = w} {n = n} {n' = m} r. lift w (conf_remove observer tables n) (conf_remove observer tables m) (λ β e. lock_remove observer tables (reference_in e r));
       fork = fork_link;
       round = round_link;
@@ -289,20 +366,17 @@ module _ (observer : Label) (tables : Tables) where
           (λ β l. subst (λ o. Lockstep observer tables (Results One) β (raised_by tables first leaving (aimed 0 leaving e) (named_origins tables first names)) (raised_by tables second leaving o (named_origins tables second names))) (aimed_same (env_in l r) leaving)
           (lock_raised_by observer tables first second leaving (aimed 0 leaving e) (named_origins tables first names)));
       this_of = λ r. this_in r;
-      instance = λ {w = w} {v = v} {f = f} {v' = u} {f' = g} k k' r q h. lift w (conf_instance observer tables v f) (conf_instance observer tables u g) (λ β e. lock_instance observer tables (value_in e r) (value_in e q));
+      instance = λ {w = w} {v = v} {f = f} {v' = u} {f' = g} r q h. lift w (conf_instance observer tables functions (entered_left h) v f) (conf_instance observer tables functions (entered_right h) u g) (λ β e. lock_instance observer tables functions (entered_left h) (entered_right h) (entered_step h) (value_in e r) (value_in e q));
       declare = λ {w = w} name {v = v} {v' = u} {e = e} {d = d} k k' r q h.
           let c : (x : Env ℕ) → Confined observer tables (k x) = λ x. (h Apart parts x x any).left in
           let c' : (x : Env ℕ) → Confined observer tables (k' x) = λ x. (h Apart parts x x any).right in
           lift w (conf_declare observer tables name v e k c) (conf_declare observer tables name u d k' c') (λ β l. lock_declare observer tables name k k' (value_in l r) (env_in l q) (λ γ g x y a. (h (Together γ) (le_along l (grows g)) x y (related a)).step));
-      call = λ {w = w} {f = f} {this = this} {f' = g} {this' = that} {vs = vs} {us = us} k k' r q a h.
-          let c : (ss : Statements) (x : Env ℕ) → Confined observer tables (k ss x) = λ ss x. (h Apart ss x x any).left in
-          let c' : (ss : Statements) (x : Env ℕ) → Confined observer tables (k' ss x) = λ ss x. (h Apart ss x x any).right in
-          lift w (conf_call observer tables functions c f this vs) (conf_call observer tables functions c' g that us)
-          (λ β l. lock_call observer tables functions c c' (λ γ ss x y z. (h (Together γ) ss x y (related z)).step) (value_in l r) (value_in l q) (lists_in l a));
-      construct = λ {w = w} {f = f} {f' = g} {vs = vs} {us = us} k k' r a h.
-          let c : (ss : Statements) (x : Env ℕ) → Confined observer tables (k ss x) = λ ss x. (h Apart ss x x any).left in
-          let c' : (ss : Statements) (x : Env ℕ) → Confined observer tables (k' ss x) = λ ss x. (h Apart ss x x any).right in
-          lift w (conf_construct observer tables functions c f vs) (conf_construct observer tables functions c' g us) (λ β l. lock_construct observer tables functions c c' (λ γ ss x y z. (h (Together γ) ss x y (related z)).step) (value_in l r) (lists_in l a));
+      call = λ {w = w} {f = f} {this = this} {f' = g} {this' = that} {vs = vs} {us = us} r q a h.
+          lift w (conf_call_value observer tables functions (entered_left h) f.label f.value this vs) (conf_call_value observer tables functions (entered_right h) g.label g.value that us)
+          (λ β e. lock_call_value observer tables functions (entered_left h) (entered_right h) (entered_step h) (value_in e r) (value_in e q) (rels_in e a));
+      construct = λ {w = w} {f = f} {f' = g} {vs = vs} {us = us} r a h.
+          lift w (conf_construct_value observer tables functions (entered_left h) set f.label f.value vs) (conf_construct_value observer tables functions (entered_right h) set g.label g.value us)
+          (λ β e. lock_construct_value observer tables functions (entered_left h) (entered_right h) (entered_step h) set (value_in e r) (rels_in e a));
       attempt = λ {w = w} handles finishes {m = m} {n = n} {m' = m'} {n' = n'} h h' a b c.
           let ch : (v : Val) → Confined observer tables (h v) = λ v. (b Apart parts v v any).left in
           let ch' : (v : Val) → Confined observer tables (h' v) = λ v. (b Apart parts v v any).right in
@@ -328,11 +402,7 @@ module _ (observer : Label) (tables : Tables) where
         this_in (related r) = related (this_of_both r)
         this_in any = any
 
-        lists_in : {w : World} {β : Pairing} {vs us : List Val} → Le w (Together β) → Rels (Related (Agree observer) w) vs us → Lists observer β vs us
-        lists_in l nils = ends
-        lists_in l (conses r q) = begins (value_in l r) (lists_in l q)
-
-        property_in : {w : World} {v u v' u' : Val} → Related (Agree observer) w v v' → Related (Agree observer) w u u' → Related (ReferencesAgree observer) w ((labelled tables first functions).property v u) ((labelled tables second functions).property v' u')
+        property_in : {w : World} {v u v' u' : Val} → Related (Agree observer) w v v' → Related (Agree observer) w u u' → Related (ReferencesAgree observer) w ((labelled tables first set functions).property v u) ((labelled tables second set functions).property v' u')
         property_in (related r) (related q) = related (properties r (alike_map observer (key_same observer tables) q))
         property_in any any = any
 
@@ -340,23 +410,23 @@ module _ (observer : Label) (tables : Tables) where
         literal_in (Together β) v = related (seen (sees_bottom observer) refl primitives)
         literal_in Apart v = any
 
-    ticks : (w : World) → Lift One w (timed tables first functions).tick (timed tables second functions).tick
+    ticks : (w : World) → Lift One w (timed tables first set functions).tick (timed tables second set functions).tick
     ticks w = lift w (conf_tick observer tables) (conf_tick observer tables) (λ β e. lock_tick observer tables β)
 
-    out_of : (t : Ty) (w : World) → Lift t w ((timed tables first functions).ended t) ((timed tables second functions).ended t)
+    out_of : (t : Ty) (w : World) → Lift t w ((timed tables first set functions).ended t) ((timed tables second set functions).ended t)
     out_of t w = lift w (conf_ends observer tables _) (conf_ends observer tables _) (λ β e. record { steps = λ γ d s u r v. ends_first observer tables (Results t) r (front_refl u.lines) })
 
     -- where the depth of one is at its end
-    first_ended : {t : Ty} (w : World) {n : L (Res Val t)} → Confined observer tables n → Lift t w ((timed tables first functions).ended t) n
+    first_ended : {t : Ty} (w : World) {n : L (Res Val t)} → Confined observer tables n → Lift t w ((timed tables first set functions).ended t) n
     first_ended {t} w {n} c = lift w (conf_ends observer tables _) c (λ β e. record { steps = λ γ d s u r v. ends_first observer tables (Results t) r (c.adds u) })
 
-    second_ended : {t : Ty} (w : World) {m : L (Res Val t)} → Confined observer tables m → Lift t w m ((timed tables second functions).ended t)
+    second_ended : {t : Ty} (w : World) {m : L (Res Val t)} → Confined observer tables m → Lift t w m ((timed tables second set functions).ended t)
     second_ended {t} w {m} c = lift w c (conf_ends observer tables _) (λ β e. record { steps = λ γ d s u r v. ends_second observer tables (Results t) r (c.adds s) })
 
     -- the parts of a script, to one depth
-    pub evals : (n : ℕ) → Linked (labelled tables first functions) (labelled tables second functions) observed (eval (timed tables first functions) n) (eval (timed tables second functions) n)
+    pub evals : (n : ℕ) → Linked (labelled tables first set functions) (labelled tables second set functions) observed (eval (timed tables first set functions) set n) (eval (timed tables second set functions) set n)
     unfolding observed
-    evals n = linked (timed tables first functions) (timed tables second functions) observed ticks out_of n
+    evals n = linked (timed tables first set functions) (timed tables second set functions) observed ticks set out_of n
 
 -- a turn of a `for in` over any value
 any_visit : {observer : Label} (v : Visit Val) → Visits (Related (Agree observer) Apart) v v
@@ -366,50 +436,55 @@ any_visit v = visits_of any
 same_input : (observer : Label) (tables : Tables) (inputs : Given) → policy.Agree observer tables inputs inputs
 same_input observer tables inputs i c at p = refl
 
-module _ (observer : Label) (tables : Tables) (functions : List FunctionCode) (first second : Given) (agree : policy.Agree observer tables first second) where
+module _ (observer : Label) (tables : Tables) (set : BuiltIns) (functions : List FunctionCode) (first second : Given) (agree : policy.Agree observer tables first second) where
   -- what a run does alone
-  abbrev alone : (inputs : Given) (n : ℕ) → Linked (labelled tables inputs functions) (labelled tables inputs functions) (observed observer tables functions inputs inputs (same_input observer tables inputs)) (eval (timed tables inputs functions) n) (eval (timed tables inputs functions) n)
-  alone inputs n = evals observer tables functions inputs inputs (same_input observer tables inputs) n
+  abbrev alone : (inputs : Given) (n : ℕ) → Linked (labelled tables inputs set functions) (labelled tables inputs set functions) (observed observer tables set functions inputs inputs (same_input observer tables inputs)) (eval (timed tables inputs set functions) set n) (eval (timed tables inputs set functions) set n)
+  alone inputs n = evals observer tables set functions inputs inputs (same_input observer tables inputs) n
 
   -- the parts of a script, to two depths
-  linked_at : (n m : ℕ) → Linked (labelled tables first functions) (labelled tables second functions) (observed observer tables functions first second agree) (eval (timed tables first functions) n) (eval (timed tables second functions) m)
+  linked_at : (n m : ℕ) → Linked (labelled tables first set functions) (labelled tables second set functions) (observed observer tables set functions first second agree) (eval (timed tables first set functions) set n) (eval (timed tables second set functions) set m)
   unfolding eval observed
   linked_at zero m =
       let h = alone second m in
       record {
-        expr = λ e w i j p. first_ended observer tables functions first second agree w (h.expr e Apart j j any).right;
-        use_of = λ use_as e w i j p. first_ended observer tables functions first second agree w (h.use_of use_as e Apart j j any).right;
-        named = λ ls s w e d r. first_ended observer tables functions first second agree w (h.named ls s Apart d d any).right;
-        stmt = λ s w e d r. first_ended observer tables functions first second agree w (h.stmt s Apart d d any).right;
-        turn = λ round w e d r. first_ended observer tables functions first second agree w (h.turn round Apart d d any).right;
-        visit = λ w v u rs e d r. first_ended observer tables functions first second agree w (h.visit Apart u u (any_visit u) d d any).right;
+        expr = λ e w i j p. first_ended observer tables set functions first second agree w (h.expr e Apart j j any).right;
+        use_of = λ use_as e w i j p. first_ended observer tables set functions first second agree w (h.use_of use_as e Apart j j any).right;
+        named = λ ls s w e d r. first_ended observer tables set functions first second agree w (h.named ls s Apart d d any).right;
+        stmt = λ s w e d r. first_ended observer tables set functions first second agree w (h.stmt s Apart d d any).right;
+        turn = λ round w e d r. first_ended observer tables set functions first second agree w (h.turn round Apart d d any).right;
+        visit = λ w v u rs e d r. first_ended observer tables set functions first second agree w (h.visit Apart u u (any_visit u) d d any).right;
+        native = λ steps w vs us rs. first_ended observer tables set functions first second agree w (h.native steps Apart us us (any_list us)).right;
       }
   linked_at (suc n) zero =
       let h = alone first (suc n) in
       record {
-        expr = λ e w i j p. second_ended observer tables functions first second agree w (h.expr e Apart i i any).left;
-        use_of = λ use_as e w i j p. second_ended observer tables functions first second agree w (h.use_of use_as e Apart i i any).left;
-        named = λ ls s w e d r. second_ended observer tables functions first second agree w (h.named ls s Apart e e any).left;
-        stmt = λ s w e d r. second_ended observer tables functions first second agree w (h.stmt s Apart e e any).left;
-        turn = λ round w e d r. second_ended observer tables functions first second agree w (h.turn round Apart e e any).left;
-        visit = λ w v u rs e d r. second_ended observer tables functions first second agree w (h.visit Apart v v (any_visit v) e e any).left;
+        expr = λ e w i j p. second_ended observer tables set functions first second agree w (h.expr e Apart i i any).left;
+        use_of = λ use_as e w i j p. second_ended observer tables set functions first second agree w (h.use_of use_as e Apart i i any).left;
+        named = λ ls s w e d r. second_ended observer tables set functions first second agree w (h.named ls s Apart e e any).left;
+        stmt = λ s w e d r. second_ended observer tables set functions first second agree w (h.stmt s Apart e e any).left;
+        turn = λ round w e d r. second_ended observer tables set functions first second agree w (h.turn round Apart e e any).left;
+        visit = λ w v u rs e d r. second_ended observer tables set functions first second agree w (h.visit Apart v v (any_visit v) e e any).left;
+        native = λ steps w vs us rs. second_ended observer tables set functions first second agree w (h.native steps Apart vs vs (any_list vs)).left;
       }
-  linked_at (suc n) (suc m) = ticking_linked (timed tables first functions) (timed tables second functions) (observed observer tables functions first second agree) (ticks observer tables functions first second agree) (eval (timed tables first functions) n) (eval (timed tables second functions) m) (linked_at n m)
+  linked_at (suc n) (suc m) = ticking_linked (timed tables first set functions) (timed tables second set functions) (observed observer tables set functions first second agree) (ticks observer tables set functions first second agree) set (eval (timed tables first set functions) set n) (eval (timed tables second set functions) set m) (linked_at n m)
 
   -- two runs of a program
-  pub program_observed : (n m : ℕ) (may_declare : Bool) (ss : Statements) (β : Pairing) (e d : Env ℕ) → EnvsAgree β e d → Lockstep observer tables Nothing β (program_step (timed tables first functions) n may_declare ss e) (program_step (timed tables second functions) m may_declare ss d)
+  pub program_observed : (n m : ℕ) (may_declare : Bool) (ss : Statements) (β : Pairing) (e d : Env ℕ) → EnvsAgree β e d → Lockstep observer tables Nothing β (program_step (timed tables first set functions) set n may_declare ss e) (program_step (timed tables second set functions) set m may_declare ss d)
   unfolding observed program_step
-  program_observed n m may_declare ss β e d r = (begun_linked (labelled tables first functions) (labelled tables second functions) (observed observer tables functions first second agree) (eval (timed tables first functions) n) (eval (timed tables second functions) m) (linked_at n m) may_declare ss {w = Together β} {e = e} {d = d} (related r)).step
+  program_observed n m may_declare ss β e d r = (begun_linked (labelled tables first set functions) (labelled tables second set functions) (observed observer tables set functions first second agree) (eval (timed tables first set functions) set n) (eval (timed tables second set functions) set m) (linked_at n m) may_declare ss {w = Together β} {e = e} {d = d} (related r)).step
 
 -- ---- confinement, of parts and of what is pending
 
 pub confinement : IsConfining
 unfolding observed
-confinement observer tables inputs functions n =
-    let h = alone observer tables functions inputs inputs (same_input observer tables inputs) inputs n in
-    let R = eval (timed tables inputs functions) n in
-    let K = observed observer tables functions inputs inputs (same_input observer tables inputs) in
-    let A = labelled tables inputs functions in
+confinement set observer tables inputs functions n =
+    let h = alone observer tables set functions inputs inputs (same_input observer tables inputs) inputs n in
+    let R = eval (timed tables inputs set functions) set n in
+    let K = observed observer tables set functions inputs inputs (same_input observer tables inputs) in
+    let A = labelled tables inputs set functions in
+    let E = entering A R set in
+    let into = entering_linked A A K R R h set in
+    let c = entered_left observer tables into in
     record {
       expr = λ e i. (h.expr e Apart i i any).left;
       use_of = λ use_as e i. (h.use_of use_as e Apart i i any).left;
@@ -420,71 +495,82 @@ confinement observer tables inputs functions n =
       discard = λ v. (link.discard_linked A A K {w = Apart} {v = v} {v' = v} any).left;
       give = λ v. (link.give_linked A A K {w = Apart} {v = v} {v' = v} any).left;
       unary_done = λ o v. (link.unary_done_linked A A K o {w = Apart} {v = v} {v' = v} any).left;
-      unary_value = λ o v. (link.unary_value_linked A A K o {w = Apart} {v = v} {v' = v} any).left;
+      unary_value = λ o v. (link.unary_value_linked A A K E E into o {w = Apart} {v = v} {v' = v} any).left;
       binary_done = λ o v u. (link.binary_done_linked A A K o {w = Apart} {v = v} {u = u} {v' = v} {u' = u} any any).left;
-      compared_left = λ o u v. (link.compared_left_linked A A K o {w = Apart} {u = u} {v = v} {u' = u} {v' = v} any any).left;
-      primitive_left = λ hint o u v. (link.primitive_left_linked A A K hint o {w = Apart} {u = u} {v = v} {u' = u} {v' = v} any any).left;
-      number_left = λ o u v. (link.number_left_linked A A K o {w = Apart} {u = u} {v = v} {u' = u} {v' = v} any any).left;
+      compared_left = λ o u v. (link.compared_left_linked A A K E E into o {w = Apart} {u = u} {v = v} {u' = u} {v' = v} any any).left;
+      primitive_left = λ hint o u v. (link.primitive_left_linked A A K E E into hint o {w = Apart} {u = u} {v = v} {u' = u} {v' = v} any any).left;
+      number_left = λ o u v. (link.number_left_linked A A K E E into o {w = Apart} {u = u} {v = v} {u' = u} {v' = v} any any).left;
       has_left = λ u v. (link.has_left_linked A A K {w = Apart} {u = u} {v = v} {u' = u} {v' = v} any any).left;
-      has_right = λ v u. (link.has_right_linked A A K {w = Apart} {u = u} {v = v} {u' = u} {v' = v} any any).left;
-      binary_values = λ o v u. (link.binary_values_linked A A K o {w = Apart} {v = v} {u = u} {v' = v} {u' = u} any any).left;
-      assign_to = λ r v. (link.assign_to_linked A A K {w = Apart} {n = r} {n' = r} {v = v} {v' = v} any any).left;
-      assign_giving = λ r a v. (link.assign_giving_linked A A K {w = Apart} {n = r} {n' = r} {a = a} {v = v} {a' = a} {v' = v} any any any).left;
-      postfix_by = λ o r v. (link.postfix_by_linked A A K o {w = Apart} {n = r} {n' = r} {v = v} {v' = v} any any).left;
-      postfix_number = λ o r v. (link.postfix_number_linked A A K o {w = Apart} {n = r} {n' = r} {v = v} {v' = v} any any).left;
-      postfix_value = λ o r v. (link.postfix_value_linked A A K o {w = Apart} {n = r} {n' = r} {v = v} {v' = v} any any).left;
-      prefix_by = λ o r v. (link.prefix_by_linked A A K o {w = Apart} {n = r} {n' = r} {v = v} {v' = v} any any).left;
-      prefix_number = λ o r v. (link.prefix_number_linked A A K o {w = Apart} {n = r} {n' = r} {v = v} {v' = v} any any).left;
-      prefix_value = λ o r v. (link.prefix_value_linked A A K o {w = Apart} {n = r} {n' = r} {v = v} {v' = v} any any).left;
-      binary_right = λ o r i v. (link.binary_right_linked A A K R R h o r {w = Apart} {i = i} {j = i} {v = v} {v' = v} any any).left;
-      and_right = λ r i v. (link.and_right_linked A A K R R h r {w = Apart} {i = i} {j = i} {v = v} {v' = v} any any).left;
-      or_right = λ r i v. (link.or_right_linked A A K R R h r {w = Apart} {i = i} {j = i} {v = v} {v' = v} any any).left;
-      choose_expr = λ a b i v. (link.choose_expr_linked A A K R R h a b {w = Apart} {i = i} {j = i} {v = v} {v' = v} any any).left;
-      comma_right = λ r i v. (link.comma_right_linked A A K R R h r {w = Apart} {i = i} {j = i} {v = v} {v' = v} any any).left;
-      compound_done = λ o r a v. (link.compound_done_linked A A K R R h o {w = Apart} {n = r} {n' = r} {a = a} {v = v} {a' = a} {v' = v} any any any).left;
-      compound_right = λ o e i r a. (link.compound_right_linked A A K R R h o e {w = Apart} {i = i} {j = i} {n = r} {n' = r} {a = a} {a' = a} any any any).left;
-      used = λ use_as i r. (link.used_linked A A K R R h use_as {w = Apart} {i = i} {j = i} {n = r} {n' = r} any any).left;
-      read_value = λ r. (link.read_value_linked A A K R R h {w = Apart} {n = r} {n' = r} any).left;
-      with_key = λ use_as i b k. (link.with_key_linked A A K R R h use_as {w = Apart} {i = i} {j = i} {b = b} {k = k} {b' = b} {k' = k} any any any).left;
-      with_base = λ use_as i k b. (link.with_base_linked A A K R R h use_as {w = Apart} {i = i} {j = i} {k = k} {b = b} {k' = k} {b' = b} any any any).left;
-      index_key = λ use_as i b k. (link.index_key_linked A A K R R h use_as {w = Apart} {i = i} {j = i} {b = b} {k = k} {b' = b} {k' = k} any any any).left;
-      index_base = λ use_as e i b. (link.index_base_linked A A K R R h use_as e {w = Apart} {i = i} {j = i} {b = b} {b' = b} any any).left;
-      member_base = λ use_as text i b. (link.member_base_linked A A K R R h use_as text {w = Apart} {i = i} {j = i} {b = b} {b' = b} any any).left;
-      more_values = λ act vs ps i v. (link.more_values_linked A A K R R h act ps {w = Apart} {i = i} {j = i} {vs = vs} {us = vs} {v = v} {v' = v} any (any_list vs) any).left;
-      more_arguments = λ f vs es i v. (link.more_arguments_linked A A K R R h es {f = f} {g = f} {w = Apart} {i = i} {j = i} {vs = vs} {us = vs} {v = v} {v' = v} (any_calling f) any (any_list vs) any).left;
-      more_variables = λ r ds i v. (link.more_variables_linked A A K R R h ds {w = Apart} {i = i} {j = i} {n = r} {n' = r} {v = v} {v' = v} any any any).left;
-      turn_test = λ round e v. (link.turn_test_linked A A K R R h round {w = Apart} {e = e} {d = e} {v = v} {v' = v} any any).left;
-      updated = λ round e v. (link.updated_linked A A K R R h round {w = Apart} {e = e} {d = e} v v any).left;
-      turned_round = λ round e. (link.turned_round_linked A A K R R h round {w = Apart} {e = e} {d = e} any).left;
-      looped = λ round e. (link.looped_linked A A K R R h round {w = Apart} {e = e} {d = e} any).left;
-      looped_value = λ round e v. (link.looped_value_linked A A K R R h round {w = Apart} {e = e} {d = e} v v any).left;
-      visited = λ v e. (link.visited_linked A A K R R h {w = Apart} {v = v} {v' = v} {e = e} {d = e} (any_visit v) any).left;
-      visit_body = λ s e v. (link.visit_body_linked A A K R R h s {w = Apart} {e = e} {d = e} v v any).left;
-      enumerated = λ labels target s e v. (link.enumerated_linked A A K R R h labels target s {w = Apart} {e = e} {d = e} {o = v} {o' = v} any any).left;
-      choose_stmt = λ s e v. (link.choose_stmt_linked A A K R R h s {w = Apart} {e = e} {d = e} {v = v} {v' = v} any any).left;
-      choose_stmts = λ s t e v. (link.choose_stmts_linked A A K R R h s t {w = Apart} {e = e} {d = e} {v = v} {v' = v} any any).left;
+      has_right = λ v u. (link.has_right_linked A A K E E into {w = Apart} {u = u} {v = v} {u' = u} {v' = v} any any).left;
+      binary_values = λ o v u. (link.binary_values_linked A A K E E into o {w = Apart} {v = v} {u = u} {v' = v} {u' = u} any any).left;
+      assign_to = λ r v. (link.assign_to_linked A A K E E into {w = Apart} {n = r} {n' = r} {v = v} {v' = v} any any).left;
+      assign_giving = λ r a v. (link.assign_giving_linked A A K E E into {w = Apart} {n = r} {n' = r} {a = a} {v = v} {a' = a} {v' = v} any any any).left;
+      postfix_by = λ o r v. (link.postfix_by_linked A A K E E into o {w = Apart} {n = r} {n' = r} {v = v} {v' = v} any any).left;
+      postfix_number = λ o r v. (link.postfix_number_linked A A K E E into o {w = Apart} {n = r} {n' = r} {v = v} {v' = v} any any).left;
+      postfix_value = λ o r v. (link.postfix_value_linked A A K E E into o {w = Apart} {n = r} {n' = r} {v = v} {v' = v} any any).left;
+      prefix_by = λ o r v. (link.prefix_by_linked A A K E E into o {w = Apart} {n = r} {n' = r} {v = v} {v' = v} any any).left;
+      prefix_number = λ o r v. (link.prefix_number_linked A A K E E into o {w = Apart} {n = r} {n' = r} {v = v} {v' = v} any any).left;
+      prefix_value = λ o r v. (link.prefix_value_linked A A K E E into o {w = Apart} {n = r} {n' = r} {v = v} {v' = v} any any).left;
+      binary_right = λ o r i v. (link.binary_right_linked A A K E E into R R h o r {w = Apart} {i = i} {j = i} {v = v} {v' = v} any any).left;
+      and_right = λ r i v. (link.and_right_linked A A K E E into R R h r {w = Apart} {i = i} {j = i} {v = v} {v' = v} any any).left;
+      or_right = λ r i v. (link.or_right_linked A A K E E into R R h r {w = Apart} {i = i} {j = i} {v = v} {v' = v} any any).left;
+      choose_expr = λ a b i v. (link.choose_expr_linked A A K E E into R R h a b {w = Apart} {i = i} {j = i} {v = v} {v' = v} any any).left;
+      comma_right = λ r i v. (link.comma_right_linked A A K E E into R R h r {w = Apart} {i = i} {j = i} {v = v} {v' = v} any any).left;
+      compound_done = λ o r a v. (link.compound_done_linked A A K E E into R R h o {w = Apart} {n = r} {n' = r} {a = a} {v = v} {a' = a} {v' = v} any any any).left;
+      compound_right = λ o e i r a. (link.compound_right_linked A A K E E into R R h o e {w = Apart} {i = i} {j = i} {n = r} {n' = r} {a = a} {a' = a} any any any).left;
+      used = λ use_as i r. (link.used_linked A A K E E into R R h use_as {w = Apart} {i = i} {j = i} {n = r} {n' = r} any any).left;
+      read_value = λ r. (link.read_value_linked A A K E E into R R h {w = Apart} {n = r} {n' = r} any).left;
+      with_key = λ use_as i b k. (link.with_key_linked A A K E E into R R h use_as {w = Apart} {i = i} {j = i} {b = b} {k = k} {b' = b} {k' = k} any any any).left;
+      with_base = λ use_as i k b. (link.with_base_linked A A K E E into R R h use_as {w = Apart} {i = i} {j = i} {k = k} {b = b} {k' = k} {b' = b} any any any).left;
+      index_key = λ use_as i b k. (link.index_key_linked A A K E E into R R h use_as {w = Apart} {i = i} {j = i} {b = b} {k = k} {b' = b} {k' = k} any any any).left;
+      index_base = λ use_as e i b. (link.index_base_linked A A K E E into R R h use_as e {w = Apart} {i = i} {j = i} {b = b} {b' = b} any any).left;
+      member_base = λ use_as text i b. (link.member_base_linked A A K E E into R R h use_as text {w = Apart} {i = i} {j = i} {b = b} {b' = b} any any).left;
+      more_values = λ act vs ps i v. (link.more_values_linked A A K E E into R R h act ps {w = Apart} {i = i} {j = i} {vs = vs} {us = vs} {v = v} {v' = v} any (any_list vs) any).left;
+      more_arguments = λ f vs es i v. (link.more_arguments_linked A A K E E into R R h es {f = f} {g = f} {w = Apart} {i = i} {j = i} {vs = vs} {us = vs} {v = v} {v' = v} (any_calling f) any (any_list vs) any).left;
+      more_variables = λ r ds i v. (link.more_variables_linked A A K E E into R R h ds {w = Apart} {i = i} {j = i} {n = r} {n' = r} {v = v} {v' = v} any any any).left;
+      turn_test = λ round e v. (link.turn_test_linked A A K E E into R R h round {w = Apart} {e = e} {d = e} {v = v} {v' = v} any any).left;
+      updated = λ round e v. (link.updated_linked A A K E E into R R h round {w = Apart} {e = e} {d = e} v v any).left;
+      turned_round = λ round e. (link.turned_round_linked A A K E E into R R h round {w = Apart} {e = e} {d = e} any).left;
+      looped = λ round e. (link.looped_linked A A K E E into R R h round {w = Apart} {e = e} {d = e} any).left;
+      looped_value = λ round e v. (link.looped_value_linked A A K E E into R R h round {w = Apart} {e = e} {d = e} v v any).left;
+      visited = λ v e. (link.visited_linked A A K E E into R R h {w = Apart} {v = v} {v' = v} {e = e} {d = e} (any_visit v) any).left;
+      visit_body = λ s e v. (link.visit_body_linked A A K E E into R R h s {w = Apart} {e = e} {d = e} v v any).left;
+      enumerated = λ labels target s e v. (link.enumerated_linked A A K E E into R R h labels target s {w = Apart} {e = e} {d = e} {o = v} {o' = v} any any).left;
+      choose_stmt = λ s e v. (link.choose_stmt_linked A A K E E into R R h s {w = Apart} {e = e} {d = e} {v = v} {v' = v} any any).left;
+      choose_stmts = λ s t e v. (link.choose_stmts_linked A A K E E into R R h s t {w = Apart} {e = e} {d = e} {v = v} {v' = v} any any).left;
       statements = λ ss e. (link.statements_linked A A K R R h ss {w = Apart} {e = e} {d = e} any).left;
       named = λ labels s e. (h.named labels s Apart e e any).left;
-      call_reference = λ r es i f. (link.call_reference_linked A A K R R h es {w = Apart} {i = i} {j = i} {n = r} {n' = r} {f = f} {f' = f} any any any).left;
-      call_value = λ es i f. (link.call_value_linked A A K R R h es {w = Apart} {i = i} {j = i} {f = f} {f' = f} any any).left;
-      construct_value = λ es i f. (link.construct_value_linked A A K R R h es {w = Apart} {i = i} {j = i} {f = f} {f' = f} any any).left;
-      instance_right = λ r i v. (link.instance_right_linked A A K R R h r {w = Apart} {i = i} {j = i} {v = v} {v' = v} any any).left;
-      instance_done = λ v f. (link.instance_done_linked A A K R R h {w = Apart} {v = v} {f = f} {v' = v} {f' = f} any any).left;
-      falls = λ cs e. (link.falls_linked A A K R R h cs {w = Apart} {e = e} {d = e} any).left;
-      case_compared = λ v ss all cs e u. (link.case_compared_linked A A K R R h ss cs {w = Apart} {e = e} {d = e} {v = v} {u = u} {v' = v} {u' = u} any (λ w l. link.cases_linked A A K R R h all cs {w = w} {e = e} {d = e} {v = v} {v' = v} (K.more_e l any) (K.more_v l any)) any any).left;
-      cases = λ v all cs e. (link.cases_linked A A K R R h all cs {w = Apart} {e = e} {d = e} {v = v} {v' = v} any any).left;
-      switched = λ labels cs e v. (link.switched_linked A A K R R h labels cs {w = Apart} {e = e} {d = e} {v = v} {v' = v} any any).left;
-      jump_with = λ leaving e v. (link.jump_with_linked A A K R R h leaving {w = Apart} {e = e} {d = e} {v = v} {v' = v} any any).left;
-      behind_expression = λ upgrade e v. (link.behind_expression_linked A A K R R h upgrade {w = Apart} {e = e} {d = e} any v v).left;
-      handled = λ ident b e v. (link.handled_linked A A K R R h ident b {w = Apart} {e = e} {d = e} {v = v} {v' = v} any any).left;
+      call_reference = λ r es i f. (link.call_reference_linked A A K E E into R R h es {w = Apart} {i = i} {j = i} {n = r} {n' = r} {f = f} {f' = f} any any any).left;
+      call_value = λ es i f. (link.call_value_linked A A K E E into R R h es {w = Apart} {i = i} {j = i} {f = f} {f' = f} any any).left;
+      construct_value = λ es i f. (link.construct_value_linked A A K E E into R R h es {w = Apart} {i = i} {j = i} {f = f} {f' = f} any any).left;
+      instance_right = λ r i v. (link.instance_right_linked A A K E E into R R h r {w = Apart} {i = i} {j = i} {v = v} {v' = v} any any).left;
+      instance_done = λ v f. (link.instance_done_linked A A K E E into R R h {w = Apart} {v = v} {f = f} {v' = v} {f' = f} any any).left;
+      falls = λ cs e. (link.falls_linked A A K E E into R R h cs {w = Apart} {e = e} {d = e} any).left;
+      case_compared = λ v ss all cs e u. (link.case_compared_linked A A K E E into R R h ss cs {w = Apart} {e = e} {d = e} {v = v} {u = u} {v' = v} {u' = u} any (λ w l. link.cases_linked A A K E E into R R h all cs {w = w} {e = e} {d = e} {v = v} {v' = v} (K.more_e l any) (K.more_v l any)) any any).left;
+      cases = λ v all cs e. (link.cases_linked A A K E E into R R h all cs {w = Apart} {e = e} {d = e} {v = v} {v' = v} any any).left;
+      switched = λ labels cs e v. (link.switched_linked A A K E E into R R h labels cs {w = Apart} {e = e} {d = e} {v = v} {v' = v} any any).left;
+      jump_with = λ leaving e v. (link.jump_with_linked A A K E E into R R h leaving {w = Apart} {e = e} {d = e} {v = v} {v' = v} any any).left;
+      behind_expression = λ upgrade e v. (link.behind_expression_linked A A K E E into R R h upgrade {w = Apart} {e = e} {d = e} any v v).left;
+      handled = λ ident b e v. (link.handled_linked A A K E E into R R h ident b {w = Apart} {e = e} {d = e} {v = v} {v' = v} any any).left;
+      native = λ steps vs. (h.native steps Apart vs vs (any_list vs)).left;
+      answered = λ steps vs v. (requests.answered_linked A A K E E into R R h steps {w = Apart} {vs = vs} {us = vs} v v (any_list vs)).left;
+      answered_in = λ steps vs to v. (requests.answered_in_linked A A K E E into R R h steps to {w = Apart} {vs = vs} {us = vs} {v = v} {v' = v} (any_list vs) any).left;
+      answered_by = λ steps vs seen. (requests.answered_by_linked A A K E E into R R h steps seen {w = Apart} {vs = vs} {us = vs} (any_list vs)).left;
+      got_from = λ steps vs key to b. (requests.got_from_linked A A K E E into R R h steps key to {w = Apart} {vs = vs} {us = vs} {b = b} {b' = b} (any_list vs) any).left;
+      had_by = λ steps vs key to b. (requests.had_by_linked A A K E E into R R h steps key to {w = Apart} {vs = vs} {us = vs} {b = b} {b' = b} (any_list vs) any).left;
+      put_behind = λ steps vs. (requests.put_behind_linked A A K E E into R R h steps {w = Apart} {vs = vs} {us = vs} (any_list vs)).left;
+      put_in = λ steps vs key v b. (requests.put_in_linked A A K E E into R R h steps key {w = Apart} {vs = vs} {us = vs} {v = v} {b = b} {v' = v} {b' = b} (any_list vs) any any).left;
+      deleted_from = λ steps vs key to b. (requests.deleted_from_linked A A K E E into R R h steps key to {w = Apart} {vs = vs} {us = vs} {b = b} {b' = b} (any_list vs) any).left;
+      own_setter_read = λ steps vs to v. (requests.own_setter_linked A A K E E into R R h steps to {w = Apart} {vs = vs} {us = vs} {v = v} {v' = v} (any_list vs) any).left;
+      own_getter_read = λ steps vs b key get put v. (requests.own_getter_linked A A K E E into R R h steps key get put {w = Apart} {vs = vs} {us = vs} {b = b} {v = v} {b' = b} {v' = v} (any_list vs) any any).left;
+      own_value_read = λ steps vs b key to get put v. (requests.own_value_linked A A K E E into R R h steps key to get put {w = Apart} {vs = vs} {us = vs} {b = b} {v = v} {b' = b} {v' = v} (any_list vs) any any).left;
+      own_marks_read = λ steps vs b key marks to get put v. (requests.own_marks_linked A A K E E into R R h steps key marks to get put {w = Apart} {vs = vs} {us = vs} {b = b} {v = v} {b' = b} {v' = v} (any_list vs) any any).left;
+      entered_access = λ a. conf_access observer tables functions c a;
+      entered_putting = λ v p. conf_putting observer tables functions c v p;
+      is_instance = λ label o v. conf_is observer tables functions label o v;
     }
   where
-    any_list : (vs : List Val) → Rels (Related (Agree observer) Apart) vs vs
-    any_list [] = nils
-    any_list (v ∷ vs) = conses any (any_list vs)
-
     any_calling : (f : Calling Val) → Callings (Related (Agree observer) Apart) f f
-    any_calling (directly f) = both_direct
     any_calling (calls f this) = both_call any any
     any_calling (constructs f) = both_construct any
 
@@ -502,8 +588,16 @@ visits_related {observer} {β} {v} {u} a = subst (λ x. Visits (Related (Agree o
 
 pub lockstep : IsLockstep
 unfolding observed
-lockstep observer tables first second functions n agree =
-    let h = linked_at observer tables functions first second agree n n in
+lockstep set observer tables first second functions n agree =
+    let h = linked_at observer tables set functions first second agree n n in
+    let A = labelled tables first set functions in
+    let B = labelled tables second set functions in
+    let K = observed observer tables set functions first second agree in
+    let R = eval (timed tables first set functions) set n in
+    let Q = eval (timed tables second set functions) set n in
+    let E = entering A R set in
+    let D = entering B Q set in
+    let into = entering_linked A B K R Q h set in
     record {
       expr = λ e β i j p. (h.expr e (Together β) i j (related p)).step;
       use_of = λ use_as e β i j p. (h.use_of use_as e (Together β) i j (related p)).step;
@@ -511,4 +605,20 @@ lockstep observer tables first second functions n agree =
       named = λ labels s β e d r. (h.named labels s (Together β) e d (related r)).step;
       turn = λ round β e d r. (h.turn round (Together β) e d (related r)).step;
       visit = λ v u β rs e d r. (h.visit (Together β) v u (visits_related rs) e d (related r)).step;
+      native = λ steps β vs us rs. (h.native steps (Together β) vs us (registers rs)).step;
+      answered = λ steps β vs us rs v u. (requests.answered_linked A B K E D into R Q h steps {w = Together β} {vs = vs} {us = us} v u (registers rs)).step;
+      answered_in = λ steps to β vs us rs v u r. (requests.answered_in_linked A B K E D into R Q h steps to {w = Together β} {vs = vs} {us = us} {v = v} {v' = u} (registers rs) (related r)).step;
+      answered_by = λ steps seen β vs us rs. (requests.answered_by_linked A B K E D into R Q h steps seen {w = Together β} {vs = vs} {us = us} (registers rs)).step;
+      got_from = λ steps key to β vs us rs b c q. (requests.got_from_linked A B K E D into R Q h steps key to {w = Together β} {vs = vs} {us = us} {b = b} {b' = c} (registers rs) (related q)).step;
+      had_by = λ steps key to β vs us rs b c q. (requests.had_by_linked A B K E D into R Q h steps key to {w = Together β} {vs = vs} {us = us} {b = b} {b' = c} (registers rs) (related q)).step;
+      put_behind = λ steps β vs us rs. (requests.put_behind_linked A B K E D into R Q h steps {w = Together β} {vs = vs} {us = us} (registers rs)).step;
+      put_in = λ steps key β vs us rs v u b c r q. (requests.put_in_linked A B K E D into R Q h steps key {w = Together β} {vs = vs} {us = us} {v = v} {b = b} {v' = u} {b' = c} (registers rs) (related r) (related q)).step;
+      deleted_from = λ steps key to β vs us rs b c q. (requests.deleted_from_linked A B K E D into R Q h steps key to {w = Together β} {vs = vs} {us = us} {b = b} {b' = c} (registers rs) (related q)).step;
+      own_setter_read = λ steps to β vs us rs v u r. (requests.own_setter_linked A B K E D into R Q h steps to {w = Together β} {vs = vs} {us = us} {v = v} {v' = u} (registers rs) (related r)).step;
+      own_getter_read = λ steps key get put β vs us rs b c v u q r. (requests.own_getter_linked A B K E D into R Q h steps key get put {w = Together β} {vs = vs} {us = us} {b = b} {v = v} {b' = c} {v' = u} (registers rs) (related q) (related r)).step;
+      own_value_read = λ steps key to get put β vs us rs b c v u q r. (requests.own_value_linked A B K E D into R Q h steps key to get put {w = Together β} {vs = vs} {us = us} {b = b} {v = v} {b' = c} {v' = u} (registers rs) (related q) (related r)).step;
+      own_marks_read = λ steps key marks to get put β vs us rs b c v u q r. (requests.own_marks_linked A B K E D into R Q h steps key marks to get put {w = Together β} {vs = vs} {us = us} {b = b} {v = v} {b' = c} {v' = u} (registers rs) (related q) (related r)).step;
     }
+  where
+    registers : {β : Pairing} {vs us : List Val} → AllAgree observer β vs us → Rels (Related (Agree observer) (Together β)) vs us
+    registers rs = together (rels_of observer rs)

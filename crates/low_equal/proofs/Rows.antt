@@ -63,7 +63,7 @@ module _ {S : Type 0} where
       at_first true (Some t) h = one_more a d
       at_first false o h = one_more (still_absent key f a) h
 
-  absent_with_row : {key : List ℕ} (other : List ℕ) (s : S) {rows : Rows S} → (other ≡ key → ⊥) → IsAbsent key rows → IsAbsent key (with_row other s rows)
+  pub absent_with_row : {key : List ℕ} (other : List ℕ) (s : S) {rows : Rows S} → (other ≡ key → ⊥) → IsAbsent key rows → IsAbsent key (with_row other s rows)
   absent_with_row j s n nowhere = elsewhere n nowhere
   absent_with_row j s n (elsewhere m a) = elsewhere m (absent_with_row j s n a)
 
@@ -80,6 +80,15 @@ module _ {S : Type 0} where
       at_first : (b : Bool) → cond b (Some r.1) (own key rows) ≡ Some s → (own key rows ≡ Some s → changed key f rows ≡ changed key g rows) → cond b ((r.0, f r.1) ∷ rows) (r ∷ changed key f rows) ≡ cond b ((r.0, g r.1) ∷ rows) (r ∷ changed key g rows)
       at_first true d ih = ap (λ (x : S). (r.0, x) ∷ rows) (ap f (same_Some r.1 s d) ∙ i ∙ ap g (sym (same_Some r.1 s d)))
       at_first false d ih = ap (λ (x : Rows S). r ∷ x) (ih d)
+
+  -- the key names what it was changed to
+  pub own_changed : (key : List ℕ) (f : S → S) (s : S) (rows : Rows S) → own key rows ≡ Some s → own key (changed key f rows) ≡ Some (f s)
+  own_changed key f s [] e = absurd (none-some _ e)
+  own_changed key f s (r ∷ rows) e = at_first (same_name r.0 key) refl e (λ d. own_changed key f s rows d)
+    where
+      at_first : (b : Bool) → same_name r.0 key ≡ b → cond b (Some r.1) (own key rows) ≡ Some s → (own key rows ≡ Some s → own key (changed key f rows) ≡ Some (f s)) → own key (cond b ((r.0, f r.1) ∷ rows) (r ∷ changed key f rows)) ≡ Some (f s)
+      at_first true t d ih = ap (λ b. cond b (Some (f r.1)) (own key rows)) t ∙ ap (λ z. Some (f z)) (same_Some r.1 s d)
+      at_first false t d ih = ap (λ b. cond b (Some r.1) (own key (changed key f rows))) t ∙ ih d
 
   changed_not : (key : List ℕ) (rows : Rows S) → changed key (λ s. s) rows ≡ rows
   changed_not key [] = refl

@@ -6,6 +6,7 @@ use Rattle.flow_policy.specs.Inputs.{Given}
 use Rattle.flow_policy.specs.Observed as policy
 use Rattle.js_ast.specs.Trees.{Statements}
 use Rattle.js_ast.specs.Functions.{functions_of}
+use Rattle.es_meaning.specs.BuiltIns.{BuiltIns}
 use Rattle.es_meaning.specs.Outcomes.{Outcome, Goes, Jumps, Ends}
 use Rattle.es_meaning.specs.Evaluation.{program_step}
 use Rattle.es_meaning.specs.Plain.{may_declare, outermost_env}
@@ -67,17 +68,17 @@ module _ (observer : Label) (tables : Tables) where
   any_lines (Ends other s) (Ends halt t) (second_ends f) = inr f.on_channels
 
   -- the two runs, from their starts
-  in_step : (first second : Given) → policy.Agree observer tables first second → (program : Statements) (turns others : ℕ)
-      → InStep observer tables Nothing (at_start program) (program_step (timed tables first (functions_of program)) turns (may_declare program) program (outermost_env 0) (start tables first program turns))
-      (program_step (timed tables second (functions_of program)) others (may_declare program) program (outermost_env 0) (start tables second program others))
-  in_step first second agree program turns others =
-      (program_observed observer tables (functions_of program) first second agree turns others (may_declare program) program (at_start program) (outermost_env 0) (outermost_env 0) (envs_start program)).steps (at_start program) (extends_refl (at_start program))
-      (start tables first program turns) (start tables second program others) (starts_low observer program tables first second turns others) (start_seen observer program tables first turns)
+  in_step : (set : BuiltIns) (first second : Given) → policy.Agree observer tables first second → (program : Statements) (turns others : ℕ)
+      → InStep observer tables Nothing (at_start set program) (program_step (timed tables first set (functions_of program)) set turns (may_declare set program) program (outermost_env 0) (start tables first set program turns))
+      (program_step (timed tables second set (functions_of program)) set others (may_declare set program) program (outermost_env 0) (start tables second set program others))
+  in_step set first second agree program turns others =
+      (program_observed observer tables set (functions_of program) first second agree turns others (may_declare set program) program (at_start set program) (outermost_env 0) (outermost_env 0) (envs_start set program)).steps (at_start set program) (extends_refl (at_start set program))
+      (start tables first set program turns) (start tables second set program others) (starts_low observer set program tables first second turns others) (start_seen observer set program tables first turns)
 
 pub two_runs : IsIsolating
 unfolding tracked_run
-two_runs observer tables first second program turns others agree =
-    let a = in_step observer tables first second agree program turns others in
+two_runs set observer tables first second program turns others agree =
+    let a = in_step observer tables set first second agree program turns others in
     record {
       on_channels = λ f g. (finished_lines observer tables _ _ a f g).on_channels;
       by_labels = λ f g. (finished_lines observer tables _ _ a f g).by_labels;

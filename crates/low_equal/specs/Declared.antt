@@ -5,6 +5,7 @@ use Rattle.origin_labels.specs.Label.{Label}
 use Rattle.flow_policy.specs.Policies.{Tables, IsPolicy}
 use Rattle.flow_policy.specs.Inputs.{Given}
 use Rattle.js_ast.specs.Trees.{Statements}
+use Rattle.es_meaning.specs.BuiltIns.{BuiltIns}
 use Rattle.es_meaning.specs.Outcomes.{Ending, done, threw, halted}
 use Rattle.flow_meaning.specs.Scopes.{Halt, as_plain, stopped}
 use Rattle.flow_meaning.specs.Tracked.{Run, tracked_run}
@@ -25,6 +26,6 @@ pub record RunsDeclared (count : ℕ) (run : Run) : Type 0 where
   pub lines : All (λ l. IsDeclared count l.label) run.lines
   pub ending : EndsDeclared count run.ending
 
--- so it is with each run over a policy
+-- so it is with each run over a policy, whatever origins the built-ins of a set ask for
 abbrev pub SpeaksOfDeclared : Type 0
-SpeaksOfDeclared = (tables : Tables) (inputs : Given) (program : Statements) (turns : ℕ) → IsPolicy tables → RunsDeclared (length tables.origins) (tracked_run tables inputs program turns)
+SpeaksOfDeclared = (set : BuiltIns) (tables : Tables) (inputs : Given) (program : Statements) (turns : ℕ) → IsPolicy tables → RunsDeclared (length tables.origins) (tracked_run set tables inputs program turns)

@@ -5,6 +5,7 @@ use Rattle.flow_frames.specs.declared.faults.Rule.{Rule}
 use Rattle.flow_policy.specs.Policies.{Tables}
 use Rattle.flow_policy.specs.Inputs.{Given}
 use Rattle.js_ast.specs.Trees.{Statements}
+use Rattle.es_meaning.specs.BuiltIns.{BuiltIns}
 use Rattle.es_meaning.specs.Outcomes as es
 use Rattle.es_meaning.specs.Outcomes.{Ending, done, threw, halted}
 use Rattle.es_meaning.specs.Plain as plain
@@ -32,6 +33,6 @@ pub data Erases (labelled : tracked.Run) (unlabelled : plain.Run) : Type 0 where
   stops : (rule : Rule) (need have : Label) (rest : List Line) → labelled.ending ≡ halted (stopped rule need have) → within need have ≡ false
       → unlabelled.lines ≡ erased_lines labelled.lines ++ rest → Erases labelled unlabelled
 
--- erasure
+-- erasure, with each set of built-ins
 abbrev pub IsErasing : Type 0
-IsErasing = (tables : Tables) (inputs : Given) (program : Statements) (turns : ℕ) → Erases (tracked_run tables inputs program turns) (plain_run tables inputs program turns)
+IsErasing = (set : BuiltIns) (tables : Tables) (inputs : Given) (program : Statements) (turns : ℕ) → Erases (tracked_run set tables inputs program turns) (plain_run set tables inputs program turns)

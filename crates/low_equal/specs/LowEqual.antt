@@ -117,7 +117,8 @@ module _ (observer : Label) (β : Pairing) where
 pub data Both {A : Type 0} (P : A → A → Type 0) : Option A → Option A → Type 0 where
   both_stand : {a b : A} → P a b → Both P (Some a) (Some b)
 
--- ---- what is well formed: a prototype's number is below its object's, and the record outside below the one inside it; no key of an object stands twice
+-- ---- what is well formed: the numbers of a prototype and of a bound function's target are below the object's, and that of the record outside below the one
+-- inside it; no key of an object stands twice
 
 pub data IsAbsent {S : Type 0} (key : List ℕ) : Rows S → Type 0 where
   nowhere : IsAbsent key []
@@ -127,9 +128,15 @@ pub data AreDistinct {S : Type 0} : Rows S → Type 0 where
   no_keys : AreDistinct []
   one_more : {key : List ℕ} {s : S} {rows : Rows S} → IsAbsent key rows → AreDistinct rows → AreDistinct ((key, s) ∷ rows)
 
+-- the target of a bound function, where the observer sees which it is, has a number below its own
+abbrev pub TargetBelow : Label → ℕ → Inner Label → Type 0
+TargetBelow observer o (Bound target label this args) = Sees observer label → target.0 < o
+TargetBelow observer o _ = Unit {0}
+
 pub record IsFormed (observer : Label) (o : ℕ) (p : Object Label) : Type 0 where
   -- where the observer sees which it is
   pub below : Sees observer p.link → (q : ObjId) → p.proto ≡ Some q → q.0 < o
+  pub target : TargetBelow observer o p.inner
   pub distinct : AreDistinct p.rows
 
 abbrev pub FormedAt : Label → List (Object Label) → ℕ → Type 0
@@ -141,7 +148,7 @@ NestedAt records i = (r : Record Val) → slice_get records i ≡ Some r → (e 
 -- ---- states
 
 pub record HeapsAgree (observer : Label) (β : Pairing) (h g : List (Object Label)) : Type 0 where
-  -- the objects that a run starts with stand for themselves
+  -- the standard's own objects, to which acts refer by their numbers, stand for themselves
   pub starts : (o : ℕ) → o < length start_heap → β.objects o o ≡ true
   pub paired : (o q : ℕ) → β.objects o q ≡ true → Both (ObjectsAgree observer β) (slice_get h o) (slice_get g q)
   pub one_to_one : IsOneToOne β.objects

@@ -4,7 +4,7 @@ ghost use Rattle.low_equal.specs.Declared.{SpeaksOfDeclared};
 ghost use Rattle.low_equal.specs.Erasure.{IsErasing};
 ghost use Rattle.low_equal.specs.Laws.{IsConfining, IsIsolating, IsLockstep};
 
-/// Erasure: without its labels a monitored run is the unlabelled run, up to a stop.
+/// Erasure: with each set of built-ins, a monitored run without its labels is the unlabelled run, up to a stop.
 pub fn erasure()
     ensures { IsErasing }
 {}
@@ -25,7 +25,7 @@ pub fn two_runs()
     ensures { IsIsolating }
 {}
 
-/// A monitored run speaks of declared origins alone.
+/// With each set of built-ins a monitored run speaks of declared origins alone.
 pub fn declared()
     ensures { SpeaksOfDeclared }
 {}

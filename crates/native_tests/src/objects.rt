@@ -296,7 +296,7 @@ fn all_play(rt: &impl Abort, alloc: Global, scenes: &[Scene]) {
 }
 
 // Whether it was told, and is so.
-fn holds<E: Drop>(told: Result<bool, E>) -> bool {
+pub(crate) fn holds<E: Drop>(told: Result<bool, E>) -> bool {
     match told {
         Ok(told) => told,
         Err(_) => false,

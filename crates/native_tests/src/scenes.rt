@@ -117,6 +117,11 @@ fn shown(alloc: Global, request: &Request) -> Result<Text, OutOfMemory> {
         Request::Extensible { .. } => Text::spelled(alloc, "extensible"),
         Request::Prevent { .. } => Text::spelled(alloc, "prevent"),
         Request::New { .. } => Text::spelled(alloc, "new"),
+        Request::ReadLine { .. } => Text::spelled(alloc, "line"),
+        Request::PrintLine { .. } => Text::spelled(alloc, "print"),
+        Request::Label { origins, .. } => {
+            numbered(alloc, "label ", origins.items().len() as u64)
+        }
         Request::Return { from } => numbered(alloc, "return ", from.0),
         Request::ThrowNew { kind } => thrown(alloc, *kind),
         Request::Leave { name } => named(alloc, "leave ", name),

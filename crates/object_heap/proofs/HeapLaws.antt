@@ -35,7 +35,7 @@ module _ {T : Type 0} (reading : T → Label) (heap : List (Object T)) (i : ℕ)
   act_stopped stop stopped = at_object ∙ ap (put_back (read_heap reading heap) i) stopped
 
 -- an element that is put back
-set_same : {X : Type 0} (xs : List X) (i : ℕ) (x : X) → slice_get xs i ≡ Some x → set xs i x ≡ xs
+pub set_same : {X : Type 0} (xs : List X) (i : ℕ) (x : X) → slice_get xs i ≡ Some x → set xs i x ≡ xs
 set_same [] i x e = absurd (none-some x e)
 set_same (y ∷ xs) zero x e = ap (λ z. z ∷ xs) (sym (same_Some y x e))
 set_same (y ∷ xs) (suc i) x e = ap (λ zs. y ∷ zs) (set_same xs i x e)

@@ -1,5 +1,6 @@
 mod ActLaws
 mod AddLaws
+mod GivenLaws
 mod HeapLaws
 mod HeapReadings
 mod PlaceLaws

@@ -139,6 +139,21 @@ raise_structure o need label = act_on o (raise_own_structure need label)
 abbrev pub prevent_extensions : ℕ → Label → List (Object Label) → Acted (List (Object Label))
 prevent_extensions o need = act_on o (prevent_own_extensions need)
 
+-- a key is given a property with its labels, whether it had one or not. This is before a run begins, and no rule is asked
+abbrev pub given_over : {S : Type 0} → Option S → List ℕ → S → Rows S → Rows S
+given_over None key s rows = with_row key s rows
+given_over (Some t) key s rows = changed key (λ u. s) rows
+
+abbrev pub given : {S : Type 0} → List ℕ → S → Rows S → Rows S
+given key s rows = given_over (own key rows) key s rows
+
+abbrev pub given_to : {T : Type 0} → Option (Object T) → ℕ → List ℕ → Slot T → List (Object T) → List (Object T)
+given_to None o key s heap = heap
+given_to (Some p) o key s heap = set heap o (with_rows p (given key s p.rows))
+
+abbrev pub give : {T : Type 0} → ℕ → List ℕ → Slot T → List (Object T) → List (Object T)
+give o key s heap = given_to (slice_get heap o) o key s heap
+
 -- a further object: its structure label is the context, and its link label is the context with the label of what gave the prototype
 abbrev pub new_object : {T : Type 0} → Class → Option ObjId → T → T → Inner T → List (Object T) → List (Object T)
 new_object class proto link structure inner heap = heap ++ fresh_object class inner proto link structure ∷ []

@@ -6,7 +6,7 @@ ghost use Rattle.origin_labels.specs.Stores.{IsKept};
 ghost use Rattle.flow_frames.specs.Stops.{IsStop};
 ghost use Rattle.js_values.specs.Objects.{fresh_object};
 ghost use Rattle.js_values.specs.Readings.{HasHeap, HasInner, read_heap, read_value};
-ghost use Rattle.object_heap.specs.Acts.{act_on, overwrite_own, new_object, write, set_body, set_attributes, raise_existence, add, remove, raise_structure, prevent_extensions};
+ghost use Rattle.object_heap.specs.Acts.{act_on, overwrite_own, new_object, write, set_body, set_attributes, raise_existence, add, remove, raise_structure, prevent_extensions, give};
 ghost use Rattle.object_heap.specs.Answers.{Acts};
 ghost use Rattle.object_heap.specs.Formed.{IsFormed, own_in, row_in, target_of, IsShape, IsInner};
 
@@ -323,6 +323,17 @@ impl<T: Copy> Heap<T> {
         ensures firm { IfErr result IsStop }
     {
         self.objects[o.0 as usize].prevent_extensions(labels, need)?;
+        Ok(())
+    }
+
+    /// Gives an object a property with its labels, in the place of one that it has with the key. This is before a run begins, and no rule is
+    /// asked.
+    pub fn give(&mut self, o: ObjId, key: Key, slot: Slot<T>) -> Result<(), OutOfMemory>
+        requires there { o.0 < length self.old }
+        ensures ok { OnOk result (self.new ≡ give o.0 key slot self.old) }
+        ensures unchanged { OnErr result (self.new ≡ self.old) }
+    {
+        self.objects[o.0 as usize].give(key, slot)?;
         Ok(())
     }
 

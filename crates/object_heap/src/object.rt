@@ -7,7 +7,7 @@ ghost use Rattle.origin_labels.specs.Stores.{IsKept};
 ghost use Rattle.flow_frames.specs.Stops.{IsStop};
 ghost use Rattle.js_values.specs.Objects.{own, fresh_object};
 ghost use Rattle.js_values.specs.Readings.{IsReading, HasObject, HasInner, read_object};
-ghost use Rattle.object_heap.specs.Acts.{overwrite_own, set_own_attributes, raise_own_existence, add_own, remove_own, raise_own_structure, prevent_own_extensions};
+ghost use Rattle.object_heap.specs.Acts.{with_rows, given, overwrite_own, set_own_attributes, raise_own_existence, add_own, remove_own, raise_own_structure, prevent_own_extensions};
 ghost use Rattle.object_heap.specs.Answers.{Acts, MeansValue};
 ghost use Rattle.object_heap.specs.Arrays.{length_key};
 ghost use Rattle.object_heap.specs.Formed.{LeadsAs};
@@ -142,6 +142,13 @@ impl<T: Copy> Object<T> {
     {
         let slot = self.slot(place);
         labels.join(slot.label, slot.existence)
+    }
+
+    /// The same of a key.
+    fn place_of(&self, key: &Key) -> Option<usize>
+        ensures { IsPlace key.now self.now.rows result }
+    {
+        self.place(key.text().units())
     }
 
     /// The place of a key that it has.
@@ -322,6 +329,24 @@ impl<T: Copy> Object<T> {
         }
         self.append(labels, key, need, body, label, marks)?;
         Ok(())
+    }
+
+    /// Gives it a property, in the place of one that it has with the key. No rule is asked.
+    pub(crate) fn give(&mut self, key: Key, slot: Slot<T>) -> Result<(), OutOfMemory>
+        ensures ok { OnOk result (self.new ≡ with_rows self.old (given key slot self.old.rows)) }
+        ensures unchanged { OnErr result (self.new ≡ self.old) }
+        ensures leads { LeadsAs self.old self.new }
+    {
+        match self.place_of(&key) {
+            Some(place) => {
+                self.rows[place].set_slot(slot);
+                Ok(())
+            }
+            None => {
+                self.rows.push(Row::new(key, slot))?;
+                Ok(())
+            }
+        }
     }
 
     /// The element that a key names, where it stands at or above the `length`.

@@ -62,6 +62,13 @@ impl<T: Copy> Row<T> {
         self.slot.label = label;
     }
 
+    /// Puts another property under its key.
+    pub(crate) fn set_slot(&mut self, slot: Slot<T>)
+        ensures { self.new ≡ (self.old.0, slot) }
+    {
+        self.slot = slot;
+    }
+
     /// Gives it other attributes.
     pub(crate) fn set_marks(&mut self, marks: Marks)
         ensures { self.new ≡ (self.old.0, record self.old.1 { marks = marks }) }

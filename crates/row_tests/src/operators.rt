@@ -18,6 +18,14 @@ use std::test::*;
 use step_values::*;
 use step_world::{Came, Leaving, World};
 
+// What an operator comes to: a value, or that it leaves the run for want of a number; or an operand is converted first.
+#[derive(Clone, Copy)]
+enum Wanted {
+    Gives(Given),
+    NoNumber,
+    Converts,
+}
+
 // A value as data. The object is a function.
 #[derive(Clone, Copy)]
 enum Given {
@@ -37,83 +45,89 @@ const TRUTHS: &[(Given, bool)] = &[
     (Given::Number(0), false),
 ];
 
-// What an operator gives in front of a value, or why it leaves the run.
-type Front = (UnaryOperator, Given, Result<Given, Leaving>);
+// What an operator comes to in front of a value.
+type Front = (UnaryOperator, Given, Wanted);
 
 const FRONTS: &[Front] = &[
     (
         UnaryOperator::Minus,
         Given::Text(" 3 "),
-        Ok(Given::Number(-3)),
+        Wanted::Gives(Given::Number(-3)),
     ),
     (
         UnaryOperator::BitNot,
         Given::Number(5),
-        Ok(Given::Number(-6)),
+        Wanted::Gives(Given::Number(-6)),
     ),
     (
         UnaryOperator::Typeof,
         Given::Undefined,
-        Ok(Given::Text("undefined")),
+        Wanted::Gives(Given::Text("undefined")),
     ),
     (
         UnaryOperator::Typeof,
         Given::Object,
-        Ok(Given::Text("function")),
+        Wanted::Gives(Given::Text("function")),
     ),
-    (UnaryOperator::Plus, Given::Object, Err(Leaving::Unbuilt)),
-    (UnaryOperator::Plus, Given::Undefined, Err(Leaving::Number)),
+    (UnaryOperator::Plus, Given::Object, Wanted::Converts),
+    (UnaryOperator::Plus, Given::Undefined, Wanted::NoNumber),
 ];
 
 // The same of an operator between two values.
-type Middle = (Given, BinaryOperator, Given, Result<Given, Leaving>);
+type Middle = (Given, BinaryOperator, Given, Wanted);
 
 const NUMBERS: &[Middle] = &[
     (
         Given::Text("7"),
         BinaryOperator::Subtract,
         Given::Bool(true),
-        Ok(Given::Number(6)),
+        Wanted::Gives(Given::Number(6)),
     ),
     (
         Given::Number(-5),
         BinaryOperator::Remainder,
         Given::Number(3),
-        Ok(Given::Number(-2)),
+        Wanted::Gives(Given::Number(-2)),
     ),
     (
         Given::Number(1),
         BinaryOperator::Divide,
         Given::Number(2),
-        Err(Leaving::Number),
+        Wanted::NoNumber,
     ),
     (
         Given::Number(-1),
         BinaryOperator::ShiftRightZero,
         Given::Number(28),
-        Ok(Given::Number(15)),
+        Wanted::Gives(Given::Number(15)),
     ),
 ];
 
-// The left operand is a number before the right one is asked whether it is an object (ECMA-262 11.5).
+// An object is converted before an operator between values is applied.
 const ORDERS: &[Middle] = &[
     (
         Given::Undefined,
         BinaryOperator::Multiply,
         Given::Object,
-        Err(Leaving::Number),
+        Wanted::Converts,
     ),
     (
         Given::Number(2),
         BinaryOperator::Multiply,
         Given::Object,
-        Err(Leaving::Unbuilt),
+        Wanted::Converts,
     ),
     (
         Given::Undefined,
-        BinaryOperator::Add,
+        BinaryOperator::Multiply,
+        Given::Number(2),
+        Wanted::NoNumber,
+    ),
+    (
         Given::Object,
-        Err(Leaving::Unbuilt),
+        BinaryOperator::Add,
+        Given::Undefined,
+        Wanted::Converts,
     ),
 ];
 
@@ -122,31 +136,31 @@ const COMPARISONS: &[Middle] = &[
         Given::Text("10"),
         BinaryOperator::Less,
         Given::Text("9"),
-        Ok(Given::Bool(true)),
+        Wanted::Gives(Given::Bool(true)),
     ),
     (
         Given::Text("10"),
         BinaryOperator::Less,
         Given::Number(9),
-        Ok(Given::Bool(false)),
+        Wanted::Gives(Given::Bool(false)),
     ),
     (
         Given::Object,
         BinaryOperator::Equal,
         Given::Object,
-        Ok(Given::Bool(true)),
+        Wanted::Gives(Given::Bool(true)),
     ),
     (
         Given::Undefined,
         BinaryOperator::NotEqual,
         Given::Object,
-        Ok(Given::Bool(true)),
+        Wanted::Gives(Given::Bool(true)),
     ),
     (
         Given::Number(1),
         BinaryOperator::Equal,
         Given::Object,
-        Err(Leaving::Unbuilt),
+        Wanted::Converts,
     ),
 ];
 
@@ -188,10 +202,10 @@ fn world_with_function<L: Labels>(
     })
 }
 
-fn is_given(alloc: Global, value: &Value, wanted: Result<Given, Leaving>) -> bool {
+fn is_given(alloc: Global, value: &Value, wanted: Wanted) -> bool {
     match wanted {
-        Ok(wanted) => matches!(value_of(alloc, wanted), Ok(wanted) if wanted == *value),
-        Err(_) => false,
+        Wanted::Gives(wanted) => matches!(value_of(alloc, wanted), Ok(wanted) if wanted == *value),
+        Wanted::NoNumber | Wanted::Converts => false,
     }
 }
 
@@ -201,7 +215,7 @@ fn is_answer<L: Labels>(
     labels: &L,
     came: Result<Came<Labelled<L::Label>, L::Label>, FlowFault<L::Label>>,
     origins: [bool; 2],
-    wanted: Result<Given, Leaving>,
+    wanted: Wanted,
 ) -> bool
     requires { HasAnswer (HasValue (L.made labels.now)) (L.made labels.now) came }
 {
@@ -210,7 +224,7 @@ fn is_answer<L: Labels>(
             let depends = [labels.has(v.label, 0), labels.has(v.label, 1)];
             depends == origins && is_given(alloc, &v.value, wanted)
         }
-        Ok(Came::Leaves(why)) => wanted.err() == Some(why),
+        Ok(Came::Leaves(Leaving::Number)) => matches!(wanted, Wanted::NoNumber),
         _ => false,
     }
 }
@@ -231,7 +245,10 @@ fn is_front(alloc: Global, row: &Front) -> Result<bool, OutOfMemory> {
         value: value_of(alloc, row.1)?,
         label: labels.single(0)?,
     };
-    let came = unary_value(alloc, &world, row.0, &value);
+    if converts_operand(row.0, &value.value) {
+        return Ok(matches!(row.2, Wanted::Converts));
+    }
+    let came = unary(alloc, &world, row.0, &value);
     Ok(is_answer(alloc, &labels, came, [true, false], row.2))
 }
 
@@ -252,7 +269,6 @@ fn is_keyed(operator: BinaryOperator) -> bool
 // The left value depends on origin 0, and the right one on origin 1.
 fn is_middle(alloc: Global, row: &Middle) -> Result<bool, OutOfMemory> {
     let mut labels = Masks;
-    let world = world_with_function(alloc, &labels)?;
     let left = Labelled {
         value: value_of(alloc, row.0)?,
         label: labels.single(0)?,
@@ -264,7 +280,10 @@ fn is_middle(alloc: Global, row: &Middle) -> Result<bool, OutOfMemory> {
     if is_keyed(row.1) {
         return Ok(false);
     }
-    let came = binary_values(alloc, &mut labels, &world, row.1, &left, &right);
+    if converts(row.1, &left.value, &right.value) {
+        return Ok(matches!(row.3, Wanted::Converts));
+    }
+    let came = binary(alloc, &mut labels, row.1, &left, &right);
     Ok(is_answer(alloc, &labels, came, [true, true], row.3))
 }
 
@@ -294,7 +313,13 @@ fn is_joined(alloc: Global) -> Result<bool, OutOfMemory> {
         label: labels.bottom(),
     };
     let came = binary(alloc, &mut labels, BinaryOperator::Add, &left, &right);
-    Ok(is_answer(alloc, &labels, came, [false, true], Ok(Given::Text("12"))))
+    Ok(is_answer(
+        alloc,
+        &labels,
+        came,
+        [false, true],
+        Wanted::Gives(Given::Text("12")),
+    ))
 }
 
 #[test]

@@ -2,6 +2,7 @@ ghost use Rattle.flow_policy.specs.Inputs.{IsGivenTo};
 ghost use Rattle.js_ast.specs.IsMarked.{IsMarked};
 
 use crate::programs::parsed;
+use all_natives::AllNatives;
 use flow_io::MemorySink;
 use flow_policy::{Inputs, Policy, read_inputs, read_policy};
 use js_ast::Program;
@@ -34,13 +35,15 @@ fn end_of(ending: &Ending) -> End {
     }
 }
 
-// A script, the turns of its run, how it ends and what it writes: a part of the script that is entered costs one turn.
+// A script, the turns of its run, how it ends and what it writes: a part of the script that is entered costs one turn, and so does each request of a built-in.
 const TURNS: &[(&str, u64, End, &str)] = &[
     ("", 0, End::Done, ""),
     (";", 0, End::OutOfTurns, ""),
     (";", 1, End::Done, ""),
-    ("print('pub', 1);", 3, End::OutOfTurns, ""),
-    ("print('pub', 1);", 4, End::Done, "pub 1\n"),
+    ("print('pub', 'hi');", 7, End::OutOfTurns, ""),
+    ("print('pub', 'hi');", 8, End::OutOfTurns, "pub hi\n"),
+    ("print('pub', 'hi');", 9, End::Done, "pub hi\n"),
+    ("print('pub', 1);", 10, End::Done, "pub 1\n"),
     (
         "print('pub', 'a'); while (true) {}",
         1000,
@@ -77,11 +80,17 @@ fn runs(alloc: Global, script: &str, turns: u64, show: &Show, end: End, bytes: &
     let Ok(inputs) = read_inputs(alloc, &policy, b"pin 7\n") else {
         return false;
     };
-    writes(alloc, &program, &policy, &inputs, turns, show, end, bytes)
+    let Ok(natives) = AllNatives::new(alloc, &policy) else {
+        return false;
+    };
+    writes(
+        alloc, &natives, &program, &policy, &inputs, turns, show, end, bytes,
+    )
 }
 
 fn writes(
     alloc: Global,
+    natives: &AllNatives,
     program: &Program,
     policy: &Policy,
     inputs: &Inputs,
@@ -96,7 +105,7 @@ fn writes(
     let _formed = policy.origins();
     let mut sink = MemorySink::new(alloc);
     let ending = run(
-        alloc, program, policy, inputs, turns, show, &mut Masks, &mut sink,
+        alloc, natives, program, policy, inputs, turns, show, &mut Masks, &mut sink,
     );
     end_of(&ending) == end && sink.taken() == bytes.as_bytes()
 }

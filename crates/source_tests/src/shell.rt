@@ -295,6 +295,49 @@ const SCRIPTS: &[Run] = &[
     ),
 ];
 
+// Scripts with getters, setters, attributes, conversions and built-ins as values.
+const BUILT_INS: &[Run] = &[
+    (
+        "var o = { get x() { return 7; } }; print(\"pub\", o.x); o.x = 1;",
+        "",
+        "pub 7\n! threw object Error TypeError\n",
+        Status::Threw,
+    ),
+    (
+        "print(\"pub\", { valueOf: function () { return 3; } } + 1);",
+        "",
+        "pub 4\n! done\n",
+        Status::Done,
+    ),
+    (
+        "var p = print; p(\"pub\", typeof p); print(\"pub\", {});",
+        "",
+        "pub function\npub [object Object]\n! done\n",
+        Status::Done,
+    ),
+    (
+        "print(\"pub\", Math.max(1, 9, 3) + Math.abs(-5)); Math.PI;",
+        "",
+        "pub 14\n! left Math.PI\n",
+        Status::Left,
+    ),
+    ("Date;", "", "! left Date\n", Status::Left),
+    ("eval(\"1\");", "", "! left eval\n", Status::Left),
+    (
+        "var o = { p: 1 }; if (read(\"pin\") == \"1\") Object.defineProperty(o, \"p\", { enumerable: false });",
+        "pin 1\n",
+        "! stopped W6 need A have -\n",
+        Status::Stopped,
+    ),
+    (
+        "var o = { p: 1 }; o.p = lbl(2, \"A\"); Object.defineProperty(o, \"p\", { value: lbl(2, \"A\") });",
+        "",
+        "! stopped W6 need A have -\n",
+        Status::Stopped,
+    ),
+    ("Object.freeze({});", "", "! left unbuilt\n", Status::Left),
+];
+
 // Scripts with functions, exceptions and jumps.
 const FUNCTIONS: &[Run] = &[
     (
@@ -381,15 +424,14 @@ const REFUSED: &[Report] = &[
 
 // Programs with a node that can't be run so far, and the report of a run.
 const UNBUILT: &[Report] = &[
-    ("print", "! source Unbuilt at 1:1\n"),
-    ("print[\"pub\", \"hi\"];", "! source Unbuilt at 1:1\n"),
-    ("print.x(\"pub\", \"hi\");", "! source Unbuilt at 1:1\n"),
     ("print(\"pub\", [1]);", "! source Unbuilt at 1:14\n"),
-    ("var x = 1, read;", "! source Unbuilt at 1:12\n"),
-    ("({ get a() {} });", "! source Unbuilt at 1:2\n"),
     ("x.y = [];", "! source Unbuilt at 1:7\n"),
     ("delete [];", "! source Unbuilt at 1:8\n"),
-    ("function f() { return lbl; }", "! source Unbuilt at 1:23\n"),
+    (
+        "function f() { return [lbl]; }",
+        "! source Unbuilt at 1:23\n",
+    ),
+    ("({ get a() { return [] } });", "! source Unbuilt at 1:21\n"),
     (
         "print(\"pub\", \"a\");\nx.y[[]];",
         "! source Unbuilt at 2:5\n",
@@ -493,6 +535,7 @@ fn always_out_of_memory(rt: HostRuntime) {
 fn scripts(rt: HostRuntime) {
     all_run(&rt, rt.alloc(), SCRIPTS);
     all_run(&rt, rt.alloc(), FUNCTIONS);
+    all_run(&rt, rt.alloc(), BUILT_INS);
     all_run(&rt, rt.alloc(), SPELLINGS);
 }
 

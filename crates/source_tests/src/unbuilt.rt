@@ -78,40 +78,42 @@ const BUILT_FUNCTIONS: &[Row] = &[
     ),
 ];
 
-const NAMES_AND_CALLS: &[Row] = &[
-    ("read", Some(0)),
-    ("x + lbl", Some(4)),
-    ("a = upge", Some(4)),
-    ("(print)", Some(1)),
-    ("print = 1", Some(0)),
-    ("var read = 1", Some(4)),
-    ("var a, b = lbl, c = []", Some(11)),
-    ("for (var i, upgs;;) ;", Some(12)),
-    ("f(upge)", Some(2)),
-    ("(read)('h')", Some(1)),
-    ("(upgs)('a')", Some(1)),
-    ("upgs('a', upge)", Some(10)),
-    ("lbl(1, 'a', [])", Some(12)),
-    ("var x = { a: upgs };", Some(13)),
-    ("a; lbl.a", Some(3)),
-    ("lbl.a()", Some(0)),
-    ("new read", Some(4)),
-    ("new print('pub')", Some(4)),
-    ("a[print]", Some(2)),
-    ("delete upge", Some(7)),
-    ("print in a", Some(0)),
-    ("a instanceof lbl", Some(13)),
-    ("x = function print() { }", Some(13)),
-    ("function upgs() { }", Some(9)),
-    ("function f(a, lbl) { }", Some(14)),
-    ("(function () { return read })", Some(22)),
-    ("try { } catch (print) { }", Some(15)),
+// The names of the product's functions are names like others.
+const BUILT_NAMES: &[Row] = &[
+    ("read; x + lbl; a = upge; (print)", None),
+    ("print = 1; var read = 1; for (var i, upgs;;) ;", None),
+    (
+        "f(upge); (read)('h'); (upgs)('a'); var x = { a: upgs };",
+        None,
+    ),
+    ("a; lbl.a; lbl.a(); new read; new print('pub')", None),
+    ("a[print]; print in a; a instanceof lbl", None),
+    (
+        "x = function print() { }; function upgs() { } function f(a, lbl) { }",
+        None,
+    ),
+    (
+        "(function () { return read }); try { } catch (print) { }",
+        None,
+    ),
+    ("for (print in a) ; for (var read in a) ;", None),
+];
+
+const BUILT_ACCESSORS: &[Row] = &[
+    ("var o = { get x() { return 1; } };", None),
+    ("x = { a: 1, 'b': { set c(d) { } }, get 2() { } }", None),
+    (
+        "({ get a() { return { set b(c) { this.c = c } } }, set a(b) { } })",
+        None,
+    ),
 ];
 
 const EXPRESSIONS: &[Row] = &[
     ("1 + []", Some(4)),
     ("x = []", Some(4)),
     ("var o = {}, p = [1];", Some(16)),
+    ("var a, b = lbl, c = []", Some(20)),
+    ("lbl(1, 'a', [])", Some(12)),
     ("a ? b : []", Some(8)),
     ("a; /* b */ []", Some(11)),
     ("f([])", Some(2)),
@@ -124,11 +126,12 @@ const EXPRESSIONS: &[Row] = &[
 ];
 
 const OBJECTS: &[Row] = &[
-    ("var o = { get x() { return 1; } };", Some(8)),
     ("x = { a: [], b: c }", Some(9)),
-    ("x = { a: [], get b() { } }", Some(4)),
-    ("x = { set a(b) { }, c: [] }", Some(4)),
-    ("x = { a: 1, 'b': { set c(d) { } }, 2: [] }", Some(17)),
+    ("x = { a: [], get b() { } }", Some(9)),
+    ("x = { set a(b) { }, c: [] }", Some(23)),
+    ("x = { a: 1, 'b': { set c(d) { } }, 2: [] }", Some(38)),
+    ("x = { get a() { return [] } }", Some(23)),
+    ("x = { set a(b) { b = [] }, c: [] }", Some(21)),
     ("a; [].b", Some(3)),
     ("[][a]", Some(0)),
     ("a[[]]", Some(2)),
@@ -168,8 +171,6 @@ const IN_STATEMENTS: &[Row] = &[
 
 const IN_ENUMERATIONS: &[Row] = &[
     ("for (a[[]] in []) ;", Some(7)),
-    ("for (print in a) ;", Some(5)),
-    ("for (var read in a) ;", Some(9)),
     ("for (a in []) break;", Some(10)),
     ("for (a.b in c) { d; [] }", Some(20)),
 ];
@@ -193,12 +194,13 @@ fn sources_that_run(rt: HostRuntime) {
     all_unbuilt(&rt, alloc, BUILT);
     all_unbuilt(&rt, alloc, BUILT_OBJECTS);
     all_unbuilt(&rt, alloc, BUILT_FUNCTIONS);
+    all_unbuilt(&rt, alloc, BUILT_NAMES);
+    all_unbuilt(&rt, alloc, BUILT_ACCESSORS);
 }
 
 #[test]
 fn unbuilt_nodes(rt: HostRuntime) {
     let alloc = rt.alloc();
-    all_unbuilt(&rt, alloc, NAMES_AND_CALLS);
     all_unbuilt(&rt, alloc, EXPRESSIONS);
     all_unbuilt(&rt, alloc, OBJECTS);
     all_unbuilt(&rt, alloc, STATEMENTS);

@@ -1,5 +1,5 @@
 -- A throw from inside the frame of a call leaves that frame.
-use Rattle.std.proofs.Common.{arith, refl, sym, ap, subst, ◌∙◌, ◌≡◌, ◌≤◌, ◌<◌, ◌+◌, ℕ, zero, suc, Bool, true, false, List, [], ◌∷◌, ◌++◌, length, take, drop}
+use Rattle.std.proofs.Common.{arith, refl, sym, ap, subst, ◌∙◌, ◌≡◌, ◌≤◌, ◌<◌, ◌+◌, ℕ, zero, suc, Bool, true, false, List, [], ◌∷◌, ◌++◌, length, take}
 use Rattle.std.specs.Prelude.{if◌then◌else◌}
 use Rattle.std.proofs.lemmas.Bool.{le-ltb}
 use Rattle.std.proofs.lemmas.List.{take_all}
@@ -11,9 +11,9 @@ use Rattle.flow_frames.specs.Rules.{jump_need}
 use Rattle.es_meaning.specs.Operations.{One, Value}
 use Rattle.es_meaning.specs.Outcomes.{Outcome, Goes, Jumps, Ends, ret, and_then}
 use Rattle.es_meaning.specs.Plain.{choose}
-use Rattle.es_meaning.specs.Start.{ErrorKind}
-use Rattle.flow_meaning.specs.Planned.{Give, and_plan, as_plan, jumped, end_call, end_construction}
-use Rattle.flow_meaning.specs.Scopes.{Halt, Jump, Left, State, answer, as_plain, catching, caught, construction, cut_to, guard, jump, jump_to, popped, reached}
+use Rattle.native_protocol.specs.declared.request.ErrorKind.{ErrorKind}
+use Rattle.flow_meaning.specs.Planned.{Give, and_plan, as_plan, jumped, end_branch, end_call, end_construction}
+use Rattle.flow_meaning.specs.Scopes.{Halt, Jump, Left, State, Val, answer, as_plain, catching, caught, construction, cut_to, guard, jump, jump_to, popped, reached, settled}
 use Rattle.flow_meaning.specs.Tracked.{error_jump, throw_error, with_error}
 use Rattle.es_meaning.specs.Outcomes as es
 
@@ -102,6 +102,12 @@ module _ (before : List Frame) (f : Frame) (quiet : f.active ≡ false) (some : 
       ap (λ b. as_plan Value (and_then (choose b (Goes (record { label = meant_at t.frames depth; how = caught j }) (cut_to depth t)) (Jumps j (cut_to depth t))) (λ (l : Left (Unit {0})). ret (construction fresh l)))) (le-ltb depth (length t.frames) few)
       ∙ ap (λ fs. Give (jumped j) (record t { frames = fs })) (take_all depth t.frames few)
 
+  passes_branch : (j : Jump) (t : State) → length t.frames ≤ depth → end_branch Value depth (jumped j) t ≡ Give (jumped j) t
+  unfolding end_branch popped
+  passes_branch j t few =
+      ap (λ b. as_plan Value (and_then (choose b (Goes (record { label = meant_at t.frames depth; how = caught j }) (cut_to depth t)) (Jumps j (cut_to depth t))) (λ (l : Left Val). ret (settled Value l)))) (le-ltb depth (length t.frames) few)
+      ∙ ap (λ fs. Give (jumped j) (record t { frames = fs })) (take_all depth t.frames few)
+
   by_call : (b : Bool) (kind : ErrorKind) (cause : Label) → and_plan (as_plan One (thrown_by b kind cause s)) (end_call depth) ≡ as_plan One (thrown_by b kind cause s)
   unfolding guard
   by_call true kind cause = passes_call (error_jump cause (length s.heap)) (cut_to (suc (reached 0 s.frames)) (with_error kind s)) cut_short
@@ -111,6 +117,17 @@ module _ (before : List Frame) (f : Frame) (quiet : f.active ≡ false) (some : 
   unfolding guard
   by_construction fresh true kind cause = passes_construction fresh (error_jump cause (length s.heap)) (cut_to (suc (reached 0 s.frames)) (with_error kind s)) cut_short
   by_construction fresh false kind cause = refl
+
+  by_branch : (b : Bool) (kind : ErrorKind) (cause : Label) → and_plan (as_plan Value (thrown_by {X = Val} b kind cause s)) (end_branch Value depth) ≡ as_plan One (thrown_by b kind cause s)
+  unfolding guard
+  by_branch true kind cause = passes_branch (error_jump cause (length s.heap)) (cut_to (suc (reached 0 s.frames)) (with_error kind s)) cut_short
+  by_branch false kind cause = refl
+
+  pub throw_passes_branch : (kind : ErrorKind) (cause : Label) → and_plan (as_plan Value (throw_error {X = Val} kind cause s)) (end_branch Value depth) ≡ as_plan One (throw_error kind cause s)
+  throw_passes_branch kind cause =
+      ap (λ (o : Outcome Halt Jump Val State). and_plan (as_plan Value o) (end_branch Value depth)) (thrown_is kind cause s)
+      ∙ by_branch (allowed kind cause s) kind cause
+      ∙ ap (λ (o : Outcome Halt Jump (Unit {0}) State). as_plan One o) (sym (thrown_is kind cause s))
 
   pub throw_passes_call : (kind : ErrorKind) (cause : Label) → and_plan (as_plan One (throw_error kind cause s)) (end_call depth) ≡ as_plan One (throw_error kind cause s)
   throw_passes_call kind cause =

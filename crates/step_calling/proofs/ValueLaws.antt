@@ -1,68 +1,76 @@
 -- Values that are called, or construct.
-use Rattle.std.proofs.Common.{arith, refl, sym, ap, ap₂, ◌∙◌, ◌≡◌, ◌+◌, ℕ, suc, List, [], ◌∷◌, ◌++◌, map, length, drop, Ok}
+use Rattle.std.proofs.Common.{arith, sym, ap, ap₂, ◌∙◌, ◌≡◌, zero, suc, List, [], ◌∷◌, ◌++◌, map, length, drop, Ok, subst}
+use Rattle.std.specs.Borrow.{Bor}
+use Rattle.std.specs.List.{All}
+use Rattle.std.proofs.lemmas.List.{length-append, nil_from_length}
 use Rattle.origin_labels.specs.Label.{Label, bottom}
 use Rattle.flow_policy.specs.Policies.{Tables}
 use Rattle.flow_policy.specs.Inputs.{Given}
 use Rattle.js_ast.specs.Functions.{FunctionCode}
-use Rattle.js_ast.specs.Trees.{Exprs}
+use Rattle.js_ast.specs.declared.trees.Expr as code
+use Rattle.js_ast.specs.Views.{view_exprs}
 use Rattle.js_values.specs.declared.value.Labelled.{Labelled}
-use Rattle.js_values.specs.Readings.{IsReading, read_value}
+use Rattle.js_values.specs.Readings.{HasValue, IsReading, read_value}
+use Rattle.native_protocol.specs.Steps.{Steps}
+use Rattle.es_meaning.specs.BuiltIns.{BuiltIns}
 use Rattle.es_meaning.specs.Evaluation.{arguments, call_value, construct_value}
-use Rattle.es_meaning.specs.Operations.{calls, constructs}
+use Rattle.es_meaning.specs.Operations.{calls}
 use Rattle.es_meaning.specs.Plain.{undefined}
 use Rattle.flow_meaning.specs.Planned.{asking, planned}
 use Rattle.step_world.specs.declared.world.World.{World}
 use Rattle.step_world.specs.Worlds.{state_of}
 use Rattle.step_work.specs.declared.work.Calling.TheVariants as calling
 use Rattle.step_work.specs.declared.work.Next.{Next}
-use Rattle.step_work.specs.Going.{here}
+use Rattle.step_work.specs.declared.work.Work.TheVariants as work
+use Rattle.step_work.specs.Going.{Resumes, here}
 use Rattle.step_work.specs.Kept.{Kept}
-use Rattle.step_work.specs.Pending.{behind, env_above, first_or_undefined, owns_calling}
+use Rattle.step_work.specs.Pending.{behind, first_or_undefined, owns_calling, setting_above}
 use Rattle.step_work.specs.Resuming.{BeginsBehind}
+use Rattle.step_work.specs.Settings.{entrance, setting_of}
 use Rattle.step_work.specs.Shapes.{calling_of}
-use Rattle.step_calling.specs.Calling.{Behind}
 
-module _ {S T : Type 0} (made : S → T → Type 0) (meaning : S → T → Label) (store : S) (tables : Tables) (inputs : Given) (functions : List FunctionCode) (es : Exprs) (world : World T) (move : Next) where
-  called_by : (loose : List (Labelled T)) (old laid new : Kept T) (label : T) → old.loose ≡ loose → length loose ≡ 1 → laid.tasks ≡ old.tasks → laid.loose ≡ old.loose ++ record { value = undefined; label = label } ∷ []
+-- one value is taken, and lies alone then with another one below it
+pub taken_alone : {T : Type 0} (old rest first laid : List (Labelled T)) (f this : Labelled T) → length old ≡ 1 → old ≡ rest ++ f ∷ [] → first ≡ rest ++ this ∷ [] → laid ≡ first ++ f ∷ [] → (old ≡ f ∷ []) × (laid ≡ this ∷ f ∷ [])
+taken_alone old rest first laid f this one top more last =
+    let none : length rest ≡ 0 = omega (arith, one, ap length top, length-append rest (f ∷ [])) in
+    let empty : rest ≡ [] = nil_from_length rest none in
+    (top ∙ ap (λ vs. vs ++ f ∷ []) empty, last ∙ ap (λ vs. vs ++ f ∷ []) (more ∙ ap (λ vs. vs ++ this ∷ []) empty))
+
+pub two_have : {T : Type 0} (made : T → Type 0) (this f : Labelled T) (loose : List (Labelled T)) → loose ≡ f ∷ [] → made this.label → All (HasValue made) loose → All (HasValue made) (this ∷ f ∷ [])
+two_have made this f loose is m all zero d lt = m
+two_have made this f loose is m all (suc k) d lt = subst (All (HasValue made)) is all k d (omega (arith, lt))
+
+module _ {S T : Type 0} (made : S → T → Type 0) (meaning : S → T → Label) (store : S) (tables : Tables) (inputs : Given) (set : BuiltIns) (functions : List FunctionCode) (ns : List Steps) (es : Bor (List code.Expr)) (world : World T) (move : Next) where
+  pub value_called : (old laid new : Kept T) (f : Labelled T) (label : T) → old.loose ≡ f ∷ [] → laid.tasks ≡ old.tasks → laid.loose ≡ record { value = undefined; label = label } ∷ f ∷ []
       → ((reading : T → Label) → IsReading made meaning store reading → reading label ≡ bottom)
-      → BeginsBehind (λ tables inputs functions vs e. arguments (planned tables inputs functions) (asking tables inputs functions) (calling_of calling.Calls vs) (drop (owns_calling calling.Calls) vs) es e.place) laid new move
-      → Behind made meaning store tables inputs functions (λ reading told turns. call_value (planned tables inputs functions) (asking tables inputs functions) es (env_above old.tasks here).place (first_or_undefined (map (read_value reading) old.loose)) (state_of reading world told turns)) old new world (Ok move)
+      → BeginsBehind (λ tables inputs set functions vs e. arguments (planned tables inputs set functions) (entrance tables inputs set functions) (asking tables inputs set functions) (calling_of calling.Calls vs) (drop (owns_calling calling.Calls) vs) (view_exprs es.now) e.env.place) laid new move
+      → Resumes made meaning store tables inputs set functions (work.Callee es) ns ns old new world world (Ok move)
   unfolding call_value
-  called_by [] old laid new label is one tasks lies empty begins = absurd (omega (arith, one))
-  called_by (f ∷ (g ∷ loose)) old laid new label is one tasks lies empty begins = absurd (omega (arith, one))
-  called_by (f ∷ []) old laid new label is one tasks lies empty begins = λ reading told turns read.
+  value_called old laid new f label lies tasks both empty begins = λ reading told turns read.
       let s = state_of reading world told turns in
-      let P = planned tables inputs functions in
-      let A = asking tables inputs functions in
-      let i = (env_above old.tasks here).place in
-      let this : Labelled T = record { value = undefined; label = label } in
-      begins tables inputs functions reading here s
-      ∙ ap₂ (λ ts vs. behind tables inputs functions reading ts here (arguments P A (calling_of calling.Calls (map (read_value reading) vs)) (drop 2 (map (read_value reading) vs)) es (env_above ts here).place s)) tasks (lies ∙ ap (λ vs. vs ++ this ∷ []) is)
-      ∙ ap (λ (l : Label). behind tables inputs functions reading old.tasks here (arguments P A (calls (read_value reading f) (record { value = undefined; label = l })) [] es i s)) (empty reading read)
-      ∙ ap (λ vs. behind tables inputs functions reading old.tasks here (call_value P A es i (first_or_undefined (map (read_value reading) vs)) s)) (sym is)
+      let P = planned tables inputs set functions in
+      let A = asking tables inputs set functions in
+      let E = entrance tables inputs set functions in
+      let e = setting_of ns here in
+      let i = (setting_above old.tasks e).env.place in
+      begins tables inputs set functions reading e s
+      ∙ ap₂ (λ ts vs. behind tables inputs set functions reading ts e (arguments P E A (calling_of calling.Calls (map (read_value reading) vs)) (drop 2 (map (read_value reading) vs)) (view_exprs es.now) (setting_above ts e).env.place s)) tasks both
+      ∙ ap (λ (l : Label). behind tables inputs set functions reading old.tasks e (arguments P E A (calls (read_value reading f) (record { value = undefined; label = l })) [] (view_exprs es.now) i s)) (empty reading read)
+      ∙ ap (λ vs. behind tables inputs set functions reading old.tasks e (call_value P E A (view_exprs es.now) i (first_or_undefined (map (read_value reading) vs)) s)) (sym lies)
 
-  pub value_called : (old laid new : Kept T) (label : T) → length old.loose ≡ 1 → laid.tasks ≡ old.tasks → laid.loose ≡ old.loose ++ record { value = undefined; label = label } ∷ []
-      → ((reading : T → Label) → IsReading made meaning store reading → reading label ≡ bottom)
-      → BeginsBehind (λ tables inputs functions vs e. arguments (planned tables inputs functions) (asking tables inputs functions) (calling_of calling.Calls vs) (drop (owns_calling calling.Calls) vs) es e.place) laid new move
-      → Behind made meaning store tables inputs functions (λ reading told turns. call_value (planned tables inputs functions) (asking tables inputs functions) es (env_above old.tasks here).place (first_or_undefined (map (read_value reading) old.loose)) (state_of reading world told turns)) old new world (Ok move)
-  value_called old laid new label one tasks lies empty begins = called_by old.loose old laid new label refl one tasks lies empty begins
-
-  constructs_by : (loose : List (Labelled T)) (old new : Kept T) → old.loose ≡ loose → length loose ≡ 1
-      → BeginsBehind (λ tables inputs functions vs e. arguments (planned tables inputs functions) (asking tables inputs functions) (calling_of calling.Constructs vs) (drop (owns_calling calling.Constructs) vs) es e.place) old new move
-      → Behind made meaning store tables inputs functions (λ reading told turns. construct_value (planned tables inputs functions) (asking tables inputs functions) es (env_above old.tasks here).place (first_or_undefined (map (read_value reading) old.loose)) (state_of reading world told turns)) old new world (Ok move)
+  pub value_constructs : (old new : Kept T) (loose : List (Labelled T)) → old.loose ≡ loose → length loose ≡ 1
+      → BeginsBehind (λ tables inputs set functions vs e. arguments (planned tables inputs set functions) (entrance tables inputs set functions) (asking tables inputs set functions) (calling_of calling.Constructs vs) (drop (owns_calling calling.Constructs) vs) (view_exprs es.now) e.env.place) old new move
+      → Resumes made meaning store tables inputs set functions (work.Constructor es) ns ns old new world world (Ok move)
   unfolding construct_value
-  constructs_by [] old new is one begins = absurd (omega (arith, one))
-  constructs_by (f ∷ (g ∷ loose)) old new is one begins = absurd (omega (arith, one))
-  constructs_by (f ∷ []) old new is one begins = λ reading told turns read.
+  value_constructs old new [] is one begins = absurd (omega (arith, one))
+  value_constructs old new (f ∷ g ∷ loose) is one begins = absurd (omega (arith, one))
+  value_constructs old new (f ∷ []) is one begins = λ reading told turns read.
       let s = state_of reading world told turns in
-      let P = planned tables inputs functions in
-      let A = asking tables inputs functions in
-      let i = (env_above old.tasks here).place in
-      begins tables inputs functions reading here s
-      ∙ ap (λ vs. behind tables inputs functions reading old.tasks here (arguments P A (calling_of calling.Constructs (map (read_value reading) vs)) (drop 1 (map (read_value reading) vs)) es i s)) is
-      ∙ ap (λ vs. behind tables inputs functions reading old.tasks here (construct_value P A es i (first_or_undefined (map (read_value reading) vs)) s)) (sym is)
-
-  pub value_constructs : (old new : Kept T) → length old.loose ≡ 1
-      → BeginsBehind (λ tables inputs functions vs e. arguments (planned tables inputs functions) (asking tables inputs functions) (calling_of calling.Constructs vs) (drop (owns_calling calling.Constructs) vs) es e.place) old new move
-      → Behind made meaning store tables inputs functions (λ reading told turns. construct_value (planned tables inputs functions) (asking tables inputs functions) es (env_above old.tasks here).place (first_or_undefined (map (read_value reading) old.loose)) (state_of reading world told turns)) old new world (Ok move)
-  value_constructs old new one begins = constructs_by old.loose old new refl one begins
+      let P = planned tables inputs set functions in
+      let A = asking tables inputs set functions in
+      let E = entrance tables inputs set functions in
+      let e = setting_of ns here in
+      let i = (setting_above old.tasks e).env.place in
+      begins tables inputs set functions reading e s
+      ∙ ap (λ vs. behind tables inputs set functions reading old.tasks e (arguments P E A (calling_of calling.Constructs (map (read_value reading) vs)) (drop 1 (map (read_value reading) vs)) (view_exprs es.now) i s)) is
+      ∙ ap (λ vs. behind tables inputs set functions reading old.tasks e (construct_value P E A (view_exprs es.now) i (first_or_undefined (map (read_value reading) vs)) s)) (sym is)

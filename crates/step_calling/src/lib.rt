@@ -2,9 +2,13 @@
 #![tactic(auto)]
 
 mod calls;
+mod constructing;
 mod constructions;
 mod entries;
+mod laying;
 mod making;
+mod native_calls;
+mod reaching;
 mod refusals;
 mod values;
 

@@ -1,20 +1,22 @@
 //! Functions as values (ECMA-262 13).
 
-ghost use Rattle.std.specs.Prelude.{◌≡◌, IfErr, IfOk};
+ghost use Rattle.std.specs.Prelude.{◌≡◌, List, IfErr, IfOk};
 ghost use Rattle.origin_labels.specs.Stores.{IsKept};
 ghost use Rattle.flow_frames.specs.Stops.{IfStop};
 ghost use Rattle.flow_policy.specs.Policies.{Tables};
 ghost use Rattle.flow_policy.specs.Inputs.{Given};
+ghost use Rattle.native_protocol.specs.Steps.{Steps};
+ghost use Rattle.es_meaning.specs.BuiltIns.{BuiltIns};
 ghost use Rattle.function_table.specs.Tables.{table};
 ghost use Rattle.step_world.specs.Worlds.{Grows};
 ghost use Rattle.step_work.specs.declared.work.Next.TheVariants as next;
 ghost use Rattle.step_work.specs.Going.{Begins, Lowers, here};
-ghost use Rattle.step_work.specs.Kept.{scopes_of};
+ghost use Rattle.step_work.specs.Kept.{scopes_of, waiting};
 ghost use Rattle.step_work.specs.Pending.{env_above, values_of};
-ghost use Rattle.step_work.specs.Standing.{Standing};
+ghost use Rattle.step_work.specs.Standing.{Standing, running};
 ghost use Rattle.step_work.specs.Stops.{HasStop};
 
-use crate::entries::reference;
+use crate::constructing::reference;
 use flow_frames::FlowFault;
 use function_table::Functions;
 use js_ast::Function;
@@ -36,9 +38,10 @@ pub fn function<'p, L: Labels>(
     f: &'p Function,
 ) -> Result<Next<'p>, FlowFault<L::Label>>
     requires place { (env_above stack.old.tasks here).place ≡ place.0 }
-    requires standing { Standing L.made L.meaning labels.old stack.old world.old (values_of (next.Function f)) (scopes_of stack.old.tasks) (next.Function f) }
-    ensures begins { (tables : Tables) (inputs : Given) → Begins L.made L.meaning labels.new tables inputs (table functions.now) stack.old stack.new world.old world.new (next.Function f.entry) result }
-    ensures standing { IfOk result (λ move. Standing L.made L.meaning labels.new stack.new world.new (values_of move) (scopes_of stack.new.tasks) move) }
+    requires standing { Standing L.made L.meaning labels.old stack.old world.old (values_of (next.Function f)) (scopes_of stack.old.tasks) (waiting stack.old.tasks) (next.Function f) }
+    ensures begins { (tables : Tables) (inputs : Given) (set : BuiltIns) (ns : List Steps) → Begins L.made L.meaning labels.new tables inputs set (table functions.now) ns ns stack.old stack.new world.old world.new (next.Function f.entry) result }
+    ensures quiet { IfOk result (λ move. running move ≡ 0) }
+    ensures standing { IfOk result (λ move. Standing L.made L.meaning labels.new stack.new world.new (values_of move) (scopes_of stack.new.tasks) (waiting stack.old.tasks) move) }
     ensures lowers { IfOk result (λ move. Lowers stack.old (next.Function f.entry) stack.new move) }
     ensures stopped { IfErr result (IfStop (HasStop (L.made labels.new))) }
     ensures grows { Grows world.old world.new }

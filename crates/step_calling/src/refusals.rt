@@ -1,32 +1,38 @@
-//! What is called, but no function of the script.
+//! What is called, but no function of the script and no built-in.
 
-ghost use Rattle.std.specs.Prelude.{◌≡◌, ◌∷◌, [], List, length, IfErr, IfOk};
+ghost use Rattle.std.specs.Prelude.{◌≡◌, ◌∷◌, [], List, false, length, IfErr, IfOk};
 ghost use Rattle.origin_labels.specs.Stores.{IsKept};
+ghost use Rattle.flow_frames.specs.declared.kind.Kind.TheVariants as kind;
+ghost use Rattle.flow_frames.specs.Kinds.{is_try};
 ghost use Rattle.flow_frames.specs.Stops.{IfStop};
 ghost use Rattle.flow_policy.specs.Policies.{Tables};
 ghost use Rattle.flow_policy.specs.Inputs.{Given};
 ghost use Rattle.js_ast.specs.Functions.{FunctionCode};
 ghost use Rattle.js_values.specs.declared.value.Labelled.{Labelled as LabelledOf};
+ghost use Rattle.native_protocol.specs.Steps.{Steps};
+ghost use Rattle.es_meaning.specs.BuiltIns.{BuiltIns};
 ghost use Rattle.es_meaning.specs.Functions.{empty_callee};
 ghost use Rattle.step_world.specs.declared.came.Came.TheVariants as came;
 ghost use Rattle.step_world.specs.Worlds.{Grows};
 ghost use Rattle.step_work.specs.declared.work.Jump.TheVariants as jump;
 ghost use Rattle.step_work.specs.declared.work.Next.TheVariants as next;
-ghost use Rattle.step_work.specs.Kept.{scopes_of};
+ghost use Rattle.step_work.specs.Kept.{scopes_of, waiting};
 ghost use Rattle.step_work.specs.Loads.{Adds};
 ghost use Rattle.step_work.specs.Pending.{values_of};
-ghost use Rattle.step_work.specs.Standing.{Standing};
+ghost use Rattle.step_work.specs.Standing.{Standing, running};
 ghost use Rattle.step_work.specs.Stops.{HasStop};
-ghost use Rattle.step_calling.specs.Calling.{Begun, InCall, IsThrow, IsUnbuilt, Refuses};
+ghost use Rattle.step_converting.specs.Framed.{Begun};
+ghost use Rattle.step_calling.specs.Calling.{InCall, IsThrow, Refuses};
 
-use flow_frames::{FlowFault, belonging_lasts};
+use flow_frames::{FlowFault, Kind, belonging_lasts};
 use flow_text::OutOfMemory;
 use js_number::Primitive;
-use js_values::{EnvId, Labelled, Value};
+use js_values::{Labelled, Value};
+use native_protocol::ErrorKind;
 use origin_labels::Labels;
-use step_names::{ErrorKind, throw_error};
-use step_work::{Jump, Next, Stack, Work};
-use step_world::{Came, Leaving, World};
+use step_names::throw_error;
+use step_work::{Jump, Next, Stack};
+use step_world::{Came, World};
 
 /// Lays what an act threw, in place of the values that lay loose.
 fn thrown<'p, T: Copy>(
@@ -46,8 +52,8 @@ fn thrown<'p, T: Copy>(
             stack.lay(error)?;
             Ok(Next::Jumps(Jump::Throws))
         }
-        Came::Goes(next) => Ok(next),
-        Came::Leaves(why) => Ok(Next::Leave(why)),
+        Came::Goes(_) => unreachable!(),
+        Came::Leaves(_) => unreachable!(),
     }
 }
 
@@ -56,14 +62,17 @@ pub(crate) fn refuse<'p, L: Labels>(
     labels: &mut L,
     world: &mut World<L::Label>,
     stack: &mut Stack<'p, L::Label>,
+    _kind: Kind,
     count: usize,
     _depth: usize,
     label: L::Label,
 ) -> Result<Next<'p>, FlowFault<L::Label>>
-    requires begun { Begun L.made L.meaning labels.old stack.old world.old count _depth label }
-    ensures refuses { (tables : Tables) (inputs : Given) (functions : List FunctionCode) → Refuses L.made L.meaning labels.new tables inputs functions label stack.old stack.new world.old world.new result }
-    ensures standing { IfOk result (λ move. Standing L.made L.meaning labels.new stack.new world.new (values_of move) (scopes_of stack.new.tasks) move) }
-    ensures adds { IfOk result (Adds 2 stack.old stack.new) }
+    requires kind { is_try _kind ≡ false }
+    requires begun { Begun L.made L.meaning labels.old _kind stack.old world.old count _depth label }
+    ensures refuses { (tables : Tables) (inputs : Given) (set : BuiltIns) (functions : List FunctionCode) (ns : List Steps) → Refuses L.made L.meaning labels.new tables inputs set functions ns label stack.old stack.new world.old world.new result }
+    ensures quiet { IfOk result (λ move. running move ≡ 0) }
+    ensures standing { IfOk result (λ move. Standing L.made L.meaning labels.new stack.new world.new (values_of move) (scopes_of stack.new.tasks) (waiting stack.old.tasks) move) }
+    ensures adds { IfOk result (Adds 4 stack.old stack.new) }
     ensures stopped { IfErr result (IfStop (HasStop (L.made labels.new))) }
     ensures grows { Grows world.old world.new }
     ensures kept { IsKept L.made L.meaning L.room L.firm labels.old labels.new }
@@ -82,10 +91,11 @@ pub(crate) fn give_nothing<'p, L: Labels>(
     _depth: usize,
     _label: L::Label,
 ) -> Result<Next<'p>, FlowFault<L::Label>>
-    requires begun { Begun L.made L.meaning labels.now stack.old world.old count _depth _label }
-    ensures gives { (tables : Tables) (inputs : Given) (functions : List FunctionCode) (this : LabelledOf L.Label) (args : List (LabelledOf L.Label)) → InCall L.made L.meaning labels.now tables inputs functions empty_callee _label this args _depth stack.old stack.new world.old world.new result }
-    ensures standing { IfOk result (λ move. Standing L.made L.meaning labels.now stack.new world.new (values_of move) (scopes_of stack.new.tasks) move) }
-    ensures adds { IfOk result (Adds 2 stack.old stack.new) }
+    requires begun { Begun L.made L.meaning labels.now kind.Call stack.old world.old count _depth _label }
+    ensures gives { (tables : Tables) (inputs : Given) (set : BuiltIns) (functions : List FunctionCode) (ns : List Steps) → InCall L.made L.meaning labels.now tables inputs set functions ns empty_callee _label _depth stack.old stack.new world.old world.new result }
+    ensures quiet { IfOk result (λ move. running move ≡ 0) }
+    ensures standing { IfOk result (λ move. Standing L.made L.meaning labels.now stack.new world.new (values_of move) (scopes_of stack.new.tasks) (waiting stack.old.tasks) move) }
+    ensures adds { IfOk result (Adds 4 stack.old stack.new) }
     ensures stopped { IfErr result (IfStop (HasStop (L.made labels.now))) }
     ensures grows { Grows world.old world.new }
 {
@@ -99,26 +109,4 @@ pub(crate) fn give_nothing<'p, L: Labels>(
         label,
     })?;
     Ok(Next::Value)
-}
-
-/// Built-in functions aren't built yet. The work that ends a call is pushed, so that each frame has its work; it began in no record of its own.
-pub(crate) fn leave_unbuilt<'p, L: Labels>(
-    labels: &L,
-    world: &World<L::Label>,
-    stack: &mut Stack<'p, L::Label>,
-    count: usize,
-    depth: usize,
-    _label: L::Label,
-) -> Result<Next<'p>, FlowFault<L::Label>>
-    requires begun { Begun L.made L.meaning labels.now stack.old world.now count depth _label }
-    ensures leaves { (tables : Tables) (inputs : Given) (functions : List FunctionCode) → IsUnbuilt L.made L.meaning labels.now tables inputs functions stack.old stack.new world.now result }
-    ensures standing { IfOk result (λ move. Standing L.made L.meaning labels.now stack.new world.now (values_of move) (scopes_of stack.new.tasks) move) }
-    ensures adds { IfOk result (Adds 2 stack.old stack.new) }
-    ensures stopped { IfErr result (IfStop (HasStop (L.made labels.now))) }
-{
-    let _labels = labels;
-    let _world = world;
-    stack.clear(count);
-    stack.push(Work::EndCall(EnvId(0), depth))?;
-    Ok(Next::Leave(Leaving::Unbuilt))
 }

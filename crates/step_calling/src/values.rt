@@ -7,16 +7,19 @@ ghost use Rattle.flow_policy.specs.Policies.{Tables};
 ghost use Rattle.flow_policy.specs.Inputs.{Given};
 ghost use Rattle.js_ast.specs.Functions.{FunctionCode};
 ghost use Rattle.std.specs.Prelude.{List};
+ghost use Rattle.native_protocol.specs.Steps.{Steps};
+ghost use Rattle.es_meaning.specs.BuiltIns.{BuiltIns};
 ghost use Rattle.step_world.specs.Worlds.{Grows};
 ghost use Rattle.step_work.specs.declared.work.Next.TheVariants as next;
 ghost use Rattle.step_work.specs.declared.work.Work.TheVariants as work;
 ghost use Rattle.step_work.specs.Going.{Resumes};
-ghost use Rattle.step_work.specs.Kept.{scope_of, scopes_of};
+ghost use Rattle.step_work.specs.Kept.{scope_of, scopes_of, waiting};
 ghost use Rattle.step_work.specs.Loads.{Adds, weight};
 ghost use Rattle.step_work.specs.Pending.{owns, values_of};
-ghost use Rattle.step_work.specs.Standing.{Standing};
+ghost use Rattle.step_work.specs.Standing.{Standing, running};
 ghost use Rattle.step_work.specs.Stops.{HasStop};
-ghost use Rattle.step_calling.specs.Calling.{Leads, object_in};
+ghost use Rattle.step_converting.specs.Framed.{Leads};
+ghost use Rattle.step_calling.specs.Calling.{object_in};
 
 use flow_frames::FlowFault;
 use flow_text::OutOfMemory;
@@ -35,19 +38,21 @@ pub fn callee<'p, L: Labels>(
     stack: &mut Stack<'p, L::Label>,
     args: &'p [Expr],
 ) -> Result<Next<'p>, FlowFault<L::Label>>
-    requires standing { Standing L.made L.meaning labels.old stack.old world.old (owns (work.Callee args) + 1) (scopes_of stack.old.tasks ++ scope_of (work.Callee args)) next.Value }
-    ensures resumes { (tables : Tables) (inputs : Given) (functions : List FunctionCode) → Resumes L.made L.meaning labels.new tables inputs functions (work.Callee args.entry) stack.old stack.new world.old world.new result }
-    ensures standing { IfOk result (λ move. Standing L.made L.meaning labels.new stack.new world.new (values_of move) (scopes_of stack.new.tasks) move) }
-    ensures adds { IfOk result (Adds (weight (work.Callee args.entry)) stack.old stack.new) }
+    requires standing { Standing L.made L.meaning labels.old stack.old world.old (owns (work.Callee args) + 1) (scopes_of stack.old.tasks ++ scope_of (work.Callee args)) (waiting stack.old.tasks) next.Value }
+    ensures resumes { (tables : Tables) (inputs : Given) (set : BuiltIns) (functions : List FunctionCode) (ns : List Steps) → Resumes L.made L.meaning labels.new tables inputs set functions (work.Callee args.entry) ns ns stack.old stack.new world.old world.new result }
+    ensures standing { IfOk result (λ move. running move ≡ 0 → Standing L.made L.meaning labels.new stack.new world.new (values_of move) (scopes_of stack.new.tasks) (waiting stack.old.tasks) move) }
+    ensures adds { IfOk result (Adds (weight (work.Callee args.entry) + 3) stack.old stack.new) }
     ensures stopped { IfErr result (IfStop (HasStop (L.made labels.new))) }
     ensures grows { Grows world.old world.new }
     ensures kept { IsKept L.made L.meaning L.room L.firm labels.old labels.new }
 {
     let _world = &*world;
+    let f = stack.pop();
     stack.lay(Labelled {
         value: Value::Primitive(Primitive::Undefined),
         label: labels.bottom(),
     })?;
+    stack.lay(f)?;
     let next = begin_arguments(stack, Calling::Calls, 0, args)?;
     Ok(next)
 }
@@ -59,10 +64,10 @@ pub fn constructor<'p, L: Labels>(
     stack: &mut Stack<'p, L::Label>,
     args: &'p [Expr],
 ) -> Result<Next<'p>, FlowFault<L::Label>>
-    requires standing { Standing L.made L.meaning labels.old stack.old world.old (owns (work.Constructor args) + 1) (scopes_of stack.old.tasks ++ scope_of (work.Constructor args)) next.Value }
-    ensures resumes { (tables : Tables) (inputs : Given) (functions : List FunctionCode) → Resumes L.made L.meaning labels.new tables inputs functions (work.Constructor args.entry) stack.old stack.new world.old world.new result }
-    ensures standing { IfOk result (λ move. Standing L.made L.meaning labels.new stack.new world.new (values_of move) (scopes_of stack.new.tasks) move) }
-    ensures adds { IfOk result (Adds (weight (work.Constructor args.entry)) stack.old stack.new) }
+    requires standing { Standing L.made L.meaning labels.old stack.old world.old (owns (work.Constructor args) + 1) (scopes_of stack.old.tasks ++ scope_of (work.Constructor args)) (waiting stack.old.tasks) next.Value }
+    ensures resumes { (tables : Tables) (inputs : Given) (set : BuiltIns) (functions : List FunctionCode) (ns : List Steps) → Resumes L.made L.meaning labels.new tables inputs set functions (work.Constructor args.entry) ns ns stack.old stack.new world.old world.new result }
+    ensures standing { IfOk result (λ move. running move ≡ 0 → Standing L.made L.meaning labels.new stack.new world.new (values_of move) (scopes_of stack.new.tasks) (waiting stack.old.tasks) move) }
+    ensures adds { IfOk result (Adds (weight (work.Constructor args.entry) + 3) stack.old stack.new) }
     ensures stopped { IfErr result (IfStop (HasStop (L.made labels.new))) }
     ensures grows { Grows world.old world.new }
     ensures kept { IsKept L.made L.meaning L.room L.firm labels.old labels.new }
@@ -73,13 +78,13 @@ pub fn constructor<'p, L: Labels>(
     Ok(next)
 }
 
-/// What is called, or constructs.
-pub(crate) fn leading<'s, T: Copy>(stack: &'s Stack<'_, T>, count: usize) -> &'s Labelled<T>
+/// What is called.
+pub(crate) fn second<'s, T: Copy>(stack: &'s Stack<'_, T>, count: usize) -> &'s Labelled<T>
     requires count { count ≡ length stack.now.loose }
-    requires enough { 1 ≤ count }
-    ensures { Leads stack.now.loose result.now }
+    requires enough { 2 ≤ count }
+    ensures { Leads (drop 1 stack.now.loose) result.now }
 {
-    &stack.loose(count)[0]
+    &stack.loose(count)[1]
 }
 
 /// The `this` of a call.
@@ -90,9 +95,9 @@ pub(crate) fn this_of<T: Copy>(
 ) -> Result<Labelled<T>, OutOfMemory>
     requires count { count ≡ length stack.now.loose }
     requires enough { 2 ≤ count }
-    ensures { IfOk result (Leads (drop 1 stack.now.loose)) }
+    ensures { IfOk result (Leads stack.now.loose) }
 {
-    stack.loose(count)[1].copy(alloc)
+    stack.loose(count)[0].copy(alloc)
 }
 
 /// The object that a value is, if it is one.

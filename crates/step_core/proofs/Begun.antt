@@ -9,7 +9,8 @@ use Rattle.flow_frames.specs.Held as held
 use Rattle.flow_frames.specs.declared.faults.FlowFault.{FlowFault}
 use Rattle.js_values.specs.declared.value.Labelled.{Labelled}
 use Rattle.js_values.specs.Readings.{read_value}
-use Rattle.es_meaning.specs.Environments.{Env}
+use Rattle.native_protocol.specs.Steps.{Steps}
+use Rattle.es_meaning.specs.BuiltIns.{BuiltIns}
 use Rattle.flow_meaning.specs.Scopes.{State}
 use Rattle.flow_meaning.specs.Planned.{Part, Plan, jumped, plan}
 use Rattle.step_world.specs.declared.world.World.{World}
@@ -18,7 +19,8 @@ use Rattle.step_work.specs.declared.work.Work.{Work}
 use Rattle.step_work.specs.declared.work.Next.{Next}
 use Rattle.step_work.specs.Kept.{Kept}
 use Rattle.step_work.specs.Loads.{Adds, lift}
-use Rattle.step_work.specs.Pending.{owns, env_above, after, behind}
+use Rattle.step_work.specs.Pending.{owns, setting_above, after, behind}
+use Rattle.step_work.specs.Settings.{Setting, setting_of}
 use Rattle.step_work.specs.Resuming.{Begins, BeginsIn, Passes, PassesIn}
 use Rattle.step_work.specs.Moving.{BeginsAnywhere, Moves}
 use Rattle.step_work.specs.Going.{ComesTo, Lowers}
@@ -42,47 +44,47 @@ module _ {T : Type 0} where
 
 -- ---- a call comes to what a plan says of the state before it
 
-module _ {S T : Type 0} (made : S → T → Type 0) (meaning : S → T → Label) (store : S) (tables : Tables) (inputs : Given) (functions : List FunctionCode) where
+module _ {S T : Type 0} (made : S → T → Type 0) (meaning : S → T → Label) (store : S) (tables : Tables) (inputs : Given) (set : BuiltIns) (functions : List FunctionCode) (natives : List Steps) where
   -- by a clause without the run's state
-  pub comes_begun : (begins : Tables → Given → List FunctionCode → Env ℕ → State → Plan) (planned : (T → Label) → State → Plan) (old new : Kept T) (world : World T) (move : Next)
-      → ((reading : T → Label) (s : State) → begins tables inputs functions (env_above old.tasks here) s ≡ planned reading s)
+  pub comes_begun : (begins : Tables → Given → BuiltIns → List FunctionCode → Setting → State → Plan) (planned : (T → Label) → State → Plan) (old new : Kept T) (world : World T) (move : Next)
+      → ((reading : T → Label) (s : State) → begins tables inputs set functions (setting_above old.tasks (setting_of natives here)) s ≡ planned reading s)
       → length old.loose ≡ 0 → Begins begins old new move
-      → ComesTo made meaning store tables inputs functions (λ reading told turns. behind tables inputs functions reading old.tasks here (planned reading (state_of reading world told turns))) new world (Ok move)
+      → ComesTo made meaning store tables inputs set functions natives (λ reading told turns. behind tables inputs set functions reading old.tasks (setting_of natives here) (planned reading (state_of reading world told turns))) new world (Ok move)
   comes_begun begins planned old new world move same none goes reading told turns read =
-      goes tables inputs functions reading here (state_of reading world told turns) (nil_from_length old.loose none) ∙ ap (behind tables inputs functions reading old.tasks here) (same reading (state_of reading world told turns))
+      goes tables inputs set functions reading (setting_of natives here) (state_of reading world told turns) (nil_from_length old.loose none) ∙ ap (behind tables inputs set functions reading old.tasks (setting_of natives here)) (same reading (state_of reading world told turns))
 
-  pub comes_anywhere : (begins : Tables → Given → List FunctionCode → Env ℕ → State → Plan) (planned : (T → Label) → State → Plan) (old new : Kept T) (world : World T) (move : Next)
-      → ((reading : T → Label) (s : State) → begins tables inputs functions (env_above old.tasks here) s ≡ planned reading s)
+  pub comes_anywhere : (begins : Tables → Given → BuiltIns → List FunctionCode → Setting → State → Plan) (planned : (T → Label) → State → Plan) (old new : Kept T) (world : World T) (move : Next)
+      → ((reading : T → Label) (s : State) → begins tables inputs set functions (setting_above old.tasks (setting_of natives here)) s ≡ planned reading s)
       → BeginsAnywhere made meaning store begins old new move
-      → ComesTo made meaning store tables inputs functions (λ reading told turns. behind tables inputs functions reading old.tasks here (planned reading (state_of reading world told turns))) new world (Ok move)
+      → ComesTo made meaning store tables inputs set functions natives (λ reading told turns. behind tables inputs set functions reading old.tasks (setting_of natives here) (planned reading (state_of reading world told turns))) new world (Ok move)
   comes_anywhere begins planned old new world move same goes reading told turns read =
-      goes tables inputs functions reading here (state_of reading world told turns) read ∙ ap (behind tables inputs functions reading old.tasks here) (same reading (state_of reading world told turns))
+      goes tables inputs set functions reading (setting_of natives here) (state_of reading world told turns) read ∙ ap (behind tables inputs set functions reading old.tasks (setting_of natives here)) (same reading (state_of reading world told turns))
 
   -- by one on the frames
-  pub comes_in : (begins : Tables → Given → List FunctionCode → Env ℕ → State → Plan) (planned : (T → Label) → State → Plan) (old new : Kept T) (world : World T) (frames : held.Kept T) (move : Next)
-      → ((reading : T → Label) (s : State) → begins tables inputs functions (env_above old.tasks here) s ≡ planned reading s)
+  pub comes_in : (begins : Tables → Given → BuiltIns → List FunctionCode → Setting → State → Plan) (planned : (T → Label) → State → Plan) (old new : Kept T) (world : World T) (frames : held.Kept T) (move : Next)
+      → ((reading : T → Label) (s : State) → begins tables inputs set functions (setting_above old.tasks (setting_of natives here)) s ≡ planned reading s)
       → length old.loose ≡ 0 → BeginsIn made meaning store begins old new world.frames.frames frames.frames move
-      → ComesTo made meaning store tables inputs functions (λ reading told turns. behind tables inputs functions reading old.tasks here (planned reading (state_of reading world told turns))) new (record world { frames = frames }) (Ok move)
+      → ComesTo made meaning store tables inputs set functions natives (λ reading told turns. behind tables inputs set functions reading old.tasks (setting_of natives here) (planned reading (state_of reading world told turns))) new (record world { frames = frames }) (Ok move)
   comes_in begins planned old new world frames move same none goes reading told turns read =
-      goes tables inputs functions reading here (state_of reading world told turns) read (nil_from_length old.loose none) ∙ ap (behind tables inputs functions reading old.tasks here) (same reading (state_of reading world told turns))
+      goes tables inputs set functions reading (setting_of natives here) (state_of reading world told turns) read (nil_from_length old.loose none) ∙ ap (behind tables inputs set functions reading old.tasks (setting_of natives here)) (same reading (state_of reading world told turns))
 
   -- a part was entered that a move enters
   pub entered_by : (old new : Kept T) (world_old world_new : World T) (move : Next) (entered part : (T → Label) → Part) (result : Result Next (FlowFault T))
-      → ((reading : T → Label) → part_in (map (read_value reading) old.loose) (env_above old.tasks here) move ≡ Some (entered reading))
-      → ((reading : T → Label) → part_in (map (read_value reading) old.loose) (env_above old.tasks here) move ≡ Some (part reading))
-      → Enters made meaning store tables inputs functions old new world_old world_new entered result → Enters made meaning store tables inputs functions old new world_old world_new part result
+      → ((reading : T → Label) → part_in (map (read_value reading) old.loose) (setting_above old.tasks (setting_of natives here)) move ≡ Some (entered reading))
+      → ((reading : T → Label) → part_in (map (read_value reading) old.loose) (setting_above old.tasks (setting_of natives here)) move ≡ Some (part reading))
+      → Enters made meaning store tables inputs set functions natives old new world_old world_new entered result → Enters made meaning store tables inputs set functions natives old new world_old world_new part result
   entered_by old new world_old world_new move entered part result enters is comes reading told turns read =
       let same : Some (entered reading) ≡ Some (part reading) = sym (enters reading) ∙ is reading in
       let part_same : entered reading ≡ part reading = cc in
-      subst (λ p. Moves tables inputs functions reading new here (state_of reading world_new told turns) (behind tables inputs functions reading old.tasks here (plan tables inputs functions p (state_of reading world_old told turns))) result) part_same (comes reading told turns read)
+      subst (λ p. Moves tables inputs set functions reading new (setting_of natives here) (state_of reading world_new told turns) (behind tables inputs set functions reading old.tasks (setting_of natives here) (plan tables inputs set functions p (state_of reading world_old told turns))) result) part_same (comes reading told turns read)
 
   -- a jump passes work
   pub comes_passed : (j : Jump) (w : Work) (value : Labelled T) (old new : Kept T) (world : World T) (move : Next) → Passes j w old new move → drop (owns w) old.loose ≡ value ∷ []
-      → going.Passes made meaning store tables inputs functions j w value old new world world (Ok move)
+      → going.Passes made meaning store tables inputs set functions j w value natives natives old new world world (Ok move)
   comes_passed j w value old new world move goes alone reading told turns read =
-      goes tables inputs functions reading here (state_of reading world told turns) (take (owns w) old.loose) value (sym (take-append-drop (owns w) old.loose) ∙ ap (λ vs. take (owns w) old.loose ++ vs) alone)
+      goes tables inputs set functions reading (setting_of natives here) (state_of reading world told turns) (take (owns w) old.loose) value (sym (take-append-drop (owns w) old.loose) ∙ ap (λ vs. take (owns w) old.loose ++ vs) alone)
 
   -- or comes to the end of its scope
   pub comes_passed_in : (j : Jump) (w : Work) (value : Labelled T) (old new : Kept T) (world : World T) (frames : held.Kept T) (move : Next) → PassesIn made meaning store j w old new world.frames.frames frames.frames move → old.loose ≡ value ∷ []
-      → ComesTo made meaning store tables inputs functions (λ reading told turns. behind tables inputs functions reading old.tasks here (after tables inputs functions w [] (env_above old.tasks here) (jumped (jump_of j (read_value reading value))) (state_of reading world told turns))) new (record world { frames = frames }) (Ok move)
-  comes_passed_in j w value old new world frames move goes alone reading told turns read = goes tables inputs functions reading here (state_of reading world told turns) value read alone
+      → ComesTo made meaning store tables inputs set functions natives (λ reading told turns. behind tables inputs set functions reading old.tasks (setting_of natives here) (after tables inputs set functions w [] (setting_above old.tasks (setting_of natives here)) (jumped (jump_of j (read_value reading value))) (state_of reading world told turns))) new (record world { frames = frames }) (Ok move)
+  comes_passed_in j w value old new world frames move goes alone reading told turns read = goes tables inputs set functions reading (setting_of natives here) (state_of reading world told turns) value read alone

@@ -1,5 +1,5 @@
 -- What work says of what lies loose, by what it waits for.
-use Rattle.std.proofs.Common.{refl, sym, ap, ap₂, ◌∙◌, ◌≡◌, ◌+◌, ◌-◌, ℕ, Bool, true, false, List, [], ◌∷◌, ◌++◌, map, take, drop, length, append-nil, take-append-drop, length-drop, arith, Result}
+use Rattle.std.proofs.Common.{refl, sym, ap, ap₂, subst, ◌∙◌, ◌≡◌, ◌+◌, ◌-◌, ℕ, Bool, true, false, List, [], ◌∷◌, ◌++◌, map, take, drop, length, append-nil, take-append-drop, length-drop, arith, Result}
 use Rattle.std.proofs.lemmas.List.{take_at, drop_at, nil_from_length, length-take-le}
 use Rattle.origin_labels.specs.Label.{Label, bottom}
 use Rattle.origin_labels.specs.Stores.{IsKept}
@@ -13,30 +13,53 @@ use Rattle.flow_frames.specs.Held.{Held}
 use Rattle.js_values.specs.declared.value.Labelled.{Labelled}
 use Rattle.js_values.specs.Readings.{IsReading, read_value}
 use Rattle.js_values.proofs.ReadingLaws.{IsReading-earlier}
+use Rattle.native_protocol.specs.Steps.{Steps}
+use Rattle.es_meaning.specs.BuiltIns.{BuiltIns}
 use Rattle.es_meaning.specs.Environments.{Env}
 use Rattle.es_meaning.specs.Plain.{undefined}
 use Rattle.flow_meaning.specs.Scopes.{Val, State}
-use Rattle.flow_meaning.specs.Planned.{gave, end_branch, end_round, end_call, end_construction, end_block, end_handler, end_last}
+use Rattle.flow_meaning.specs.Planned.{Plan, gave, end_branch, end_round, end_call, end_construction, end_block, end_handler, end_last}
 use Rattle.step_world.specs.declared.world.World.{World}
 use Rattle.step_world.specs.Worlds.{state_of}
 use Rattle.step_work.specs.declared.work.Work.{Work}
 use Rattle.step_work.specs.declared.work.Work.TheVariants as work
 use Rattle.step_work.specs.declared.work.Next.{Next}
 use Rattle.step_work.specs.Kept.{Kept}
-use Rattle.step_work.specs.Pending.{owns, env_above, after, behind, fallen, first_or_undefined}
-use Rattle.step_work.specs.Resuming.{coming, with_frames, Resumes, ResumesDone, ResumesBehind, ResumesDoneBehind, ResumesIn, ResumesDoneIn}
-use Rattle.step_work.specs.Moving as moving
+use Rattle.step_work.specs.Pending.{Task, owns, env_above, setting_inside, setting_above, after, behind, fallen, first_or_undefined}
+use Rattle.step_work.specs.Settings.{Setting, setting_of}
+use Rattle.step_work.specs.Resuming.{coming, with_frames, Resumes, ResumesBeside, ResumesDone, ResumesBehind, ResumesDoneBehind, ResumesIn, ResumesDoneIn}
+use Rattle.step_moves.specs.Moving.{Resumed, ResumedAt}
 use Rattle.step_work.specs.Moving.{Moves}
-use Rattle.step_moves.proofs.Settled.{moves_as}
 use Rattle.step_work.specs.Going.{here}
 use Rattle.step_work.specs.Going.{Resumes as ResumesHere}
 use Rattle.step_work.specs.Standing.{awaits}
-use Rattle.step_core.specs.Continuing.{acts, scoped, leads, raises, continued, GoesAlone, GoesIn, GoesActing}
+use Rattle.step_core.specs.Continuing.{acts, answers, scoped, leads, operates, raises, continued, GoesAlone, GoesIn, GoesActing}
 
 pub one_value : {X : Type 0} (xs : List X) → length xs ≡ 1 → (x : X) × (xs ≡ x ∷ [])
 one_value [] size = absurd (omega (arith, size))
 one_value (x ∷ []) size = (x, refl)
 one_value (x ∷ y ∷ xs) size = absurd (omega (arith, size))
+
+pub two_values : {X : Type 0} (xs : List X) → length xs ≡ 2 → (x : X) × (y : X) × (xs ≡ x ∷ y ∷ [])
+two_values [] size = absurd (omega (arith, size))
+two_values (x ∷ []) size = absurd (omega (arith, size))
+two_values (x ∷ y ∷ []) size = (x, y, refl)
+two_values (x ∷ y ∷ z ∷ xs) size = absurd (omega (arith, size))
+
+-- the environment above pending work, in a setting
+pub env_of : {T : Type 0} (tasks : List (Task T)) (e : Setting) → (setting_above tasks e).env ≡ env_above tasks e.env
+unfolding setting_above env_above
+env_of [] e = refl
+env_of (w ∷ tasks) e = env_of tasks (setting_inside w.0 e)
+
+-- the record in which a part is evaluated, whatever built-ins wait
+pub place_present : {T : Type 0} (tasks : List (Task T)) (natives : List Steps) (n : ℕ) → (env_above tasks here).place ≡ n → (setting_above tasks (setting_of natives here)).env.place ≡ n
+place_present tasks natives n is = ap (λ (e : Env ℕ). e.place) (env_of tasks (setting_of natives here)) ∙ is
+
+-- a call comes to another plan that is equal
+pub moves_as : {T : Type 0} (tables : Tables) (inputs : Given) (set : BuiltIns) (functions : List FunctionCode) (reading : T → Label) (stack : Kept T) (e : Setting) (s : State) (plan other : Plan) (result : Result Next (FlowFault T)) → plan ≡ other
+    → Moves tables inputs set functions reading stack e s plan result → Moves tables inputs set functions reading stack e s other result
+moves_as tables inputs set functions reading stack e s plan other result same moves = subst (λ p. Moves tables inputs set functions reading stack e s p result) same moves
 
 -- of so many values and one more, those and the one
 one_above : {X : Type 0} (n : ℕ) (xs : List X) → length xs ≡ n + 1 → (x : X) × (length (take n xs) ≡ n) × (xs ≡ take n xs ++ x ∷ [])
@@ -44,21 +67,21 @@ one_above n xs size =
     let one = one_value (drop n xs) (omega (arith, size, length-drop n xs)) in
     (one.0, length-take-le n xs (omega (arith, size)), sym (take-append-drop n xs) ∙ ap (λ ys. take n xs ++ ys) one.1)
 
-module _ {T : Type 0} (tables : Tables) (inputs : Given) (functions : List FunctionCode) (reading : T → Label) where
+module _ {T : Type 0} (tables : Tables) (inputs : Given) (set : BuiltIns) (functions : List FunctionCode) (reading : T → Label) where
   -- what lies loose, in two parts
-  pub parted : (w : Work) (below above loose : List (Labelled T)) (e : Env ℕ) (s : State) → length below ≡ owns w → loose ≡ below ++ above
-      → continued tables inputs functions reading w loose e s ≡ after tables inputs functions w (map (read_value reading) below) e (gave (first_or_undefined (map (read_value reading) above))) s
+  pub parted : (w : Work) (below above loose : List (Labelled T)) (e : Setting) (s : State) → length below ≡ owns w → loose ≡ below ++ above
+      → continued tables inputs set functions reading w loose e s ≡ after tables inputs set functions w (map (read_value reading) below) e (gave (first_or_undefined (map (read_value reading) above))) s
   parted w below above loose e s size is =
-      ap₂ (λ vs us. after tables inputs functions w (map (read_value reading) vs) e (gave (first_or_undefined (map (read_value reading) us))) s) (ap (take (owns w)) is ∙ take_at below above (owns w) size) (ap (drop (owns w)) is ∙ drop_at below above (owns w) size)
+      ap₂ (λ vs us. after tables inputs set functions w (map (read_value reading) vs) e (gave (first_or_undefined (map (read_value reading) us))) s) (ap (take (owns w)) is ∙ take_at below above (owns w) size) (ap (drop (owns w)) is ∙ drop_at below above (owns w) size)
 
   -- the statements of a clause don't look at a value
-  unseen_fall : (i : ℕ) (cs : Clauses) (e : Env ℕ) (v u : Val) (s : State) → fallen tables inputs functions i cs e (gave v) s ≡ fallen tables inputs functions i cs e (gave u) s
+  unseen_fall : (i : ℕ) (cs : Clauses) (e : Env ℕ) (v u : Val) (s : State) → fallen tables inputs set functions i cs e (gave v) s ≡ fallen tables inputs set functions i cs e (gave u) s
   unseen_fall i no_clauses e v u s = refl
   unseen_fall i (case c ss cs) e v u s = refl
   unseen_fall i (default ss cs) e v u s = refl
 
   -- nor does any work that waits for the end of a part
-  unseen : (w : Work) (vs : List Val) (e : Env ℕ) (v u : Val) (s : State) → awaits w ≡ 0 → after tables inputs functions w vs e (gave v) s ≡ after tables inputs functions w vs e (gave u) s
+  unseen : (w : Work) (vs : List Val) (e : Setting) (v u : Val) (s : State) → awaits w ≡ 0 → after tables inputs set functions w vs e (gave v) s ≡ after tables inputs set functions w vs e (gave u) s
   unfolding end_branch end_round end_call end_construction end_block end_handler end_last
   unseen (work.Statements ss) vs e v u s none = refl
   unseen (work.Declared r) vs e v u s none = refl
@@ -66,7 +89,7 @@ module _ {T : Type 0} (tables : Tables) (inputs : Given) (functions : List Funct
   unseen (work.Visited x count) vs e v u s none = refl
   unseen (work.EndBranch false depth) vs e v u s none = refl
   unseen (work.EndBranch true depth) vs e v u s none = absurd (omega (arith, none))
-  unseen (work.Falls cs i) vs e v u s none = unseen_fall i (view_clauses cs.now) e v u s
+  unseen (work.Falls cs i) vs e v u s none = unseen_fall i (view_clauses cs.now) e.env v u s
   unseen (work.EndRound turn depth of) vs e v u s none = refl
   unseen (work.EndLabel depth text) vs e v u s none = refl
   unseen (work.EndCall own depth) vs e v u s none = refl
@@ -78,8 +101,8 @@ module _ {T : Type 0} (tables : Tables) (inputs : Given) (functions : List Funct
   unseen _ vs e v u s none = absurd (omega (arith, none))
 
   -- so one may be forgotten
-  pub forgotten : (w : Work) (loose below : List (Labelled T)) (e : Env ℕ) (s : State) → awaits w ≡ 0 → length loose ≡ owns w + 1 → below ≡ take (length loose - 1) loose
-      → continued tables inputs functions reading w below e s ≡ continued tables inputs functions reading w loose e s
+  pub forgotten : (w : Work) (loose below : List (Labelled T)) (e : Setting) (s : State) → awaits w ≡ 0 → length loose ≡ owns w + 1 → below ≡ take (length loose - 1) loose
+      → continued tables inputs set functions reading w below e s ≡ continued tables inputs set functions reading w loose e s
   forgotten w loose below e s none size is =
       let place : length loose - 1 ≡ owns w = omega (arith, size) in
       let front : below ≡ take (owns w) loose = is ∙ ap (λ n. take n loose) place in
@@ -88,81 +111,97 @@ module _ {T : Type 0} (tables : Tables) (inputs : Given) (functions : List Funct
       ∙ unseen w (map (read_value reading) (take (owns w) loose)) e (first_or_undefined []) (first_or_undefined (map (read_value reading) (drop (owns w) loose))) s none
 
   -- and undefined without an origin stands for the end of a part
-  pub supplied : (w : Work) (loose more : List (Labelled T)) (label : T) (e : Env ℕ) (s : State) → length loose ≡ owns w → reading label ≡ bottom → more ≡ loose ++ record { value = undefined; label = label } ∷ []
-      → continued tables inputs functions reading w more e s ≡ continued tables inputs functions reading w loose e s
+  pub supplied : (w : Work) (loose more : List (Labelled T)) (label : T) (e : Setting) (s : State) → length loose ≡ owns w → reading label ≡ bottom → more ≡ loose ++ record { value = undefined; label = label } ∷ []
+      → continued tables inputs set functions reading w more e s ≡ continued tables inputs set functions reading w loose e s
   supplied w loose more label e s size none is =
       parted w loose (record { value = undefined; label = label } ∷ []) more e s size is
-      ∙ ap (λ l. after tables inputs functions w (map (read_value reading) loose) e (gave (record { value = undefined; label = l })) s) none
+      ∙ ap (λ l. after tables inputs set functions w (map (read_value reading) loose) e (gave (record { value = undefined; label = l })) s) none
       ∙ sym (parted w loose [] loose e s size (sym (append-nil loose)))
 
 module _ {T : Type 0} (w : Work) (old new : Kept T) (move : Next) where
   abbrev GoesOn : Type 0
-  GoesOn = (tables : Tables) (inputs : Given) (functions : List FunctionCode) (reading : T → Label) (e : Env ℕ) (s : State) → coming tables inputs functions reading new move e s ≡ behind tables inputs functions reading old.tasks e (continued tables inputs functions reading w old.loose (env_above old.tasks e) s)
+  GoesOn = (tables : Tables) (inputs : Given) (set : BuiltIns) (functions : List FunctionCode) (reading : T → Label) (e : Setting) (s : State) → coming tables inputs set functions reading new move e s ≡ behind tables inputs set functions reading old.tasks e (continued tables inputs set functions reading w old.loose (setting_above old.tasks e) s)
 
   goes_value : owns w ≡ 0 → length old.loose ≡ 1 → Resumes w old new move → GoesOn
-  goes_value none size goes tables inputs functions reading e s =
+  goes_value none size goes tables inputs set functions reading e s =
       let one = one_value old.loose size in
-      goes tables inputs functions reading e s one.0 one.1 ∙ ap (λ p. behind tables inputs functions reading old.tasks e p) (sym (parted tables inputs functions reading w [] (one.0 ∷ []) old.loose (env_above old.tasks e) s (sym none) one.1))
+      goes tables inputs set functions reading e s one.0 one.1 ∙ ap (λ p. behind tables inputs set functions reading old.tasks e p) (sym (parted tables inputs set functions reading w [] (one.0 ∷ []) old.loose (setting_above old.tasks e) s (sym none) one.1))
 
   goes_end : owns w ≡ 0 → length old.loose ≡ 0 → ResumesDone w old new move → GoesOn
-  goes_end none size goes tables inputs functions reading e s =
+  goes_end none size goes tables inputs set functions reading e s =
       let is = nil_from_length old.loose size in
-      goes tables inputs functions reading e s is ∙ ap (λ p. behind tables inputs functions reading old.tasks e p) (sym (parted tables inputs functions reading w [] [] old.loose (env_above old.tasks e) s (sym none) is))
+      goes tables inputs set functions reading e s is ∙ ap (λ p. behind tables inputs set functions reading old.tasks e p) (sym (parted tables inputs set functions reading w [] [] old.loose (setting_above old.tasks e) s (sym none) is))
 
   goes_behind : length old.loose ≡ owns w + 1 → ResumesBehind w old new move → GoesOn
-  goes_behind size goes tables inputs functions reading e s =
+  goes_behind size goes tables inputs set functions reading e s =
       let below = take (owns w) old.loose in
       let split = one_above (owns w) old.loose size in
-      goes tables inputs functions reading e s below split.0 split.2 ∙ ap (λ p. behind tables inputs functions reading old.tasks e p) (sym (parted tables inputs functions reading w below (split.0 ∷ []) old.loose (env_above old.tasks e) s split.1 split.2))
+      goes tables inputs set functions reading e s below split.0 split.2 ∙ ap (λ p. behind tables inputs set functions reading old.tasks e p) (sym (parted tables inputs set functions reading w below (split.0 ∷ []) old.loose (setting_above old.tasks e) s split.1 split.2))
+
+  goes_beside : owns w ≡ 1 → length old.loose ≡ 2 → ResumesBeside w old new move → GoesOn
+  goes_beside one size goes tables inputs set functions reading e s =
+      let both = two_values old.loose size in
+      goes tables inputs set functions reading e s both.0 both.1 both.2 ∙ ap (λ p. behind tables inputs set functions reading old.tasks e p) (sym (parted tables inputs set functions reading w (both.0 ∷ []) (both.1 ∷ []) old.loose (setting_above old.tasks e) s (sym one) both.2))
 
   goes_done_behind : length old.loose ≡ owns w → ResumesDoneBehind w old new move → GoesOn
-  goes_done_behind size goes tables inputs functions reading e s =
-      goes tables inputs functions reading e s ∙ ap (λ p. behind tables inputs functions reading old.tasks e p) (sym (parted tables inputs functions reading w old.loose [] old.loose (env_above old.tasks e) s size (sym (append-nil old.loose))))
+  goes_done_behind size goes tables inputs set functions reading e s =
+      goes tables inputs set functions reading e s ∙ ap (λ p. behind tables inputs set functions reading old.tasks e p) (sym (parted tables inputs set functions reading w old.loose [] old.loose (setting_above old.tasks e) s size (sym (append-nil old.loose))))
 
 -- work that needs the stack alone
-pub goes_alone : {T : Type 0} → (w : Work) (old new : Kept T) (move : Next) → acts w ≡ false → scoped w ≡ false → leads w ≡ false → raises w ≡ false → length old.loose ≡ owns w + awaits w → GoesAlone w old new move → GoesOn w old new move
-goes_alone (work.BinaryDone o) old new move idle never led raised size goes = absurd cc
-goes_alone (work.AssignTo n) old new move idle never led raised size goes = absurd cc
-goes_alone (work.CompoundDone o n) old new move idle never led raised size goes = absurd cc
-goes_alone (work.Variable n ds) old new move idle never led raised size goes = absurd cc
-goes_alone (work.MemberBase how text) old new move idle never led raised size goes = absurd cc
-goes_alone (work.IndexKey how) old new move idle never led raised size goes = absurd cc
-goes_alone (work.EndBranch gives depth) old new move idle never led raised size goes = absurd cc
-goes_alone (work.EndRound turn depth of) old new move idle never led raised size goes = absurd cc
-goes_alone (work.EndLabel depth text) old new move idle never led raised size goes = absurd cc
-goes_alone (work.EndTry depth) old new move idle never led raised size goes = absurd cc
-goes_alone work.InstanceDone old new move idle never led raised size goes = absurd cc
-goes_alone (work.Compared cs i) old new move idle never led raised size goes = absurd cc
-goes_alone (work.EndNew own depth) old new move idle never led raised size goes = absurd cc
-goes_alone (work.EndLast waiting) old new move idle never led raised size goes = absurd cc
-goes_alone (work.Falls cs i) old new move idle never led raised size goes = absurd cc
-goes_alone (work.EndCall own depth) old new move idle never led raised size goes = absurd cc
-goes_alone (work.EndBlock b depth) old new move idle never led raised size goes = absurd cc
-goes_alone (work.EndHandler b own depth) old new move idle never led raised size goes = absurd cc
-goes_alone (work.Argument f count rest) old new move idle never led raised size goes = goes_behind (work.Argument f count rest) old new move size goes
-goes_alone (work.Property ps count) old new move idle never led raised size goes = goes_behind (work.Property ps count) old new move size goes
-goes_alone (work.IndexBase how x) old new move idle never led raised size goes = goes_behind (work.IndexBase how x) old new move size goes
-goes_alone (work.Visited x count) old new move idle never led raised size goes = goes_done_behind (work.Visited x count) old new move (omega (arith, size)) goes
-goes_alone (work.Statements ss) old new move idle never led raised size goes = goes_end (work.Statements ss) old new move refl size goes
-goes_alone (work.Declared r) old new move idle never led raised size goes = goes_end (work.Declared r) old new move refl size goes
-goes_alone (work.Turned r) old new move idle never led raised size goes = goes_end (work.Turned r) old new move refl size goes
-goes_alone w old new move idle never led raised size goes = goes_value w old new move refl size goes
+pub goes_alone : {T : Type 0} → (w : Work) (old new : Kept T) (move : Next) → acts w ≡ false → scoped w ≡ false → leads w ≡ false → raises w ≡ false → answers w ≡ false → length old.loose ≡ owns w + awaits w → GoesAlone w old new move → GoesOn w old new move
+goes_alone (work.BinaryDone o) old new move idle never led raised asks size goes = absurd cc
+goes_alone (work.AssignTo n) old new move idle never led raised asks size goes = absurd cc
+goes_alone (work.CompoundDone o n) old new move idle never led raised asks size goes = absurd cc
+goes_alone (work.Variable n ds) old new move idle never led raised asks size goes = absurd cc
+goes_alone (work.MemberBase how text) old new move idle never led raised asks size goes = absurd cc
+goes_alone (work.IndexKey how) old new move idle never led raised asks size goes = absurd cc
+goes_alone (work.EndBranch gives depth) old new move idle never led raised asks size goes = absurd cc
+goes_alone (work.EndRound turn depth of) old new move idle never led raised asks size goes = absurd cc
+goes_alone (work.EndLabel depth text) old new move idle never led raised asks size goes = absurd cc
+goes_alone (work.EndTry depth) old new move idle never led raised asks size goes = absurd cc
+goes_alone work.InstanceDone old new move idle never led raised asks size goes = absurd cc
+goes_alone (work.Compared cs i) old new move idle never led raised asks size goes = absurd cc
+goes_alone (work.EndNew own depth) old new move idle never led raised asks size goes = absurd cc
+goes_alone (work.EndLast waiting) old new move idle never led raised asks size goes = absurd cc
+goes_alone (work.Falls cs i) old new move idle never led raised asks size goes = absurd cc
+goes_alone (work.EndCall own depth) old new move idle never led raised asks size goes = absurd cc
+goes_alone (work.EndBlock b depth) old new move idle never led raised asks size goes = absurd cc
+goes_alone (work.EndHandler b own depth) old new move idle never led raised asks size goes = absurd cc
+goes_alone (work.ConvertedLeft o) old new move idle never led raised asks size goes = absurd cc
+goes_alone (work.Operate o) old new move idle never led raised asks size goes = absurd cc
+goes_alone work.KeyHas old new move idle never led raised asks size goes = absurd cc
+goes_alone (work.KeyOf how) old new move idle never led raised asks size goes = absurd cc
+goes_alone (work.Counted how o t) old new move idle never led raised asks size goes = absurd cc
+goes_alone (work.CountedNumber how o t) old new move idle never led raised asks size goes = absurd cc
+goes_alone work.InstanceTest old new move idle never led raised asks size goes = absurd cc
+goes_alone (work.Answered count to) old new move idle never led raised asks size goes = absurd cc
+goes_alone (work.CompoundRight o x t) old new move idle never led raised asks size goes = goes_behind (work.CompoundRight o x t) old new move size goes
+goes_alone (work.CalledBy es) old new move idle never led raised asks size goes = goes_beside (work.CalledBy es) old new move refl size goes
+goes_alone work.GiveBehind old new move idle never led raised asks size goes = goes_beside work.GiveBehind old new move refl size goes
+goes_alone (work.Argument f count rest) old new move idle never led raised asks size goes = goes_behind (work.Argument f count rest) old new move size goes
+goes_alone (work.Property ps count) old new move idle never led raised asks size goes = goes_behind (work.Property ps count) old new move size goes
+goes_alone (work.IndexBase how x) old new move idle never led raised asks size goes = goes_behind (work.IndexBase how x) old new move size goes
+goes_alone (work.Visited x count) old new move idle never led raised asks size goes = goes_done_behind (work.Visited x count) old new move (omega (arith, size)) goes
+goes_alone (work.Statements ss) old new move idle never led raised asks size goes = goes_end (work.Statements ss) old new move refl size goes
+goes_alone (work.Declared r) old new move idle never led raised asks size goes = goes_end (work.Declared r) old new move refl size goes
+goes_alone (work.Turned r) old new move idle never led raised asks size goes = goes_end (work.Turned r) old new move refl size goes
+goes_alone w old new move idle never led raised asks size goes = goes_value w old new move refl size goes
 
 module _ {S T : Type 0} (made : S → T → Type 0) (meaning : S → T → Label) (store : S) where
   module _ (w : Work) (old new : Kept T) (frames_old frames_new : List (Held T)) (move : Next) where
     abbrev GoesOnIn : Type 0
-    GoesOnIn = (tables : Tables) (inputs : Given) (functions : List FunctionCode) (reading : T → Label) (e : Env ℕ) (s : State) → IsReading made meaning store reading
-        → coming tables inputs functions reading new move e (with_frames reading frames_new s) ≡ behind tables inputs functions reading old.tasks e (continued tables inputs functions reading w old.loose (env_above old.tasks e) (with_frames reading frames_old s))
+    GoesOnIn = (tables : Tables) (inputs : Given) (set : BuiltIns) (functions : List FunctionCode) (reading : T → Label) (e : Setting) (s : State) → IsReading made meaning store reading
+        → coming tables inputs set functions reading new move e (with_frames reading frames_new s) ≡ behind tables inputs set functions reading old.tasks e (continued tables inputs set functions reading w old.loose (setting_above old.tasks e) (with_frames reading frames_old s))
 
     goes_value_in : owns w ≡ 0 → length old.loose ≡ 1 → ResumesIn made meaning store w old new frames_old frames_new move → GoesOnIn
-    goes_value_in none size goes tables inputs functions reading e s read =
+    goes_value_in none size goes tables inputs set functions reading e s read =
         let one = one_value old.loose size in
-        goes tables inputs functions reading e s one.0 read one.1 ∙ ap (λ p. behind tables inputs functions reading old.tasks e p) (sym (parted tables inputs functions reading w [] (one.0 ∷ []) old.loose (env_above old.tasks e) (with_frames reading frames_old s) (sym none) one.1))
+        goes tables inputs set functions reading e s one.0 read one.1 ∙ ap (λ p. behind tables inputs set functions reading old.tasks e p) (sym (parted tables inputs set functions reading w [] (one.0 ∷ []) old.loose (setting_above old.tasks e) (with_frames reading frames_old s) (sym none) one.1))
 
     goes_end_in : owns w ≡ 0 → length old.loose ≡ 0 → ResumesDoneIn made meaning store w old new frames_old frames_new move → GoesOnIn
-    goes_end_in none size goes tables inputs functions reading e s read =
+    goes_end_in none size goes tables inputs set functions reading e s read =
         let is = nil_from_length old.loose size in
-        goes tables inputs functions reading e s read is ∙ ap (λ p. behind tables inputs functions reading old.tasks e p) (sym (parted tables inputs functions reading w [] [] old.loose (env_above old.tasks e) (with_frames reading frames_old s) (sym none) is))
+        goes tables inputs set functions reading e s read is ∙ ap (λ p. behind tables inputs set functions reading old.tasks e p) (sym (parted tables inputs set functions reading w [] [] old.loose (setting_above old.tasks e) (with_frames reading frames_old s) (sym none) is))
 
   -- work in frames
   pub goes_in : (w : Work) (old new : Kept T) (frames_old frames_new : List (Held T)) (move : Next) → scoped w ≡ true → length old.loose ≡ owns w + awaits w
@@ -185,30 +224,30 @@ module _ {S T : Type 0} (made : S → T → Type 0) (meaning : S → T → Label
 
   module _ (w : Work) (old new : Kept T) (world_old world_new : World T) (result : Result Next (FlowFault T)) where
     abbrev GoesOnActing : Type 0
-    GoesOnActing = (tables : Tables) (inputs : Given) (functions : List FunctionCode) (reading : T → Label) (told : _) (turns : ℕ) → IsReading made meaning store reading
-        → Moves tables inputs functions reading new here (state_of reading world_new told turns) (behind tables inputs functions reading old.tasks here (continued tables inputs functions reading w old.loose (env_above old.tasks here) (state_of reading world_old told turns))) result
+    GoesOnActing = (tables : Tables) (inputs : Given) (set : BuiltIns) (functions : List FunctionCode) (natives : List Steps) (reading : T → Label) (told : _) (turns : ℕ) → IsReading made meaning store reading
+        → Moves tables inputs set functions reading new (setting_of natives here) (state_of reading world_new told turns) (behind tables inputs set functions reading old.tasks (setting_of natives here) (continued tables inputs set functions reading w old.loose (setting_above old.tasks (setting_of natives here)) (state_of reading world_old told turns))) result
 
-    acts_as : (tables : Tables) (inputs : Given) (functions : List FunctionCode) (reading : T → Label) (told : _) (turns : ℕ) (below above : List (Labelled T)) → length below ≡ owns w → old.loose ≡ below ++ above
-        → Moves tables inputs functions reading new here (state_of reading world_new told turns) (behind tables inputs functions reading old.tasks here (after tables inputs functions w (map (read_value reading) below) (env_above old.tasks here) (gave (first_or_undefined (map (read_value reading) above))) (state_of reading world_old told turns))) result
-        → Moves tables inputs functions reading new here (state_of reading world_new told turns) (behind tables inputs functions reading old.tasks here (continued tables inputs functions reading w old.loose (env_above old.tasks here) (state_of reading world_old told turns))) result
-    acts_as tables inputs functions reading told turns below above size is moves =
+    acts_as : (tables : Tables) (inputs : Given) (set : BuiltIns) (functions : List FunctionCode) (natives : List Steps) (reading : T → Label) (told : _) (turns : ℕ) (below above : List (Labelled T)) → length below ≡ owns w → old.loose ≡ below ++ above
+        → Moves tables inputs set functions reading new (setting_of natives here) (state_of reading world_new told turns) (behind tables inputs set functions reading old.tasks (setting_of natives here) (after tables inputs set functions w (map (read_value reading) below) (setting_above old.tasks (setting_of natives here)) (gave (first_or_undefined (map (read_value reading) above))) (state_of reading world_old told turns))) result
+        → Moves tables inputs set functions reading new (setting_of natives here) (state_of reading world_new told turns) (behind tables inputs set functions reading old.tasks (setting_of natives here) (continued tables inputs set functions reading w old.loose (setting_above old.tasks (setting_of natives here)) (state_of reading world_old told turns))) result
+    acts_as tables inputs set functions natives reading told turns below above size is moves =
         let s = state_of reading world_old told turns in
-        let f = env_above old.tasks here in
-        moves_as tables inputs functions reading new here (state_of reading world_new told turns) (behind tables inputs functions reading old.tasks here (after tables inputs functions w (map (read_value reading) below) f (gave (first_or_undefined (map (read_value reading) above))) s)) (behind tables inputs functions reading old.tasks here (continued tables inputs functions reading w old.loose f s)) result
-        (ap (λ p. behind tables inputs functions reading old.tasks here p) (sym (parted tables inputs functions reading w below above old.loose f s size is)))
+        let f = setting_above old.tasks (setting_of natives here) in
+        moves_as tables inputs set functions reading new (setting_of natives here) (state_of reading world_new told turns) (behind tables inputs set functions reading old.tasks (setting_of natives here) (after tables inputs set functions w (map (read_value reading) below) f (gave (first_or_undefined (map (read_value reading) above))) s)) (behind tables inputs set functions reading old.tasks (setting_of natives here) (continued tables inputs set functions reading w old.loose f s)) result
+        (ap (λ p. behind tables inputs set functions reading old.tasks (setting_of natives here) p) (sym (parted tables inputs set functions reading w below above old.loose f s size is)))
         moves
 
-    acts_behind : length old.loose ≡ owns w + 1 → moving.Resumes made meaning store w old new world_old world_new result → GoesOnActing
-    acts_behind size goes tables inputs functions reading told turns read =
+    acts_behind : length old.loose ≡ owns w + 1 → Resumed made meaning store w old new world_old world_new result → GoesOnActing
+    acts_behind size goes tables inputs set functions natives reading told turns read =
         let below = take (owns w) old.loose in
         let split = one_above (owns w) old.loose size in
-        acts_as tables inputs functions reading told turns below (split.0 ∷ []) split.1 split.2 (goes tables inputs functions reading here told turns below split.0 read split.2)
+        acts_as tables inputs set functions natives reading told turns below (split.0 ∷ []) split.1 split.2 (goes.resumes tables inputs set functions reading (setting_of natives here) told turns below split.0 read split.2)
 
-    acts_at : length old.loose ≡ owns w + 1 → moving.ResumesAt made meaning store (env_above old.tasks here).place w old new world_old world_new result → GoesOnActing
-    acts_at size goes tables inputs functions reading told turns read =
+    acts_at : length old.loose ≡ owns w + 1 → ResumedAt made meaning store (env_above old.tasks here).place w old new world_old world_new result → GoesOnActing
+    acts_at size goes tables inputs set functions natives reading told turns read =
         let below = take (owns w) old.loose in
         let split = one_above (owns w) old.loose size in
-        acts_as tables inputs functions reading told turns below (split.0 ∷ []) split.1 split.2 (goes tables inputs functions reading here told turns below split.0 read refl split.2)
+        acts_as tables inputs set functions natives reading told turns below (split.0 ∷ []) split.1 split.2 (goes.resumes tables inputs set functions reading (setting_of natives here) told turns below split.0 read (ap (λ e. e.place) (env_of old.tasks (setting_of natives here))) split.2)
 
   pub goes_acting : (w : Work) (old new : Kept T) (world_old world_new : World T) (result : Result Next (FlowFault T)) → acts w ≡ true → length old.loose ≡ owns w + awaits w
       → GoesActing made meaning store w old new world_old world_new result → GoesOnActing w old new world_old world_new result
@@ -219,16 +258,32 @@ module _ {S T : Type 0} (made : S → T → Type 0) (meaning : S → T → Label
   goes_acting (work.MemberBase how text) old new world_old world_new result acting size goes = acts_behind (work.MemberBase how text) old new world_old world_new result size goes
   goes_acting (work.IndexKey how) old new world_old world_new result acting size goes = acts_behind (work.IndexKey how) old new world_old world_new result size goes
   goes_acting work.InstanceDone old new world_old world_new result acting size goes = acts_behind work.InstanceDone old new world_old world_new result size goes
+  goes_acting (work.ConvertedLeft o) old new world_old world_new result acting size goes = acts_behind (work.ConvertedLeft o) old new world_old world_new result size goes
+  goes_acting (work.Operate o) old new world_old world_new result acting size goes = acts_behind (work.Operate o) old new world_old world_new result size goes
+  goes_acting (work.UnaryConverted o) old new world_old world_new result acting size goes = acts_behind (work.UnaryConverted o) old new world_old world_new result size goes
+  goes_acting work.KeyHas old new world_old world_new result acting size goes = acts_behind work.KeyHas old new world_old world_new result size goes
+  goes_acting (work.KeyOf how) old new world_old world_new result acting size goes = acts_behind (work.KeyOf how) old new world_old world_new result size goes
+  goes_acting (work.Counted how o t) old new world_old world_new result acting size goes = acts_behind (work.Counted how o t) old new world_old world_new result size goes
+  goes_acting (work.CountedNumber how o t) old new world_old world_new result acting size goes = acts_behind (work.CountedNumber how o t) old new world_old world_new result size goes
+  goes_acting work.InstanceTest old new world_old world_new result acting size goes = acts_behind work.InstanceTest old new world_old world_new result size goes
+  goes_acting (work.VariablesBehind ds) old new world_old world_new result acting size goes = acts_at (work.VariablesBehind ds) old new world_old world_new result size goes
   goes_acting (work.Variable n ds) old new world_old world_new result acting size goes = acts_at (work.Variable n ds) old new world_old world_new result size goes
   goes_acting _ old new world_old world_new result acting size goes = absurd cc
 
   -- behind a call that only changed what lies loose, and that in a way that the work doesn't see
   pub resumes_prepared : (room : S → ℕ) (firm : S → Bool) (before : S) (w : Work) (old middle new : Kept T) (world_old world_new : World T) (result : Result Next (FlowFault T)) → IsKept made meaning room firm before store → middle.tasks ≡ old.tasks
-      → ((tables : Tables) (inputs : Given) (functions : List FunctionCode) (reading : T → Label) (e : Env ℕ) (s : State) → IsReading made meaning before reading → continued tables inputs functions reading w middle.loose e s ≡ continued tables inputs functions reading w old.loose e s)
-      → (tables : Tables) (inputs : Given) (functions : List FunctionCode) → ResumesHere made meaning store tables inputs functions w middle new world_old world_new result → ResumesHere made meaning store tables inputs functions w old new world_old world_new result
-  resumes_prepared room firm before w old middle new world_old world_new result kept tasks same tables inputs functions resumes reading told turns read =
+      → ((tables : Tables) (inputs : Given) (set : BuiltIns) (functions : List FunctionCode) (reading : T → Label) (e : Setting) (s : State) → IsReading made meaning before reading → continued tables inputs set functions reading w middle.loose e s ≡ continued tables inputs set functions reading w old.loose e s)
+      → (tables : Tables) (inputs : Given) (set : BuiltIns) (functions : List FunctionCode) (natives : List Steps) → ResumesHere made meaning store tables inputs set functions w natives natives middle new world_old world_new result → ResumesHere made meaning store tables inputs set functions w natives natives old new world_old world_new result
+  resumes_prepared room firm before w old middle new world_old world_new result kept tasks same tables inputs set functions natives resumes reading told turns read =
       let s = state_of reading world_old told turns in
-      moves_as tables inputs functions reading new here (state_of reading world_new told turns) (behind tables inputs functions reading middle.tasks here (continued tables inputs functions reading w middle.loose (env_above middle.tasks here) s)) (behind tables inputs functions reading old.tasks here (continued tables inputs functions reading w old.loose (env_above old.tasks here) s)) result
-      (ap (λ ts. behind tables inputs functions reading ts here (continued tables inputs functions reading w middle.loose (env_above ts here) s)) tasks
-      ∙ ap (λ p. behind tables inputs functions reading old.tasks here p) (same tables inputs functions reading (env_above old.tasks here) s (IsReading-earlier made meaning room firm before store reading kept read)))
+      moves_as tables inputs set functions reading new (setting_of natives here) (state_of reading world_new told turns) (behind tables inputs set functions reading middle.tasks (setting_of natives here) (continued tables inputs set functions reading w middle.loose (setting_above middle.tasks (setting_of natives here)) s)) (behind tables inputs set functions reading old.tasks (setting_of natives here) (continued tables inputs set functions reading w old.loose (setting_above old.tasks (setting_of natives here)) s)) result
+      (ap (λ ts. behind tables inputs set functions reading ts (setting_of natives here) (continued tables inputs set functions reading w middle.loose (setting_above ts (setting_of natives here)) s)) tasks
+      ∙ ap (λ p. behind tables inputs set functions reading old.tasks (setting_of natives here) p) (same tables inputs set functions reading (setting_above old.tasks (setting_of natives here)) s (IsReading-earlier made meaning room firm before store reading kept read)))
       (resumes reading told turns read)
+
+-- work of an operator acts without a look at the record in which it stands
+pub acts_anywhere : {S T : Type 0} (made : S → T → Type 0) (meaning : S → T → Label) (store : S) (w : Work) (old new : Kept T) (world_old world_new : World T) (result : Result Next (FlowFault T)) → operates w ≡ true
+    → Resumed made meaning store w old new world_old world_new result → GoesActing made meaning store w old new world_old world_new result
+acts_anywhere made meaning store (work.Variable n ds) old new world_old world_new result none resumed = absurd (cc none)
+acts_anywhere made meaning store (work.VariablesBehind ds) old new world_old world_new result none resumed = absurd (cc none)
+acts_anywhere made meaning store _ old new world_old world_new result operates resumed = resumed

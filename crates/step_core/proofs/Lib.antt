@@ -9,7 +9,9 @@ pub mod Begun
 pub mod Stood
 pub mod StepLaws
 pub mod StartLaws
-pub mod CallLaws
 pub mod AtOnce
 pub mod Refused
 pub mod MachineLaws
+pub mod Moves
+pub mod Asking
+pub mod Requested

@@ -7,7 +7,8 @@ use Rattle.flow_policy.specs.Policies.{Tables}
 use Rattle.flow_policy.specs.Inputs.{Given}
 use Rattle.js_ast.specs.Trees.{Statements}
 use Rattle.es_meaning.specs.Outcomes.{Outcome, Goes, Jumps, Ends}
-use Rattle.es_meaning.specs.Start.{type_error}
+use Rattle.native_protocol.specs.declared.request.ErrorKind.TheVariants as kinds
+use Rattle.es_meaning.specs.BuiltIns.{BuiltIns}
 use Rattle.flow_meaning.specs.Scopes.{Val, State, Halt, guard, jump, jump_to}
 use Rattle.flow_meaning.specs.Scopes.{Jump as Jumping}
 use Rattle.flow_meaning.specs.Tracked.{start, throw_error}
@@ -25,9 +26,9 @@ frames_of (Jumps j s) = length s.frames
 frames_of (Goes v s) = length s.frames
 frames_of (Ends h s) = length s.frames
 
-module _ (tables : Tables) (inputs : Given) (program : Statements) (turns : ℕ) where
+module _ (tables : Tables) (inputs : Given) (set : BuiltIns) (program : Statements) (turns : ℕ) where
   abbrev refused : Thrown
-  refused = throw_error {X = Val} type_error bottom (start tables inputs program turns)
+  refused = throw_error {X = Val} kinds.TypeError bottom (start tables inputs set program turns)
 
   jumps : is_jump refused ≡ true
   unfolding is_jump throw_error jump jump_to guard within union context

@@ -13,11 +13,12 @@ use Rattle.step_work.specs.declared.work.Work.{Work}
 use Rattle.step_work.specs.declared.work.Work.TheVariants as work
 use Rattle.step_work.specs.declared.work.Next.{Next}
 use Rattle.step_work.specs.declared.work.Next.TheVariants as next
-use Rattle.step_work.specs.Kept.{Kept, scope_of, scopes_of, kept_operands, operands_of, without_top}
+use Rattle.step_work.specs.Kept.{Kept, scope_of, scopes_of, waiting, kept_operands, operands_of, without_top}
 use Rattle.step_work.specs.Pending.{values_of}
 use Rattle.step_work.specs.Resuming.{Keeps, Opened, Closed}
 use Rattle.step_work.specs.Moving.{Rests, Stands}
 use Rattle.step_work.specs.Standing.{Standing, depths, Framed}
+use Rattle.step_core.specs.Going.{StandsStill}
 use Rattle.step_core.specs.Continuing.{acts, scoped, leads, used_of, LeavesIn, StillIn, MadeIn}
 use Rattle.step_core.proofs.Depths.{depths_more, depths_outside, inner_depth, last_depth, framed}
 use Rattle.step_core.proofs.Parts.{behind_all, front_all, later_values}
@@ -62,6 +63,8 @@ module _ {T : Type 0} (P : T → Type 0) (stack : Kept T) where
   used_all (work.Argument f count rest) all = all
   used_all (work.Property ps count) all = all
   used_all (work.IndexBase how x) all = all
+  used_all (work.CompoundRight o x t) all = all
+  used_all (work.CalledBy es) all = all
   used_all (work.InstanceRight r) all = all
   used_all (work.Visited x count) all = all
   used_all (work.Statements ss) all = all
@@ -74,6 +77,8 @@ used_tasks (work.BinaryRight o r) stack = refl
 used_tasks (work.Argument f count rest) stack = refl
 used_tasks (work.Property ps count) stack = refl
 used_tasks (work.IndexBase how x) stack = refl
+used_tasks (work.CompoundRight o x t) stack = refl
+used_tasks (work.CalledBy es) stack = refl
 used_tasks (work.InstanceRight r) stack = refl
 used_tasks (work.Visited x count) stack = refl
 used_tasks (work.Statements ss) stack = refl
@@ -84,7 +89,7 @@ used_tasks _ stack = refl
 module _ {S T : Type 0} (made : S → T → Type 0) (meaning : S → T → Label) where
   -- ---- the frame of the scope that ends
 
-  module _ (store : S) (w : Work) (old : Kept T) (world : World T) (count : ℕ) (stands : Standing made meaning store old world count (scopes_of old.tasks ++ scope_of w) next.Value) (depth : ℕ) (is : scope_of w ≡ depth ∷ []) where
+  module _ (store : S) (w : Work) (old : Kept T) (world : World T) (count natives : ℕ) (stands : Standing made meaning store old world count (scopes_of old.tasks ++ scope_of w) natives next.Value) (depth : ℕ) (is : scope_of w ≡ depth ∷ []) where
     here_scopes : scopes_of old.tasks ++ depth ∷ [] ≡ depths (length (scopes_of old.tasks ++ depth ∷ []))
     here_scopes = subst (λ ds. scopes_of old.tasks ++ ds ≡ depths (length (scopes_of old.tasks ++ ds))) is stands.scopes
 
@@ -98,8 +103,8 @@ module _ {S T : Type 0} (made : S → T → Type 0) (meaning : S → T → Label
     none_have : (xs : List (Labelled T)) → xs ≡ [] → All (HasValue (made store)) xs
     none_have xs none = subst (All (HasValue (made store))) (sym none) (All-nil (HasValue (made store)))
 
-    module _ (w : Work) (old new : Kept T) (world_old world_new : World T) (count : ℕ) (move : Next)
-        (stands : Standing made meaning before old world_old count (scopes_of old.tasks ++ scope_of w) next.Value) (belongs : Belongs made meaning store world_new) (records : length world_old.records ≤ length world_new.records) where
+    module _ (w : Work) (old new : Kept T) (world_old world_new : World T) (count natives : ℕ) (move : Next)
+        (stands : Standing made meaning before old world_old count (scopes_of old.tasks ++ scope_of w) natives next.Value) (belongs : Belongs made meaning store world_new) (records : length world_old.records ≤ length world_new.records) where
       some_record : 0 < length world_new.records
       some_record = let some = stands.records in omega (arith, some, records)
 
@@ -111,26 +116,27 @@ module _ {S T : Type 0} (made : S → T → Type 0) (meaning : S → T → Label
         same_frames = stands.frames ∙ ap (λ ds. suc (length ds)) (ap (λ ds. scopes_of old.tasks ++ ds) none ∙ append-nil (scopes_of old.tasks))
 
         -- no scope begins or ends
-        stands_keeping : length new.loose ≡ values_of move → scopes_of new.tasks ≡ scopes_of old.tasks → All (HasValue (made store)) (operands_of new) → Framed move (length world_new.frames.frames) (length (scopes_of old.tasks))
-            → Standing made meaning store new world_new (values_of move) (scopes_of new.tasks) move
-        stands_keeping values scopes operands frames = record {
+        stands_keeping : length new.loose ≡ values_of move → scopes_of new.tasks ≡ scopes_of old.tasks → waiting new.tasks ≡ waiting old.tasks → All (HasValue (made store)) (operands_of new) → Framed move (length world_new.frames.frames) (length (scopes_of old.tasks))
+            → StandsStill made meaning store natives new world_new move
+        stands_keeping values scopes waits operands frames quiet = record {
           belongs = belongs;
           operands = operands;
           values = values;
           scopes = subst (λ ds. ds ≡ depths (length ds)) (sym scopes) same_scopes;
           frames = subst (λ ds. Framed move (length world_new.frames.frames) (length ds)) (sym scopes) frames;
           records = some_record;
+          natives = let all = stands.natives in omega (arith, all, waits, quiet);
         }
 
         -- the frames stay
-        stands_still : length world_new.frames.frames ≡ length world_old.frames.frames → Keeps (used_of w old) new move → Standing made meaning store new world_new (values_of move) (scopes_of new.tasks) move
+        stands_still : length world_new.frames.frames ≡ length world_old.frames.frames → Keeps (used_of w old) new move → StandsStill made meaning store natives new world_new move
         stands_still still keeps =
-            stands_keeping keeps.values (keeps.scopes ∙ ap scopes_of (used_tasks w old))
+            stands_keeping keeps.values (keeps.scopes ∙ ap scopes_of (used_tasks w old)) (keeps.natives ∙ ap waiting (used_tasks w old))
             (subst (All (HasValue (made store))) (sym keeps.operands) (later_values made meaning room firm before store kept (operands_of (used_of w old)) (used_all (made before) old w stands.operands)))
             (framed move (length world_new.frames.frames) (length (scopes_of old.tasks)) (still ∙ same_frames))
 
-        stands_opened : Opened old new world_old.frames.frames world_new.frames.frames move → Standing made meaning store new world_new (values_of move) (scopes_of new.tasks) move
-        stands_opened opened =
+        stands_opened : Opened old new world_old.frames.frames world_new.frames.frames move → StandsStill made meaning store natives new world_new move
+        stands_opened opened quiet =
             let front = All-take (HasValue (made before)) (length (operands_of new)) (operands_of old) stands.operands in
             let deep : length world_new.frames.frames ≡ suc (length (scopes_of old.tasks ++ length world_old.frames.frames ∷ [])) = omega (arith, opened.deeper, same_frames, length-append (scopes_of old.tasks) (length world_old.frames.frames ∷ [])) in
             record {
@@ -140,18 +146,19 @@ module _ {S T : Type 0} (made : S → T → Type 0) (meaning : S → T → Label
               scopes = subst (λ ds. ds ≡ depths (length ds)) (sym opened.scopes) (depths_more (scopes_of old.tasks) (length world_old.frames.frames) same_scopes same_frames);
               frames = subst (λ ds. Framed move (length world_new.frames.frames) (length ds)) (sym opened.scopes) (framed move (length world_new.frames.frames) (length (scopes_of old.tasks ++ length world_old.frames.frames ∷ [])) deep);
               records = some_record;
+              natives = let all = stands.natives in let waits = opened.natives in omega (arith, all, waits, quiet);
             }
 
         -- behind an act
-        stands_acted : Rests (made store) old new move → Stands world_old world_new move → Standing made meaning store new world_new (values_of move) (scopes_of new.tasks) move
+        stands_acted : Rests (made store) old new move → Stands world_old world_new move → StandsStill made meaning store natives new world_new move
         stands_acted rests frames =
-            stands_keeping rests.values rests.scopes (rests.operands (later_values made meaning room firm before store kept (kept_operands old.tasks) (front_all (HasValue (made before)) (kept_operands old.tasks) old.loose stands.operands)))
+            stands_keeping rests.values rests.scopes rests.natives (rests.operands (later_values made meaning room firm before store kept (kept_operands old.tasks) (front_all (HasValue (made before)) (kept_operands old.tasks) old.loose stands.operands)))
             (framed_behind world_old world_new move (length (scopes_of old.tasks)) same_frames frames)
 
       module _ (depth : ℕ) (is : scope_of w ≡ depth ∷ []) where
-        stands_closed : All (HasValue (made store)) new.loose → Closed old new world_old.frames.frames world_new.frames.frames move → Standing made meaning store new world_new (values_of move) (scopes_of new.tasks) move
-        stands_closed loose closed =
-            let scopes = here_scopes before w old world_old count stands depth is in
+        stands_closed : All (HasValue (made store)) new.loose → Closed old new world_old.frames.frames world_new.frames.frames move → StandsStill made meaning store natives new world_new move
+        stands_closed loose closed quiet =
+            let scopes = here_scopes before w old world_old count natives stands depth is in
             let size : length world_old.frames.frames ≡ suc (length (scopes_of old.tasks ++ depth ∷ [])) = subst (λ ds. length world_old.frames.frames ≡ suc (length (scopes_of old.tasks ++ ds))) is stands.frames in
             let shallow : length world_new.frames.frames ≡ suc (length (scopes_of old.tasks)) = omega (arith, closed.shallower, size, length-append (scopes_of old.tasks) (depth ∷ [])) in
             record {
@@ -161,34 +168,35 @@ module _ {S T : Type 0} (made : S → T → Type 0) (meaning : S → T → Label
               scopes = subst (λ ts. scopes_of ts ≡ depths (length (scopes_of ts))) (sym closed.tasks) (depths_outside (scopes_of old.tasks) depth scopes);
               frames = subst (λ ts. Framed move (length world_new.frames.frames) (length (scopes_of ts))) (sym closed.tasks) (framed move (length world_new.frames.frames) (length (scopes_of old.tasks)) shallow);
               records = some_record;
+              natives = let all = stands.natives in let waits = ap waiting closed.tasks in omega (arith, all, waits, quiet);
             }
 
       -- behind work that needs the stack alone
-      pub stands_alone : scoped w ≡ false → leads w ≡ false → length world_new.frames.frames ≡ length world_old.frames.frames → Keeps (used_of w old) new move → Standing made meaning store new world_new (values_of move) (scopes_of new.tasks) move
+      pub stands_alone : scoped w ≡ false → leads w ≡ false → length world_new.frames.frames ≡ length world_old.frames.frames → Keeps (used_of w old) new move → StandsStill made meaning store natives new world_new move
       stands_alone never led still keeps = stands_still (unscoped w never led) still keeps
 
     -- behind work that acts on the run's state
-    pub stands_acting : (w : Work) (old new : Kept T) (world_old world_new : World T) (count : ℕ) (result : Result Next (FlowFault T)) → acts w ≡ true
-        → Standing made meaning before old world_old count (scopes_of old.tasks ++ scope_of w) next.Value → Belongs made meaning store world_new → length world_old.records ≤ length world_new.records
-        → IfOk result (Rests (made store) old new) → IfOk result (Stands world_old world_new) → IfOk result (λ move. Standing made meaning store new world_new (values_of move) (scopes_of new.tasks) move)
-    stands_acting w old new world_old world_new count (Ok move) acting stands belongs records rests frames = stands_acted w old new world_old world_new count move stands belongs records (acting_unscoped w acting) rests frames
-    stands_acting w old new world_old world_new count (Err f) acting stands belongs records rests frames = tt
+    pub stands_acting : (w : Work) (old new : Kept T) (world_old world_new : World T) (count natives : ℕ) (result : Result Next (FlowFault T)) → acts w ≡ true
+        → Standing made meaning before old world_old count (scopes_of old.tasks ++ scope_of w) natives next.Value → Belongs made meaning store world_new → length world_old.records ≤ length world_new.records
+        → IfOk result (Rests (made store) old new) → IfOk result (Stands world_old world_new) → IfOk result (StandsStill made meaning store natives new world_new)
+    stands_acting w old new world_old world_new count natives (Ok move) acting stands belongs records rests frames = stands_acted w old new world_old world_new count natives move stands belongs records (acting_unscoped w acting) rests frames
+    stands_acting w old new world_old world_new count natives (Err f) acting stands belongs records rests frames = tt
 
     -- and behind work in frames
-    pub stands_in : (w : Work) (old new : Kept T) (world_old world_new : World T) (count : ℕ) (move : Next) → scoped w ≡ true
-        → Standing made meaning before old world_old count (scopes_of old.tasks ++ scope_of w) next.Value → Belongs made meaning store world_new → length world_old.records ≤ length world_new.records
+    pub stands_in : (w : Work) (old new : Kept T) (world_old world_new : World T) (count natives : ℕ) (move : Next) → scoped w ≡ true
+        → Standing made meaning before old world_old count (scopes_of old.tasks ++ scope_of w) natives next.Value → Belongs made meaning store world_new → length world_old.records ≤ length world_new.records
         → LeavesIn w old new world_old.frames.frames world_new.frames.frames move → StillIn w world_old.frames.frames world_new.frames.frames → MadeIn (made store) w new.loose
-        → Standing made meaning store new world_new (values_of move) (scopes_of new.tasks) move
-    stands_in (work.AndRight r) old new world_old world_new count move in_frames stands belongs records leaves still labels = stands_opened (work.AndRight r) old new world_old world_new count move stands belongs records refl leaves
-    stands_in (work.OrRight r) old new world_old world_new count move in_frames stands belongs records leaves still labels = stands_opened (work.OrRight r) old new world_old world_new count move stands belongs records refl leaves
-    stands_in (work.Choose a b) old new world_old world_new count move in_frames stands belongs records leaves still labels = stands_opened (work.Choose a b) old new world_old world_new count move stands belongs records refl leaves
-    stands_in (work.ChooseStmt s) old new world_old world_new count move in_frames stands belongs records leaves still labels = stands_opened (work.ChooseStmt s) old new world_old world_new count move stands belongs records refl leaves
-    stands_in (work.ChooseStmts s t) old new world_old world_new count move in_frames stands belongs records leaves still labels = stands_opened (work.ChooseStmts s t) old new world_old world_new count move stands belongs records refl leaves
-    stands_in (work.Enumerated x) old new world_old world_new count move in_frames stands belongs records leaves still labels = stands_opened (work.Enumerated x) old new world_old world_new count move stands belongs records refl leaves
-    stands_in (work.Tested r) old new world_old world_new count move in_frames stands belongs records leaves still labels = stands_still (work.Tested r) old new world_old world_new count move stands belongs records refl still leaves
-    stands_in (work.EndBranch true depth) old new world_old world_new count move in_frames stands belongs records leaves still labels = stands_closed (work.EndBranch true depth) old new world_old world_new count move stands belongs records depth refl labels leaves
-    stands_in (work.EndBranch false depth) old new world_old world_new count move in_frames stands belongs records leaves still labels = stands_closed (work.EndBranch false depth) old new world_old world_new count move stands belongs records depth refl (none_have new.loose labels) leaves
-    stands_in (work.EndRound turn depth of) old new world_old world_new count move in_frames stands belongs records leaves still labels = stands_closed (work.EndRound turn depth of) old new world_old world_new count move stands belongs records depth refl (none_have new.loose labels) leaves
-    stands_in (work.EndLabel depth text) old new world_old world_new count move in_frames stands belongs records leaves still labels = stands_closed (work.EndLabel depth text) old new world_old world_new count move stands belongs records depth refl (none_have new.loose labels) leaves
-    stands_in (work.EndTry depth) old new world_old world_new count move in_frames stands belongs records leaves still labels = stands_closed (work.EndTry depth) old new world_old world_new count move stands belongs records depth refl (none_have new.loose labels) leaves
-    stands_in _ old new world_old world_new count move in_frames stands belongs records leaves still labels = absurd cc
+        → StandsStill made meaning store natives new world_new move
+    stands_in (work.AndRight r) old new world_old world_new count natives move in_frames stands belongs records leaves still labels = stands_opened (work.AndRight r) old new world_old world_new count natives move stands belongs records refl leaves
+    stands_in (work.OrRight r) old new world_old world_new count natives move in_frames stands belongs records leaves still labels = stands_opened (work.OrRight r) old new world_old world_new count natives move stands belongs records refl leaves
+    stands_in (work.Choose a b) old new world_old world_new count natives move in_frames stands belongs records leaves still labels = stands_opened (work.Choose a b) old new world_old world_new count natives move stands belongs records refl leaves
+    stands_in (work.ChooseStmt s) old new world_old world_new count natives move in_frames stands belongs records leaves still labels = stands_opened (work.ChooseStmt s) old new world_old world_new count natives move stands belongs records refl leaves
+    stands_in (work.ChooseStmts s t) old new world_old world_new count natives move in_frames stands belongs records leaves still labels = stands_opened (work.ChooseStmts s t) old new world_old world_new count natives move stands belongs records refl leaves
+    stands_in (work.Enumerated x) old new world_old world_new count natives move in_frames stands belongs records leaves still labels = stands_opened (work.Enumerated x) old new world_old world_new count natives move stands belongs records refl leaves
+    stands_in (work.Tested r) old new world_old world_new count natives move in_frames stands belongs records leaves still labels = stands_still (work.Tested r) old new world_old world_new count natives move stands belongs records refl still leaves
+    stands_in (work.EndBranch true depth) old new world_old world_new count natives move in_frames stands belongs records leaves still labels = stands_closed (work.EndBranch true depth) old new world_old world_new count natives move stands belongs records depth refl labels leaves
+    stands_in (work.EndBranch false depth) old new world_old world_new count natives move in_frames stands belongs records leaves still labels = stands_closed (work.EndBranch false depth) old new world_old world_new count natives move stands belongs records depth refl (none_have new.loose labels) leaves
+    stands_in (work.EndRound turn depth of) old new world_old world_new count natives move in_frames stands belongs records leaves still labels = stands_closed (work.EndRound turn depth of) old new world_old world_new count natives move stands belongs records depth refl (none_have new.loose labels) leaves
+    stands_in (work.EndLabel depth text) old new world_old world_new count natives move in_frames stands belongs records leaves still labels = stands_closed (work.EndLabel depth text) old new world_old world_new count natives move stands belongs records depth refl (none_have new.loose labels) leaves
+    stands_in (work.EndTry depth) old new world_old world_new count natives move in_frames stands belongs records leaves still labels = stands_closed (work.EndTry depth) old new world_old world_new count natives move stands belongs records depth refl (none_have new.loose labels) leaves
+    stands_in _ old new world_old world_new count natives move in_frames stands belongs records leaves still labels = absurd cc

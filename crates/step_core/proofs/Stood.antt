@@ -18,11 +18,12 @@ use Rattle.step_work.specs.declared.work.Work.{Work}
 use Rattle.step_work.specs.declared.work.Jump.{Jump}
 use Rattle.step_work.specs.declared.work.Next.{Next}
 use Rattle.step_work.specs.declared.work.Next.TheVariants as next
-use Rattle.step_work.specs.Kept.{Kept, scope_of, scopes_of, kept_operands, operands_of}
+use Rattle.step_work.specs.Kept.{Kept, scope_of, scopes_of, waiting, kept_operands, operands_of}
 use Rattle.step_work.specs.Pending.{owns, values_of}
 use Rattle.step_work.specs.Resuming.{Keeps, Opened, Passed, LeavesAt}
 use Rattle.step_work.specs.Moving.{Rests, Stands}
-use Rattle.step_work.specs.Standing.{Standing, Framed, depths}
+use Rattle.step_work.specs.Standing.{Standing, Framed, depths, running}
+use Rattle.step_core.specs.Going.{StandsStill}
 use Rattle.step_core.proofs.Depths.{depths_more, depths_outside, framed, framed_at, last_depth}
 use Rattle.step_core.proofs.Parts.{behind_all, front_all, later_values}
 
@@ -38,36 +39,38 @@ stands_same w _ = refl
 
 module _ {S T : Type 0} (made : S → T → Type 0) (meaning : S → T → Label) where
   -- before any move that is no jump the same holds
-  pub standing_whole : {count : ℕ} (store : S) (stack : Kept T) (world : World T) (pending : List ℕ) (move : Next) → ((frames scopes : ℕ) → Framed move frames scopes → frames ≡ suc scopes) → Standing made meaning store stack world count pending move → Standing made meaning store stack world count pending next.Done
-  standing_whole store stack world pending move whole stands = record {
+  pub standing_whole : {count natives : ℕ} (store : S) (stack : Kept T) (world : World T) (pending : List ℕ) (move : Next) → ((frames scopes : ℕ) → Framed move frames scopes → frames ≡ suc scopes) → running move ≡ 0 → Standing made meaning store stack world count pending natives move → Standing made meaning store stack world count pending natives next.Done
+  standing_whole store stack world pending move whole still stands = record {
     belongs = stands.belongs;
     operands = stands.operands;
     values = stands.values;
     scopes = stands.scopes;
     frames = whole (length world.frames.frames) (length pending) stands.frames;
     records = stands.records;
+    natives = let all = stands.natives in omega (arith, all, still);
   }
 
   -- ---- a part is entered, or a move begins what it says
 
   -- the same operands and values, and no frame
-  pub standing_keeps : {count : ℕ} (store : S) (old new : Kept T) (world : World T) (move : Next) → Standing made meaning store old world count (scopes_of old.tasks) next.Done → Keeps old new move
-      → Standing made meaning store new world (values_of move) (scopes_of new.tasks) move
-  standing_keeps store old new world move stands keeps = record {
+  pub standing_keeps : {count natives : ℕ} (store : S) (old new : Kept T) (world : World T) (move : Next) → Standing made meaning store old world count (scopes_of old.tasks) natives next.Done → Keeps old new move
+      → StandsStill made meaning store natives new world move
+  standing_keeps store old new world move stands keeps still = record {
     belongs = stands.belongs;
     operands = subst (All (HasValue (made store))) (sym keeps.operands) stands.operands;
     values = keeps.values;
     scopes = subst (λ ds. ds ≡ depths (length ds)) (sym keeps.scopes) stands.scopes;
     frames = framed move (length world.frames.frames) (length (scopes_of new.tasks)) (stands.frames ∙ ap (λ ds. suc (length ds)) (sym keeps.scopes));
     records = stands.records;
+    natives = let all = stands.natives in let same = keeps.natives in omega (arith, all, same, still);
   }
 
   module _ (room : S → ℕ) (firm : S → Bool) (earlier later : S) (kept : IsKept made meaning room firm earlier later) where
     -- one frame more, with its scope
-    pub standing_opened : {count : ℕ} (old new : Kept T) (world : World T) (frames : held.Kept T) (move : Next) → Standing made meaning earlier old world count (scopes_of old.tasks) next.Done → Opened old new world.frames.frames frames.frames move
+    pub standing_opened : {count natives : ℕ} (old new : Kept T) (world : World T) (frames : held.Kept T) (move : Next) → Standing made meaning earlier old world count (scopes_of old.tasks) natives next.Done → Opened old new world.frames.frames frames.frames move
         → Belong made meaning later frames.frames → CatchByTry frames.frames
-        → Standing made meaning later new (record world { frames = frames }) (values_of move) (scopes_of new.tasks) move
-    standing_opened old new world frames move stands opened belong catch =
+        → StandsStill made meaning later natives new (record world { frames = frames }) move
+    standing_opened old new world frames move stands opened belong catch still =
         let grown : length (scopes_of new.tasks) ≡ suc (length (scopes_of old.tasks)) = ap length opened.scopes ∙ length_push (scopes_of old.tasks) (length world.frames.frames) ∙ omega arith in
         record {
           belongs = record {
@@ -82,45 +85,47 @@ module _ {S T : Type 0} (made : S → T → Type 0) (meaning : S → T → Label
           scopes = subst (λ ds. ds ≡ depths (length ds)) (sym opened.scopes) (depths_more (scopes_of old.tasks) (length world.frames.frames) stands.scopes stands.frames);
           frames = framed move (length frames.frames) (length (scopes_of new.tasks)) (opened.deeper ∙ omega (arith, stands.frames, grown));
           records = stands.records;
+          natives = let all = stands.natives in let same = opened.natives in omega (arith, all, same, still);
         }
 
     -- an act was done, and its answer handed on
-    pub standing_rests : {count : ℕ} (old new : Kept T) (world_old world_new : World T) (move : Next) → Standing made meaning earlier old world_old count (scopes_of old.tasks) next.Done → Rests (made later) old new move
+    pub standing_rests : {count natives : ℕ} (old new : Kept T) (world_old world_new : World T) (move : Next) → Standing made meaning earlier old world_old count (scopes_of old.tasks) natives next.Done → Rests (made later) old new move
         → Stands world_old world_new move → Belongs made meaning later world_new → Grows world_old world_new
-        → Standing made meaning later new world_new (values_of move) (scopes_of new.tasks) move
-    standing_rests old new world_old world_new move stands rests whole belongs grows = record {
+        → StandsStill made meaning later natives new world_new move
+    standing_rests old new world_old world_new move stands rests whole belongs grows still = record {
       belongs = belongs;
       operands = rests.operands (later_values made meaning room firm earlier later kept (kept_operands old.tasks) (front_all (HasValue (made earlier)) (kept_operands old.tasks) old.loose stands.operands));
       values = rests.values;
       scopes = subst (λ ds. ds ≡ depths (length ds)) (sym rests.scopes) stands.scopes;
       frames = framed_behind world_old world_new move (length (scopes_of new.tasks)) (stands.frames ∙ ap (λ ds. suc (length ds)) (sym rests.scopes)) whole;
       records = let some = stands.records in let more = grows.records in omega (arith, some, more);
+      natives = let all = stands.natives in let same = rests.natives in omega (arith, all, same, still);
     }
 
-    pub standing_acts : {count : ℕ} (old new : Kept T) (world_old world_new : World T) (result : Result Next (FlowFault T)) → Standing made meaning earlier old world_old count (scopes_of old.tasks) next.Done → IfOk result (Rests (made later) old new)
+    pub standing_acts : {count natives : ℕ} (old new : Kept T) (world_old world_new : World T) (result : Result Next (FlowFault T)) → Standing made meaning earlier old world_old count (scopes_of old.tasks) natives next.Done → IfOk result (Rests (made later) old new)
         → IfOk result (Stands world_old world_new) → Belongs made meaning later world_new → Grows world_old world_new
-        → IfOk result (λ move. Standing made meaning later new world_new (values_of move) (scopes_of new.tasks) move)
+        → IfOk result (StandsStill made meaning later natives new world_new)
     standing_acts old new world_old world_new (Ok move) stands rests whole belongs grows = standing_rests old new world_old world_new move stands rests whole belongs grows
     standing_acts old new world_old world_new (Err f) stands rests whole belongs grows = tt
 
     -- the same world
-    pub standing_alike : {count : ℕ} (old new : Kept T) (world : World T) (result : Result Next (FlowFault T)) → Standing made meaning earlier old world count (scopes_of old.tasks) next.Done → IfOk result (Rests (made later) old new)
-        → Belongs made meaning later world → IfOk result (λ move. Standing made meaning later new world (values_of move) (scopes_of new.tasks) move)
+    pub standing_alike : {count natives : ℕ} (old new : Kept T) (world : World T) (result : Result Next (FlowFault T)) → Standing made meaning earlier old world count (scopes_of old.tasks) natives next.Done → IfOk result (Rests (made later) old new)
+        → Belongs made meaning later world → IfOk result (StandsStill made meaning later natives new world)
     standing_alike old new world (Ok move) stands rests belongs = standing_rests old new world world move stands rests (stands_same world move) belongs (Grows-refl world)
     standing_alike old new world (Err f) stands rests belongs = tt
 
   -- the same store and world
-  pub standing_stays : {count : ℕ} (room : S → ℕ) (firm : S → Bool) (store : S) (old new : Kept T) (world : World T) (move : Next) → Standing made meaning store old world count (scopes_of old.tasks) next.Done → Rests (made store) old new move
-      → Standing made meaning store new world (values_of move) (scopes_of new.tasks) move
+  pub standing_stays : {count natives : ℕ} (room : S → ℕ) (firm : S → Bool) (store : S) (old new : Kept T) (world : World T) (move : Next) → Standing made meaning store old world count (scopes_of old.tasks) natives next.Done → Rests (made store) old new move
+      → StandsStill made meaning store natives new world move
   standing_stays room firm store old new world move stands rests =
       standing_rests room firm store store (IsKept-refl made meaning room firm store) old new world world move stands rests (stands_same world move) stands.belongs (Grows-refl world)
 
   -- ---- jumps
 
   -- it passes work without a frame
-  pub standing_passed : (j : Jump) (store : S) (old new : Kept T) (world : World T) (w : Work) (move : Next) → Standing made meaning store old world (owns w + 1) (scopes_of old.tasks ++ scope_of w) (next.Jumps j) → scope_of w ≡ [] → Passed j old new move
-      → Standing made meaning store new world (values_of move) (scopes_of new.tasks) move
-  standing_passed j store old new world w move stands none passed =
+  pub standing_passed : (j : Jump) (store : S) (old new : Kept T) (world : World T) (w : Work) (natives : ℕ) (move : Next) → Standing made meaning store old world (owns w + 1) (scopes_of old.tasks ++ scope_of w) natives (next.Jumps j) → scope_of w ≡ [] → Passed j old new move
+      → StandsStill made meaning store natives new world move
+  standing_passed j store old new world w natives move stands none passed still =
       let same : scopes_of old.tasks ++ scope_of w ≡ scopes_of new.tasks = ap (λ ds. scopes_of old.tasks ++ ds) none ∙ append-nil (scopes_of old.tasks) ∙ ap scopes_of (sym passed.tasks) in
       let below = front_all (HasValue (made store)) (kept_operands old.tasks) old.loose stands.operands in
       let above = All-drop (HasValue (made store)) (length old.loose - 1) old.loose (behind_all (HasValue (made store)) (kept_operands old.tasks) old.loose stands.operands) in
@@ -131,9 +136,10 @@ module _ {S T : Type 0} (made : S → T → Type 0) (meaning : S → T → Label
         scopes = subst (λ ds. ds ≡ depths (length ds)) same stands.scopes;
         frames = subst (λ m. Framed m (length world.frames.frames) (length (scopes_of new.tasks))) (sym passed.jumps) (subst (λ ds. length world.frames.frames ≤ suc (length ds)) same stands.frames);
         records = stands.records;
+        natives = let all = stands.natives in let kept = ap waiting passed.tasks in omega (arith, all, kept, still);
       }
 
-  module _ (j : Jump) (store : S) (old : Kept T) (world : World T) (depth : ℕ) (stands : Standing made meaning store old world 1 (scopes_of old.tasks ++ depth ∷ []) (next.Jumps j)) where
+  module _ (j : Jump) (store : S) (old : Kept T) (world : World T) (depth natives : ℕ) (stands : Standing made meaning store old world 1 (scopes_of old.tasks ++ depth ∷ []) natives (next.Jumps j)) where
     -- the scope that was taken is the innermost one
     pub depth_taken : depth ≡ suc (length (scopes_of old.tasks))
     depth_taken =
@@ -146,8 +152,8 @@ module _ {S T : Type 0} (made : S → T → Type 0) (meaning : S → T → Label
     -- it comes to the end of the scope that was taken
     pub standing_left : (new : Kept T) (frames : held.Kept T) (move : Next) → LeavesAt depth old new world.frames.frames frames.frames move → All (HasValue (made store)) new.loose
         → Belong made meaning store frames.frames → CatchByTry frames.frames
-        → Standing made meaning store new (record world { frames = frames }) (values_of move) (scopes_of new.tasks) move
-    standing_left new frames move leaves has belong catch = record {
+        → StandsStill made meaning store natives new (record world { frames = frames }) move
+    standing_left new frames move leaves has belong catch still = record {
       belongs = record { frames = belong; catch = catch; heap = stands.belongs.heap; records = stands.belongs.records; started = stands.belongs.started };
       operands = All-append (HasValue (made store)) (kept_operands new.tasks) new.loose
           (subst (λ ts. All (HasValue (made store)) (kept_operands ts)) (sym leaves.tasks) (front_all (HasValue (made store)) (kept_operands old.tasks) old.loose stands.operands)) has;
@@ -155,4 +161,10 @@ module _ {S T : Type 0} (made : S → T → Type 0) (meaning : S → T → Label
       scopes = subst (λ ts. scopes_of ts ≡ depths (length (scopes_of ts))) (sym leaves.tasks) (depths_outside (scopes_of old.tasks) depth stands.scopes);
       frames = framed_at depth frames.frames move (length (scopes_of new.tasks)) (depth_taken ∙ ap (λ ts. suc (length (scopes_of ts))) (sym leaves.tasks)) leaves.stands;
       records = stands.records;
+      natives = let all = stands.natives in let kept = ap waiting leaves.tasks in omega (arith, all, kept, still);
     }
+
+-- what stands whatever is next stands where no built-in is to run
+pub stands_anyway : {S T : Type 0} (made : S → T → Type 0) (meaning : S → T → Label) (store : S) (natives : ℕ) (stack : Kept T) (world : World T) (result : Result Next (FlowFault T)) → IfOk result (λ move. Standing made meaning store stack world (values_of move) (scopes_of stack.tasks) natives move) → IfOk result (StandsStill made meaning store natives stack world)
+stands_anyway made meaning store natives stack world (Ok move) stands = λ still. stands
+stands_anyway made meaning store natives stack world (Err f) stands = tt

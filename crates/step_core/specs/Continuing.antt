@@ -1,5 +1,5 @@
 -- What the calls say and leave that go on with each kind of work.
-use Rattle.std.specs.Prelude.{◌≡◌, ℕ, Bool, true, false, List, [], map, take, drop, length, Result}
+use Rattle.std.specs.Prelude.{◌≡◌, Bool, true, false, List, [], map, take, drop, length, Result}
 use Rattle.std.specs.List.{All}
 use Rattle.origin_labels.specs.Label.{Label}
 use Rattle.flow_policy.specs.Policies.{Tables}
@@ -9,7 +9,7 @@ use Rattle.flow_frames.specs.declared.faults.FlowFault.{FlowFault}
 use Rattle.flow_frames.specs.Held.{Held}
 use Rattle.js_values.specs.declared.value.Labelled.{Labelled}
 use Rattle.js_values.specs.Readings.{HasValue, read_value}
-use Rattle.es_meaning.specs.Environments.{Env}
+use Rattle.es_meaning.specs.BuiltIns.{BuiltIns}
 use Rattle.flow_meaning.specs.Scopes.{State}
 use Rattle.flow_meaning.specs.Planned.{gave, Plan}
 use Rattle.step_world.specs.declared.world.World.{World}
@@ -19,8 +19,9 @@ use Rattle.step_work.specs.declared.work.Next.{Next}
 use Rattle.step_work.specs.Kept.{Kept, without_top}
 use Rattle.step_work.specs.Pending.{owns, env_above, after, first_or_undefined}
 use Rattle.step_work.specs.Going.{here}
-use Rattle.step_work.specs.Resuming.{Resumes, ResumesDone, ResumesBehind, ResumesDoneBehind, ResumesIn, ResumesDoneIn, Keeps, Opened, Closed}
-use Rattle.step_work.specs.Moving as moving
+use Rattle.step_work.specs.Resuming.{Resumes, ResumesBeside, ResumesDone, ResumesBehind, ResumesDoneBehind, ResumesIn, ResumesDoneIn, Keeps, Opened, Closed}
+use Rattle.step_work.specs.Settings.{Setting}
+use Rattle.step_moves.specs.Moving.{Resumed, ResumedAt}
 
 -- the work that acts on the run's state
 abbrev pub acts : Work → Bool
@@ -32,7 +33,31 @@ acts (work.Variable n ds) = true
 acts (work.MemberBase how text) = true
 acts (work.IndexKey how) = true
 acts work.InstanceDone = true
+acts (work.ConvertedLeft o) = true
+acts (work.Operate o) = true
+acts (work.UnaryConverted o) = true
+acts work.KeyHas = true
+acts (work.KeyOf how) = true
+acts (work.Counted how o n) = true
+acts (work.CountedNumber how o n) = true
+acts work.InstanceTest = true
+acts (work.VariablesBehind ds) = true
 acts _ = false
+
+-- that of an operator
+abbrev pub operates : Work → Bool
+operates (work.Unary o) = true
+operates (work.BinaryDone o) = true
+operates (work.CompoundDone o n) = true
+operates work.InstanceDone = true
+operates (work.ConvertedLeft o) = true
+operates (work.Operate o) = true
+operates (work.UnaryConverted o) = true
+operates work.KeyHas = true
+operates (work.Counted how o n) = true
+operates (work.CountedNumber how o n) = true
+operates work.InstanceTest = true
+operates _ = false
 
 -- the work that enters, raises or leaves a frame
 abbrev pub scoped : Work → Bool
@@ -70,10 +95,15 @@ abbrev pub raises : Work → Bool
 raises (work.Raise e) = true
 raises _ = false
 
+-- work of a built-in, which is told what came of its request
+abbrev pub answers : Work → Bool
+answers (work.Answered count to) = true
+answers _ = false
+
 module _ {T : Type 0} where
   -- what work does with what lies loose: its operands undermost, and above them a value, or none at the end of a part
-  abbrev pub continued : Tables → Given → List FunctionCode → (T → Label) → Work → List (Labelled T) → Env ℕ → State → Plan
-  continued tables inputs functions reading w loose e s = after tables inputs functions w (map (read_value reading) (take (owns w) loose)) e (gave (first_or_undefined (map (read_value reading) (drop (owns w) loose)))) s
+  abbrev pub continued : Tables → Given → BuiltIns → List FunctionCode → (T → Label) → Work → List (Labelled T) → Setting → State → Plan
+  continued tables inputs set functions reading w loose e s = after tables inputs set functions w (map (read_value reading) (take (owns w) loose)) e (gave (first_or_undefined (map (read_value reading) (drop (owns w) loose)))) s
 
   -- ---- work that needs the stack alone
 
@@ -81,6 +111,9 @@ module _ {T : Type 0} where
   GoesAlone (work.Argument f count rest) = ResumesBehind (work.Argument f count rest)
   GoesAlone (work.Property ps count) = ResumesBehind (work.Property ps count)
   GoesAlone (work.IndexBase how x) = ResumesBehind (work.IndexBase how x)
+  GoesAlone (work.CompoundRight o x t) = ResumesBehind (work.CompoundRight o x t)
+  GoesAlone (work.CalledBy es) = ResumesBeside (work.CalledBy es)
+  GoesAlone work.GiveBehind = ResumesBeside work.GiveBehind
   GoesAlone (work.Visited x count) = ResumesDoneBehind (work.Visited x count)
   GoesAlone (work.Statements ss) = ResumesDone (work.Statements ss)
   GoesAlone (work.Declared r) = ResumesDone (work.Declared r)
@@ -93,6 +126,8 @@ module _ {T : Type 0} where
   used_of (work.Argument f count rest) stack = stack
   used_of (work.Property ps count) stack = stack
   used_of (work.IndexBase how x) stack = stack
+  used_of (work.CompoundRight o x t) stack = stack
+  used_of (work.CalledBy es) stack = stack
   used_of (work.InstanceRight r) stack = stack
   used_of (work.Visited x count) stack = stack
   used_of (work.Statements ss) stack = stack
@@ -134,5 +169,6 @@ module _ {T : Type 0} where
   -- ---- work that acts on the run's state, at this place
 
   abbrev pub GoesActing : {S : Type 0} → (S → T → Type 0) → (S → T → Label) → S → Work → Kept T → Kept T → World T → World T → Result Next (FlowFault T) → Type 0
-  GoesActing made meaning store (work.Variable n ds) old new = moving.ResumesAt made meaning store (env_above old.tasks here).place (work.Variable n ds) old new
-  GoesActing made meaning store w old new = moving.Resumes made meaning store w old new
+  GoesActing made meaning store (work.Variable n ds) old new = ResumedAt made meaning store (env_above old.tasks here).place (work.Variable n ds) old new
+  GoesActing made meaning store (work.VariablesBehind ds) old new = ResumedAt made meaning store (env_above old.tasks here).place (work.VariablesBehind ds) old new
+  GoesActing made meaning store w old new = Resumed made meaning store w old new

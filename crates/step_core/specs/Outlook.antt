@@ -6,6 +6,9 @@ use Rattle.flow_policy.specs.Inputs.{Given}
 use Rattle.js_ast.specs.Functions.{FunctionCode}
 use Rattle.flow_frames.specs.declared.faults.FlowStop.{FlowStop}
 use Rattle.js_values.specs.Readings.{read_heap}
+use Rattle.native_protocol.specs.declared.request.Answer.{Answer}
+use Rattle.native_protocol.specs.declared.request.Request.{Request}
+use Rattle.es_meaning.specs.BuiltIns.{BuiltIns}
 use Rattle.es_meaning.specs.Outcomes.{Ending, done, threw, halted, left, out_of_turns}
 use Rattle.es_meaning.specs.Start.{shown}
 use Rattle.flow_meaning.specs.Erased.{erased_heap}
@@ -14,42 +17,44 @@ use Rattle.flow_meaning.specs.Planned.{Plan, Ran, perform, meaning}
 use Rattle.flow_meaning.specs.Laws.{performed_run}
 use Rattle.step_world.specs.Names.{leaving_name}
 use Rattle.step_world.specs.Worlds.{state_of}
-use Rattle.step_channels.specs.declared.printing.Printed.{Printed}
-use Rattle.step_channels.specs.Answers.{line_of}
+use Rattle.channel_requests.specs.declared.printing.Printed.{Printed}
+use Rattle.channel_requests.specs.Answers.{line_of}
+use Rattle.step_converting.specs.Framed.{steps_at}
 use Rattle.step_work.specs.declared.work.Next.{Next}
 use Rattle.step_work.specs.Loads.{load, lift}
 use Rattle.step_work.specs.Going.{here}
 use Rattle.step_work.specs.Resuming.{coming}
+use Rattle.step_work.specs.Settings.{setting_of}
 use Rattle.step_core.specs.declared.progress.Progress.{Progress}
 use Rattle.step_core.specs.declared.steps.Advance.{Advance}
 use Rattle.step_core.specs.declared.steps.Advance.TheVariants as advance
 use Rattle.step_core.specs.declared.steps.Ending as code
 use Rattle.step_core.specs.declared.steps.Ending.TheVariants as ending
 
--- how much a machine does before its run ends: each part that it enters costs a turn, and the work of less than seven steps
-abbrev pub ahead : {T : Type 0} → Progress T → Next → ℕ
-ahead m next = 7 * m.turns + load m.stack.tasks + lift next
+-- how much a machine does before its run ends: each part that it enters costs a turn, and the work of less than sixteen steps
+abbrev pub ahead : {T X : Type 0} → Progress T X → Next → ℕ
+ahead m next = 16 * m.turns + load m.stack.tasks + lift next
 
-module _ {T : Type 0} (reading : T → Label) where
+module _ {T X : Type 0} (reading : T → Label) where
   -- how a run ended
-  abbrev pub ending_of : Progress T → code.Ending T → Ending Halt
+  abbrev pub ending_of : Progress T X → code.Ending T → Ending Halt
   ending_of m ending.Done = done
   ending_of m (ending.Threw v) = threw (shown (erased_heap (read_heap reading m.world.heap)) v.value)
   ending_of m (ending.Stopped stop) = halted (stopped stop.rule (reading stop.need) (reading stop.have))
   ending_of m (ending.Left why) = halted (as_plain (left (leaving_name why)))
   ending_of m ending.OutOfTurns = halted (as_plain out_of_turns)
 
-module _ {T : Type 0} (tables : Tables) (inputs : Given) (functions : List FunctionCode) (reading : T → Label) where
+module _ {T X : Type 0} (tables : Tables) (inputs : Given) (set : BuiltIns) (functions : List FunctionCode) (tells : X → Answer → X) (asks : X → Request) (reading : T → Label) where
   -- the plan of what is done next and of the work that waits, where these lines were printed
-  abbrev pub plan_of : Progress T → Next → List LabelledLine → Plan
-  plan_of m next told = coming tables inputs functions reading m.stack next here (state_of reading m.world told m.turns)
+  abbrev pub plan_of : Progress T X → Next → List LabelledLine → Plan
+  plan_of m next told = coming tables inputs set functions reading m.stack next (setting_of (steps_at tells asks m.natives next) here) (state_of reading m.world told m.turns)
 
   -- what it comes to
-  abbrev pub outlook : Progress T → Next → List LabelledLine → Ran
-  outlook m next told = perform (meaning tables inputs functions) (plan_of m next told)
+  abbrev pub outlook : Progress T X → Next → List LabelledLine → Ran
+  outlook m next told = perform (meaning tables inputs set functions) (plan_of m next told)
 
   -- a step comes to the same: it goes on, it goes on behind a line that it printed, or the run ended so
-  abbrev pub Comes : Progress T → List LabelledLine → Ran → Advance T → Type 0
+  abbrev pub Comes : Progress T X → List LabelledLine → Ran → Advance T → Type 0
   Comes m told ran (advance.Goes next) = ran ≡ outlook m next told
   Comes m told ran (advance.Line p next) = ran ≡ outlook m next (told ++ line_of tables reading p.value ∷ [])
   Comes m told ran (advance.Ends e) = performed_run ran ≡ record { lines = told; ending = ending_of reading m e }

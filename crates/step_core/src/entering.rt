@@ -10,34 +10,41 @@ ghost use Rattle.flow_frames.specs.Stops.{IfStop};
 ghost use Rattle.flow_policy.specs.Policies.{Tables};
 ghost use Rattle.flow_policy.specs.Inputs.{Given};
 ghost use Rattle.js_ast.specs.Functions.{FunctionCode};
+ghost use Rattle.native_protocol.specs.Steps.{Steps};
+ghost use Rattle.es_meaning.specs.BuiltIns.{BuiltIns, built_ins_of};
+ghost use Rattle.step_natives.specs.States.{waiting_steps};
+ghost use Rattle.step_converting.specs.Framed.{steps_behind};
 ghost use Rattle.js_values.specs.Readings.{read_value};
 ghost use Rattle.flow_meaning.specs.Planned.{Part};
 ghost use Rattle.step_world.specs.Worlds.{Grows};
 ghost use Rattle.function_table.specs.Tables.{table};
 ghost use Rattle.step_work.specs.Stops.{HasStop};
 ghost use Rattle.step_work.specs.declared.work.Next.TheVariants as next;
-ghost use Rattle.step_work.specs.Kept.{scopes_of};
+ghost use Rattle.step_work.specs.Kept.{scopes_of, waiting};
 ghost use Rattle.step_work.specs.Loads.{Adds};
-ghost use Rattle.step_work.specs.Pending.{env_above, owns_use, values_of};
+ghost use Rattle.step_work.specs.Pending.{env_above, owns_use, setting_above, values_of};
+ghost use Rattle.step_work.specs.Settings.{setting_of};
 ghost use Rattle.step_work.specs.Going.{Begins, Lowers};
-ghost use Rattle.step_core.specs.Going.{Enters, part_in};
+ghost use Rattle.step_core.specs.Going.{Enters, StandsStill, part_in};
 ghost use Rattle.step_work.specs.Going.{here};
 ghost use Rattle.step_work.specs.Standing.{Standing};
-ghost use Rattle.step_core.specs.Stepping.{begins_work, calls_function};
+ghost use Rattle.step_core.specs.Stepping.{begins_work, calls_function, makes_value};
 
 use flow_frames::FlowFault;
 use flow_text::{OutOfMemory, Text};
 use function_table::Functions;
-use js_ast::{Declarations, Expr, Ident, PropertyList, Stmt};
+use js_ast::{Declarations, Expr, Function, Ident, PropertyList, Stmt};
 use js_number::Int;
 use js_values::EnvId;
+use native_protocol::Natives;
 use origin_labels::Labels;
 use std::alloc::Global;
 use step_calling::{call, construct, function};
+use step_converting::{compare, convert};
 use step_jumps::{leave_by, return_nothing};
-use step_moves::{
-    begin_use, boolean, declare, give_variable, null, number, object, read_name, text, this,
-};
+use step_literals::{boolean, null, number, object, text};
+use step_moves::{begin_use, declare, give_variable, read_name, this};
+use step_natives::NativeStates;
 use step_switches::begin_labelled;
 use step_tries::{begin_try, is_try};
 use step_visits::{next_visit, take_keys};
@@ -71,10 +78,10 @@ pub(crate) fn enter<'p, L: Labels>(
     stack: &mut Stack<'p, L::Label>,
     next: Next<'p>,
 ) -> Result<Next<'p>, FlowFault<L::Label>>
-    requires standing { Standing L.made L.meaning labels.old stack.old world.old (values_of next) (scopes_of stack.old.tasks) next }
-    ensures enters { (tables : Tables) (inputs : Given) (functions : List FunctionCode) (part : (L.Label → Label) → Part) → ((reading : L.Label → Label) → part_in (map (read_value reading) stack.old.loose) (env_above stack.old.tasks here) next.entry ≡ Some (part reading)) → Enters L.made L.meaning labels.new tables inputs functions stack.old stack.new world.old world.new part result }
-    ensures standing { IfOk result (λ n. Standing L.made L.meaning labels.new stack.new world.new (values_of n) (scopes_of stack.new.tasks) n) }
-    ensures adds { IfOk result (Adds 6 stack.old stack.new) }
+    requires standing { Standing L.made L.meaning labels.old stack.old world.old (values_of next) (scopes_of stack.old.tasks) (waiting stack.old.tasks) next }
+    ensures enters { (tables : Tables) (inputs : Given) (set : BuiltIns) (functions : List FunctionCode) (natives : List Steps) (part : (L.Label → Label) → Part) → ((reading : L.Label → Label) → part_in (map (read_value reading) stack.old.loose) (setting_above stack.old.tasks (setting_of natives here)) next.entry ≡ Some (part reading)) → Enters L.made L.meaning labels.new tables inputs set functions natives stack.old stack.new world.old world.new part result }
+    ensures standing { IfOk result (StandsStill L.made L.meaning labels.new (waiting stack.old.tasks) stack.new world.new) }
+    ensures adds { IfOk result (Adds 15 stack.old stack.new) }
     ensures stopped { IfErr result (IfStop (HasStop (L.made labels.new))) }
     ensures grows { Grows world.old world.new }
     ensures kept { IsKept L.made L.meaning L.room L.firm labels.old labels.new }
@@ -97,10 +104,10 @@ fn enter_expression<'p, L: Labels>(
     stack: &mut Stack<'p, L::Label>,
     e: &'p Expr,
 ) -> Result<Next<'p>, FlowFault<L::Label>>
-    requires standing { Standing L.made L.meaning _labels.now stack.old _world.now 0 (scopes_of stack.old.tasks) (next.Expr e) }
-    ensures enters { (tables : Tables) (inputs : Given) (functions : List FunctionCode) (part : (L.Label → Label) → Part) → ((reading : L.Label → Label) → part_in (map (read_value reading) stack.old.loose) (env_above stack.old.tasks here) (next.Expr e.entry) ≡ Some (part reading)) → Enters L.made L.meaning _labels.now tables inputs functions stack.old stack.new _world.now _world.now part result }
-    ensures standing { IfOk result (λ n. Standing L.made L.meaning _labels.now stack.new _world.now (values_of n) (scopes_of stack.new.tasks) n) }
-    ensures adds { IfOk result (Adds 6 stack.old stack.new) }
+    requires standing { Standing L.made L.meaning _labels.now stack.old _world.now 0 (scopes_of stack.old.tasks) (waiting stack.old.tasks) (next.Expr e) }
+    ensures enters { (tables : Tables) (inputs : Given) (set : BuiltIns) (functions : List FunctionCode) (natives : List Steps) (part : (L.Label → Label) → Part) → ((reading : L.Label → Label) → part_in (map (read_value reading) stack.old.loose) (setting_above stack.old.tasks (setting_of natives here)) (next.Expr e.entry) ≡ Some (part reading)) → Enters L.made L.meaning _labels.now tables inputs set functions natives stack.old stack.new _world.now _world.now part result }
+    ensures standing { IfOk result (StandsStill L.made L.meaning _labels.now (waiting stack.old.tasks) stack.new _world.now) }
+    ensures adds { IfOk result (Adds 15 stack.old stack.new) }
     ensures stopped { IfErr result (IfStop (HasStop (L.made _labels.now))) }
 {
     let next = begin_expression(stack, e)?;
@@ -116,10 +123,10 @@ fn enter_use<'p, L: Labels>(
     how: Use<'p>,
     target: &'p Expr,
 ) -> Result<Next<'p>, FlowFault<L::Label>>
-    requires standing { Standing L.made L.meaning labels.old stack.old world.old (owns_use how) (scopes_of stack.old.tasks) (next.Use how target) }
-    ensures enters { (tables : Tables) (inputs : Given) (functions : List FunctionCode) (part : (L.Label → Label) → Part) → ((reading : L.Label → Label) → part_in (map (read_value reading) stack.old.loose) (env_above stack.old.tasks here) (next.Use how.entry target.entry) ≡ Some (part reading)) → Enters L.made L.meaning labels.new tables inputs functions stack.old stack.new world.old world.new part result }
-    ensures standing { IfOk result (λ n. Standing L.made L.meaning labels.new stack.new world.new (values_of n) (scopes_of stack.new.tasks) n) }
-    ensures adds { IfOk result (Adds 6 stack.old stack.new) }
+    requires standing { Standing L.made L.meaning labels.old stack.old world.old (owns_use how) (scopes_of stack.old.tasks) (waiting stack.old.tasks) (next.Use how target) }
+    ensures enters { (tables : Tables) (inputs : Given) (set : BuiltIns) (functions : List FunctionCode) (natives : List Steps) (part : (L.Label → Label) → Part) → ((reading : L.Label → Label) → part_in (map (read_value reading) stack.old.loose) (setting_above stack.old.tasks (setting_of natives here)) (next.Use how.entry target.entry) ≡ Some (part reading)) → Enters L.made L.meaning labels.new tables inputs set functions natives stack.old stack.new world.old world.new part result }
+    ensures standing { IfOk result (StandsStill L.made L.meaning labels.new (waiting stack.old.tasks) stack.new world.new) }
+    ensures adds { IfOk result (Adds 15 stack.old stack.new) }
     ensures stopped { IfErr result (IfStop (HasStop (L.made labels.new))) }
     ensures grows { Grows world.old world.new }
     ensures kept { IsKept L.made L.meaning L.room L.firm labels.old labels.new }
@@ -135,10 +142,10 @@ fn enter_statement<'p, L: Labels>(
     stack: &mut Stack<'p, L::Label>,
     s: &'p Stmt,
 ) -> Result<Next<'p>, FlowFault<L::Label>>
-    requires standing { Standing L.made L.meaning _labels.now stack.old _world.now 0 (scopes_of stack.old.tasks) (next.Stmt s) }
-    ensures enters { (tables : Tables) (inputs : Given) (functions : List FunctionCode) (part : (L.Label → Label) → Part) → ((reading : L.Label → Label) → part_in (map (read_value reading) stack.old.loose) (env_above stack.old.tasks here) (next.Stmt s.entry) ≡ Some (part reading)) → Enters L.made L.meaning _labels.now tables inputs functions stack.old stack.new _world.now _world.now part result }
-    ensures standing { IfOk result (λ n. Standing L.made L.meaning _labels.now stack.new _world.now (values_of n) (scopes_of stack.new.tasks) n) }
-    ensures adds { IfOk result (Adds 6 stack.old stack.new) }
+    requires standing { Standing L.made L.meaning _labels.now stack.old _world.now 0 (scopes_of stack.old.tasks) (waiting stack.old.tasks) (next.Stmt s) }
+    ensures enters { (tables : Tables) (inputs : Given) (set : BuiltIns) (functions : List FunctionCode) (natives : List Steps) (part : (L.Label → Label) → Part) → ((reading : L.Label → Label) → part_in (map (read_value reading) stack.old.loose) (setting_above stack.old.tasks (setting_of natives here)) (next.Stmt s.entry) ≡ Some (part reading)) → Enters L.made L.meaning _labels.now tables inputs set functions natives stack.old stack.new _world.now _world.now part result }
+    ensures standing { IfOk result (StandsStill L.made L.meaning _labels.now (waiting stack.old.tasks) stack.new _world.now) }
+    ensures adds { IfOk result (Adds 15 stack.old stack.new) }
     ensures stopped { IfErr result (IfStop (HasStop (L.made _labels.now))) }
 {
     let next = begin_statement(stack, s)?;
@@ -153,10 +160,10 @@ fn enter_named<'p, L: Labels>(
     of: &'p Stmt,
     passed: u32,
 ) -> Result<Next<'p>, FlowFault<L::Label>>
-    requires standing { Standing L.made L.meaning _labels.now stack.old _world.now 0 (scopes_of stack.old.tasks) (next.Named of passed) }
-    ensures enters { (tables : Tables) (inputs : Given) (functions : List FunctionCode) (part : (L.Label → Label) → Part) → ((reading : L.Label → Label) → part_in (map (read_value reading) stack.old.loose) (env_above stack.old.tasks here) (next.Named of.entry passed) ≡ Some (part reading)) → Enters L.made L.meaning _labels.now tables inputs functions stack.old stack.new _world.now _world.now part result }
-    ensures standing { IfOk result (λ n. Standing L.made L.meaning _labels.now stack.new _world.now (values_of n) (scopes_of stack.new.tasks) n) }
-    ensures adds { IfOk result (Adds 6 stack.old stack.new) }
+    requires standing { Standing L.made L.meaning _labels.now stack.old _world.now 0 (scopes_of stack.old.tasks) (waiting stack.old.tasks) (next.Named of passed) }
+    ensures enters { (tables : Tables) (inputs : Given) (set : BuiltIns) (functions : List FunctionCode) (natives : List Steps) (part : (L.Label → Label) → Part) → ((reading : L.Label → Label) → part_in (map (read_value reading) stack.old.loose) (setting_above stack.old.tasks (setting_of natives here)) (next.Named of.entry passed) ≡ Some (part reading)) → Enters L.made L.meaning _labels.now tables inputs set functions natives stack.old stack.new _world.now _world.now part result }
+    ensures standing { IfOk result (StandsStill L.made L.meaning _labels.now (waiting stack.old.tasks) stack.new _world.now) }
+    ensures adds { IfOk result (Adds 15 stack.old stack.new) }
     ensures stopped { IfErr result (IfStop (HasStop (L.made _labels.now))) }
 {
     let next = begin_named(stack, of, passed)?;
@@ -170,10 +177,10 @@ fn enter_turn<'p, L: Labels>(
     stack: &mut Stack<'p, L::Label>,
     round: Round<'p>,
 ) -> Result<Next<'p>, FlowFault<L::Label>>
-    requires standing { Standing L.made L.meaning labels.old stack.old world.old 0 (scopes_of stack.old.tasks) (next.Turn round) }
-    ensures enters { (tables : Tables) (inputs : Given) (functions : List FunctionCode) (part : (L.Label → Label) → Part) → ((reading : L.Label → Label) → part_in (map (read_value reading) stack.old.loose) (env_above stack.old.tasks here) (next.Turn round.entry) ≡ Some (part reading)) → Enters L.made L.meaning labels.new tables inputs functions stack.old stack.new world.old world.new part result }
-    ensures standing { IfOk result (λ n. Standing L.made L.meaning labels.new stack.new world.new (values_of n) (scopes_of stack.new.tasks) n) }
-    ensures adds { IfOk result (Adds 6 stack.old stack.new) }
+    requires standing { Standing L.made L.meaning labels.old stack.old world.old 0 (scopes_of stack.old.tasks) (waiting stack.old.tasks) (next.Turn round) }
+    ensures enters { (tables : Tables) (inputs : Given) (set : BuiltIns) (functions : List FunctionCode) (natives : List Steps) (part : (L.Label → Label) → Part) → ((reading : L.Label → Label) → part_in (map (read_value reading) stack.old.loose) (setting_above stack.old.tasks (setting_of natives here)) (next.Turn round.entry) ≡ Some (part reading)) → Enters L.made L.meaning labels.new tables inputs set functions natives stack.old stack.new world.old world.new part result }
+    ensures standing { IfOk result (StandsStill L.made L.meaning labels.new (waiting stack.old.tasks) stack.new world.new) }
+    ensures adds { IfOk result (Adds 15 stack.old stack.new) }
     ensures stopped { IfErr result (IfStop (HasStop (L.made labels.new))) }
     ensures grows { Grows world.old world.new }
     ensures kept { IsKept L.made L.meaning L.room L.firm labels.old labels.new }
@@ -191,10 +198,10 @@ fn enter_visit<'p, L: Labels>(
     enumeration: Enumeration<'p>,
     count: u32,
 ) -> Result<Next<'p>, FlowFault<L::Label>>
-    requires standing { Standing L.made L.meaning labels.old stack.old world.old (count + 2) (scopes_of stack.old.tasks) (next.Visit enumeration count) }
-    ensures enters { (tables : Tables) (inputs : Given) (functions : List FunctionCode) (part : (L.Label → Label) → Part) → ((reading : L.Label → Label) → part_in (map (read_value reading) stack.old.loose) (env_above stack.old.tasks here) (next.Visit enumeration.entry count) ≡ Some (part reading)) → Enters L.made L.meaning labels.new tables inputs functions stack.old stack.new world.old world.new part result }
-    ensures standing { IfOk result (λ n. Standing L.made L.meaning labels.new stack.new world.new (values_of n) (scopes_of stack.new.tasks) n) }
-    ensures adds { IfOk result (Adds 6 stack.old stack.new) }
+    requires standing { Standing L.made L.meaning labels.old stack.old world.old (count + 2) (scopes_of stack.old.tasks) (waiting stack.old.tasks) (next.Visit enumeration count) }
+    ensures enters { (tables : Tables) (inputs : Given) (set : BuiltIns) (functions : List FunctionCode) (natives : List Steps) (part : (L.Label → Label) → Part) → ((reading : L.Label → Label) → part_in (map (read_value reading) stack.old.loose) (setting_above stack.old.tasks (setting_of natives here)) (next.Visit enumeration.entry count) ≡ Some (part reading)) → Enters L.made L.meaning labels.new tables inputs set functions natives stack.old stack.new world.old world.new part result }
+    ensures standing { IfOk result (StandsStill L.made L.meaning labels.new (waiting stack.old.tasks) stack.new world.new) }
+    ensures adds { IfOk result (Adds 15 stack.old stack.new) }
     ensures stopped { IfErr result (IfStop (HasStop (L.made labels.new))) }
     ensures grows { Grows world.old world.new }
     ensures kept { IsKept L.made L.meaning L.room L.firm labels.old labels.new }
@@ -212,9 +219,9 @@ pub(crate) fn begin_move<'p, L: Labels>(
     stack: &mut Stack<'p, L::Label>,
     next: Next<'p>,
 ) -> Result<Next<'p>, FlowFault<L::Label>>
-    requires standing { Standing L.made L.meaning labels.old stack.old world.old (values_of next) (scopes_of stack.old.tasks) next }
-    ensures begins { (tables : Tables) (inputs : Given) (functions : List FunctionCode) → Begins L.made L.meaning labels.new tables inputs functions stack.old stack.new world.old world.new next.entry result }
-    ensures standing { IfOk result (λ n. Standing L.made L.meaning labels.new stack.new world.new (values_of n) (scopes_of stack.new.tasks) n) }
+    requires standing { Standing L.made L.meaning labels.old stack.old world.old (values_of next) (scopes_of stack.old.tasks) (waiting stack.old.tasks) next }
+    ensures begins { (tables : Tables) (inputs : Given) (set : BuiltIns) (functions : List FunctionCode) (natives : List Steps) → Begins L.made L.meaning labels.new tables inputs set functions natives natives stack.old stack.new world.old world.new next.entry result }
+    ensures standing { IfOk result (StandsStill L.made L.meaning labels.new (waiting stack.old.tasks) stack.new world.new) }
     ensures lowers { begins_work next.entry ≡ true → IfOk result (λ n. Lowers stack.old next.entry stack.new n) }
     ensures stopped { IfErr result (IfStop (HasStop (L.made labels.new))) }
     ensures grows { Grows world.old world.new }
@@ -227,7 +234,6 @@ pub(crate) fn begin_move<'p, L: Labels>(
         Next::Text(units) => begin_text(alloc, labels, world, stack, units),
         Next::Name(name) => begin_name(alloc, labels, world, stack, name),
         Next::This => begin_this(alloc, labels, world, stack),
-        Next::Object(list, count) => begin_object(alloc, labels, world, stack, list, count),
         Next::GiveVariable(variable) => begin_giving(alloc, labels, world, stack, variable),
         Next::Keys(enumeration) => begin_keys(alloc, labels, world, stack, enumeration),
         Next::Visits(enumeration, count) => {
@@ -250,9 +256,9 @@ fn begin_null<'p, L: Labels>(
     _world: &World<L::Label>,
     stack: &mut Stack<'p, L::Label>,
 ) -> Result<Next<'p>, FlowFault<L::Label>>
-    requires standing { Standing L.made L.meaning labels.now stack.old _world.now 0 (scopes_of stack.old.tasks) next.Null }
-    ensures begins { (tables : Tables) (inputs : Given) (functions : List FunctionCode) → Begins L.made L.meaning labels.now tables inputs functions stack.old stack.new _world.now _world.now next.Null result }
-    ensures standing { IfOk result (λ n. Standing L.made L.meaning labels.now stack.new _world.now (values_of n) (scopes_of stack.new.tasks) n) }
+    requires standing { Standing L.made L.meaning labels.now stack.old _world.now 0 (scopes_of stack.old.tasks) (waiting stack.old.tasks) next.Null }
+    ensures begins { (tables : Tables) (inputs : Given) (set : BuiltIns) (functions : List FunctionCode) (natives : List Steps) → Begins L.made L.meaning labels.now tables inputs set functions natives natives stack.old stack.new _world.now _world.now next.Null result }
+    ensures standing { IfOk result (StandsStill L.made L.meaning labels.now (waiting stack.old.tasks) stack.new _world.now) }
     ensures lowers { IfOk result (Lowers stack.old next.Null stack.new) }
     ensures stopped { IfErr result (IfStop (HasStop (L.made labels.now))) }
 {
@@ -267,9 +273,9 @@ fn begin_boolean<'p, L: Labels>(
     stack: &mut Stack<'p, L::Label>,
     b: bool,
 ) -> Result<Next<'p>, FlowFault<L::Label>>
-    requires standing { Standing L.made L.meaning labels.now stack.old _world.now 0 (scopes_of stack.old.tasks) (next.Bool b) }
-    ensures begins { (tables : Tables) (inputs : Given) (functions : List FunctionCode) → Begins L.made L.meaning labels.now tables inputs functions stack.old stack.new _world.now _world.now (next.Bool b) result }
-    ensures standing { IfOk result (λ n. Standing L.made L.meaning labels.now stack.new _world.now (values_of n) (scopes_of stack.new.tasks) n) }
+    requires standing { Standing L.made L.meaning labels.now stack.old _world.now 0 (scopes_of stack.old.tasks) (waiting stack.old.tasks) (next.Bool b) }
+    ensures begins { (tables : Tables) (inputs : Given) (set : BuiltIns) (functions : List FunctionCode) (natives : List Steps) → Begins L.made L.meaning labels.now tables inputs set functions natives natives stack.old stack.new _world.now _world.now (next.Bool b) result }
+    ensures standing { IfOk result (StandsStill L.made L.meaning labels.now (waiting stack.old.tasks) stack.new _world.now) }
     ensures lowers { IfOk result (Lowers stack.old (next.Bool b) stack.new) }
     ensures stopped { IfErr result (IfStop (HasStop (L.made labels.now))) }
 {
@@ -284,9 +290,9 @@ fn begin_number<'p, L: Labels>(
     stack: &mut Stack<'p, L::Label>,
     n: &'p Int,
 ) -> Result<Next<'p>, FlowFault<L::Label>>
-    requires standing { Standing L.made L.meaning labels.now stack.old _world.now 0 (scopes_of stack.old.tasks) (next.Number n) }
-    ensures begins { (tables : Tables) (inputs : Given) (functions : List FunctionCode) → Begins L.made L.meaning labels.now tables inputs functions stack.old stack.new _world.now _world.now (next.Number n.entry) result }
-    ensures standing { IfOk result (λ n. Standing L.made L.meaning labels.now stack.new _world.now (values_of n) (scopes_of stack.new.tasks) n) }
+    requires standing { Standing L.made L.meaning labels.now stack.old _world.now 0 (scopes_of stack.old.tasks) (waiting stack.old.tasks) (next.Number n) }
+    ensures begins { (tables : Tables) (inputs : Given) (set : BuiltIns) (functions : List FunctionCode) (natives : List Steps) → Begins L.made L.meaning labels.now tables inputs set functions natives natives stack.old stack.new _world.now _world.now (next.Number n.entry) result }
+    ensures standing { IfOk result (StandsStill L.made L.meaning labels.now (waiting stack.old.tasks) stack.new _world.now) }
     ensures lowers { IfOk result (Lowers stack.old (next.Number n.entry) stack.new) }
     ensures stopped { IfErr result (IfStop (HasStop (L.made labels.now))) }
 {
@@ -302,9 +308,9 @@ fn begin_text<'p, L: Labels>(
     stack: &mut Stack<'p, L::Label>,
     units: &'p Text,
 ) -> Result<Next<'p>, FlowFault<L::Label>>
-    requires standing { Standing L.made L.meaning labels.now stack.old _world.now 0 (scopes_of stack.old.tasks) (next.Text units) }
-    ensures begins { (tables : Tables) (inputs : Given) (functions : List FunctionCode) → Begins L.made L.meaning labels.now tables inputs functions stack.old stack.new _world.now _world.now (next.Text units.entry) result }
-    ensures standing { IfOk result (λ n. Standing L.made L.meaning labels.now stack.new _world.now (values_of n) (scopes_of stack.new.tasks) n) }
+    requires standing { Standing L.made L.meaning labels.now stack.old _world.now 0 (scopes_of stack.old.tasks) (waiting stack.old.tasks) (next.Text units) }
+    ensures begins { (tables : Tables) (inputs : Given) (set : BuiltIns) (functions : List FunctionCode) (natives : List Steps) → Begins L.made L.meaning labels.now tables inputs set functions natives natives stack.old stack.new _world.now _world.now (next.Text units.entry) result }
+    ensures standing { IfOk result (StandsStill L.made L.meaning labels.now (waiting stack.old.tasks) stack.new _world.now) }
     ensures lowers { IfOk result (Lowers stack.old (next.Text units.entry) stack.new) }
     ensures stopped { IfErr result (IfStop (HasStop (L.made labels.now))) }
 {
@@ -320,9 +326,9 @@ fn begin_name<'p, L: Labels>(
     stack: &mut Stack<'p, L::Label>,
     name: &'p Text,
 ) -> Result<Next<'p>, FlowFault<L::Label>>
-    requires standing { Standing L.made L.meaning labels.old stack.old world.old 0 (scopes_of stack.old.tasks) (next.Name name) }
-    ensures begins { (tables : Tables) (inputs : Given) (functions : List FunctionCode) → Begins L.made L.meaning labels.new tables inputs functions stack.old stack.new world.old world.new (next.Name name.entry) result }
-    ensures standing { IfOk result (λ n. Standing L.made L.meaning labels.new stack.new world.new (values_of n) (scopes_of stack.new.tasks) n) }
+    requires standing { Standing L.made L.meaning labels.old stack.old world.old 0 (scopes_of stack.old.tasks) (waiting stack.old.tasks) (next.Name name) }
+    ensures begins { (tables : Tables) (inputs : Given) (set : BuiltIns) (functions : List FunctionCode) (natives : List Steps) → Begins L.made L.meaning labels.new tables inputs set functions natives natives stack.old stack.new world.old world.new (next.Name name.entry) result }
+    ensures standing { IfOk result (StandsStill L.made L.meaning labels.new (waiting stack.old.tasks) stack.new world.new) }
     ensures lowers { IfOk result (Lowers stack.old (next.Name name.entry) stack.new) }
     ensures stopped { IfErr result (IfStop (HasStop (L.made labels.new))) }
     ensures grows { Grows world.old world.new }
@@ -339,9 +345,9 @@ fn begin_this<'p, L: Labels>(
     world: &mut World<L::Label>,
     stack: &mut Stack<'p, L::Label>,
 ) -> Result<Next<'p>, FlowFault<L::Label>>
-    requires standing { Standing L.made L.meaning labels.old stack.old world.old 0 (scopes_of stack.old.tasks) next.This }
-    ensures begins { (tables : Tables) (inputs : Given) (functions : List FunctionCode) → Begins L.made L.meaning labels.new tables inputs functions stack.old stack.new world.old world.new next.This result }
-    ensures standing { IfOk result (λ n. Standing L.made L.meaning labels.new stack.new world.new (values_of n) (scopes_of stack.new.tasks) n) }
+    requires standing { Standing L.made L.meaning labels.old stack.old world.old 0 (scopes_of stack.old.tasks) (waiting stack.old.tasks) next.This }
+    ensures begins { (tables : Tables) (inputs : Given) (set : BuiltIns) (functions : List FunctionCode) (natives : List Steps) → Begins L.made L.meaning labels.new tables inputs set functions natives natives stack.old stack.new world.old world.new next.This result }
+    ensures standing { IfOk result (StandsStill L.made L.meaning labels.new (waiting stack.old.tasks) stack.new world.new) }
     ensures lowers { IfOk result (Lowers stack.old next.This stack.new) }
     ensures stopped { IfErr result (IfStop (HasStop (L.made labels.new))) }
     ensures grows { Grows world.old world.new }
@@ -349,26 +355,6 @@ fn begin_this<'p, L: Labels>(
 {
     let place = present(world, stack)?;
     this(alloc, labels, world, stack, place)
-}
-
-/// An object of a literal.
-fn begin_object<'p, L: Labels>(
-    alloc: Global,
-    labels: &mut L,
-    world: &mut World<L::Label>,
-    stack: &mut Stack<'p, L::Label>,
-    list: &'p PropertyList,
-    count: u32,
-) -> Result<Next<'p>, FlowFault<L::Label>>
-    requires standing { Standing L.made L.meaning labels.old stack.old world.old count (scopes_of stack.old.tasks) (next.Object list count) }
-    ensures begins { (tables : Tables) (inputs : Given) (functions : List FunctionCode) → Begins L.made L.meaning labels.new tables inputs functions stack.old stack.new world.old world.new (next.Object list.entry count) result }
-    ensures standing { IfOk result (λ n. Standing L.made L.meaning labels.new stack.new world.new (values_of n) (scopes_of stack.new.tasks) n) }
-    ensures lowers { IfOk result (Lowers stack.old (next.Object list.entry count) stack.new) }
-    ensures stopped { IfErr result (IfStop (HasStop (L.made labels.new))) }
-    ensures grows { Grows world.old world.new }
-    ensures kept { IsKept L.made L.meaning L.room L.firm labels.old labels.new }
-{
-    object(alloc, labels, world, stack, list, count)
 }
 
 /// A variable is given a key.
@@ -379,9 +365,9 @@ fn begin_giving<'p, L: Labels>(
     stack: &mut Stack<'p, L::Label>,
     variable: &'p Ident,
 ) -> Result<Next<'p>, FlowFault<L::Label>>
-    requires standing { Standing L.made L.meaning labels.old stack.old world.old 1 (scopes_of stack.old.tasks) (next.GiveVariable variable) }
-    ensures begins { (tables : Tables) (inputs : Given) (functions : List FunctionCode) → Begins L.made L.meaning labels.new tables inputs functions stack.old stack.new world.old world.new (next.GiveVariable variable.entry) result }
-    ensures standing { IfOk result (λ n. Standing L.made L.meaning labels.new stack.new world.new (values_of n) (scopes_of stack.new.tasks) n) }
+    requires standing { Standing L.made L.meaning labels.old stack.old world.old 1 (scopes_of stack.old.tasks) (waiting stack.old.tasks) (next.GiveVariable variable) }
+    ensures begins { (tables : Tables) (inputs : Given) (set : BuiltIns) (functions : List FunctionCode) (natives : List Steps) → Begins L.made L.meaning labels.new tables inputs set functions natives natives stack.old stack.new world.old world.new (next.GiveVariable variable.entry) result }
+    ensures standing { IfOk result (StandsStill L.made L.meaning labels.new (waiting stack.old.tasks) stack.new world.new) }
     ensures lowers { IfOk result (Lowers stack.old (next.GiveVariable variable.entry) stack.new) }
     ensures stopped { IfErr result (IfStop (HasStop (L.made labels.new))) }
     ensures grows { Grows world.old world.new }
@@ -399,9 +385,9 @@ fn begin_keys<'p, L: Labels>(
     stack: &mut Stack<'p, L::Label>,
     enumeration: Enumeration<'p>,
 ) -> Result<Next<'p>, FlowFault<L::Label>>
-    requires standing { Standing L.made L.meaning labels.old stack.old world.old 1 (scopes_of stack.old.tasks) (next.Keys enumeration) }
-    ensures begins { (tables : Tables) (inputs : Given) (functions : List FunctionCode) → Begins L.made L.meaning labels.new tables inputs functions stack.old stack.new world.old world.new (next.Keys enumeration.entry) result }
-    ensures standing { IfOk result (λ n. Standing L.made L.meaning labels.new stack.new world.new (values_of n) (scopes_of stack.new.tasks) n) }
+    requires standing { Standing L.made L.meaning labels.old stack.old world.old 1 (scopes_of stack.old.tasks) (waiting stack.old.tasks) (next.Keys enumeration) }
+    ensures begins { (tables : Tables) (inputs : Given) (set : BuiltIns) (functions : List FunctionCode) (natives : List Steps) → Begins L.made L.meaning labels.new tables inputs set functions natives natives stack.old stack.new world.old world.new (next.Keys enumeration.entry) result }
+    ensures standing { IfOk result (StandsStill L.made L.meaning labels.new (waiting stack.old.tasks) stack.new world.new) }
     ensures lowers { IfOk result (Lowers stack.old (next.Keys enumeration.entry) stack.new) }
     ensures stopped { IfErr result (IfStop (HasStop (L.made labels.new))) }
     ensures grows { Grows world.old world.new }
@@ -419,9 +405,9 @@ fn begin_visits<'p, L: Labels>(
     enumeration: Enumeration<'p>,
     count: u32,
 ) -> Result<Next<'p>, FlowFault<L::Label>>
-    requires standing { Standing L.made L.meaning labels.old stack.old world.old (count + 1) (scopes_of stack.old.tasks) (next.Visits enumeration count) }
-    ensures begins { (tables : Tables) (inputs : Given) (functions : List FunctionCode) → Begins L.made L.meaning labels.new tables inputs functions stack.old stack.new world.old world.new (next.Visits enumeration.entry count) result }
-    ensures standing { IfOk result (λ n. Standing L.made L.meaning labels.new stack.new world.new (values_of n) (scopes_of stack.new.tasks) n) }
+    requires standing { Standing L.made L.meaning labels.old stack.old world.old (count + 1) (scopes_of stack.old.tasks) (waiting stack.old.tasks) (next.Visits enumeration count) }
+    ensures begins { (tables : Tables) (inputs : Given) (set : BuiltIns) (functions : List FunctionCode) (natives : List Steps) → Begins L.made L.meaning labels.new tables inputs set functions natives natives stack.old stack.new world.old world.new (next.Visits enumeration.entry count) result }
+    ensures standing { IfOk result (StandsStill L.made L.meaning labels.new (waiting stack.old.tasks) stack.new world.new) }
     ensures lowers { IfOk result (Lowers stack.old (next.Visits enumeration.entry count) stack.new) }
     ensures stopped { IfErr result (IfStop (HasStop (L.made labels.new))) }
     ensures grows { Grows world.old world.new }
@@ -437,9 +423,9 @@ fn begin_variables<'p, L: Labels>(
     stack: &mut Stack<'p, L::Label>,
     list: &'p Declarations,
 ) -> Result<Next<'p>, FlowFault<L::Label>>
-    requires standing { Standing L.made L.meaning labels.old stack.old world.now 0 (scopes_of stack.old.tasks) (next.Variables list) }
-    ensures begins { (tables : Tables) (inputs : Given) (functions : List FunctionCode) → Begins L.made L.meaning labels.new tables inputs functions stack.old stack.new world.now world.now (next.Variables list.entry) result }
-    ensures standing { IfOk result (λ n. Standing L.made L.meaning labels.new stack.new world.now (values_of n) (scopes_of stack.new.tasks) n) }
+    requires standing { Standing L.made L.meaning labels.old stack.old world.now 0 (scopes_of stack.old.tasks) (waiting stack.old.tasks) (next.Variables list) }
+    ensures begins { (tables : Tables) (inputs : Given) (set : BuiltIns) (functions : List FunctionCode) (natives : List Steps) → Begins L.made L.meaning labels.new tables inputs set functions natives natives stack.old stack.new world.now world.now (next.Variables list.entry) result }
+    ensures standing { IfOk result (StandsStill L.made L.meaning labels.new (waiting stack.old.tasks) stack.new world.now) }
     ensures lowers { IfOk result (Lowers stack.old (next.Variables list.entry) stack.new) }
     ensures stopped { IfErr result (IfStop (HasStop (L.made labels.new))) }
     ensures kept { IsKept L.made L.meaning L.room L.firm labels.old labels.new }
@@ -455,9 +441,9 @@ fn begin_loop_of<'p, L: Labels>(
     stack: &mut Stack<'p, L::Label>,
     round: Round<'p>,
 ) -> Result<Next<'p>, FlowFault<L::Label>>
-    requires standing { Standing L.made L.meaning labels.old stack.old world.old 0 (scopes_of stack.old.tasks) (next.Loop round) }
-    ensures begins { (tables : Tables) (inputs : Given) (functions : List FunctionCode) → Begins L.made L.meaning labels.new tables inputs functions stack.old stack.new world.old world.new (next.Loop round.entry) result }
-    ensures standing { IfOk result (λ n. Standing L.made L.meaning labels.new stack.new world.new (values_of n) (scopes_of stack.new.tasks) n) }
+    requires standing { Standing L.made L.meaning labels.old stack.old world.old 0 (scopes_of stack.old.tasks) (waiting stack.old.tasks) (next.Loop round) }
+    ensures begins { (tables : Tables) (inputs : Given) (set : BuiltIns) (functions : List FunctionCode) (natives : List Steps) → Begins L.made L.meaning labels.new tables inputs set functions natives natives stack.old stack.new world.old world.new (next.Loop round.entry) result }
+    ensures standing { IfOk result (StandsStill L.made L.meaning labels.new (waiting stack.old.tasks) stack.new world.new) }
     ensures lowers { IfOk result (Lowers stack.old (next.Loop round.entry) stack.new) }
     ensures stopped { IfErr result (IfStop (HasStop (L.made labels.new))) }
     ensures grows { Grows world.old world.new }
@@ -475,9 +461,9 @@ fn begin_do_loop_of<'p, L: Labels>(
     stack: &mut Stack<'p, L::Label>,
     round: Round<'p>,
 ) -> Result<Next<'p>, FlowFault<L::Label>>
-    requires standing { Standing L.made L.meaning labels.old stack.old world.old 0 (scopes_of stack.old.tasks) (next.DoLoop round) }
-    ensures begins { (tables : Tables) (inputs : Given) (functions : List FunctionCode) → Begins L.made L.meaning labels.new tables inputs functions stack.old stack.new world.old world.new (next.DoLoop round.entry) result }
-    ensures standing { IfOk result (λ n. Standing L.made L.meaning labels.new stack.new world.new (values_of n) (scopes_of stack.new.tasks) n) }
+    requires standing { Standing L.made L.meaning labels.old stack.old world.old 0 (scopes_of stack.old.tasks) (waiting stack.old.tasks) (next.DoLoop round) }
+    ensures begins { (tables : Tables) (inputs : Given) (set : BuiltIns) (functions : List FunctionCode) (natives : List Steps) → Begins L.made L.meaning labels.new tables inputs set functions natives natives stack.old stack.new world.old world.new (next.DoLoop round.entry) result }
+    ensures standing { IfOk result (StandsStill L.made L.meaning labels.new (waiting stack.old.tasks) stack.new world.new) }
     ensures lowers { IfOk result (Lowers stack.old (next.DoLoop round.entry) stack.new) }
     ensures stopped { IfErr result (IfStop (HasStop (L.made labels.new))) }
     ensures grows { Grows world.old world.new }
@@ -496,9 +482,9 @@ fn begin_leaving<'p, L: Labels>(
     turn: bool,
     label: &'p Option<Ident>,
 ) -> Result<Next<'p>, FlowFault<L::Label>>
-    requires standing { Standing L.made L.meaning labels.old stack.old world.old 0 (scopes_of stack.old.tasks) (next.Break turn label) }
-    ensures begins { (tables : Tables) (inputs : Given) (functions : List FunctionCode) → Begins L.made L.meaning labels.new tables inputs functions stack.old stack.new world.old world.new (next.Break turn label.entry) result }
-    ensures standing { IfOk result (λ n. Standing L.made L.meaning labels.new stack.new world.new (values_of n) (scopes_of stack.new.tasks) n) }
+    requires standing { Standing L.made L.meaning labels.old stack.old world.old 0 (scopes_of stack.old.tasks) (waiting stack.old.tasks) (next.Break turn label) }
+    ensures begins { (tables : Tables) (inputs : Given) (set : BuiltIns) (functions : List FunctionCode) (natives : List Steps) → Begins L.made L.meaning labels.new tables inputs set functions natives natives stack.old stack.new world.old world.new (next.Break turn label.entry) result }
+    ensures standing { IfOk result (StandsStill L.made L.meaning labels.new (waiting stack.old.tasks) stack.new world.new) }
     ensures lowers { IfOk result (Lowers stack.old (next.Break turn label.entry) stack.new) }
     ensures stopped { IfErr result (IfStop (HasStop (L.made labels.new))) }
     ensures grows { Grows world.old world.new }
@@ -524,9 +510,9 @@ fn begin_return<'p, L: Labels>(
     world: &mut World<L::Label>,
     stack: &mut Stack<'p, L::Label>,
 ) -> Result<Next<'p>, FlowFault<L::Label>>
-    requires standing { Standing L.made L.meaning labels.old stack.old world.old 0 (scopes_of stack.old.tasks) next.Return }
-    ensures begins { (tables : Tables) (inputs : Given) (functions : List FunctionCode) → Begins L.made L.meaning labels.new tables inputs functions stack.old stack.new world.old world.new next.Return result }
-    ensures standing { IfOk result (λ n. Standing L.made L.meaning labels.new stack.new world.new (values_of n) (scopes_of stack.new.tasks) n) }
+    requires standing { Standing L.made L.meaning labels.old stack.old world.old 0 (scopes_of stack.old.tasks) (waiting stack.old.tasks) next.Return }
+    ensures begins { (tables : Tables) (inputs : Given) (set : BuiltIns) (functions : List FunctionCode) (natives : List Steps) → Begins L.made L.meaning labels.new tables inputs set functions natives natives stack.old stack.new world.old world.new next.Return result }
+    ensures standing { IfOk result (StandsStill L.made L.meaning labels.new (waiting stack.old.tasks) stack.new world.new) }
     ensures lowers { IfOk result (Lowers stack.old next.Return stack.new) }
     ensures stopped { IfErr result (IfStop (HasStop (L.made labels.new))) }
     ensures grows { Grows world.old world.new }
@@ -544,9 +530,9 @@ fn begin_label<'p, L: Labels>(
     text: &'p Text,
     s: &'p Stmt,
 ) -> Result<Next<'p>, FlowFault<L::Label>>
-    requires standing { Standing L.made L.meaning labels.old stack.old world.old 0 (scopes_of stack.old.tasks) (next.Labelled text s) }
-    ensures begins { (tables : Tables) (inputs : Given) (functions : List FunctionCode) → Begins L.made L.meaning labels.new tables inputs functions stack.old stack.new world.old world.new (next.Labelled text.entry s.entry) result }
-    ensures standing { IfOk result (λ n. Standing L.made L.meaning labels.new stack.new world.new (values_of n) (scopes_of stack.new.tasks) n) }
+    requires standing { Standing L.made L.meaning labels.old stack.old world.old 0 (scopes_of stack.old.tasks) (waiting stack.old.tasks) (next.Labelled text s) }
+    ensures begins { (tables : Tables) (inputs : Given) (set : BuiltIns) (functions : List FunctionCode) (natives : List Steps) → Begins L.made L.meaning labels.new tables inputs set functions natives natives stack.old stack.new world.old world.new (next.Labelled text.entry s.entry) result }
+    ensures standing { IfOk result (StandsStill L.made L.meaning labels.new (waiting stack.old.tasks) stack.new world.new) }
     ensures lowers { IfOk result (Lowers stack.old (next.Labelled text.entry s.entry) stack.new) }
     ensures stopped { IfErr result (IfStop (HasStop (L.made labels.new))) }
     ensures grows { Grows world.old world.new }
@@ -562,9 +548,9 @@ fn begin_try_of<'p, L: Labels>(
     stack: &mut Stack<'p, L::Label>,
     s: &'p Stmt,
 ) -> Result<Next<'p>, FlowFault<L::Label>>
-    requires standing { Standing L.made L.meaning labels.old stack.old world.old 0 (scopes_of stack.old.tasks) (next.Try s) }
-    ensures begins { (tables : Tables) (inputs : Given) (functions : List FunctionCode) → Begins L.made L.meaning labels.new tables inputs functions stack.old stack.new world.old world.new (next.Try s.entry) result }
-    ensures standing { IfOk result (λ n. Standing L.made L.meaning labels.new stack.new world.new (values_of n) (scopes_of stack.new.tasks) n) }
+    requires standing { Standing L.made L.meaning labels.old stack.old world.old 0 (scopes_of stack.old.tasks) (waiting stack.old.tasks) (next.Try s) }
+    ensures begins { (tables : Tables) (inputs : Given) (set : BuiltIns) (functions : List FunctionCode) (natives : List Steps) → Begins L.made L.meaning labels.new tables inputs set functions natives natives stack.old stack.new world.old world.new (next.Try s.entry) result }
+    ensures standing { IfOk result (StandsStill L.made L.meaning labels.new (waiting stack.old.tasks) stack.new world.new) }
     ensures lowers { IfOk result (Lowers stack.old (next.Try s.entry) stack.new) }
     ensures stopped { IfErr result (IfStop (HasStop (L.made labels.new))) }
     ensures grows { Grows world.old world.new }
@@ -577,8 +563,41 @@ fn begin_try_of<'p, L: Labels>(
     begin_try(labels, world, stack, s)
 }
 
-/// A value is called, makes an object, or is made of a function of the script. Any other move stays as it is.
-pub(crate) fn begin_calling<'p, L: Labels>(
+/// A value is called, makes an object, or is converted.
+pub(crate) fn begin_calling<'p, L: Labels, N: Natives>(
+    alloc: Global,
+    labels: &mut L,
+    world: &mut World<L::Label>,
+    functions: &Functions<'p>,
+    natives: &N,
+    states: &mut NativeStates<N::State>,
+    stack: &mut Stack<'p, L::Label>,
+    next: Next<'p>,
+) -> Result<Next<'p>, FlowFault<L::Label>>
+    requires calls { calls_function next ≡ true }
+    requires standing { Standing L.made L.meaning labels.old stack.old world.old (values_of next) (scopes_of stack.old.tasks) (length states.old.states) next }
+    ensures begins { (tables : Tables) (inputs : Given) → Begins L.made L.meaning labels.new tables inputs (built_ins_of (N.entries natives.now) (N.begin natives.now) (N.after natives.now) (N.asks natives.now)) (table functions.now) (waiting_steps (N.after natives.now) (N.asks natives.now) states.old) (steps_behind (N.after natives.now) (N.asks natives.now) states.new result) stack.old stack.new world.old world.new next.entry result }
+    ensures standing { IfOk result (λ move. Standing L.made L.meaning labels.new stack.new world.new (values_of move) (scopes_of stack.new.tasks) (length states.new.states) move) }
+    ensures lowers { IfOk result (λ n. Lowers stack.old next.entry stack.new n) }
+    ensures stopped { IfErr result (IfStop (HasStop (L.made labels.new))) }
+    ensures grows { Grows world.old world.new }
+    ensures kept { IsKept L.made L.meaning L.room L.firm labels.old labels.new }
+{
+    match next {
+        Next::Call(count) => call(
+            alloc, labels, world, functions, natives, states, stack, count,
+        ),
+        Next::Construct(count) => construct(
+            alloc, labels, world, functions, natives, states, stack, count,
+        ),
+        Next::Convert(hint) => convert(labels, world, stack, states, hint),
+        Next::Compare => compare(labels, world, stack, states),
+        _ => unreachable!(),
+    }
+}
+
+/// A value is made of a function of the script, or of a literal. No built-in begins.
+pub(crate) fn make_value<'p, L: Labels>(
     alloc: Global,
     labels: &mut L,
     world: &mut World<L::Label>,
@@ -586,21 +605,63 @@ pub(crate) fn begin_calling<'p, L: Labels>(
     stack: &mut Stack<'p, L::Label>,
     next: Next<'p>,
 ) -> Result<Next<'p>, FlowFault<L::Label>>
-    requires standing { Standing L.made L.meaning labels.old stack.old world.old (values_of next) (scopes_of stack.old.tasks) next }
-    ensures begins { (tables : Tables) (inputs : Given) → Begins L.made L.meaning labels.new tables inputs (table functions.now) stack.old stack.new world.old world.new next.entry result }
-    ensures standing { IfOk result (λ n. Standing L.made L.meaning labels.new stack.new world.new (values_of n) (scopes_of stack.new.tasks) n) }
-    ensures lowers { calls_function next.entry ≡ true → IfOk result (λ n. Lowers stack.old next.entry stack.new n) }
+    requires makes { makes_value next ≡ true }
+    requires standing { Standing L.made L.meaning labels.old stack.old world.old (values_of next) (scopes_of stack.old.tasks) (waiting stack.old.tasks) next }
+    ensures begins { (tables : Tables) (inputs : Given) (set : BuiltIns) (natives : List Steps) → Begins L.made L.meaning labels.new tables inputs set (table functions.now) natives natives stack.old stack.new world.old world.new next.entry result }
+    ensures standing { IfOk result (StandsStill L.made L.meaning labels.new (waiting stack.old.tasks) stack.new world.new) }
+    ensures lowers { IfOk result (λ n. Lowers stack.old next.entry stack.new n) }
     ensures stopped { IfErr result (IfStop (HasStop (L.made labels.new))) }
     ensures grows { Grows world.old world.new }
     ensures kept { IsKept L.made L.meaning L.room L.firm labels.old labels.new }
 {
     match next {
-        Next::Call(count) => call(alloc, labels, world, functions, stack, count),
-        Next::Construct(count) => construct(alloc, labels, world, functions, stack, count),
-        Next::Function(f) => {
-            let place = present(world, stack)?;
-            function(alloc, labels, world, functions, stack, place, f)
+        Next::Function(f) => begin_function(alloc, labels, world, functions, stack, f),
+        Next::Object(list, count) => {
+            begin_object(alloc, labels, world, functions, stack, list, count)
         }
-        other => Ok(other),
+        _ => unreachable!(),
     }
+}
+
+/// A function of the script comes to a value.
+fn begin_function<'p, L: Labels>(
+    alloc: Global,
+    labels: &mut L,
+    world: &mut World<L::Label>,
+    functions: &Functions<'p>,
+    stack: &mut Stack<'p, L::Label>,
+    f: &'p Function,
+) -> Result<Next<'p>, FlowFault<L::Label>>
+    requires standing { Standing L.made L.meaning labels.old stack.old world.old 0 (scopes_of stack.old.tasks) (waiting stack.old.tasks) (next.Function f) }
+    ensures begins { (tables : Tables) (inputs : Given) (set : BuiltIns) (natives : List Steps) → Begins L.made L.meaning labels.new tables inputs set (table functions.now) natives natives stack.old stack.new world.old world.new (next.Function f.entry) result }
+    ensures standing { IfOk result (StandsStill L.made L.meaning labels.new (waiting stack.old.tasks) stack.new world.new) }
+    ensures lowers { IfOk result (λ n. Lowers stack.old (next.Function f.entry) stack.new n) }
+    ensures stopped { IfErr result (IfStop (HasStop (L.made labels.new))) }
+    ensures grows { Grows world.old world.new }
+    ensures kept { IsKept L.made L.meaning L.room L.firm labels.old labels.new }
+{
+    let place = present(world, stack)?;
+    function(alloc, labels, world, functions, stack, place, f)
+}
+
+/// An object of a literal.
+fn begin_object<'p, L: Labels>(
+    alloc: Global,
+    labels: &mut L,
+    world: &mut World<L::Label>,
+    functions: &Functions<'p>,
+    stack: &mut Stack<'p, L::Label>,
+    list: &'p PropertyList,
+    count: u32,
+) -> Result<Next<'p>, FlowFault<L::Label>>
+    requires standing { Standing L.made L.meaning labels.old stack.old world.old count (scopes_of stack.old.tasks) (waiting stack.old.tasks) (next.Object list count) }
+    ensures begins { (tables : Tables) (inputs : Given) (set : BuiltIns) (natives : List Steps) → Begins L.made L.meaning labels.new tables inputs set (table functions.now) natives natives stack.old stack.new world.old world.new (next.Object list.entry count) result }
+    ensures standing { IfOk result (StandsStill L.made L.meaning labels.new (waiting stack.old.tasks) stack.new world.new) }
+    ensures lowers { IfOk result (λ n. Lowers stack.old (next.Object list.entry count) stack.new n) }
+    ensures stopped { IfErr result (IfStop (HasStop (L.made labels.new))) }
+    ensures grows { Grows world.old world.new }
+    ensures kept { IsKept L.made L.meaning L.room L.firm labels.old labels.new }
+{
+    let place = present(world, stack)?;
+    object(alloc, labels, world, functions, stack, place, list, count)
 }

@@ -4,12 +4,15 @@
 mod beginning;
 mod entering;
 mod laws;
+mod leaving;
 mod machine;
 mod passing;
 mod progress;
+mod requesting;
 mod resuming;
 mod stepping;
 mod steps;
+mod telling;
 
 pub use laws::only_adds;
 pub use machine::Machine;

@@ -7,10 +7,13 @@ ghost use Rattle.flow_policy.specs.Inputs.{IsGivenTo};
 ghost use Rattle.js_ast.specs.IsMarked.{IsMarked};
 ghost use Rattle.js_ast.specs.Views.{view_program};
 ghost use Rattle.js_values.specs.Readings.{IsReading};
+ghost use Rattle.native_protocol.specs.declared.request.Answer.{Answer};
+ghost use Rattle.native_protocol.specs.declared.request.Request.{Request};
+ghost use Rattle.es_meaning.specs.BuiltIns.{BuiltIns, built_ins_of};
 ghost use Rattle.flow_meaning.specs.Laws.{performed_run};
 ghost use Rattle.flow_meaning.specs.Scopes.{LabelledLine};
 ghost use Rattle.flow_meaning.specs.Tracked.{tracked_run};
-ghost use Rattle.step_calls.specs.Calling.{IsPrinted};
+ghost use Rattle.step_requests.specs.Doing.{IsPrinted};
 ghost use Rattle.step_work.specs.Stops.{HasStop};
 ghost use Rattle.step_core.specs.Machines.{Comes, IfOn, IfPrinted, IfStopped, IsMoved, IsReserved, Runs, ahead, comes_to};
 
@@ -22,43 +25,45 @@ use flow_policy::{Inputs, Policy};
 use flow_text::OutOfMemory;
 use function_table::Functions;
 use js_ast::Program;
+use native_protocol::Natives;
 use origin_labels::Labels;
 use std::alloc::Global;
 use step_work::Next;
 
-/// A run in its middle. It goes on step by step, and holds no store of labels.
+/// A run in its middle. It goes on step by step, and holds no store of labels and no set of built-ins: those are the same at each step.
 #[derive(Drop)]
-pub struct Machine<'p, T> {
+pub struct Machine<'p, T, S> {
     pub alloc: Global,
     pub policy: &'p Policy,
     pub inputs: &'p Inputs,
     /// Those of the program.
     pub functions: Functions<'p>,
-    pub progress: Progress<'p, T>,
+    pub progress: Progress<'p, T, S>,
     /// What it does next.
     pub next: Next<'p>,
 }
 
-impl<'p, T: Copy> Machine<'p, T> {
+impl<'p, T: Copy, S: Drop> Machine<'p, T, S> {
     /// A machine in front of a program.
-    pub fn new<L: Labels<Label = T>>(
+    pub fn new<L: Labels<Label = T>, N: Natives<State = S>>(
         alloc: Global,
+        natives: &N,
         program: &'p Program,
         policy: &'p Policy,
         inputs: &'p Inputs,
         turns: u64,
         labels: &mut L,
-    ) -> Result<Machine<'p, T>, OutOfMemory>
+    ) -> Result<Machine<'p, T, S>, OutOfMemory>
         requires marked { IsMarked program.now }
         requires room { length policy.now.origins ≤ L.room labels.old }
         requires given { IsGivenTo policy.now inputs.now }
-        ensures starts { IfOk result (λ m. (reading : T → Label) → IsReading L.made L.meaning labels.new reading → performed_run (comes_to reading m []) ≡ tracked_run policy.entry.now inputs.entry.now (view_program program.entry.now) turns) }
+        ensures starts { IfOk result (λ m. (reading : T → Label) → IsReading L.made L.meaning labels.new reading → performed_run (comes_to (built_ins_of (N.entries natives.now) (N.begin natives.now) (N.after natives.now) (N.asks natives.now)) (N.after natives.now) (N.asks natives.now) reading m []) ≡ tracked_run (built_ins_of (N.entries natives.now) (N.begin natives.now) (N.after natives.now) (N.asks natives.now)) policy.entry.now inputs.entry.now (view_program program.entry.now) turns) }
         ensures runs { IfOk result (Runs L.made L.meaning L.room labels.new) }
         ensures policy { IfOk result (λ m. m.policy.now ≡ policy.entry.now) }
         ensures kept { IsKept L.made L.meaning L.room L.firm labels.old labels.new }
     {
         let functions = Functions::of(alloc, program)?;
-        let (progress, next) = begin(alloc, labels, program, &functions, policy, turns)?;
+        let (progress, next) = begin(alloc, labels, natives, program, &functions, policy, turns)?;
         Ok(Machine {
             alloc,
             policy,
@@ -73,7 +78,7 @@ impl<'p, T: Copy> Machine<'p, T> {
     /// machine sees a change.
     pub fn reserve(&mut self) -> Result<(), OutOfMemory>
         ensures reserved { IsReserved self.old self.new }
-        ensures comes { (reading : T → Label) (told : List LabelledLine) → comes_to reading self.new told ≡ comes_to reading self.old told }
+        ensures comes { (set : BuiltIns) (tells : S → Answer → S) (asks : S → Request) (reading : T → Label) (told : List LabelledLine) → comes_to set tells asks reading self.new told ≡ comes_to set tells asks reading self.old told }
         ensures ahead { ahead self.new ≡ ahead self.old }
         ensures spare { OnOk result (1 ≤ self.new.progress.world.frames.spare) }
         ensures unchanged { OnErr result (self.new ≡ self.old) }
@@ -84,9 +89,13 @@ impl<'p, T: Copy> Machine<'p, T> {
     }
 
     /// Does what is next, where no earlier step ended the run. Want of memory ends it, whatever is left of the machine.
-    pub fn step<L: Labels<Label = T>>(&mut self, labels: &mut L) -> Result<Step<T>, OutOfMemory>
+    pub fn step<L: Labels<Label = T>, N: Natives<State = S>>(
+        &mut self,
+        labels: &mut L,
+        natives: &N,
+    ) -> Result<Step<T>, OutOfMemory>
         requires runs { Runs L.made L.meaning L.room labels.old self.old }
-        ensures comes { IfOk result (λ s. (reading : T → Label) (told : List LabelledLine) → IsReading L.made L.meaning labels.new reading → Comes reading self.new told (comes_to reading self.old told) s) }
+        ensures comes { IfOk result (λ s. (reading : T → Label) (told : List LabelledLine) → IsReading L.made L.meaning labels.new reading → Comes (built_ins_of (N.entries natives.now) (N.begin natives.now) (N.after natives.now) (N.asks natives.now)) (N.after natives.now) (N.asks natives.now) reading self.new told (comes_to (built_ins_of (N.entries natives.now) (N.begin natives.now) (N.after natives.now) (N.asks natives.now)) (N.after natives.now) (N.asks natives.now) reading self.old told) s) }
         ensures runs { IfOk result (IfOn (Runs L.made L.meaning L.room labels.new self.new)) }
         ensures lowers { IfOk result (IfOn (ahead self.new < ahead self.old)) }
         ensures printed { IfOk result (IfPrinted (IsPrinted (L.made labels.new) (length self.old.policy.now.outputs))) }
@@ -98,6 +107,7 @@ impl<'p, T: Copy> Machine<'p, T> {
         let came = stepped(
             self.alloc,
             labels,
+            natives,
             self.policy,
             self.inputs,
             &self.functions,

@@ -8,13 +8,16 @@ ghost use Rattle.flow_frames.specs.Stops.{IfStop};
 ghost use Rattle.flow_policy.specs.Policies.{Tables};
 ghost use Rattle.flow_policy.specs.Inputs.{Given};
 ghost use Rattle.js_ast.specs.Functions.{FunctionCode};
+ghost use Rattle.native_protocol.specs.Steps.{Steps};
+ghost use Rattle.es_meaning.specs.BuiltIns.{BuiltIns};
 ghost use Rattle.js_ast.specs.declared.trees.Stmt.{Stmt};
 ghost use Rattle.js_values.specs.declared.value.Labelled.{Labelled};
 ghost use Rattle.step_world.specs.Worlds.{Grows};
 ghost use Rattle.step_work.specs.declared.work.Work.TheVariants as work;
 ghost use Rattle.step_work.specs.declared.work.Next.TheVariants as next;
 ghost use Rattle.step_work.specs.Going.{Passes};
-ghost use Rattle.step_work.specs.Kept.{may_stay, scope_of, scopes_of};
+ghost use Rattle.step_core.specs.Going.{StandsStill};
+ghost use Rattle.step_work.specs.Kept.{may_stay, scope_of, scopes_of, waiting};
 ghost use Rattle.step_work.specs.Loads.{Adds, weight};
 ghost use Rattle.step_work.specs.Pending.{owns, values_of};
 ghost use Rattle.step_work.specs.Standing.{Standing};
@@ -38,10 +41,10 @@ pub(crate) fn pass_work<'p, L: Labels>(
     jump: Jump,
     work: Work<'p>,
 ) -> Result<Next<'p>, FlowFault<L::Label>>
-    requires standing { Standing L.made L.meaning labels.old stack.old world.old (owns work + 1) (scopes_of stack.old.tasks ++ scope_of work) (next.Jumps jump) }
-    ensures passes { (tables : Tables) (inputs : Given) (functions : List FunctionCode) (value : Labelled L.Label) → drop (owns work.entry) stack.old.loose ≡ value ∷ [] → Passes L.made L.meaning labels.new tables inputs functions jump work.entry value stack.old stack.new world.old world.new result }
-    ensures standing { IfOk result (λ move. Standing L.made L.meaning labels.new stack.new world.new (values_of move) (scopes_of stack.new.tasks) move) }
-    ensures adds { IfOk result (Adds (weight work.entry) stack.old stack.new) }
+    requires standing { Standing L.made L.meaning labels.old stack.old world.old (owns work + 1) (scopes_of stack.old.tasks ++ scope_of work) (waiting stack.old.tasks) (next.Jumps jump) }
+    ensures passes { (tables : Tables) (inputs : Given) (set : BuiltIns) (functions : List FunctionCode) (natives : List Steps) (value : Labelled L.Label) → drop (owns work.entry) stack.old.loose ≡ value ∷ [] → Passes L.made L.meaning labels.new tables inputs set functions jump work.entry value natives natives stack.old stack.new world.old world.new result }
+    ensures standing { IfOk result (StandsStill L.made L.meaning labels.new (waiting stack.old.tasks) stack.new world.new) }
+    ensures adds { IfOk result (Adds (weight work.entry + 3) stack.old stack.new) }
     ensures stopped { IfErr result (IfStop (HasStop (L.made labels.new))) }
     ensures grows { Grows world.old world.new }
     ensures kept { IsKept L.made L.meaning L.room L.firm labels.old labels.new }
@@ -60,19 +63,19 @@ pub(crate) fn pass_work<'p, L: Labels>(
 }
 
 /// It passes work without a frame of its own.
-fn pass_by<'p, L: Labels>(
+pub(crate) fn pass_by<'p, L: Labels>(
     _labels: &L,
     _world: &World<L::Label>,
     stack: &mut Stack<'p, L::Label>,
     jump: Jump,
     work: Work<'p>,
 ) -> Result<Next<'p>, FlowFault<L::Label>>
-    requires standing { Standing L.made L.meaning _labels.now stack.old _world.now (owns work + 1) (scopes_of stack.old.tasks ++ scope_of work) (next.Jumps jump) }
+    requires standing { Standing L.made L.meaning _labels.now stack.old _world.now (owns work + 1) (scopes_of stack.old.tasks ++ scope_of work) (waiting stack.old.tasks) (next.Jumps jump) }
     requires scope { scope_of work ≡ [] }
     requires passes { may_stay work ≡ false }
-    ensures passes { (tables : Tables) (inputs : Given) (functions : List FunctionCode) (value : Labelled L.Label) → drop (owns work.entry) stack.old.loose ≡ value ∷ [] → Passes L.made L.meaning _labels.now tables inputs functions jump work.entry value stack.old stack.new _world.now _world.now result }
-    ensures standing { IfOk result (λ move. Standing L.made L.meaning _labels.now stack.new _world.now (values_of move) (scopes_of stack.new.tasks) move) }
-    ensures adds { IfOk result (Adds (weight work.entry) stack.old stack.new) }
+    ensures passes { (tables : Tables) (inputs : Given) (set : BuiltIns) (functions : List FunctionCode) (natives : List Steps) (value : Labelled L.Label) → drop (owns work.entry) stack.old.loose ≡ value ∷ [] → Passes L.made L.meaning _labels.now tables inputs set functions jump work.entry value natives natives stack.old stack.new _world.now _world.now result }
+    ensures standing { IfOk result (StandsStill L.made L.meaning _labels.now (waiting stack.old.tasks) stack.new _world.now) }
+    ensures adds { IfOk result (Adds (weight work.entry + 3) stack.old stack.new) }
     ensures stopped { IfErr result (IfStop (HasStop (L.made _labels.now))) }
 {
     let next = pass(stack, jump, work)?;
@@ -88,10 +91,10 @@ fn end_branch_by<'p, L: Labels>(
     gives: bool,
     depth: usize,
 ) -> Result<Next<'p>, FlowFault<L::Label>>
-    requires standing { Standing L.made L.meaning labels.now stack.old world.old 1 (scopes_of stack.old.tasks ++ depth ∷ []) (next.Jumps jump) }
-    ensures passes { (tables : Tables) (inputs : Given) (functions : List FunctionCode) (value : Labelled L.Label) → stack.old.loose ≡ value ∷ [] → Passes L.made L.meaning labels.now tables inputs functions jump (work.EndBranch gives depth) value stack.old stack.new world.old world.new result }
-    ensures standing { IfOk result (λ move. Standing L.made L.meaning labels.now stack.new world.new (values_of move) (scopes_of stack.new.tasks) move) }
-    ensures adds { IfOk result (Adds 1 stack.old stack.new) }
+    requires standing { Standing L.made L.meaning labels.now stack.old world.old 1 (scopes_of stack.old.tasks ++ depth ∷ []) (waiting stack.old.tasks) (next.Jumps jump) }
+    ensures passes { (tables : Tables) (inputs : Given) (set : BuiltIns) (functions : List FunctionCode) (natives : List Steps) (value : Labelled L.Label) → stack.old.loose ≡ value ∷ [] → Passes L.made L.meaning labels.now tables inputs set functions jump (work.EndBranch gives depth) value natives natives stack.old stack.new world.old world.new result }
+    ensures standing { IfOk result (StandsStill L.made L.meaning labels.now (waiting stack.old.tasks) stack.new world.new) }
+    ensures adds { IfOk result (Adds 4 stack.old stack.new) }
     ensures stopped { IfErr result (IfStop (HasStop (L.made labels.now))) }
     ensures grows { Grows world.old world.new }
 {
@@ -108,12 +111,12 @@ fn end_round_by<'p, L: Labels>(
     jump: Jump,
     depth: usize,
 ) -> Next<'p>
-    requires standing { Standing L.made L.meaning labels.now stack.old world.old 1 (scopes_of stack.old.tasks ++ depth ∷ []) (next.Jumps jump) }
-    ensures round { (tables : Tables) (inputs : Given) (functions : List FunctionCode) (value : Labelled L.Label) → stack.old.loose ≡ value ∷ [] → (turn : Bool) (of : Bor Stmt) → Passes L.made L.meaning labels.now tables inputs functions jump (work.EndRound turn depth of) value stack.old stack.new world.old world.new (Ok result) }
-    ensures label { (tables : Tables) (inputs : Given) (functions : List FunctionCode) (value : Labelled L.Label) → stack.old.loose ≡ value ∷ [] → (text : Bor (List ℕ)) → Passes L.made L.meaning labels.now tables inputs functions jump (work.EndLabel depth text) value stack.old stack.new world.old world.new (Ok result) }
-    ensures tried { (tables : Tables) (inputs : Given) (functions : List FunctionCode) (value : Labelled L.Label) → stack.old.loose ≡ value ∷ [] → Passes L.made L.meaning labels.now tables inputs functions jump (work.EndTry depth) value stack.old stack.new world.old world.new (Ok result) }
-    ensures standing { Standing L.made L.meaning labels.now stack.new world.new (values_of result) (scopes_of stack.new.tasks) result }
-    ensures adds { Adds 1 stack.old stack.new result }
+    requires standing { Standing L.made L.meaning labels.now stack.old world.old 1 (scopes_of stack.old.tasks ++ depth ∷ []) (waiting stack.old.tasks) (next.Jumps jump) }
+    ensures round { (tables : Tables) (inputs : Given) (set : BuiltIns) (functions : List FunctionCode) (natives : List Steps) (value : Labelled L.Label) → stack.old.loose ≡ value ∷ [] → (turn : Bool) (of : Bor Stmt) → Passes L.made L.meaning labels.now tables inputs set functions jump (work.EndRound turn depth of) value natives natives stack.old stack.new world.old world.new (Ok result) }
+    ensures label { (tables : Tables) (inputs : Given) (set : BuiltIns) (functions : List FunctionCode) (natives : List Steps) (value : Labelled L.Label) → stack.old.loose ≡ value ∷ [] → (text : Bor (List ℕ)) → Passes L.made L.meaning labels.now tables inputs set functions jump (work.EndLabel depth text) value natives natives stack.old stack.new world.old world.new (Ok result) }
+    ensures tried { (tables : Tables) (inputs : Given) (set : BuiltIns) (functions : List FunctionCode) (natives : List Steps) (value : Labelled L.Label) → stack.old.loose ≡ value ∷ [] → Passes L.made L.meaning labels.now tables inputs set functions jump (work.EndTry depth) value natives natives stack.old stack.new world.old world.new (Ok result) }
+    ensures standing { StandsStill L.made L.meaning labels.now (waiting stack.old.tasks) stack.new world.new result }
+    ensures adds { Adds 4 stack.old stack.new result }
     ensures grows { Grows world.old world.new }
 {
     let next = pass_round(labels, &mut world.frames, stack, jump, depth);
@@ -131,10 +134,10 @@ fn end_block_by<'p, L: Labels>(
     s: &'p Stmt,
     depth: usize,
 ) -> Result<Next<'p>, FlowFault<L::Label>>
-    requires standing { Standing L.made L.meaning labels.old stack.old world.old 1 (scopes_of stack.old.tasks) (next.Jumps jump) }
-    ensures passes { (tables : Tables) (inputs : Given) (functions : List FunctionCode) (value : Labelled L.Label) → stack.old.loose ≡ value ∷ [] → Passes L.made L.meaning labels.new tables inputs functions jump (work.EndBlock s.entry depth) value stack.old stack.new world.old world.new result }
-    ensures standing { IfOk result (λ move. Standing L.made L.meaning labels.new stack.new world.new (values_of move) (scopes_of stack.new.tasks) move) }
-    ensures adds { IfOk result (Adds 3 stack.old stack.new) }
+    requires standing { Standing L.made L.meaning labels.old stack.old world.old 1 (scopes_of stack.old.tasks) (waiting stack.old.tasks) (next.Jumps jump) }
+    ensures passes { (tables : Tables) (inputs : Given) (set : BuiltIns) (functions : List FunctionCode) (natives : List Steps) (value : Labelled L.Label) → stack.old.loose ≡ value ∷ [] → Passes L.made L.meaning labels.new tables inputs set functions jump (work.EndBlock s.entry depth) value natives natives stack.old stack.new world.old world.new result }
+    ensures standing { IfOk result (StandsStill L.made L.meaning labels.new (waiting stack.old.tasks) stack.new world.new) }
+    ensures adds { IfOk result (Adds 6 stack.old stack.new) }
     ensures stopped { IfErr result (IfStop (HasStop (L.made labels.new))) }
     ensures grows { Grows world.old world.new }
     ensures kept { IsKept L.made L.meaning L.room L.firm labels.old labels.new }

@@ -8,65 +8,73 @@ ghost use Rattle.flow_policy.specs.Inputs.{Given, IsGivenTo};
 ghost use Rattle.js_ast.specs.Functions.{FunctionCode};
 ghost use Rattle.js_values.specs.declared.value.Labelled.{Labelled};
 ghost use Rattle.js_values.specs.Readings.{read_value};
+ghost use Rattle.native_protocol.specs.declared.request.Answer.{Answer};
+ghost use Rattle.native_protocol.specs.declared.request.Request.{Request};
+ghost use Rattle.es_meaning.specs.BuiltIns.{BuiltIns, built_ins_of};
 ghost use Rattle.flow_meaning.specs.Planned.{jumped};
 ghost use Rattle.function_table.specs.Tables.{table};
 ghost use Rattle.step_work.specs.Shapes.{jump_of};
 ghost use Rattle.step_world.specs.Worlds.{Grows};
 ghost use Rattle.step_work.specs.declared.work.Next.TheVariants as next;
 ghost use Rattle.step_work.specs.declared.work.Work.TheVariants as work;
-ghost use Rattle.step_core.specs.Continuing.{raises};
-ghost use Rattle.step_work.specs.Kept.{scope_of, scopes_of};
+ghost use Rattle.step_core.specs.Continuing.{answers, raises};
+ghost use Rattle.step_work.specs.Kept.{scope_of, scopes_of, waiting, waits};
 ghost use Rattle.step_work.specs.Loads.{weight};
 ghost use Rattle.step_work.specs.Pending.{owns, values_of};
 ghost use Rattle.step_core.specs.Outlook.{ahead, outlook};
 ghost use Rattle.step_work.specs.Standing.{Standing, given};
-ghost use Rattle.step_core.specs.Stepping.{begins_work, calls_function};
-ghost use Rattle.step_core.specs.Stepping.{Stepped, handed, completion_above, enters_part, outlook_after};
+ghost use Rattle.step_core.specs.Stepping.{Stepped, StandsBefore, begins_work, calls_function, makes_value, handed, completion_above, enters_part, outlook_after};
 
-use crate::entering::{begin_calling, begin_move, enter, present};
+use crate::entering::{begin_calling, begin_move, enter, make_value, present};
+use crate::leaving::leave;
 use crate::passing::pass_work;
 use crate::progress::Progress;
+use crate::requesting::request_next;
 use crate::resuming::{raise_on, resume};
-use crate::steps::{Advance, Ending, line_step, step_of};
-use flow_frames::FlowFault;
+use crate::steps::{Advance, Ending, step_of, still_step};
+use crate::telling::{abandon, tell};
 use flow_policy::{Inputs, Policy};
 use flow_text::OutOfMemory;
 use function_table::Functions;
 use js_ast::{Expr, ExprKind, Stmt};
+use native_protocol::Natives;
 use origin_labels::Labels;
 use std::alloc::Global;
-use step_calls::call;
 use step_numbers::{assign, evaluate, finish};
-use step_work::{Direct, Jump, Next, Work};
+use step_work::{Jump, Next, Work};
 
 /// Does what is next. Want of memory ends the run, whatever is left of it.
-pub(crate) fn stepped<'p, L: Labels>(
+pub(crate) fn stepped<'p, L: Labels, N: Natives>(
     alloc: Global,
     labels: &mut L,
+    natives: &N,
     policy: &Policy,
     inputs: &Inputs,
     functions: &Functions<'p>,
-    progress: &mut Progress<'p, L::Label>,
+    progress: &mut Progress<'p, L::Label, N::State>,
     next: Next<'p>,
 ) -> Result<Advance<'p, L::Label>, OutOfMemory>
-    requires standing { Standing L.made L.meaning labels.old progress.old.stack progress.old.world (values_of next) (scopes_of progress.old.stack.tasks) next }
+    requires standing { StandsBefore L.made L.meaning labels.old progress.old next }
     requires room { length policy.now.origins ≤ L.room labels.old }
     requires given { IsGivenTo policy.now inputs.now }
     requires positions { length progress.old.world.positions.items ≡ length policy.now.inputs }
-    ensures stepped { IfOk result (Stepped L.made L.meaning labels.new policy.now inputs.now (table functions.now) (λ reading. outlook policy.now inputs.now (table functions.now) reading progress.old next.entry) (ahead progress.old next.entry) progress.new) }
+    ensures stepped { IfOk result (Stepped L.made L.meaning labels.new policy.now inputs.now (built_ins_of (N.entries natives.now) (N.begin natives.now) (N.after natives.now) (N.asks natives.now)) (table functions.now) (N.after natives.now) (N.asks natives.now) (λ reading. outlook policy.now inputs.now (built_ins_of (N.entries natives.now) (N.begin natives.now) (N.after natives.now) (N.asks natives.now)) (table functions.now) (N.after natives.now) (N.asks natives.now) reading progress.old next.entry) (ahead progress.old next.entry) progress.new) }
     ensures grows { Grows progress.old.world progress.new.world }
     ensures kept { IsKept L.made L.meaning L.room L.firm labels.old labels.new }
 {
     match next {
-        Next::Leave(why) => Ok(Advance::Ends(Ending::Left(why))),
+        Next::Leave(why) => leave(labels, progress, why),
         Next::Value => go_on(alloc, labels, policy, progress, true),
         Next::Done => go_on(alloc, labels, policy, progress, false),
         Next::Jumps(jump) => jump_on(alloc, labels, progress, jump),
-        Next::Direct(function, count) => {
-            call_function(alloc, labels, policy, inputs, progress, function, count)
+        Next::Request(count) => {
+            request_next(alloc, labels, natives, policy, inputs, progress, count)
         }
-        Next::Call(_) | Next::Construct(_) | Next::Function(_) => {
-            begin_call(alloc, labels, functions, progress, next)
+        Next::Call(_) | Next::Construct(_) | Next::Convert(_) | Next::Compare => begin_call(
+            alloc, labels, natives, functions, progress, next,
+        ),
+        Next::Function(_) | Next::Object(_, _) => {
+            begin_making(alloc, labels, functions, progress, next)
         }
         Next::Expr(e) => begin_expr(alloc, labels, progress, e),
         Next::Stmt(s) => begin_stmt(alloc, labels, progress, s),
@@ -79,7 +87,6 @@ pub(crate) fn stepped<'p, L: Labels>(
         | Next::Text(_)
         | Next::Name(_)
         | Next::This
-        | Next::Object(_, _)
         | Next::GiveVariable(_)
         | Next::Keys(_)
         | Next::Visits(_, _)
@@ -94,16 +101,16 @@ pub(crate) fn stepped<'p, L: Labels>(
 }
 
 // A part gave a value or came to its end: the work goes on that waited for it, and without any the run is done.
-fn go_on<'p, L: Labels>(
+fn go_on<'p, L: Labels, S: Drop>(
     alloc: Global,
     labels: &mut L,
     policy: &Policy,
-    progress: &mut Progress<'p, L::Label>,
+    progress: &mut Progress<'p, L::Label, S>,
     gave: bool,
 ) -> Result<Advance<'p, L::Label>, OutOfMemory>
-    requires standing { Standing L.made L.meaning labels.old progress.old.stack progress.old.world (given gave) (scopes_of progress.old.stack.tasks) (handed gave) }
+    requires standing { StandsBefore L.made L.meaning labels.old progress.old (handed gave) }
     requires room { length policy.now.origins ≤ L.room labels.old }
-    ensures stepped { (inputs : Given) (functions : List FunctionCode) → IfOk result (Stepped L.made L.meaning labels.new policy.now inputs functions (λ reading. outlook policy.now inputs functions reading progress.old (handed gave)) (ahead progress.old (handed gave)) progress.new) }
+    ensures stepped { (inputs : Given) (set : BuiltIns) (functions : List FunctionCode) (tells : S → Answer → S) (asks : S → Request) → IfOk result (Stepped L.made L.meaning labels.new policy.now inputs set functions tells asks (λ reading. outlook policy.now inputs set functions tells asks reading progress.old (handed gave)) (ahead progress.old (handed gave)) progress.new) }
     ensures grows { Grows progress.old.world progress.new.world }
     ensures kept { IsKept L.made L.meaning L.room L.firm labels.old labels.new }
 {
@@ -114,76 +121,81 @@ fn go_on<'p, L: Labels>(
 }
 
 // Work that was taken goes on, or is a directive.
-fn proceed<'p, L: Labels>(
+fn proceed<'p, L: Labels, S: Drop>(
     alloc: Global,
     labels: &mut L,
     policy: &Policy,
-    progress: &mut Progress<'p, L::Label>,
+    progress: &mut Progress<'p, L::Label, S>,
     work: Work<'p>,
     gave: bool,
 ) -> Result<Advance<'p, L::Label>, OutOfMemory>
-    requires standing { Standing L.made L.meaning labels.old progress.old.stack progress.old.world (owns work + given gave) (scopes_of progress.old.stack.tasks ++ scope_of work) next.Value }
+    requires standing { Standing L.made L.meaning labels.old progress.old.stack progress.old.world (owns work + given gave) (scopes_of progress.old.stack.tasks ++ scope_of work) (waiting progress.old.stack.tasks) next.Value }
+    requires natives { length progress.old.natives.states ≡ waiting progress.old.stack.tasks + waits work }
     requires room { length policy.now.origins ≤ L.room labels.old }
-    ensures stepped { (inputs : Given) (functions : List FunctionCode) → IfOk result (Stepped L.made L.meaning labels.new policy.now inputs functions (λ reading. outlook_after policy.now inputs functions reading progress.old work.entry (completion_above policy.now inputs functions reading progress.old work.entry)) (ahead progress.old next.Value + weight work.entry) progress.new) }
+    ensures stepped { (inputs : Given) (set : BuiltIns) (functions : List FunctionCode) (tells : S → Answer → S) (asks : S → Request) → IfOk result (Stepped L.made L.meaning labels.new policy.now inputs set functions tells asks (λ reading. outlook_after policy.now inputs set functions tells asks reading progress.old work.entry (completion_above policy.now inputs set functions tells asks reading progress.old work.entry)) (ahead progress.old next.Value + weight work.entry) progress.new) }
     ensures grows { Grows progress.old.world progress.new.world }
     ensures kept { IsKept L.made L.meaning L.room L.firm labels.old labels.new }
 {
     match work {
         Work::Raise(e) => raised(alloc, labels, policy, progress, e, gave),
+        Work::Answered(count, to) => tell(labels, progress, count, to, gave),
         other => resumed(alloc, labels, progress, other, gave),
     }
 }
 
 // A directive is obeyed.
-fn raised<'p, L: Labels>(
+fn raised<'p, L: Labels, S: Drop>(
     alloc: Global,
     labels: &mut L,
     policy: &Policy,
-    progress: &mut Progress<'p, L::Label>,
+    progress: &mut Progress<'p, L::Label, S>,
     e: &'p Expr,
     gave: bool,
 ) -> Result<Advance<'p, L::Label>, OutOfMemory>
-    requires standing { Standing L.made L.meaning labels.old progress.old.stack progress.old.world (given gave) (scopes_of progress.old.stack.tasks) next.Value }
+    requires standing { Standing L.made L.meaning labels.old progress.old.stack progress.old.world (given gave) (scopes_of progress.old.stack.tasks) (waiting progress.old.stack.tasks) next.Value }
+    requires natives { length progress.old.natives.states ≡ waiting progress.old.stack.tasks }
     requires room { length policy.now.origins ≤ L.room labels.old }
-    ensures stepped { (inputs : Given) (functions : List FunctionCode) → IfOk result (Stepped L.made L.meaning labels.new policy.now inputs functions (λ reading. outlook_after policy.now inputs functions reading progress.old (work.Raise e.entry) (completion_above policy.now inputs functions reading progress.old (work.Raise e.entry))) (ahead progress.old next.Value + 1) progress.new) }
+    ensures stepped { (inputs : Given) (set : BuiltIns) (functions : List FunctionCode) (tells : S → Answer → S) (asks : S → Request) → IfOk result (Stepped L.made L.meaning labels.new policy.now inputs set functions tells asks (λ reading. outlook_after policy.now inputs set functions tells asks reading progress.old (work.Raise e.entry) (completion_above policy.now inputs set functions tells asks reading progress.old (work.Raise e.entry))) (ahead progress.old next.Value + 1) progress.new) }
     ensures grows { Grows progress.old.world progress.new.world }
     ensures kept { IsKept L.made L.meaning L.room L.firm labels.old labels.new }
 {
     let world = &mut progress.world;
     let stack = &mut progress.stack;
     let moved = raise_on(alloc, labels, policy, world, stack, e, gave);
-    step_of(moved)
+    still_step(moved)
 }
 
 // Work that was taken goes on.
-fn resumed<'p, L: Labels>(
+fn resumed<'p, L: Labels, S: Drop>(
     alloc: Global,
     labels: &mut L,
-    progress: &mut Progress<'p, L::Label>,
+    progress: &mut Progress<'p, L::Label, S>,
     work: Work<'p>,
     gave: bool,
 ) -> Result<Advance<'p, L::Label>, OutOfMemory>
     requires obeys { raises work ≡ false }
-    requires standing { Standing L.made L.meaning labels.old progress.old.stack progress.old.world (owns work + given gave) (scopes_of progress.old.stack.tasks ++ scope_of work) next.Value }
-    ensures stepped { (tables : Tables) (inputs : Given) (functions : List FunctionCode) → IfOk result (Stepped L.made L.meaning labels.new tables inputs functions (λ reading. outlook_after tables inputs functions reading progress.old work.entry (completion_above tables inputs functions reading progress.old work.entry)) (ahead progress.old next.Value + weight work.entry) progress.new) }
+    requires asks { answers work ≡ false }
+    requires standing { Standing L.made L.meaning labels.old progress.old.stack progress.old.world (owns work + given gave) (scopes_of progress.old.stack.tasks ++ scope_of work) (waiting progress.old.stack.tasks) next.Value }
+    requires natives { length progress.old.natives.states ≡ waiting progress.old.stack.tasks }
+    ensures stepped { (tables : Tables) (inputs : Given) (set : BuiltIns) (functions : List FunctionCode) (tells : S → Answer → S) (asks : S → Request) → IfOk result (Stepped L.made L.meaning labels.new tables inputs set functions tells asks (λ reading. outlook_after tables inputs set functions tells asks reading progress.old work.entry (completion_above tables inputs set functions tells asks reading progress.old work.entry)) (ahead progress.old next.Value + weight work.entry) progress.new) }
     ensures grows { Grows progress.old.world progress.new.world }
     ensures kept { IsKept L.made L.meaning L.room L.firm labels.old labels.new }
 {
     let world = &mut progress.world;
     let stack = &mut progress.stack;
     let moved = resume(alloc, labels, world, stack, work, gave);
-    step_of(moved)
+    still_step(moved)
 }
 
 // A jump passes the work that waits next, or leaves the script where none waits.
-fn jump_on<'p, L: Labels>(
+fn jump_on<'p, L: Labels, S: Drop>(
     alloc: Global,
     labels: &mut L,
-    progress: &mut Progress<'p, L::Label>,
+    progress: &mut Progress<'p, L::Label, S>,
     jump: Jump,
 ) -> Result<Advance<'p, L::Label>, OutOfMemory>
-    requires standing { Standing L.made L.meaning labels.old progress.old.stack progress.old.world 1 (scopes_of progress.old.stack.tasks) (next.Jumps jump) }
-    ensures stepped { (tables : Tables) (inputs : Given) (functions : List FunctionCode) → IfOk result (Stepped L.made L.meaning labels.new tables inputs functions (λ reading. outlook tables inputs functions reading progress.old (next.Jumps jump)) (ahead progress.old (next.Jumps jump)) progress.new) }
+    requires standing { StandsBefore L.made L.meaning labels.old progress.old (next.Jumps jump) }
+    ensures stepped { (tables : Tables) (inputs : Given) (set : BuiltIns) (functions : List FunctionCode) (tells : S → Answer → S) (asks : S → Request) → IfOk result (Stepped L.made L.meaning labels.new tables inputs set functions tells asks (λ reading. outlook tables inputs set functions tells asks reading progress.old (next.Jumps jump)) (ahead progress.old (next.Jumps jump)) progress.new) }
     ensures grows { Grows progress.old.world progress.new.world }
     ensures kept { IsKept L.made L.meaning L.room L.firm labels.old labels.new }
 {
@@ -194,15 +206,37 @@ fn jump_on<'p, L: Labels>(
 }
 
 // A jump passes work that was taken.
-fn passed<'p, L: Labels>(
+fn passed<'p, L: Labels, S: Drop>(
     alloc: Global,
     labels: &mut L,
-    progress: &mut Progress<'p, L::Label>,
+    progress: &mut Progress<'p, L::Label, S>,
     jump: Jump,
     work: Work<'p>,
 ) -> Result<Advance<'p, L::Label>, OutOfMemory>
-    requires standing { Standing L.made L.meaning labels.old progress.old.stack progress.old.world (owns work + 1) (scopes_of progress.old.stack.tasks ++ scope_of work) (next.Jumps jump) }
-    ensures stepped { (tables : Tables) (inputs : Given) (functions : List FunctionCode) (value : Labelled L.Label) → drop (owns work.entry) progress.old.stack.loose ≡ value ∷ [] → IfOk result (Stepped L.made L.meaning labels.new tables inputs functions (λ reading. outlook_after tables inputs functions reading progress.old work.entry (jumped (jump_of jump (read_value reading value)))) (ahead progress.old (next.Jumps jump) + weight work.entry) progress.new) }
+    requires standing { Standing L.made L.meaning labels.old progress.old.stack progress.old.world (owns work + 1) (scopes_of progress.old.stack.tasks ++ scope_of work) (waiting progress.old.stack.tasks) (next.Jumps jump) }
+    requires natives { length progress.old.natives.states ≡ waiting progress.old.stack.tasks + waits work }
+    ensures stepped { (tables : Tables) (inputs : Given) (set : BuiltIns) (functions : List FunctionCode) (tells : S → Answer → S) (asks : S → Request) (value : Labelled L.Label) → drop (owns work.entry) progress.old.stack.loose ≡ value ∷ [] → IfOk result (Stepped L.made L.meaning labels.new tables inputs set functions tells asks (λ reading. outlook_after tables inputs set functions tells asks reading progress.old work.entry (jumped (jump_of jump (read_value reading value)))) (ahead progress.old (next.Jumps jump) + weight work.entry) progress.new) }
+    ensures grows { Grows progress.old.world progress.new.world }
+    ensures kept { IsKept L.made L.meaning L.room L.firm labels.old labels.new }
+{
+    match work {
+        Work::Answered(count, to) => abandon(labels, progress, jump, count, to),
+        other => pass_on(alloc, labels, progress, jump, other),
+    }
+}
+
+// A jump passes work of no built-in.
+fn pass_on<'p, L: Labels, S: Drop>(
+    alloc: Global,
+    labels: &mut L,
+    progress: &mut Progress<'p, L::Label, S>,
+    jump: Jump,
+    work: Work<'p>,
+) -> Result<Advance<'p, L::Label>, OutOfMemory>
+    requires asks { answers work ≡ false }
+    requires standing { Standing L.made L.meaning labels.old progress.old.stack progress.old.world (owns work + 1) (scopes_of progress.old.stack.tasks ++ scope_of work) (waiting progress.old.stack.tasks) (next.Jumps jump) }
+    requires natives { length progress.old.natives.states ≡ waiting progress.old.stack.tasks }
+    ensures stepped { (tables : Tables) (inputs : Given) (set : BuiltIns) (functions : List FunctionCode) (tells : S → Answer → S) (asks : S → Request) (value : Labelled L.Label) → drop (owns work.entry) progress.old.stack.loose ≡ value ∷ [] → IfOk result (Stepped L.made L.meaning labels.new tables inputs set functions tells asks (λ reading. outlook_after tables inputs set functions tells asks reading progress.old work.entry (jumped (jump_of jump (read_value reading value)))) (ahead progress.old (next.Jumps jump) + weight work.entry) progress.new) }
     ensures grows { Grows progress.old.world progress.new.world }
     ensures kept { IsKept L.made L.meaning L.room L.firm labels.old labels.new }
 {
@@ -214,18 +248,18 @@ fn passed<'p, L: Labels>(
         jump,
         work,
     );
-    step_of(moved)
+    still_step(moved)
 }
 
 // An expression is evaluated at once, or entered.
-fn begin_expr<'p, L: Labels>(
+fn begin_expr<'p, L: Labels, S: Drop>(
     alloc: Global,
     labels: &mut L,
-    progress: &mut Progress<'p, L::Label>,
+    progress: &mut Progress<'p, L::Label, S>,
     e: &'p Expr,
 ) -> Result<Advance<'p, L::Label>, OutOfMemory>
-    requires standing { Standing L.made L.meaning labels.old progress.old.stack progress.old.world 0 (scopes_of progress.old.stack.tasks) (next.Expr e) }
-    ensures stepped { (tables : Tables) (inputs : Given) (functions : List FunctionCode) → IfOk result (Stepped L.made L.meaning labels.new tables inputs functions (λ reading. outlook tables inputs functions reading progress.old (next.Expr e.entry)) (ahead progress.old (next.Expr e.entry)) progress.new) }
+    requires standing { StandsBefore L.made L.meaning labels.old progress.old (next.Expr e) }
+    ensures stepped { (tables : Tables) (inputs : Given) (set : BuiltIns) (functions : List FunctionCode) (tells : S → Answer → S) (asks : S → Request) → IfOk result (Stepped L.made L.meaning labels.new tables inputs set functions tells asks (λ reading. outlook tables inputs set functions tells asks reading progress.old (next.Expr e.entry)) (ahead progress.old (next.Expr e.entry)) progress.new) }
     ensures grows { Grows progress.old.world progress.new.world }
     ensures kept { IsKept L.made L.meaning L.room L.firm labels.old labels.new }
 {
@@ -238,14 +272,14 @@ fn begin_expr<'p, L: Labels>(
 }
 
 // An expression of names and numbers comes to its value at once, and any other is entered.
-fn begin_value<'p, L: Labels>(
+fn begin_value<'p, L: Labels, S: Drop>(
     alloc: Global,
     labels: &mut L,
-    progress: &mut Progress<'p, L::Label>,
+    progress: &mut Progress<'p, L::Label, S>,
     e: &'p Expr,
 ) -> Result<Advance<'p, L::Label>, OutOfMemory>
-    requires standing { Standing L.made L.meaning labels.old progress.old.stack progress.old.world 0 (scopes_of progress.old.stack.tasks) (next.Expr e) }
-    ensures stepped { (tables : Tables) (inputs : Given) (functions : List FunctionCode) → IfOk result (Stepped L.made L.meaning labels.new tables inputs functions (λ reading. outlook tables inputs functions reading progress.old (next.Expr e.entry)) (ahead progress.old (next.Expr e.entry)) progress.new) }
+    requires standing { StandsBefore L.made L.meaning labels.old progress.old (next.Expr e) }
+    ensures stepped { (tables : Tables) (inputs : Given) (set : BuiltIns) (functions : List FunctionCode) (tells : S → Answer → S) (asks : S → Request) → IfOk result (Stepped L.made L.meaning labels.new tables inputs set functions tells asks (λ reading. outlook tables inputs set functions tells asks reading progress.old (next.Expr e.entry)) (ahead progress.old (next.Expr e.entry)) progress.new) }
     ensures grows { Grows progress.old.world progress.new.world }
     ensures kept { IsKept L.made L.meaning L.room L.firm labels.old labels.new }
 {
@@ -259,14 +293,14 @@ fn begin_value<'p, L: Labels>(
 }
 
 // An assignment of a number to a name is done at once, and any other is entered.
-fn begin_assignment<'p, L: Labels>(
+fn begin_assignment<'p, L: Labels, S: Drop>(
     alloc: Global,
     labels: &mut L,
-    progress: &mut Progress<'p, L::Label>,
+    progress: &mut Progress<'p, L::Label, S>,
     e: &'p Expr,
 ) -> Result<Advance<'p, L::Label>, OutOfMemory>
-    requires standing { Standing L.made L.meaning labels.old progress.old.stack progress.old.world 0 (scopes_of progress.old.stack.tasks) (next.Expr e) }
-    ensures stepped { (tables : Tables) (inputs : Given) (functions : List FunctionCode) → IfOk result (Stepped L.made L.meaning labels.new tables inputs functions (λ reading. outlook tables inputs functions reading progress.old (next.Expr e.entry)) (ahead progress.old (next.Expr e.entry)) progress.new) }
+    requires standing { StandsBefore L.made L.meaning labels.old progress.old (next.Expr e) }
+    ensures stepped { (tables : Tables) (inputs : Given) (set : BuiltIns) (functions : List FunctionCode) (tells : S → Answer → S) (asks : S → Request) → IfOk result (Stepped L.made L.meaning labels.new tables inputs set functions tells asks (λ reading. outlook tables inputs set functions tells asks reading progress.old (next.Expr e.entry)) (ahead progress.old (next.Expr e.entry)) progress.new) }
     ensures grows { Grows progress.old.world progress.new.world }
     ensures kept { IsKept L.made L.meaning L.room L.firm labels.old labels.new }
 {
@@ -280,14 +314,14 @@ fn begin_assignment<'p, L: Labels>(
 }
 
 // A statement that is such an assignment is done at once, and any other is entered.
-fn begin_stmt<'p, L: Labels>(
+fn begin_stmt<'p, L: Labels, S: Drop>(
     alloc: Global,
     labels: &mut L,
-    progress: &mut Progress<'p, L::Label>,
+    progress: &mut Progress<'p, L::Label, S>,
     s: &'p Stmt,
 ) -> Result<Advance<'p, L::Label>, OutOfMemory>
-    requires standing { Standing L.made L.meaning labels.old progress.old.stack progress.old.world 0 (scopes_of progress.old.stack.tasks) (next.Stmt s) }
-    ensures stepped { (tables : Tables) (inputs : Given) (functions : List FunctionCode) → IfOk result (Stepped L.made L.meaning labels.new tables inputs functions (λ reading. outlook tables inputs functions reading progress.old (next.Stmt s.entry)) (ahead progress.old (next.Stmt s.entry)) progress.new) }
+    requires standing { StandsBefore L.made L.meaning labels.old progress.old (next.Stmt s) }
+    ensures stepped { (tables : Tables) (inputs : Given) (set : BuiltIns) (functions : List FunctionCode) (tells : S → Answer → S) (asks : S → Request) → IfOk result (Stepped L.made L.meaning labels.new tables inputs set functions tells asks (λ reading. outlook tables inputs set functions tells asks reading progress.old (next.Stmt s.entry)) (ahead progress.old (next.Stmt s.entry)) progress.new) }
     ensures grows { Grows progress.old.world progress.new.world }
     ensures kept { IsKept L.made L.meaning L.room L.firm labels.old labels.new }
 {
@@ -300,15 +334,15 @@ fn begin_stmt<'p, L: Labels>(
 }
 
 // A part of the script is entered, which costs a turn, and without one the run ends.
-fn enter_part<'p, L: Labels>(
+fn enter_part<'p, L: Labels, S: Drop>(
     alloc: Global,
     labels: &mut L,
-    progress: &mut Progress<'p, L::Label>,
+    progress: &mut Progress<'p, L::Label, S>,
     next: Next<'p>,
 ) -> Result<Advance<'p, L::Label>, OutOfMemory>
     requires enters { enters_part next ≡ true }
-    requires standing { Standing L.made L.meaning labels.old progress.old.stack progress.old.world (values_of next) (scopes_of progress.old.stack.tasks) next }
-    ensures stepped { (tables : Tables) (inputs : Given) (functions : List FunctionCode) → IfOk result (Stepped L.made L.meaning labels.new tables inputs functions (λ reading. outlook tables inputs functions reading progress.old next.entry) (ahead progress.old next.entry) progress.new) }
+    requires standing { StandsBefore L.made L.meaning labels.old progress.old next }
+    ensures stepped { (tables : Tables) (inputs : Given) (set : BuiltIns) (functions : List FunctionCode) (tells : S → Answer → S) (asks : S → Request) → IfOk result (Stepped L.made L.meaning labels.new tables inputs set functions tells asks (λ reading. outlook tables inputs set functions tells asks reading progress.old next.entry) (ahead progress.old next.entry) progress.new) }
     ensures grows { Grows progress.old.world progress.new.world }
     ensures kept { IsKept L.made L.meaning L.room L.firm labels.old labels.new }
 {
@@ -323,19 +357,19 @@ fn enter_part<'p, L: Labels>(
         &mut progress.stack,
         next,
     );
-    step_of(moved)
+    still_step(moved)
 }
 
 // A move that enters no part begins its work.
-fn begin_work<'p, L: Labels>(
+fn begin_work<'p, L: Labels, S: Drop>(
     alloc: Global,
     labels: &mut L,
-    progress: &mut Progress<'p, L::Label>,
+    progress: &mut Progress<'p, L::Label, S>,
     next: Next<'p>,
 ) -> Result<Advance<'p, L::Label>, OutOfMemory>
     requires begins { begins_work next ≡ true }
-    requires standing { Standing L.made L.meaning labels.old progress.old.stack progress.old.world (values_of next) (scopes_of progress.old.stack.tasks) next }
-    ensures stepped { (tables : Tables) (inputs : Given) (functions : List FunctionCode) → IfOk result (Stepped L.made L.meaning labels.new tables inputs functions (λ reading. outlook tables inputs functions reading progress.old next.entry) (ahead progress.old next.entry) progress.new) }
+    requires standing { StandsBefore L.made L.meaning labels.old progress.old next }
+    ensures stepped { (tables : Tables) (inputs : Given) (set : BuiltIns) (functions : List FunctionCode) (tells : S → Answer → S) (asks : S → Request) → IfOk result (Stepped L.made L.meaning labels.new tables inputs set functions tells asks (λ reading. outlook tables inputs set functions tells asks reading progress.old next.entry) (ahead progress.old next.entry) progress.new) }
     ensures grows { Grows progress.old.world progress.new.world }
     ensures kept { IsKept L.made L.meaning L.room L.firm labels.old labels.new }
 {
@@ -346,20 +380,46 @@ fn begin_work<'p, L: Labels>(
         &mut progress.stack,
         next,
     );
-    step_of(moved)
+    still_step(moved)
 }
 
-// A value is called, makes an object, or is made of a function of the script.
-fn begin_call<'p, L: Labels>(
+// A value is made of a function of the script, or of a literal.
+fn begin_making<'p, L: Labels, S: Drop>(
     alloc: Global,
     labels: &mut L,
     functions: &Functions<'p>,
-    progress: &mut Progress<'p, L::Label>,
+    progress: &mut Progress<'p, L::Label, S>,
+    next: Next<'p>,
+) -> Result<Advance<'p, L::Label>, OutOfMemory>
+    requires makes { makes_value next ≡ true }
+    requires standing { StandsBefore L.made L.meaning labels.old progress.old next }
+    ensures stepped { (tables : Tables) (inputs : Given) (set : BuiltIns) (tells : S → Answer → S) (asks : S → Request) → IfOk result (Stepped L.made L.meaning labels.new tables inputs set (table functions.now) tells asks (λ reading. outlook tables inputs set (table functions.now) tells asks reading progress.old next.entry) (ahead progress.old next.entry) progress.new) }
+    ensures grows { Grows progress.old.world progress.new.world }
+    ensures kept { IsKept L.made L.meaning L.room L.firm labels.old labels.new }
+{
+    let moved = make_value(
+        alloc,
+        labels,
+        &mut progress.world,
+        functions,
+        &mut progress.stack,
+        next,
+    );
+    still_step(moved)
+}
+
+// A value is called, makes an object, or is converted.
+fn begin_call<'p, L: Labels, N: Natives>(
+    alloc: Global,
+    labels: &mut L,
+    natives: &N,
+    functions: &Functions<'p>,
+    progress: &mut Progress<'p, L::Label, N::State>,
     next: Next<'p>,
 ) -> Result<Advance<'p, L::Label>, OutOfMemory>
     requires calls { calls_function next ≡ true }
-    requires standing { Standing L.made L.meaning labels.old progress.old.stack progress.old.world (values_of next) (scopes_of progress.old.stack.tasks) next }
-    ensures stepped { (tables : Tables) (inputs : Given) → IfOk result (Stepped L.made L.meaning labels.new tables inputs (table functions.now) (λ reading. outlook tables inputs (table functions.now) reading progress.old next.entry) (ahead progress.old next.entry) progress.new) }
+    requires standing { StandsBefore L.made L.meaning labels.old progress.old next }
+    ensures stepped { (tables : Tables) (inputs : Given) → IfOk result (Stepped L.made L.meaning labels.new tables inputs (built_ins_of (N.entries natives.now) (N.begin natives.now) (N.after natives.now) (N.asks natives.now)) (table functions.now) (N.after natives.now) (N.asks natives.now) (λ reading. outlook tables inputs (built_ins_of (N.entries natives.now) (N.begin natives.now) (N.after natives.now) (N.asks natives.now)) (table functions.now) (N.after natives.now) (N.asks natives.now) reading progress.old next.entry) (ahead progress.old next.entry) progress.new) }
     ensures grows { Grows progress.old.world progress.new.world }
     ensures kept { IsKept L.made L.meaning L.room L.firm labels.old labels.new }
 {
@@ -368,36 +428,10 @@ fn begin_call<'p, L: Labels>(
         labels,
         &mut progress.world,
         functions,
+        natives,
+        &mut progress.natives,
         &mut progress.stack,
         next,
     );
     step_of(moved)
-}
-
-// A function of the product is called with the values that no work keeps.
-fn call_function<'p, L: Labels>(
-    alloc: Global,
-    labels: &mut L,
-    policy: &Policy,
-    inputs: &Inputs,
-    progress: &mut Progress<'p, L::Label>,
-    function: Direct,
-    count: u32,
-) -> Result<Advance<'p, L::Label>, OutOfMemory>
-    requires standing { Standing L.made L.meaning labels.old progress.old.stack progress.old.world count (scopes_of progress.old.stack.tasks) (next.Direct function count) }
-    requires room { length policy.now.origins ≤ L.room labels.old }
-    requires given { IsGivenTo policy.now inputs.now }
-    requires positions { length progress.old.world.positions.items ≡ length policy.now.inputs }
-    ensures stepped { (functions : List FunctionCode) → IfOk result (Stepped L.made L.meaning labels.new policy.now inputs.now functions (λ reading. outlook policy.now inputs.now functions reading progress.old (next.Direct function count)) (ahead progress.old (next.Direct function count)) progress.new) }
-    ensures grows { Grows progress.old.world progress.new.world }
-    ensures kept { IsKept L.made L.meaning L.room L.firm labels.old labels.new }
-{
-    let world = &mut progress.world;
-    let stack = &mut progress.stack;
-    match call(alloc, labels, world, policy, inputs, stack, function, count) {
-        Ok((next, None)) => Ok(Advance::Goes(next)),
-        Ok((next, Some(line))) => line_step(alloc, line, next),
-        Err(FlowFault::Stop(stop)) => Ok(Advance::Ends(Ending::Stopped(stop))),
-        Err(FlowFault::OutOfMemory) => Err(OutOfMemory),
-    }
 }

@@ -1,13 +1,13 @@
 //! What a step comes to.
 
 ghost use Rattle.std.specs.Prelude.{◌≡◌, IfOk};
-ghost use Rattle.step_core.specs.Stepping.{Prints, step_of};
+ghost use Rattle.step_core.specs.Stepping.{Prints, runs_one, step_of, still_step};
 
+use channel_requests::Printed;
 use flow_frames::{FlowFault, FlowStop};
 use flow_text::OutOfMemory;
 use js_values::Labelled;
 use std::alloc::Global;
-use step_channels::Printed;
 use step_work::Next;
 use step_world::Leaving;
 
@@ -61,6 +61,18 @@ pub(crate) fn step_of<'p, T>(
     }
 }
 
+/// The same of a move behind which no built-in runs: only what begins or tells one has it run next. That it is such a move isn't known here, and is looked at.
+pub(crate) fn still_step<'p, T>(
+    moved: Result<Next<'p>, FlowFault<T>>,
+) -> Result<Advance<'p, T>, OutOfMemory>
+    ensures { result ≡ still_step moved.entry }
+{
+    match moved {
+        Ok(Next::Request(_)) => Err(OutOfMemory),
+        other => step_of(other),
+    }
+}
+
 /// The step that printed a line.
 pub(crate) fn line_step<'p, T: Copy>(
     alloc: Global,
@@ -71,4 +83,11 @@ pub(crate) fn line_step<'p, T: Copy>(
 {
     let line = Box::new(alloc, line)?;
     Ok(Advance::Line(line, next))
+}
+
+/// A built-in is to run next.
+pub(crate) fn runs(next: Next<'_>) -> bool
+    ensures { result ≡ runs_one next.entry }
+{
+    matches!(next, Next::Request(_))
 }

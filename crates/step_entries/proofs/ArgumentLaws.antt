@@ -1,11 +1,16 @@
--- The elements of the `arguments` object, which are added from the last one down.
-use Rattle.std.proofs.Common.{arith, refl, sym, ap, ap₂, subst, ◌∙◌, ◌≡◌, ◌≤◌, ℕ, zero, suc, pos, Bool, List, [], ◌∷◌, ◌++◌, length, map, set, drop, get_or, codes, Option, Some, None, Ok, Err, if◌then◌else◌}
+-- The `arguments` object: its elements are added from the last one down, and then its accessors.
+use Rattle.std.proofs.Common.{arith, refl, sym, ap, ap₂, subst, ◌∙◌, ◌≡◌, ◌≤◌, ◌<◌, ◌+◌, ◌^◌, ℕ, zero, suc, pos, Bool, true, false, List, [], ◌∷◌, ◌++◌, append_assoc, length, map, set, drop, get_or, codes, Option, Some, None, Ok, Err, if◌then◌else◌}
+use Rattle.std.specs.Fmt.{decimal}
 use Rattle.std.specs.List.{slice_get}
 use Rattle.std.specs.Option.{option_map}
-use Rattle.std.proofs.lemmas.List.{set-set, length-map}
+use Rattle.std.proofs.lemmas.Bool.{cond-false}
+use Rattle.std.proofs.lemmas.Fmt.{decimal_by_steps}
+use Rattle.std.proofs.lemmas.List.{set-set, length-map, map-append}
 use Rattle.std.proofs.lemmas.Option.{none-some, same_Some, slice_get-map}
+use Rattle.std.proofs.lemmas.Slice.Eq.{bytes_eq-Decides}
 use Rattle.std.proofs.Math.Seq.{drop-cons, drop-length}
 use Rattle.origin_labels.specs.Label.{Label, within}
+use Rattle.origin_labels.specs.Names.{same_name}
 use Rattle.origin_labels.specs.Stores.{IsKept}
 use Rattle.origin_labels.proofs.LabelLaws.{within-refl}
 use Rattle.flow_frames.specs.declared.faults.Rule.TheVariants.{W3}
@@ -17,24 +22,26 @@ use Rattle.js_values.specs.declared.property.Body.{Body}
 use Rattle.js_values.specs.declared.property.Body.TheVariants.{Data}
 use Rattle.js_values.specs.declared.property.Marks.{Marks}
 use Rattle.js_values.specs.declared.property.Slot.{Slot}
-use Rattle.js_values.specs.declared.inner.Inner.TheVariants.{Script}
-use Rattle.js_values.specs.declared.inner.Class.TheVariants as class
 use Rattle.js_values.specs.declared.value.Labelled.{Labelled}
-use Rattle.js_values.specs.Objects.{Rows, Object, own, with_row}
-use Rattle.js_values.specs.Readings.{read_value, read_slot, read_object, read_heap}
+use Rattle.js_values.specs.declared.value.Value.TheVariants as value
+use Rattle.js_values.specs.Objects.{Rows, Object, own, changed, with_row}
+use Rattle.js_values.specs.Readings.{IsReading, read_value, read_slot, read_object, read_heap}
 use Rattle.js_values.proofs.ReadingLaws.{IsReading-earlier}
-use Rattle.object_heap.specs.Acts.{added, with_rows, put_back, on_object, stretched, add_absent, add_own, add, new_object}
+use Rattle.object_heap.specs.Acts.{added, with_rows, put_back, on_object, stretched, add_absent, add_own, add, given_over, given, give}
 use Rattle.object_heap.specs.Arrays.{length_key, element_of}
 use Rattle.object_heap.specs.Formed.{own_in}
 use Rattle.object_heap.proofs.ReadLaws.{read_own}
-use Rattle.es_meaning.specs.Functions.{elements_down}
+use Rattle.es_meaning.specs.Functions.{property_with, elements_down, accessor_rows}
 use Rattle.es_meaning.specs.Objects.{made_by_script, defined_over}
-use Rattle.es_meaning.specs.Start.{built_in, object_prototype}
-use Rattle.flow_meaning.specs.Tracked.{data_slot}
-use Rattle.step_entries.specs.ArgumentRows.{AddsValue, Gets, MakesArguments}
-use Rattle.step_entries.specs.Making.{Opens, IsOpen, Adds, count_body}
+use Rattle.es_meaning.specs.Start.{built_in, fixed_accessor, caller_accessor, callee_accessor}
+use Rattle.flow_meaning.specs.Erased.{made_rows}
+use Rattle.flow_meaning.specs.Requested.{data_slot}
+use Rattle.plain_heap.specs.PlainObjects.{slot_with, object_with, objects_with}
+use Rattle.plain_heap.proofs.GiveLaws.{last_gives, read_give}
+use Rattle.step_entries.specs.ArgumentRows.{AddsValue, Gets, MakesArguments, counted_object}
+use Rattle.step_entries.specs.Making.{Opens, IsOpen}
 use Rattle.step_entries.proofs.WorldLaws.{last_there, last_set}
-use Rattle.step_entries.proofs.MakingLaws.{done_to, with_properties, has_first}
+use Rattle.step_entries.proofs.MakingLaws.{done_to}
 
 -- ---- an element of a list that is replaced
 
@@ -125,23 +132,115 @@ module _ {S T : Type 0} (made : S → T → Type 0) (meaning : S → T → Label
   pub gets_begun : (s : S) (here : T) (o count : ℕ) (args : List (Labelled T)) (heap : List (Object T)) → count ≡ length args → Gets made meaning s here o count (drop count args) heap heap
   gets_begun s here o count args heap is = subst (λ (vs : List (Labelled T)). Gets made meaning s here o count vs heap heap) (sym (ap (λ n. drop n args) is ∙ drop-length args)) (gets_none s here o count heap)
 
-  -- the whole object: it is made, gets its `length`, and then its elements
-  pub arguments_made : (s t : S) (here : T) (function : ℕ) (env : EnvId) (o : ObjId) (count : ℕ) (args : List (Labelled T)) (heap fresh middle after : List (Object T)) → IsKept made meaning room firm s t → o.0 ≡ length heap
-      → fresh ≡ new_object class.Arguments (Some object_prototype) here here (Script function env) heap → Adds made meaning s here o.0 (codes "length") (count_body count) built_in fresh middle → count ≡ length args
-      → Gets made meaning t here o.0 0 args middle after → MakesArguments made meaning t here function env.0 args heap after
-  arguments_made s t here function env o count args heap fresh middle after kept number is_made adds count_is gets = record {
-    says = λ reading is.
-        let c = reading here in
-        let before = read_heap reading heap in
-        let vs = map (read_value reading) args in
-        let object : Rows (Slot Label) → Object Label = λ more. with_properties c class.Arguments (Script function env) (Some object_prototype) more in
-        let counted : ℕ → Rows (Slot Label) = λ n. (codes "length", record { body = count_body n; label = c; existence = c; marks = built_in }) ∷ [] in
-        let q = object (counted count) in
-        let whole : ℕ → Object Label = λ n. object (elements_down (counted n) 0 (map (data_slot c) vs)) in
-        let place : o.0 ≡ length before = number ∙ sym (length-map heap (read_object reading)) in
-        let begun : read_heap reading middle ≡ before ++ q ∷ [] = has_first made meaning room firm s s here class.Arguments (Script function env) (Some object_prototype) o (codes "length") (record { body = count_body count; marks = built_in }) heap fresh middle number is_made (λ k. refl) adds reading (IsReading-earlier made meaning room firm s t reading kept is) in
-        gets.says reading is q (ap₂ (λ (h : List (Object Label)) n. slice_get h n) begun place ∙ last_there before q)
-        ∙ ap₂ (λ (h : List (Object Label)) n. set h n (whole count)) begun place
-        ∙ last_set before q (whole count)
-        ∙ ap (λ n. before ++ whole n ∷ []) (count_is ∙ sym (length-map args (read_value reading)));
-  }
+-- ---- no element has a key that begins with a letter
+
+abbrev BelowLetters : List ℕ → Type 0
+BelowLetters [] = ⊥
+BelowLetters (d ∷ ds) = d < 58
+
+longer_below : (ds more : List ℕ) → BelowLetters ds → BelowLetters (ds ++ more)
+longer_below [] more below = absurd below
+longer_below (d ∷ ds) more below = below
+
+decimal_below : (n : ℕ) → n < 2 ^ 64 → BelowLetters (decimal n)
+decimal_below n small = decimal_by_steps (λ n ds. BelowLetters ds) (λ n lt. omega (arith, lt)) (λ n ds le below. longer_below ds _ below) n small
+
+is_false : (b : Bool) → (b ≡ true → ⊥) → b ≡ false
+is_false true isnt = absurd (isnt refl)
+is_false false isnt = refl
+
+key_differs : (n c : ℕ) (rest : List ℕ) → n < 2 ^ 64 → 58 ≤ c → same_name (text_of (Num (pos n))) (c ∷ rest) ≡ false
+key_differs n c rest small letter =
+    is_false (same_name (decimal n) (c ∷ rest)) (λ e. let below : c < 58 = subst BelowLetters ((bytes_eq-Decides (decimal n) (c ∷ rest)).0 e) (decimal_below n small) in omega (arith, below, letter))
+
+module _ {S : Type 0} (key : List ℕ) where
+  absent_front : (test : Bool) (s : S) (rest : Option S) → (if test then Some s else rest) ≡ None → (test ≡ false) × (rest ≡ None)
+  absent_front true s rest none = absurd (none-some s (sym none))
+  absent_front false s rest none = (refl, none)
+
+  lacks_row : (rows : Rows S) (k : List ℕ) (s : S) → own key rows ≡ None → same_name k key ≡ false → own key (with_row k s rows) ≡ None
+  lacks_row [] k s none differs = cond-false (same_name k key) (Some s) None differs
+  lacks_row (r ∷ rows) k s none differs =
+      let front = absent_front (same_name r.0 key) r.1 (own key rows) none in
+      cond-false (same_name r.0 key) (Some r.1) (own key (with_row k s rows)) front.0 ∙ lacks_row rows k s front.1 differs
+
+  changed_at : (test : Bool) (r : List ℕ × S) (s : S) (rows more : Rows S) → own key (r ∷ rows) ≡ None → own key more ≡ None → own key (if test then (r.0, s) ∷ rows else r ∷ more) ≡ None
+  changed_at true r s rows more none others =
+      let front = absent_front (same_name r.0 key) r.1 (own key rows) none in cond-false (same_name r.0 key) (Some s) (own key rows) front.0 ∙ front.1
+  changed_at false r s rows more none others =
+      let front = absent_front (same_name r.0 key) r.1 (own key rows) none in cond-false (same_name r.0 key) (Some r.1) (own key more) front.0 ∙ others
+
+  lacks_changed : (rows : Rows S) (k : List ℕ) (s : S) → own key rows ≡ None → own key (changed k (λ t. s) rows) ≡ None
+  lacks_changed [] k s none = none
+  lacks_changed (r ∷ rows) k s none = changed_at (same_name r.0 k) r s rows (changed k (λ t. s) rows) none (lacks_changed rows k s (absent_front (same_name r.0 key) r.1 (own key rows) none).1)
+
+  lacks_defined : (old : Option S) (rows : Rows S) (k : List ℕ) (s : S) → own key rows ≡ None → same_name k key ≡ false → own key (defined_over old k s rows) ≡ None
+  lacks_defined None rows k s none differs = lacks_row rows k s none differs
+  lacks_defined (Some t) rows k s none differs = lacks_changed rows k s none
+
+  lacks_elements : (rows : Rows S) (n : ℕ) (ss : List S) → own key rows ≡ None → ((i : ℕ) → i < n + length ss → same_name (text_of (Num (pos i))) key ≡ false) → own key (elements_down rows n ss) ≡ None
+  lacks_elements rows n [] none differs = none
+  lacks_elements rows n (s ∷ ss) none differs =
+      lacks_defined (own (text_of (Num (pos n))) (elements_down rows (suc n) ss)) (elements_down rows (suc n) ss) (text_of (Num (pos n))) s
+      (lacks_elements rows (suc n) ss none (λ i lt. differs i (omega (arith, lt)))) (differs n (omega arith))
+
+-- ---- the whole object: it is made with its `length`, gets its elements, and then the accessors
+
+module _ (rows : Rows (Slot Label)) (caller callee : Slot Label) (no_caller : own (codes "caller") rows ≡ None) (no_callee : own (codes "callee") rows ≡ None) where
+  accessors_given : given (codes "callee") callee (given (codes "caller") caller rows) ≡ rows ++ (codes "caller", caller) ∷ (codes "callee", callee) ∷ []
+  accessors_given =
+      ap (λ s. given (codes "callee") callee (given_over s (codes "caller") caller rows)) no_caller
+      ∙ ap (λ s. given_over s (codes "callee") callee (with_row (codes "caller") caller rows)) (lacks_row (codes "callee") rows (codes "caller") caller no_callee refl)
+      ∙ append_assoc rows ((codes "caller", caller) ∷ []) ((codes "callee", callee) ∷ [])
+
+module _ {S T : Type 0} (made : S → T → Type 0) (meaning : S → T → Label) (store : S) (here : T) (function : ℕ) (env : EnvId) (o : ObjId) (count : ℕ) (args : List (Labelled T)) (heap counted after called last : List (Object T)) (number : o.0 ≡ length heap) (count_is : count ≡ length args) (few : count < 2 ^ 32)
+    (is_counted : counted ≡ heap ++ objects_with here (counted_object function env.0 count ∷ [])) (gets : Gets made meaning store here o.0 0 args counted after)
+    (calls : called ≡ give o.0 (codes "caller") (slot_with here (fixed_accessor caller_accessor)) after) (ends : last ≡ give o.0 (codes "callee") (slot_with here (fixed_accessor callee_accessor)) called) where
+  module _ (reading : T → Label) (is : IsReading made meaning store reading) where
+    abbrev c : Label
+    c = reading here
+
+    abbrev before : List (Object Label)
+    before = read_heap reading heap
+
+    abbrev vs : List (Labelled Label)
+    vs = map (read_value reading) args
+
+    abbrev object : Rows (Slot Label) → Object Label
+    object rows = record (object_with c (counted_object function env.0 count)) { rows = rows }
+
+    abbrev size : ℕ → Rows (Slot Label)
+    size n = (codes "length", slot_with c (property_with (value.Primitive (Num (pos n))) built_in)) ∷ []
+
+    abbrev elements : ℕ → Rows (Slot Label)
+    elements n = elements_down (size n) 0 (map (data_slot c) vs)
+
+    place : o.0 ≡ length before
+    place = number ∙ sym (length-map heap (read_object reading))
+
+    begun : read_heap reading counted ≡ before ++ object (size count) ∷ []
+    begun = ap (read_heap reading) is_counted ∙ map-append (read_object reading) heap (objects_with here (counted_object function env.0 count ∷ []))
+
+    with_elements : read_heap reading after ≡ before ++ object (elements count) ∷ []
+    with_elements =
+        gets.says reading is (object (size count)) (ap₂ (λ (h : List (Object Label)) n. slice_get h n) begun place ∙ last_there before (object (size count)))
+        ∙ ap₂ (λ (h : List (Object Label)) n. set h n (object (elements count))) begun place
+        ∙ last_set before (object (size count)) (object (elements count))
+
+    lacks : (letter : ℕ) (rest : List ℕ) → 58 ≤ letter → own (letter ∷ rest) (size count) ≡ None → own (letter ∷ rest) (elements count) ≡ None
+    lacks letter rest high none =
+        lacks_elements (letter ∷ rest) (size count) 0 (map (data_slot c) vs) none
+        (λ i lt. let long = length-map vs (data_slot c) in let as_many = length-map args (read_value reading) in key_differs i letter rest (omega (arith, lt, long, as_many, count_is, few)) high)
+
+    whole : read_heap reading last ≡ before ++ object (elements (length vs) ++ made_rows c accessor_rows) ∷ []
+    whole =
+        last_gives before (read_heap reading called) (read_heap reading last) (object (given (codes "caller") (slot_with c (fixed_accessor caller_accessor)) (elements count))) o.0 (codes "callee") (slot_with c (fixed_accessor callee_accessor)) place
+        (last_gives before (read_heap reading after) (read_heap reading called) (object (elements count)) o.0 (codes "caller") (slot_with c (fixed_accessor caller_accessor)) place with_elements
+        (ap (read_heap reading) calls ∙ read_give reading (codes "caller") (slot_with here (fixed_accessor caller_accessor)) o.0 after))
+        (ap (read_heap reading) ends ∙ read_give reading (codes "callee") (slot_with here (fixed_accessor callee_accessor)) o.0 called)
+        ∙ ap (λ rows. before ++ object rows ∷ [])
+        (accessors_given (elements count) (slot_with c (fixed_accessor caller_accessor)) (slot_with c (fixed_accessor callee_accessor)) (lacks 99 _ (omega arith) refl) (lacks 99 _ (omega arith) refl))
+        ∙ ap (λ n. before ++ object (elements n ++ made_rows c accessor_rows) ∷ []) (count_is ∙ sym (length-map args (read_value reading)))
+
+  pub arguments_made : MakesArguments made meaning store here function env.0 args heap last
+  arguments_made = record { says = whole }

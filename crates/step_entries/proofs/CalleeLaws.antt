@@ -2,7 +2,7 @@
 use Rattle.std.proofs.Common.{refl, sym, ap, ◌∙◌, ◌≡◌, ◌≤◌, ℕ, Bool, true, false, List, length, Option, Some, None}
 use Rattle.std.specs.List.{slice_get}
 use Rattle.std.specs.Option.{option_map}
-use Rattle.std.proofs.lemmas.Option.{slice_get-map, slice_get_past, none-some, same_Some}
+use Rattle.std.proofs.lemmas.Option.{slice_get-map, slice_get_past}
 use Rattle.origin_labels.specs.Label.{Label}
 use Rattle.js_ast.specs.Functions.{FunctionCode}
 use Rattle.js_values.specs.declared.inner.Inner.{Inner}
@@ -14,10 +14,6 @@ use Rattle.object_heap.specs.declared.shape.Shape.{Shape}
 use Rattle.es_meaning.specs.Functions.{Callee, not_callable, is_function, callable_inner, callee_if, callee_of}
 use Rattle.flow_meaning.specs.Erased.{erased_inner}
 use Rattle.flow_meaning.specs.Tracked.{callee_in, callee_at}
-use Rattle.js_number.specs.declared.primitive.Primitive.{Primitive}
-use Rattle.js_values.specs.declared.ids.ObjId.{ObjId}
-use Rattle.js_values.specs.declared.value.Value.{Value}
-use Rattle.js_values.specs.declared.value.Value.TheVariants as value
 
 module _ {T : Type 0} (functions : List FunctionCode) (reading : T → Label) where
   inner_read : (inner : Inner T) → callable_inner functions (erased_inner (read_inner reading inner)) ≡ callable_inner functions (erased_inner inner)
@@ -42,7 +38,8 @@ module _ {T : Type 0} (functions : List FunctionCode) (reading : T → Label) wh
   at_read : (heap : List (Object T)) (o : ℕ) → callee_in functions (slice_get (read_heap reading heap) o) ≡ callee_there (slice_get heap o)
   at_read heap o = ap (callee_in functions) (slice_get-map (read_object reading) heap o) ∙ there_read (slice_get heap o)
 
-  pub callee_past : (heap : List (Object T)) (o : ℕ) → length heap ≤ o → not_callable ≡ callee_in functions (slice_get (read_heap reading heap) o)
+  pub callee_past : (heap : List (Object T)) (o : ℕ) → length heap ≤ o → not_callable ≡ callee_at functions (read_heap reading heap) o
+  unfolding callee_at
   callee_past heap o past = sym (at_read heap o ∙ ap callee_there (slice_get_past heap o past))
 
   not_function : (shape : Shape T) → is_function shape.class ≡ false → (p : Option (Object T)) → IsShape p shape → callee_there p ≡ not_callable
@@ -54,18 +51,10 @@ module _ {T : Type 0} (functions : List FunctionCode) (reading : T → Label) wh
   a_function shape inner test (Some p) is is_in = ap (λ b. callee_if b functions (erased_inner p.inner)) (sym (ap (λ (x : Shape T). is_function x.class) is) ∙ test) ∙ ap (λ (i : Inner T). callable_inner functions (erased_inner i)) (sym is_in)
 
   -- of an object that is no function, and of one that is
-  pub callee_other : (heap : List (Object T)) (o : ℕ) (shape : Shape T) → IsShape (slice_get heap o) shape → is_function shape.class ≡ false → not_callable ≡ callee_in functions (slice_get (read_heap reading heap) o)
+  pub callee_other : (heap : List (Object T)) (o : ℕ) (shape : Shape T) → IsShape (slice_get heap o) shape → is_function shape.class ≡ false → not_callable ≡ callee_at functions (read_heap reading heap) o
+  unfolding callee_at
   callee_other heap o shape is_shape test = sym (at_read heap o ∙ not_function shape test (slice_get heap o) is_shape)
 
-  pub callee_function : (heap : List (Object T)) (o : ℕ) (shape : Shape T) (inner : Inner T) → IsShape (slice_get heap o) shape → IsInner (slice_get heap o) inner → is_function shape.class ≡ true → callable_inner functions (erased_inner inner) ≡ callee_in functions (slice_get (read_heap reading heap) o)
+  pub callee_function : (heap : List (Object T)) (o : ℕ) (shape : Shape T) (inner : Inner T) → IsShape (slice_get heap o) shape → IsInner (slice_get heap o) inner → is_function shape.class ≡ true → callable_inner functions (erased_inner inner) ≡ callee_at functions (read_heap reading heap) o
+  unfolding callee_at
   callee_function heap o shape inner is_shape is_inner test = sym (at_read heap o ∙ a_function shape inner test (slice_get heap o) is_shape is_inner)
-
--- ---- of a value
-
-pub callee_primitive : (functions : List FunctionCode) (heap : List (Object Label)) (v : Value) (p : Primitive) → v ≡ value.Primitive p → not_callable ≡ callee_at functions heap v
-unfolding callee_at
-callee_primitive functions heap v p is = ap (callee_at functions heap) (sym is)
-
-pub callee_object : (functions : List FunctionCode) (heap : List (Object Label)) (v : Value) (o : ObjId) → v ≡ value.Object o → callee_in functions (slice_get heap o.0) ≡ callee_at functions heap v
-unfolding callee_at
-callee_object functions heap v o is = ap (callee_at functions heap) (sym is)

@@ -27,7 +27,8 @@ use Rattle.es_meaning.specs.Plain.{undefined}
 use Rattle.es_meaning.specs.Start.{id}
 use Rattle.flow_meaning.specs.Erased.{made_objects, labelled_by, labelled_values, unlabelled}
 use Rattle.flow_meaning.specs.Scopes.{Val, State, joined}
-use Rattle.flow_meaning.specs.Tracked.{arguments_object, with_call}
+use Rattle.flow_meaning.specs.Requested.{arguments_object}
+use Rattle.flow_meaning.specs.Tracked.{with_call}
 use Rattle.step_world.specs.declared.world.World.{World}
 use Rattle.step_world.specs.Worlds.{Belongs, state_of}
 use Rattle.step_entries.specs.ArgumentRows.{MakesArguments}

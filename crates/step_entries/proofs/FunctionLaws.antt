@@ -1,7 +1,6 @@
 -- A function that is made.
-use Rattle.std.proofs.Common.{arith, refl, sym, ap, ap₂, subst, ◌∙◌, ◌≡◌, ◌≤◌, ℕ, Bool, List, [], ◌∷◌, ◌++◌, length, map, Option, Some, None}
+use Rattle.std.proofs.Common.{arith, refl, sym, ap, ap₂, ◌∙◌, ◌≡◌, ◌≤◌, ℕ, Bool, List, [], ◌∷◌, ◌++◌, length, Option, Some, None}
 use Rattle.std.proofs.lemmas.List.{map-append, length-map}
-use Rattle.std.proofs.lemmas.List.Elements.{All-append, All-nil, All-cons}
 use Rattle.origin_labels.specs.Label.{Label, IsLabel}
 use Rattle.origin_labels.specs.Stores.{IsKept}
 use Rattle.flow_frames.specs.Frames.{context}
@@ -14,7 +13,7 @@ use Rattle.js_values.specs.declared.value.Labelled.{Labelled}
 use Rattle.js_values.specs.declared.value.Value.TheVariants as value
 use Rattle.js_values.specs.Objects.{Object}
 use Rattle.js_values.specs.Records.{Record}
-use Rattle.js_values.specs.Readings.{IsReading, HasHeap, HasRecords, read_value, read_object, read_record, read_heap, read_records}
+use Rattle.js_values.specs.Readings.{HasHeap, HasRecords, read_value, read_object, read_record, read_records}
 use Rattle.js_values.proofs.ReadingLaws.{IsReading-earlier, HasRecords-kept}
 use Rattle.es_meaning.specs.Functions.{number_in, function_object, constructed_prototype, function_objects, closes_over, own_name}
 use Rattle.es_meaning.specs.Outcomes.{Outcome, Goes}

@@ -1,44 +1,48 @@
 -- Objects that are made in a context, in a reading of their labels.
-use Rattle.std.proofs.Common.{arith, refl, sym, ap, ap₂, subst, ◌∙◌, ◌≡◌, ◌+◌, ℕ, zero, suc, Bool, true, false, List, [], ◌∷◌, ◌++◌, append_assoc, length, map, set, Option, Some, None, Result, Ok, Err, is_ok, if◌then◌else◌}
+use Rattle.std.proofs.Common.{arith, refl, sym, ap, ap₂, subst, ◌∙◌, ◌≡◌, ◌+◌, ℕ, suc, pos, Bool, true, List, [], ◌∷◌, ◌++◌, append_assoc, length, codes, Option, Some, None, Result, Ok, Err, is_ok, if◌then◌else◌}
 use Rattle.std.specs.List.{slice_get}
-use Rattle.std.specs.Option.{option_map}
 use Rattle.std.proofs.lemmas.Bool.{false≢true}
-use Rattle.std.proofs.lemmas.List.{map-append, length-map}
-use Rattle.std.proofs.lemmas.List.Elements.{All-push, All-nil}
-use Rattle.std.proofs.lemmas.Option.{none-some, slice_get-map}
-use Rattle.origin_labels.specs.Label.{Label, IsLabel, bottom, union, within}
-use Rattle.origin_labels.specs.Names.{same_name}
+use Rattle.std.proofs.lemmas.List.{map-append, length-map, length-append}
+use Rattle.std.proofs.lemmas.List.Elements.{All-push}
+use Rattle.origin_labels.specs.Label.{Label, IsLabel, union, within}
 use Rattle.origin_labels.specs.Stores.{IsKept}
 use Rattle.origin_labels.proofs.LabelLaws.{within-refl}
 use Rattle.flow_frames.specs.declared.faults.FlowStop.{FlowStop}
 use Rattle.flow_frames.specs.declared.faults.Rule.TheVariants.{W3}
 use Rattle.flow_frames.specs.Frames.{context}
 use Rattle.flow_frames.specs.Held.{seen}
+use Rattle.js_number.specs.declared.primitive.Primitive.TheVariants.{Num}
+use Rattle.js_values.specs.declared.ids.EnvId.{EnvId}
 use Rattle.js_values.specs.declared.ids.ObjId.{ObjId}
 use Rattle.js_values.specs.declared.property.Body.{Body}
 use Rattle.js_values.specs.declared.property.Marks.{Marks}
 use Rattle.js_values.specs.declared.property.Slot.{Slot}
-use Rattle.js_values.specs.declared.inner.Class.{Class}
 use Rattle.js_values.specs.declared.inner.Class.TheVariants as class
 use Rattle.js_values.specs.declared.inner.Inner.{Inner}
-use Rattle.js_values.specs.declared.inner.Inner.TheVariants.{Plain}
+use Rattle.js_values.specs.declared.inner.Inner.TheVariants.{Plain, Script, Bound}
 use Rattle.js_values.specs.declared.value.Labelled.{Labelled}
-use Rattle.js_values.specs.Objects.{Rows, Property, Object, PlainObject, PlainInner, own, with_row, fresh_plain, fresh_object}
-use Rattle.js_values.specs.Readings.{IsReading, HasInner, HasObject, HasHeap, read_value, read_slot, read_inner, read_object, read_heap}
+use Rattle.js_values.specs.declared.value.Value.{Value}
+use Rattle.js_values.specs.declared.value.Value.TheVariants as value
+use Rattle.js_values.specs.Objects.{Rows, Property, Object, PlainObject, PlainInner, plain, script, native, bound, own, with_row, fresh_plain, fresh_object}
+use Rattle.js_values.specs.Readings.{IsReading, HasObject, HasHeap, read_value, read_object, read_heap}
 use Rattle.js_values.proofs.ReadingLaws.{IsReading-earlier, HasHeap-kept}
-use Rattle.object_heap.specs.Acts.{Acted, added, with_rows, put_back, on_object, stretched, add_absent, add_own, add, new_object}
+use Rattle.object_heap.specs.Acts.{Acted, added, put_back, on_object, stretched, add_absent, add_own, add, new_object, give}
 use Rattle.object_heap.specs.Answers.{read_stop}
 use Rattle.object_heap.specs.Arrays.{length_key, element_of}
-use Rattle.object_heap.specs.Formed.{own_in}
-use Rattle.object_heap.proofs.ReadLaws.{read_own}
+use Rattle.es_meaning.specs.Functions.{function_object, constructed_prototype, kept, property_with}
 use Rattle.es_meaning.specs.Plain.{object_or_default}
-use Rattle.flow_meaning.specs.Erased.{made_inner, made_object, made_objects}
+use Rattle.es_meaning.specs.Start.{id, built_in, count_property, fixed_accessor, function_rows, caller_accessor, arguments_accessor, function_prototype, object_prototype}
+use Rattle.flow_meaning.specs.Erased.{labelled_by, labelled_values, made_inner, made_rows, made_object, made_objects}
 use Rattle.flow_meaning.specs.Tracked.{with_fresh}
+use Rattle.plain_heap.specs.PlainObjects.{values_with, inner_with, slot_with, rows_with, object_with, objects_with}
+use Rattle.plain_heap.proofs.GiveLaws.{last_gives}
+use Rattle.plain_heap.proofs.ReadLaws.{read_with}
 use Rattle.step_world.specs.declared.world.World.{World}
 use Rattle.step_world.specs.Worlds.{Belongs, state_of}
+use Rattle.step_entries.specs.ArgumentRows.{counted_object}
 use Rattle.step_entries.specs.Changing.{Changes}
-use Rattle.step_entries.specs.Making.{Opens, IsOpen, Makes, Adds}
-use Rattle.step_entries.proofs.WorldLaws.{last_there, last_set, with_heap, heap_belongs, context_read}
+use Rattle.step_entries.specs.Making.{Opens, IsOpen, Makes}
+use Rattle.step_entries.proofs.WorldLaws.{last_there, with_heap, heap_belongs, context_read}
 
 -- ---- no rule stops a property that is added in the context in which its object was made
 
@@ -68,65 +72,44 @@ module _ {S T : Type 0} (made : S → T → Type 0) (meaning : S → T → Label
       let is : IsReading made meaning t reading = record { agrees = λ l h. refl } in
       never_stops key (reading here) body (reading label) marks o (read_heap reading old) (read_stop reading stop) (opened.says reading (IsReading-earlier made meaning room firm s t reading kept is)) (stops reading is)
 
-  -- with the empty label
-  pub adds_here : (new : List (Object T)) → made s label → meaning s label ≡ bottom → ((reading : T → Label) → IsReading made meaning t reading → add o key (reading here) body (reading label) marks (read_heap reading old) ≡ Ok (read_heap reading new)) → Adds made meaning t here o key body marks old new
-  adds_here new m empty does = record {
-    says = λ reading is.
-        ap (λ (l : Label). add o key (reading here) body l marks (read_heap reading old)) (sym ((IsReading-earlier made meaning room firm s t reading kept is).agrees label m ∙ empty))
-        ∙ does reading is;
-  }
-
--- ---- a property that is added to the last object
+-- ---- what was done
 
 abbrev pub done_to : Result (List (Object Label)) (FlowStop Label) → List (Object Label)
 done_to (Ok heap) = heap
 done_to (Err stop) = []
 
--- an object that was made in a context, with properties
-abbrev pub with_properties : Label → Class → Inner Label → Option ObjId → Rows (Slot Label) → Object Label
-with_properties c kind inner proto rows = record (fresh_object kind inner proto c c) { rows = rows }
+-- ---- objects with the context's label, as objects that are made in the context
 
-pub added_last : (front : List (Object Label)) (o : ℕ) (c : Label) (kind : Class) (inner : Inner Label) (proto : Option ObjId) (rows : Rows (Slot Label)) (key : List ℕ) (body : Body) (label : Label) (marks : Marks) → o ≡ length front → element_of kind key ≡ None → own key rows ≡ None
-    → add o key c body label marks (front ++ with_properties c kind inner proto rows ∷ []) ≡ Ok (front ++ with_properties c kind inner proto (with_row key (added c body label marks c) rows) ∷ [])
-added_last front o c kind inner proto rows key body label marks place no_element absent =
-    let q = with_properties c kind inner proto rows in
-    let heap = front ++ q ∷ [] in
-    let more = with_row key (added c body label marks c) rows in
-    ap (λ n. add n key c body label marks heap) place
-    ∙ ap (λ (x : Option (Object Label)). on_object x heap (length front) (add_own key c body label marks)) (last_there front q)
-    ∙ ap (λ (s : Option (Slot Label)). put_back heap (length front) (add_absent s key c body label marks q)) absent
-    ∙ ap (λ b. put_back heap (length front) (if b then stretched (element_of kind key) (own length_key rows) c q more else Err (record { rule = W3; need = c; have = c }))) (within-refl c)
-    ∙ ap (λ (e : Option ℕ). put_back heap (length front) (stretched e (own length_key rows) c q more)) no_element
-    ∙ ap (λ (h : List (Object Label)). Ok h) (last_set front q (with_properties c kind inner proto more))
+module _ (c : Label) where
+  made_values : (vs : List Value) → values_with c vs ≡ labelled_values c vs
+  made_values [] = refl
+  made_values (v ∷ vs) = ap (λ us. labelled_by c v ∷ us) (made_values vs)
 
-none_mapped : {A B : Type 0} (f : A → B) (x : Option A) → option_map f x ≡ None → x ≡ None
-none_mapped f None e = refl
-none_mapped f (Some a) e = absurd (none-some (f a) (sym e))
+  made_inners : (inner : PlainInner) → inner_with c inner ≡ made_inner c inner
+  made_inners plain = refl
+  made_inners (script function env) = refl
+  made_inners (native which) = refl
+  made_inners (bound target this args) = ap (Bound target c (labelled_by c this)) (made_values args)
 
--- what an object has, in a reading
-own_alike : {T : Type 0} (reading : T → Label) (key : List ℕ) (p : Option (Object T)) → own_in key (option_map (read_object reading) p) ≡ option_map (read_slot reading) (own_in key p)
-own_alike reading key None = refl
-own_alike reading key (Some p) = read_own reading key p.rows
+  made_all : (rows : Rows Property) → rows_with c rows ≡ made_rows c rows
+  made_all [] = refl
+  made_all (r ∷ rows) = ap (λ more. (r.0, slot_with c r.1) ∷ more) (made_all rows)
 
-read_own_in : {T : Type 0} (reading : T → Label) (key : List ℕ) (heap : List (Object T)) (o : ℕ) → own_in key (slice_get (read_heap reading heap) o) ≡ option_map (read_slot reading) (own_in key (slice_get heap o))
-read_own_in reading key heap o = ap (own_in key) (slice_get-map (read_object reading) heap o) ∙ own_alike reading key (slice_get heap o)
+  pub made_as : (objects : List PlainObject) → objects_with c objects ≡ made_objects c objects
+  made_as [] = refl
+  made_as (p ∷ objects) =
+      ap₂ (λ (q : Object Label) (more : List (Object Label)). q ∷ more)
+      (ap₂ (λ (i : Inner Label) (rows : Rows (Slot Label)). record (object_with c p) { inner = i; rows = rows }) (made_inners p.inner) (made_all p.rows))
+      (made_as objects)
 
-abbrev pub slot_in : Label → Property → Slot Label
-slot_in c p = record { body = p.body; label = c; existence = c; marks = p.marks }
-
--- what depends on nothing else has the context's label
-added_slot : (c : Label) (p : Property) → added c p.body bottom p.marks c ≡ slot_in c p
-unfolding union
-added_slot c p = refl
-
-module _ {S T : Type 0} (made : S → T → Type 0) (meaning : S → T → Label) (room : S → ℕ) (firm : S → Bool) where
-  -- objects, and then others
+module _ {S T : Type 0} (made : S → T → Type 0) (meaning : S → T → Label) where
   made_append : (c : Label) (xs ys : List PlainObject) → made_objects c (xs ++ ys) ≡ made_objects c xs ++ made_objects c ys
   made_append c [] ys = refl
   made_append c (x ∷ xs) ys = ap (λ more. made_object c x ∷ more) (made_append c xs ys)
 
-  pub Makes-then : (s t : S) (here : T) (xs ys : List PlainObject) (old middle new : List (Object T)) → IsKept made meaning room firm s t → Makes made meaning s here xs old middle → Makes made meaning t here ys middle new → Makes made meaning t here (xs ++ ys) old new
-  Makes-then s t here xs ys old middle new kept first next = record {
+  -- some objects, and then others
+  pub Makes-then : (room : S → ℕ) (firm : S → Bool) (s t : S) (here : T) (xs ys : List PlainObject) (old middle new : List (Object T)) → IsKept made meaning room firm s t → Makes made meaning s here xs old middle → Makes made meaning t here ys middle new → Makes made meaning t here (xs ++ ys) old new
+  Makes-then room firm s t here xs ys old middle new kept first next = record {
     says = λ reading is.
         next.says reading is
         ∙ ap (λ h. h ++ made_objects (reading here) ys) (first.says reading (IsReading-earlier made meaning room firm s t reading kept is))
@@ -134,62 +117,57 @@ module _ {S T : Type 0} (made : S → T → Type 0) (meaning : S → T → Label
         ∙ ap (λ h. read_heap reading old ++ h) (sym (made_append (reading here) xs ys));
   }
 
-  -- an object that is made, and gets a property
-  module _ (s t : S) (here : T) (kind : Class) (inner : Inner T) (proto : Option ObjId) (o : ObjId) (key : List ℕ) (p : Property) (heap fresh after : List (Object T)) (number : o.0 ≡ length heap)
-      (is_made : fresh ≡ new_object kind proto here here inner heap) (no_element : (k : List ℕ) → element_of kind k ≡ None)
-      (adds : Adds made meaning t here o.0 key p.body p.marks fresh after) where
-    place : (reading : T → Label) → o.0 ≡ length (read_heap reading heap)
-    place reading = number ∙ sym (length-map heap (read_object reading))
+  pub Makes-both : (store : S) (here : T) (some others : List PlainObject) (old middle new : List (Object T)) → middle ≡ old ++ objects_with here some → new ≡ middle ++ objects_with here others → Makes made meaning store here (some ++ others) old new
+  Makes-both store here some others old middle new one more = record {
+    says = λ reading is.
+        let c = reading here in
+        ap (read_heap reading) (more ∙ ap (λ h. h ++ objects_with here others) one ∙ append_assoc old (objects_with here some) (objects_with here others))
+        ∙ map-append (read_object reading) old (objects_with here some ++ objects_with here others)
+        ∙ ap (λ h. read_heap reading old ++ h)
+        (map-append (read_object reading) (objects_with here some) (objects_with here others)
+        ∙ ap₂ (λ (h k : List (Object Label)). h ++ k) (read_with reading here some ∙ made_as c some) (read_with reading here others ∙ made_as c others)
+        ∙ sym (made_append c some others));
+  }
 
-    abbrev one : (reading : T → Label) → Object Label
-    one reading = with_properties (reading here) kind (read_inner reading inner) proto ((key, slot_in (reading here) p) ∷ [])
+-- ---- a function, as it is given its properties
 
-    pub has_first : (reading : T → Label) → IsReading made meaning t reading → read_heap reading after ≡ read_heap reading heap ++ one reading ∷ []
-    has_first reading is =
-        let begun = ap (read_heap reading) is_made ∙ map-append (read_object reading) heap (fresh_object kind inner proto here here ∷ []) in
-        ap done_to
-        (sym (adds.says reading is)
-        ∙ ap (add o.0 key (reading here) p.body bottom p.marks) begun
-        ∙ added_last (read_heap reading heap) o.0 (reading here) kind (read_inner reading inner) proto [] key p.body bottom p.marks (place reading) (no_element key) refl)
-        ∙ ap (λ (x : Slot Label). read_heap reading heap ++ with_properties (reading here) kind (read_inner reading inner) proto ((key, x) ∷ []) ∷ []) (added_slot (reading here) p)
+module _ {T : Type 0} (c : T) (heap fresh sized constructing called last : List (Object T)) (o : ObjId) (next function count : ℕ) (env : EnvId) (place : o.0 ≡ length heap) where
+  abbrev function_with : ℕ → Object T
+  function_with n = object_with c (record (fresh_plain class.Function (script function env) (Some function_prototype)) { rows = (codes "length", count_property count) ∷ (codes "prototype", property_with (value.Object (id n)) kept) ∷ function_rows })
 
-    -- it stays open
-    pub still_open : IsOpen made meaning t after o.0 here
-    still_open = record {
-      says = λ reading is.
-          subst (Opens (reading here)) (sym (ap₂ (λ (h : List (Object Label)) n. slice_get h n) (has_first reading is) (place reading) ∙ last_there (read_heap reading heap) (one reading))) (refl, no_element);
-    }
+  pub function_made : fresh ≡ new_object class.Function (Some function_prototype) c c (Script function env) heap → next ≡ length fresh → sized ≡ give o.0 (codes "length") (slot_with c (count_property count)) fresh
+      → constructing ≡ give o.0 (codes "prototype") (slot_with c (property_with (value.Object (id next)) kept)) sized → called ≡ give o.0 (codes "caller") (slot_with c (fixed_accessor caller_accessor)) constructing
+      → last ≡ give o.0 (codes "arguments") (slot_with c (fixed_accessor arguments_accessor)) called → last ≡ heap ++ objects_with c (function_object (length heap) function env.0 count ∷ [])
+  function_made makes next_is sizes constructs calls ends =
+      let long = ap length makes ∙ length-append heap (fresh_object class.Function (Script function env) (Some function_prototype) c c ∷ []) in
+      let next_number : next ≡ suc (length heap) = omega (arith, long, next_is) in
+      last_gives heap called last _ o.0 (codes "arguments") (slot_with c (fixed_accessor arguments_accessor)) place
+      (last_gives heap constructing called _ o.0 (codes "caller") (slot_with c (fixed_accessor caller_accessor)) place
+      (last_gives heap sized constructing _ o.0 (codes "prototype") (slot_with c (property_with (value.Object (id next)) kept)) place
+      (last_gives heap fresh sized _ o.0 (codes "length") (slot_with c (count_property count)) place makes sizes) constructs) calls) ends
+      ∙ ap (λ n. heap ++ function_with n ∷ []) next_number
 
-    module _ (other : List ℕ) (differs : same_name key other ≡ false) where
-      not_own : (c : Label) → own other ((key, slot_in c p) ∷ []) ≡ None
-      not_own c = ap (λ (b : Bool). if b then Some (slot_in c p) else None) differs
+  pub constructed_made : (f : ObjId) → fresh ≡ new_object class.Object (Some object_prototype) c c Plain heap → last ≡ give o.0 (codes "constructor") (slot_with c (property_with (value.Object f) built_in)) fresh → last ≡ heap ++ objects_with c (constructed_prototype f.0 ∷ [])
+  constructed_made f makes gives = last_gives heap fresh last _ o.0 (codes "constructor") (slot_with c (property_with (value.Object f) built_in)) place makes gives
 
-      -- it has no other property yet
-      pub lacks : own_in other (slice_get after o.0) ≡ None
-      lacks =
-          let reading = meaning t in
-          none_mapped (read_slot reading) (own_in other (slice_get after o.0))
-          (sym (read_own_in reading other after o.0)
-          ∙ ap₂ (λ (h : List (Object Label)) n. own_in other (slice_get h n)) (has_first reading (record { agrees = λ l h. refl })) (place reading)
-          ∙ ap (own_in other) (last_there (read_heap reading heap) (one reading))
-          ∙ not_own (reading here))
+  -- the `arguments` object with its `length`
+  pub counted_made : fresh ≡ new_object class.Arguments (Some object_prototype) c c (Script function env) heap → last ≡ give o.0 (codes "length") (slot_with c (property_with (value.Primitive (Num (pos count))) built_in)) fresh
+      → last ≡ heap ++ objects_with c (counted_object function env.0 count ∷ [])
+  counted_made makes gives = last_gives heap fresh last _ o.0 (codes "length") (slot_with c (property_with (value.Primitive (Num (pos count))) built_in)) place makes gives
 
-    module _ (plain : PlainInner) (inside : (reading : T → Label) → read_inner reading inner ≡ made_inner (reading here) plain) where
-      -- an object with one property
-      pub made_one : Makes made meaning t here (record (fresh_plain kind plain proto) { rows = (key, p) ∷ [] } ∷ []) heap after
-      made_one = record { says = λ reading is. has_first reading is ∙ ap (λ i. read_heap reading heap ++ with_properties (reading here) kind i proto ((key, slot_in (reading here) p) ∷ []) ∷ []) (inside reading) }
-
-      -- and with another
-      pub made_two : (u : S) (last : List (Object T)) (other : List ℕ) (q : Property) → same_name key other ≡ false → IsKept made meaning room firm t u
-          → Adds made meaning u here o.0 other q.body q.marks after last → Makes made meaning u here (record (fresh_plain kind plain proto) { rows = (key, p) ∷ (other, q) ∷ [] } ∷ []) heap last
-      made_two u last other q differs later adds_other = record {
-        says = λ reading is.
-            ap done_to
-            (sym (adds_other.says reading is)
-            ∙ ap (add o.0 other (reading here) q.body bottom q.marks) (has_first reading (IsReading-earlier made meaning room firm t u reading later is))
-            ∙ added_last (read_heap reading heap) o.0 (reading here) kind (read_inner reading inner) proto ((key, slot_in (reading here) p) ∷ []) other q.body bottom q.marks (place reading) (no_element other) (not_own other differs (reading here)))
-            ∙ ap₂ (λ (x : Slot Label) i. read_heap reading heap ++ with_properties (reading here) kind i proto ((key, slot_in (reading here) p) ∷ (other, x) ∷ []) ∷ []) (added_slot (reading here) q) (inside reading);
-      }
+-- it is open in its context
+pub counted_open : {S T : Type 0} (made : S → T → Type 0) (meaning : S → T → Label) (store : S) (here : T) (heap last : List (Object T)) (o function place count : ℕ) → o ≡ length heap → last ≡ heap ++ objects_with here (counted_object function place count ∷ []) → IsOpen made meaning store last o here
+counted_open made meaning store here heap last o function place count number is = record {
+  says = λ reading read.
+      let c = reading here in
+      let q = object_with c (counted_object function place count) in
+      subst (Opens c)
+      (sym (ap₂ (λ (h : List (Object _)) n. slice_get (read_heap reading h) n) is number
+      ∙ ap (λ (h : List (Object Label)). slice_get h (length heap)) (map-append (read_object reading) heap (objects_with here (counted_object function place count ∷ [])))
+      ∙ ap (λ n. slice_get (read_heap reading heap ++ q ∷ []) n) (sym (length-map heap (read_object reading)))
+      ∙ last_there (read_heap reading heap) q))
+      (refl, λ k. refl);
+}
 
 -- ---- what `new` makes
 

@@ -9,4 +9,4 @@ abbrev pub IsOfTable : List FunctionCode → Callee → Type 0
 IsOfTable functions (callee.Script number f place) = slice_get functions number ≡ Some (code_of f.now)
 IsOfTable functions callee.NotCallable = Unit {0}
 IsOfTable functions callee.Empty = Unit {0}
-IsOfTable functions callee.Unbuilt = Unit {0}
+IsOfTable functions (callee.Native which) = Unit {0}

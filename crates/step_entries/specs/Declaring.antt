@@ -7,7 +7,7 @@ use Rattle.js_values.specs.Objects.{Object}
 use Rattle.js_values.specs.Readings.{IsReading, read_value, read_heap}
 use Rattle.es_meaning.specs.Functions.{made_if}
 use Rattle.flow_meaning.specs.Scopes.{joined}
-use Rattle.flow_meaning.specs.Tracked.{arguments_object}
+use Rattle.flow_meaning.specs.Requested.{arguments_object}
 
 -- values with one label
 abbrev pub labelled_with : {T : Type 0} → T → List Value → List (Labelled T)

@@ -1,14 +1,12 @@
 -- Objects that are made in a context.
-use Rattle.std.specs.Prelude.{◌≡◌, ℕ, pos, List, ◌++◌, Option, Some, None, Ok, slice_get}
-use Rattle.origin_labels.specs.Label.{Label, bottom}
+use Rattle.std.specs.Prelude.{◌≡◌, ℕ, pos, List, ◌++◌, Option, Some, None, slice_get}
+use Rattle.origin_labels.specs.Label.{Label}
 use Rattle.js_number.specs.declared.primitive.Primitive.TheVariants.{Num}
 use Rattle.js_values.specs.declared.property.Body.{Body}
 use Rattle.js_values.specs.declared.property.Body.TheVariants.{Data}
-use Rattle.js_values.specs.declared.property.Marks.{Marks}
 use Rattle.js_values.specs.declared.value.Value.TheVariants as value
 use Rattle.js_values.specs.Objects.{PlainObject, Object}
 use Rattle.js_values.specs.Readings.{IsReading, read_heap}
-use Rattle.object_heap.specs.Acts.{add}
 use Rattle.object_heap.specs.Arrays.{element_of}
 use Rattle.flow_meaning.specs.Erased.{made_objects}
 
@@ -28,7 +26,3 @@ module _ {S T : Type 0} (made : S → T → Type 0) (meaning : S → T → Label
   -- further objects that are made in a context, in each reading that agrees with the store
   pub record Makes (here : T) (more : List PlainObject) (old new : List (Object T)) : Type 0 where
     pub says : (reading : T → Label) → IsReading made meaning store reading → read_heap reading new ≡ read_heap reading old ++ made_objects (reading here) more
-
-  -- a property that is added in a context, and depends on it alone
-  pub record Adds (here : T) (o : ℕ) (key : List ℕ) (body : Body) (marks : Marks) (old new : List (Object T)) : Type 0 where
-    pub says : (reading : T → Label) → IsReading made meaning store reading → add o key (reading here) body bottom marks (read_heap reading old) ≡ Ok (read_heap reading new)

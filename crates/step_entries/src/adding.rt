@@ -1,28 +1,19 @@
-//! Properties that are added to an object which is being made.
+//! Properties that an object gets while it is made.
 
-ghost use Rattle.std.specs.Prelude.{◌≡◌, ◌<◌, None, IfOk, OnOk, length, slice_get};
-ghost use Rattle.origin_labels.specs.Stores.{IsKept};
-ghost use Rattle.js_values.specs.declared.property.Body.TheVariants.{Data};
+ghost use Rattle.std.specs.Prelude.{◌≡◌, ◌<◌, OnOk, length};
 ghost use Rattle.js_values.specs.Readings.{HasHeap};
-ghost use Rattle.object_heap.specs.Formed.{own_in};
-ghost use Rattle.step_entries.specs.Making.{Adds, IsOpen, count_body};
+ghost use Rattle.object_heap.specs.Acts.{give};
+ghost use Rattle.es_meaning.specs.Start.{fixed_accessor};
+ghost use Rattle.plain_heap.specs.PlainObjects.{slot_with};
+ghost use Rattle.step_entries.specs.Making.{count_body};
 
-use flow_frames::FlowFault;
-use flow_text::{OutOfMemory, Text};
+use flow_text::OutOfMemory;
 use js_number::{Int, Primitive};
-use js_values::{Body, Key, Marks, ObjId, Value};
+use js_values::{Body, Marks, ObjId, Slot, Value};
 use object_heap::Heap;
 use origin_labels::Labels;
+use plain_heap::{FIXED, key_of};
 use std::alloc::Global;
-
-/// A text of these units.
-pub(crate) fn text_of(alloc: Global, units: &[u16]) -> Result<Text, OutOfMemory>
-    ensures { IfOk result (λ t. t ≡ units.now) }
-{
-    let mut text = Text::new(alloc);
-    text.push_units(units)?;
-    Ok(text)
-}
 
 /// A property that holds a number.
 pub(crate) fn count_body(n: u32) -> Body
@@ -31,30 +22,55 @@ pub(crate) fn count_body(n: u32) -> Body
     Body::Data(Value::Primitive(Primitive::Num(Int::new(i64::from(n)).unwrap())))
 }
 
-/// Adds a property to an object that was made in the context, which has none of this key. No flow rule stops that.
-pub(crate) fn add_property<T: Copy, L: Labels<Label = T>>(
-    labels: &mut L,
+/// Gives an object that was made in the context a property, which depends on that alone.
+pub(crate) fn give<T: Copy, L: Labels<Label = T>>(
+    alloc: Global,
+    _labels: &L,
     heap: &mut Heap<T>,
     o: ObjId,
     context: T,
-    key: Key,
+    name: &str,
     body: Body,
     marks: Marks,
 ) -> Result<(), OutOfMemory>
     requires there { o.0 < length heap.old }
-    requires absent { own_in key (slice_get heap.old o.0) ≡ None }
-    requires opened { IsOpen L.made L.meaning labels.old heap.old o.0 context }
-    requires context { L.made labels.old context }
-    requires belongs { HasHeap (L.made labels.old) heap.old }
-    ensures adds { OnOk result (Adds L.made L.meaning labels.new context o.0 key body marks heap.old heap.new) }
+    requires context { L.made _labels.now context }
+    requires belongs { HasHeap (L.made _labels.now) heap.old }
+    ensures gives { OnOk result (heap.new ≡ give o.0 name.now (slot_with context (record { body = body; marks = marks })) heap.old) }
     ensures length { length heap.new ≡ length heap.old }
-    ensures belongs { HasHeap (L.made labels.new) heap.new }
-    ensures kept { IsKept L.made L.meaning L.room L.firm labels.old labels.new }
+    ensures belongs { HasHeap (L.made _labels.now) heap.new }
 {
-    let none = labels.bottom();
-    match heap.add(labels, o, key, context, body, none, marks) {
-        Ok(()) => Ok(()),
-        Err(FlowFault::OutOfMemory) => Err(OutOfMemory),
-        Err(FlowFault::Stop(_)) => unreachable!(),
-    }
+    let key = key_of(alloc, name)?;
+    let slot = Slot {
+        body,
+        label: context,
+        existence: context,
+        marks,
+    };
+    heap.give(o, key, slot)?;
+    Ok(())
+}
+
+/// The same of an accessor that is its own getter and setter, and can't be changed.
+pub(crate) fn give_accessor<T: Copy, L: Labels<Label = T>>(
+    alloc: Global,
+    labels: &L,
+    heap: &mut Heap<T>,
+    o: ObjId,
+    context: T,
+    name: &str,
+    accessor: ObjId,
+) -> Result<(), OutOfMemory>
+    requires there { o.0 < length heap.old }
+    requires context { L.made labels.now context }
+    requires belongs { HasHeap (L.made labels.now) heap.old }
+    ensures gives { OnOk result (heap.new ≡ give o.0 name.now (slot_with context (fixed_accessor accessor)) heap.old) }
+    ensures length { length heap.new ≡ length heap.old }
+    ensures belongs { HasHeap (L.made labels.now) heap.new }
+{
+    let body = Body::Accessor {
+        get: Some(accessor),
+        set: Some(accessor),
+    };
+    give(alloc, labels, heap, o, context, name, body, FIXED)
 }

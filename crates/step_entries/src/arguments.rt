@@ -1,28 +1,30 @@
 //! The `arguments` object of a call (ECMA-262 10.6).
 
-ghost use Rattle.std.specs.Prelude.{◌≡◌, ◌≤◌, ◌<◌, ◌+◌, [], ◌∷◌, None, pos, IfOk, OnOk, length, slice_get};
+ghost use Rattle.std.specs.Prelude.{◌≡◌, ◌≤◌, ◌<◌, ◌+◌, ◌^◌, [], ◌∷◌, ◌++◌, None, pos, IfOk, OnOk, length, slice_get};
 ghost use Rattle.std.specs.List.{All};
 ghost use Rattle.origin_labels.specs.Stores.{IsKept};
 ghost use Rattle.js_number.specs.declared.primitive.Primitive.TheVariants.{Num};
 ghost use Rattle.js_number.specs.Conversions.{text_of};
 ghost use Rattle.js_values.specs.Readings.{HasHeap, HasValue};
 ghost use Rattle.object_heap.specs.Formed.{own_in};
-ghost use Rattle.step_entries.specs.ArgumentRows.{AddsValue, Gets, MakesArguments};
+ghost use Rattle.plain_heap.specs.PlainObjects.{objects_with};
+ghost use Rattle.step_entries.specs.ArgumentRows.{AddsValue, Gets, MakesArguments, counted_object};
 ghost use Rattle.step_entries.specs.Making.{IsOpen};
 
-use crate::adding::{add_property, count_body, text_of};
-use crate::objects::{LENGTH, OBJECT_PROTOTYPE};
+use crate::adding::{count_body, give, give_accessor};
 use flow_frames::FlowFault;
 use flow_text::OutOfMemory;
 use js_number::{Int, number_to_text};
 use js_values::{Body, Class, EnvId, Inner, Key, Labelled, Marks, ObjId};
 use object_heap::Heap;
 use origin_labels::Labels;
+use plain_heap::{BUILT_IN, CALLEE_ACCESSOR, CALLER_ACCESSOR, OBJECT_PROTOTYPE};
 use std::alloc::Global;
 
 // How many arguments there are.
 fn count<T>(args: &[Labelled<T>]) -> Result<u32, OutOfMemory>
-    ensures { IfOk result (λ n. n ≡ length args.now) }
+    ensures is { IfOk result (λ n. n ≡ length args.now) }
+    ensures few { IfOk result (λ n. n < 2 ^ 32) }
 {
     match u32::try_from(args.len()) {
         Ok(n) => Ok(n),
@@ -128,6 +130,34 @@ fn add_elements<T: Copy, L: Labels<Label = T>>(
     Ok(())
 }
 
+// Makes the object with its `length` alone.
+fn make_counted<T: Copy, L: Labels<Label = T>>(
+    alloc: Global,
+    labels: &L,
+    heap: &mut Heap<T>,
+    context: T,
+    function: u32,
+    own: EnvId,
+    count: u32,
+) -> Result<ObjId, OutOfMemory>
+    requires started { 16 ≤ length heap.old }
+    requires context { L.made labels.now context }
+    requires belongs { HasHeap (L.made labels.now) heap.old }
+    ensures makes { OnOk result (heap.new ≡ heap.old ++ objects_with context (counted_object function own.0 count ∷ [])) }
+    ensures number { IfOk result (λ o. o.0 ≡ length heap.old) }
+    ensures length { OnOk result (length heap.new ≡ length heap.old + 1) }
+    ensures opened { IfOk result (λ o. IsOpen L.made L.meaning labels.now heap.new o.0 context) }
+    ensures grows { length heap.old ≤ length heap.new }
+    ensures belongs { HasHeap (L.made labels.now) heap.new }
+{
+    let proto = Some(OBJECT_PROTOTYPE);
+    let inner = Inner::Script { function, env: own };
+    let o = heap.new_object(Class::Arguments, proto, context, context, inner)?;
+    let body = count_body(count);
+    give(alloc, labels, heap, o, context, "length", body, BUILT_IN)?;
+    Ok(o)
+}
+
 /// Makes the `arguments` object of a call of the function with this number, in its record, in the context.
 pub(crate) fn make_arguments<T: Copy, L: Labels<Label = T>>(
     alloc: Global,
@@ -138,7 +168,7 @@ pub(crate) fn make_arguments<T: Copy, L: Labels<Label = T>>(
     own: EnvId,
     args: &[Labelled<T>],
 ) -> Result<(), OutOfMemory>
-    requires started { 10 ≤ length heap.old }
+    requires started { 16 ≤ length heap.old }
     requires context { L.made labels.old context }
     requires args { All (HasValue (L.made labels.old)) args.now }
     requires belongs { HasHeap (L.made labels.old) heap.old }
@@ -149,16 +179,9 @@ pub(crate) fn make_arguments<T: Copy, L: Labels<Label = T>>(
     ensures kept { IsKept L.made L.meaning L.room L.firm labels.old labels.new }
 {
     let count = count(args)?;
-    let length = Key::new(text_of(alloc, &LENGTH)?);
-    let proto = Some(OBJECT_PROTOTYPE);
-    let inner = Inner::Script { function, env: own };
-    let o = heap.new_object(Class::Arguments, proto, context, context, inner)?;
-    let marks = Marks {
-        writable: true,
-        enumerable: false,
-        configurable: true,
-    };
-    add_property(labels, heap, o, context, length, count_body(count), marks)?;
+    let o = make_counted(alloc, labels, heap, context, function, own, count)?;
     add_elements(alloc, labels, heap, o, context, count, args)?;
+    give_accessor(alloc, labels, heap, o, context, "caller", CALLER_ACCESSOR)?;
+    give_accessor(alloc, labels, heap, o, context, "callee", CALLEE_ACCESSOR)?;
     Ok(())
 }

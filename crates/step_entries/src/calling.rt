@@ -1,17 +1,17 @@
-//! What a value is for a call.
+//! What an object is for a call.
 
-ghost use Rattle.std.specs.Prelude.{◌≡◌, ◌<◌, length, slice_get};
+ghost use Rattle.std.specs.Prelude.{◌≡◌, slice_get};
 ghost use Rattle.origin_labels.specs.Label.{Label};
 ghost use Rattle.js_values.specs.Readings.{read_heap};
 ghost use Rattle.es_meaning.specs.Functions.{is_function, script_callee, callable_inner};
 ghost use Rattle.flow_meaning.specs.Erased.{erased_inner};
-ghost use Rattle.flow_meaning.specs.Tracked.{callee_in, callee_at};
+ghost use Rattle.flow_meaning.specs.Tracked.{callee_at};
 ghost use Rattle.function_table.specs.Callees.{callee_of};
 ghost use Rattle.function_table.specs.Tables.{table};
 ghost use Rattle.step_entries.specs.Calling.{IsOfTable};
 
 use function_table::{Callee, Functions};
-use js_values::{Class, EnvId, Inner, ObjId, Value};
+use js_values::{Class, EnvId, Inner, ObjId};
 use object_heap::Heap;
 
 // Whether objects of a class are functions.
@@ -55,14 +55,14 @@ fn inner_callee<'p, T: Copy>(functions: &Functions<'p>, inner: &Inner<T>) -> Cal
     match inner {
         Inner::Plain => Callee::Empty,
         Inner::Script { function, env } => script_callee(functions, *function, *env),
-        Inner::Native { .. } => Callee::Unbuilt,
-        Inner::Bound { .. } => Callee::Unbuilt,
+        Inner::Native { which } => Callee::Native { which: *which },
+        Inner::Bound { .. } => Callee::NotCallable,
     }
 }
 
-// What an object is for a call.
-fn object_callee<'p, T: Copy>(functions: &Functions<'p>, heap: &Heap<T>, o: ObjId) -> Callee<'p>
-    ensures is { (reading : T → Label) → callee_of result ≡ callee_in (table functions.now) (slice_get (read_heap reading heap.now) o.0) }
+/// What an object is for a call (ECMA-262 11.2.3, 13.2). A function of the script is one of the table, and a number that no object has is no function's.
+pub fn callee<'p, T: Copy>(functions: &Functions<'p>, heap: &Heap<T>, o: ObjId) -> Callee<'p>
+    ensures is { (reading : T → Label) → callee_of result ≡ callee_at (table functions.now) (read_heap reading heap.now) o.0 }
     ensures of_table { IsOfTable (table functions.now) result }
 {
     if o.0 >= heap.len() {
@@ -72,15 +72,4 @@ fn object_callee<'p, T: Copy>(functions: &Functions<'p>, heap: &Heap<T>, o: ObjI
         return inner_callee(functions, heap.inner(o));
     }
     Callee::NotCallable
-}
-
-/// What a value is for a call (ECMA-262 11.2.3, 13.2). A function of the script is one of the table.
-pub fn callee<'p, T: Copy>(functions: &Functions<'p>, heap: &Heap<T>, value: &Value) -> Callee<'p>
-    ensures is { (reading : T → Label) → callee_of result ≡ callee_at (table functions.now) (read_heap reading heap.now) value.now }
-    ensures of_table { IsOfTable (table functions.now) result }
-{
-    match value {
-        Value::Primitive(_) => Callee::NotCallable,
-        Value::Object(o) => object_callee(functions, heap, *o),
-    }
 }

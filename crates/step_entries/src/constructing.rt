@@ -2,20 +2,19 @@
 
 ghost use Rattle.std.specs.Prelude.{◌≡◌, ◌<◌, length, IfOk, OnOk};
 ghost use Rattle.origin_labels.specs.Stores.{IsKept};
-ghost use Rattle.js_values.specs.declared.value.Value.TheVariants.{Object};
 ghost use Rattle.js_values.specs.Readings.{IsReading, HasValue, read_heap, read_value};
 ghost use Rattle.origin_labels.specs.Label.{Label};
 ghost use Rattle.flow_meaning.specs.Tracked.{prototype_of, with_fresh};
-ghost use Rattle.es_meaning.specs.Plain.{object_or_default, value_in};
+ghost use Rattle.es_meaning.specs.Definitions.{value_in};
+ghost use Rattle.es_meaning.specs.Plain.{object_or_default};
 ghost use Rattle.step_world.specs.Worlds.{Belongs, Grows};
 ghost use Rattle.step_entries.specs.Changing.{Changes};
 
-use crate::adding::text_of;
-use crate::objects::{OBJECT_PROTOTYPE, PROTOTYPE};
 use flow_text::OutOfMemory;
 use js_number::Primitive;
 use js_values::{Body, Class, Inner, Labelled, ObjId, Value};
 use origin_labels::Labels;
+use plain_heap::{OBJECT_PROTOTYPE, text_of};
 use prototype_walk::find_slot_named;
 use std::alloc::Global;
 use step_world::World;
@@ -80,7 +79,7 @@ pub fn prototype_of<T: Copy, L: Labels<Label = T>>(
     function: ObjId,
 ) -> Result<Labelled<T>, OutOfMemory>
     requires { Belongs L.made L.meaning labels.old world.now }
-    ensures is { IfOk result (λ v. (reading : T → Label) → IsReading L.made L.meaning labels.new reading → read_value reading v ≡ prototype_of (read_heap reading world.now.heap) (Object function)) }
+    ensures is { IfOk result (λ v. (reading : T → Label) → IsReading L.made L.meaning labels.new reading → read_value reading v ≡ prototype_of (read_heap reading world.now.heap) function.0) }
     ensures made { IfOk result (HasValue (L.made labels.new)) }
     ensures belongs { Belongs L.made L.meaning labels.new world.now }
     ensures kept { IsKept L.made L.meaning L.room L.firm labels.old labels.new }
@@ -88,7 +87,7 @@ pub fn prototype_of<T: Copy, L: Labels<Label = T>>(
     if function.0 >= world.heap.len() {
         return Err(OutOfMemory);
     }
-    let name = text_of(alloc, &PROTOTYPE)?;
+    let name = text_of(alloc, "prototype")?;
     let (place, walk) = find_slot_named(&world.heap, labels, function, &name)?;
     match place {
         Some((_, slot)) => {

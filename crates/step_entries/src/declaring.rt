@@ -61,7 +61,7 @@ fn make_one<T: Copy, L: Labels<Label = T>>(
     f: &Function,
     own: EnvId,
 ) -> Result<Labelled<T>, OutOfMemory>
-    requires started { 10 ≤ length heap.old }
+    requires started { 16 ≤ length heap.old }
     requires context { L.made labels.old context }
     requires belongs { HasHeap (L.made labels.old) heap.old }
     ensures makes { OnOk result (Makes L.made L.meaning labels.new context (objects_of (table functions.now) (length heap.old) own.0 (view_function f.now ∷ [])) heap.old heap.new) }
@@ -91,7 +91,7 @@ fn make_by_statement<T: Copy, L: Labels<Label = T>>(
     own: EnvId,
     references: &mut Vec<Labelled<T>>,
 ) -> Result<(), OutOfMemory>
-    requires started { 10 ≤ length heap.old }
+    requires started { 16 ≤ length heap.old }
     requires context { L.made labels.old context }
     requires belongs { HasHeap (L.made labels.old) heap.old }
     ensures makes { OnOk result (Makes L.made L.meaning labels.new context (objects_of (table functions.now) (length heap.old) own.0 (declared_by (view_stmt s.now))) heap.old heap.new) }
@@ -122,7 +122,7 @@ pub(crate) fn make_declared<T: Copy, L: Labels<Label = T>>(
     body: &StmtList,
     own: EnvId,
 ) -> Result<Vec<Labelled<T>>, OutOfMemory>
-    requires started { 10 ≤ length heap.old }
+    requires started { 16 ≤ length heap.old }
     requires context { L.made labels.old context }
     requires belongs { HasHeap (L.made labels.old) heap.old }
     ensures makes { OnOk result (Makes L.made L.meaning labels.new context (objects_of (table functions.now) (length heap.old) own.0 (declared_functions (view_stmts (nodes_of body.now)))) heap.old heap.new) }

@@ -82,7 +82,7 @@ fn make_named<T: Copy, L: Labels<Label = T>>(
     own: EnvId,
     args: &[Labelled<T>],
 ) -> Result<ObjId, OutOfMemory>
-    requires started { 10 ≤ length heap.old }
+    requires started { 16 ≤ length heap.old }
     requires context { L.made labels.old context }
     requires args { All (HasValue (L.made labels.old)) args.now }
     requires belongs { HasHeap (L.made labels.old) heap.old }

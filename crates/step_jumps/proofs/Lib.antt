@@ -1,3 +1,4 @@
+pub mod Places
 pub mod Reaching
 pub mod JumpLaws
 pub mod Moved

@@ -1,13 +1,13 @@
 -- The origins that names tell.
-use Rattle.std.proofs.Common.{if◌then◌else◌, ◌≡◌, ℕ, ◌<◌, Bool, true, false, List, [], ◌∷◌, length, map, Option, Some, None, IfSome, refl, ap, sym, ◌∙◌}
-use Rattle.std.specs.List.{position, slice_split}
+use Rattle.std.proofs.Common.{if◌then◌else◌, ◌≡◌, ℕ, ◌<◌, true, false, List, [], ◌∷◌, length, map, Option, Some, None, refl, ap, sym, ◌∙◌}
+use Rattle.std.specs.List.{slice_split}
 use Rattle.std.specs.Option.{option_map}
 use Rattle.std.proofs.lemmas.List.Quantifiers.{position-Some}
 use Rattle.std.proofs.lemmas.Option.{none-some, same_Some}
 use Rattle.origin_labels.specs.Label.{Label, IsLabel, union, single, label_of}
 use Rattle.origin_labels.specs.Label as X
 use Rattle.origin_labels.specs.Names.{place_of, same_name}
-use Rattle.origin_labels.proofs.LabelLaws.{IsLabel-label_of, with_origin-union, union-assoc, union-bottom, union-bottom_left}
+use Rattle.origin_labels.proofs.LabelLaws.{IsLabel-label_of, with_origin-union, union-assoc, union-bottom_left}
 use Rattle.flow_lists.specs.Lists.{is_bare, is_comma, names_in}
 use Rattle.flow_policy.specs.Inputs.{Given}
 use Rattle.flow_policy.specs.Policies.{Tables}

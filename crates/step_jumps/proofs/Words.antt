@@ -1,5 +1,5 @@
 -- Words that spaces cut.
-use Rattle.std.proofs.Common.{refl, sym, ap, ◌∙◌, ◌≡◌, ◌+◌, ℕ, List, [], ◌∷◌, take, drop, Option, Some, None}
+use Rattle.std.proofs.Common.{refl, ◌≡◌, ◌+◌, ℕ, List, [], ◌∷◌, take, drop, Option, Some, None}
 use Rattle.std.specs.List.{position}
 use Rattle.flow_lists.proofs.Cuts.{cut_none, cut_at}
 use Rattle.step_jumps.specs.Raising.{words_of, is_space, parts_of}

@@ -1,5 +1,5 @@
 -- What it means that a call jumps.
-use Rattle.std.specs.Prelude.{◌≡◌, ℕ, List, [], ◌∷◌, map, Result, Ok, Err}
+use Rattle.std.specs.Prelude.{◌≡◌, List, [], ◌∷◌, map, Result, Ok, Err}
 use Rattle.origin_labels.specs.Label.{Label, bottom}
 use Rattle.flow_policy.specs.Policies.{Tables}
 use Rattle.flow_policy.specs.Inputs.{Given}
@@ -13,6 +13,7 @@ use Rattle.js_values.specs.declared.value.Value.TheVariants.{Primitive}
 use Rattle.js_values.specs.Readings.{IsReading, read_value}
 use Rattle.es_meaning.specs.Operations.{One}
 use Rattle.es_meaning.specs.Outcomes.{Outcome, Jumps, Ends}
+use Rattle.es_meaning.specs.BuiltIns.{BuiltIns}
 use Rattle.flow_meaning.specs.Planned.{as_plan}
 use Rattle.flow_meaning.specs.Scopes.{Val, State, Halt, Jump, stopped, jump}
 use Rattle.step_world.specs.declared.world.World.{World}
@@ -24,6 +25,8 @@ use Rattle.step_work.specs.Kept.{Kept}
 use Rattle.step_work.specs.Pending.{behind, first_or_undefined}
 use Rattle.step_work.specs.Resuming.{with_frames}
 use Rattle.step_work.specs.Shapes.{jump_of}
+use Rattle.step_work.specs.Settings.{setting_of}
+use Rattle.native_protocol.specs.Steps.{Steps}
 
 -- what an answer says of an outcome: the jump goes on, or a rule stops the run. Want of memory says nothing
 abbrev pub SaysJump : {X T : Type 0} → (T → Label) → Outcome Halt Jump (Unit {0}) State → Jump → State → Result X (FlowFault T) → Type 0
@@ -37,8 +40,8 @@ module _ {S T : Type 0} (made : S → T → Type 0) (meaning : S → T → Label
   Issues j old new result = (reading : T → Label) (v : Val) (s : State) → IsReading made meaning store reading → SaysJump reading (jump bottom (j v) (with_frames reading old s)) (j v) (with_frames reading new s) result
 
   -- a call comes to what pending work says of a jump whose value lies loose
-  abbrev pub IssuesAt : Tables → Given → List FunctionCode → work.Jump → Kept T → World T → World T → Result Next (FlowFault T) → Type 0
-  IssuesAt tables inputs functions j stack old new = ComesTo made meaning store tables inputs functions (λ reading told turns. behind tables inputs functions reading stack.tasks here (as_plan One (jump bottom (jump_of j (first_or_undefined (map (read_value reading) stack.loose))) (state_of reading old told turns)))) stack new
+  abbrev pub IssuesAt : Tables → Given → BuiltIns → List FunctionCode → List Steps → work.Jump → Kept T → World T → World T → Result Next (FlowFault T) → Type 0
+  IssuesAt tables inputs set functions natives j stack old new = ComesTo made meaning store tables inputs set functions natives (λ reading told turns. behind tables inputs set functions reading stack.tasks (setting_of natives here) (as_plan One (jump bottom (jump_of j (first_or_undefined (map (read_value reading) stack.loose))) (state_of reading old told turns)))) stack new
 
   -- undefined lies alone, and depends on nothing
   pub record IsNothing (values : List (Labelled T)) : Type 0 where

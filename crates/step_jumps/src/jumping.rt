@@ -9,16 +9,18 @@ ghost use Rattle.js_ast.specs.Functions.{FunctionCode};
 ghost use Rattle.js_ast.specs.Views.{view_name};
 ghost use Rattle.es_meaning.specs.Environments.{find_around};
 ghost use Rattle.es_meaning.specs.Evaluation.{text_of_label};
+ghost use Rattle.es_meaning.specs.BuiltIns.{BuiltIns};
 ghost use Rattle.step_world.specs.Worlds.{Grows};
 ghost use Rattle.step_work.specs.declared.work.Next.TheVariants as next;
 ghost use Rattle.step_work.specs.declared.work.Work.TheVariants as work;
 ghost use Rattle.step_work.specs.Going.{Begins, Resumes, here};
-ghost use Rattle.step_work.specs.Kept.{operands_of, scope_of, scopes_of};
+ghost use Rattle.step_work.specs.Kept.{operands_of, scope_of, scopes_of, waiting};
 ghost use Rattle.step_work.specs.Loads.{Adds, lift, weight};
 ghost use Rattle.step_work.specs.Pending.{env_above, owns, values_of};
 ghost use Rattle.step_work.specs.Standing.{Standing};
 ghost use Rattle.step_work.specs.Stops.{HasStop};
 ghost use Rattle.step_jumps.specs.Issuing.{IsNothing, IssuesAt};
+ghost use Rattle.native_protocol.specs.Steps.{Steps};
 
 use crate::again::jump_again;
 use flow_frames::FlowFault;
@@ -37,10 +39,10 @@ fn issue<'p, L: Labels>(
     stack: &Stack<'p, L::Label>,
     jump: Jump,
 ) -> Result<Next<'p>, FlowFault<L::Label>>
-    requires standing { Standing L.made L.meaning labels.old stack.now world.old 1 (scopes_of stack.now.tasks ++ []) next.Value }
-    ensures issues { (tables : Tables) (inputs : Given) (functions : List FunctionCode) → IssuesAt L.made L.meaning labels.new tables inputs functions jump stack.now world.old world.new result }
-    ensures standing { IfOk result (λ move. Standing L.made L.meaning labels.new stack.now world.new (values_of move) (scopes_of stack.now.tasks) move) }
-    ensures adds { IfOk result (Adds 1 stack.now stack.now) }
+    requires standing { Standing L.made L.meaning labels.old stack.now world.old 1 (scopes_of stack.now.tasks ++ []) (waiting stack.now.tasks) next.Value }
+    ensures issues { (tables : Tables) (inputs : Given) (set : BuiltIns) (functions : List FunctionCode) (natives : List Steps) → IssuesAt L.made L.meaning labels.new tables inputs set functions natives jump stack.now world.old world.new result }
+    ensures standing { IfOk result (λ move. Standing L.made L.meaning labels.new stack.now world.new (values_of move) (scopes_of stack.now.tasks) (waiting stack.now.tasks) move) }
+    ensures adds { IfOk result (Adds 4 stack.now stack.now) }
     ensures stopped { IfErr result (IfStop (HasStop (L.made labels.new))) }
     ensures grows { Grows world.old world.new }
     ensures kept { IsKept L.made L.meaning L.room L.firm labels.old labels.new }
@@ -56,10 +58,10 @@ pub fn throw_value<'p, L: Labels>(
     world: &mut World<L::Label>,
     stack: &mut Stack<'p, L::Label>,
 ) -> Result<Next<'p>, FlowFault<L::Label>>
-    requires standing { Standing L.made L.meaning labels.old stack.old world.old (owns work.Throw + 1) (scopes_of stack.old.tasks ++ scope_of work.Throw) next.Value }
-    ensures resumes { (tables : Tables) (inputs : Given) (functions : List FunctionCode) → Resumes L.made L.meaning labels.new tables inputs functions work.Throw stack.old stack.new world.old world.new result }
-    ensures standing { IfOk result (λ move. Standing L.made L.meaning labels.new stack.new world.new (values_of move) (scopes_of stack.new.tasks) move) }
-    ensures adds { IfOk result (Adds (weight work.Throw) stack.old stack.new) }
+    requires standing { Standing L.made L.meaning labels.old stack.old world.old (owns work.Throw + 1) (scopes_of stack.old.tasks ++ scope_of work.Throw) (waiting stack.old.tasks) next.Value }
+    ensures resumes { (tables : Tables) (inputs : Given) (set : BuiltIns) (functions : List FunctionCode) (natives : List Steps) → Resumes L.made L.meaning labels.new tables inputs set functions work.Throw natives natives stack.old stack.new world.old world.new result }
+    ensures standing { IfOk result (λ move. Standing L.made L.meaning labels.new stack.new world.new (values_of move) (scopes_of stack.new.tasks) (waiting stack.old.tasks) move) }
+    ensures adds { IfOk result (Adds (weight work.Throw + 3) stack.old stack.new) }
     ensures stopped { IfErr result (IfStop (HasStop (L.made labels.new))) }
     ensures grows { Grows world.old world.new }
     ensures kept { IsKept L.made L.meaning L.room L.firm labels.old labels.new }
@@ -75,10 +77,10 @@ pub fn return_value<'p, L: Labels>(
     to: usize,
 ) -> Result<Next<'p>, FlowFault<L::Label>>
     requires aim { (env_above stack.old.tasks here).call ≡ to }
-    requires standing { Standing L.made L.meaning labels.old stack.old world.old (owns work.Return + 1) (scopes_of stack.old.tasks ++ scope_of work.Return) next.Value }
-    ensures resumes { (tables : Tables) (inputs : Given) (functions : List FunctionCode) → Resumes L.made L.meaning labels.new tables inputs functions work.Return stack.old stack.new world.old world.new result }
-    ensures standing { IfOk result (λ move. Standing L.made L.meaning labels.new stack.new world.new (values_of move) (scopes_of stack.new.tasks) move) }
-    ensures adds { IfOk result (Adds (weight work.Return) stack.old stack.new) }
+    requires standing { Standing L.made L.meaning labels.old stack.old world.old (owns work.Return + 1) (scopes_of stack.old.tasks ++ scope_of work.Return) (waiting stack.old.tasks) next.Value }
+    ensures resumes { (tables : Tables) (inputs : Given) (set : BuiltIns) (functions : List FunctionCode) (natives : List Steps) → Resumes L.made L.meaning labels.new tables inputs set functions work.Return natives natives stack.old stack.new world.old world.new result }
+    ensures standing { IfOk result (λ move. Standing L.made L.meaning labels.new stack.new world.new (values_of move) (scopes_of stack.new.tasks) (waiting stack.old.tasks) move) }
+    ensures adds { IfOk result (Adds (weight work.Return + 3) stack.old stack.new) }
     ensures stopped { IfErr result (IfStop (HasStop (L.made labels.new))) }
     ensures grows { Grows world.old world.new }
     ensures kept { IsKept L.made L.meaning L.room L.firm labels.old labels.new }
@@ -110,10 +112,10 @@ pub fn return_nothing<'p, L: Labels>(
     to: usize,
 ) -> Result<Next<'p>, FlowFault<L::Label>>
     requires aim { (env_above stack.old.tasks here).call ≡ to }
-    requires standing { Standing L.made L.meaning labels.old stack.old world.old (values_of next.Return) (scopes_of stack.old.tasks) next.Return }
-    ensures begins { (tables : Tables) (inputs : Given) (functions : List FunctionCode) → Begins L.made L.meaning labels.new tables inputs functions stack.old stack.new world.old world.new next.Return result }
-    ensures standing { IfOk result (λ move. Standing L.made L.meaning labels.new stack.new world.new (values_of move) (scopes_of stack.new.tasks) move) }
-    ensures adds { IfOk result (Adds 1 stack.old stack.new) }
+    requires standing { Standing L.made L.meaning labels.old stack.old world.old (values_of next.Return) (scopes_of stack.old.tasks) (waiting stack.old.tasks) next.Return }
+    ensures begins { (tables : Tables) (inputs : Given) (set : BuiltIns) (functions : List FunctionCode) (natives : List Steps) → Begins L.made L.meaning labels.new tables inputs set functions natives natives stack.old stack.new world.old world.new next.Return result }
+    ensures standing { IfOk result (λ move. Standing L.made L.meaning labels.new stack.new world.new (values_of move) (scopes_of stack.new.tasks) (waiting stack.old.tasks) move) }
+    ensures adds { IfOk result (Adds 4 stack.old stack.new) }
     ensures stopped { IfErr result (IfStop (HasStop (L.made labels.new))) }
     ensures grows { Grows world.old world.new }
     ensures kept { IsKept L.made L.meaning L.room L.firm labels.old labels.new }
@@ -132,10 +134,10 @@ pub fn leave_by<'p, L: Labels>(
     aim: Option<(usize, usize)>,
 ) -> Result<Next<'p>, FlowFault<L::Label>>
     requires aim { aim ≡ find_around turn (text_of_label (view_name label.now)) (env_above stack.old.tasks here).around }
-    requires standing { Standing L.made L.meaning labels.old stack.old world.old (values_of (next.Break turn label)) (scopes_of stack.old.tasks) (next.Break turn label) }
-    ensures begins { (tables : Tables) (inputs : Given) (functions : List FunctionCode) → Begins L.made L.meaning labels.new tables inputs functions stack.old stack.new world.old world.new (next.Break turn label.entry) result }
-    ensures standing { IfOk result (λ move. Standing L.made L.meaning labels.new stack.new world.new (values_of move) (scopes_of stack.new.tasks) move) }
-    ensures adds { IfOk result (Adds 1 stack.old stack.new) }
+    requires standing { Standing L.made L.meaning labels.old stack.old world.old (values_of (next.Break turn label)) (scopes_of stack.old.tasks) (waiting stack.old.tasks) (next.Break turn label) }
+    ensures begins { (tables : Tables) (inputs : Given) (set : BuiltIns) (functions : List FunctionCode) (natives : List Steps) → Begins L.made L.meaning labels.new tables inputs set functions natives natives stack.old stack.new world.old world.new (next.Break turn label.entry) result }
+    ensures standing { IfOk result (λ move. Standing L.made L.meaning labels.new stack.new world.new (values_of move) (scopes_of stack.new.tasks) (waiting stack.old.tasks) move) }
+    ensures adds { IfOk result (Adds 4 stack.old stack.new) }
     ensures stopped { IfErr result (IfStop (HasStop (L.made labels.new))) }
     ensures grows { Grows world.old world.new }
     ensures kept { IsKept L.made L.meaning L.room L.firm labels.old labels.new }

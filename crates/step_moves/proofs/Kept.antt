@@ -6,21 +6,13 @@ use Rattle.std.proofs.lemmas.List.{length-append, length-map, map-append, nil_fr
 use Rattle.std.proofs.lemmas.List.Elements.{All-append}
 use Rattle.origin_labels.specs.Label.{Label, bottom}
 use Rattle.origin_labels.specs.Stores.{IsKept}
-use Rattle.flow_policy.specs.Policies.{Tables}
-use Rattle.flow_policy.specs.Inputs.{Given}
-use Rattle.js_ast.specs.Functions.{FunctionCode}
-use Rattle.js_ast.specs.declared.operators.BinaryOperator.{BinaryOperator}
-use Rattle.js_ast.specs.Trees.{Expr, Ident, MaybeExpr}
 use Rattle.js_number.specs.declared.primitive.Primitive.TheVariants.{Undefined}
 use Rattle.js_values.specs.declared.ids.EnvId.{EnvId}
 use Rattle.js_values.specs.declared.value.Labelled.{Labelled}
 use Rattle.js_values.specs.declared.value.Value.TheVariants as value
 use Rattle.js_values.specs.Readings.{HasValue, read_value}
-use Rattle.es_meaning.specs.Operations.{One, Value, assigned, updated_by}
-use Rattle.es_meaning.specs.Evaluation.{assign_to, binary_values, compound_done, compound_right, more_variables, variables, used, enters}
 use Rattle.flow_meaning.specs.Scopes.{Val, State}
-use Rattle.flow_meaning.specs.Planned.{Give, Ask, an_expr, and_plan, with_result, as_plan, planned, asking}
-use Rattle.flow_meaning.specs.Tracked.{Reference, of_name, labelled, put_named, put_value}
+use Rattle.flow_meaning.specs.Tracked.{Reference, of_name, put_named, put_value}
 use Rattle.step_world.specs.declared.came.Named.{Named}
 use Rattle.step_world.specs.declared.came.Place.{Place}
 use Rattle.step_world.specs.declared.came.Place.TheVariants as place
@@ -36,10 +28,7 @@ use Rattle.step_work.specs.Shapes.{nth, target_of, use_of, walk_to}
 use Rattle.step_work.proofs.Steps.{values_more}
 use Rattle.step_work.proofs.Uses.{nth_behind, use_kept}
 use Rattle.step_moves.specs.Keeping.{laid_for, owns_walk, target_for, walk_laid}
-use Rattle.step_work.specs.Moving.{following}
 use Rattle.step_moves.proofs.Loose.{none_has, only}
-use Rattle.step_moves.proofs.PlanLaws.{assign_alike}
-use Rattle.step_moves.proofs.Parted.{followed}
 
 -- one reference takes values as another
 abbrev pub TakesAlike : Reference → Reference → Type 0
@@ -140,46 +129,3 @@ module _ {T : Type 0} (reading : T → Label) (front between : List (Labelled T)
 
   pub use_below : (how : Use) → length front ≡ owns_use how → use_of how (map (read_value reading) between) ≡ use_of how (map (read_value reading) front)
   use_below how size = ap (use_of how) parts ∙ use_kept how (map (read_value reading) front) (read_value reading v) (length-map front (read_value reading) ∙ size)
-
--- ---- plans
-
-module _ (tables : Tables) (inputs : Given) (functions : List FunctionCode) (n m : Reference) (alike : TakesAlike n m) where
-  assigns : assign_to (planned tables inputs functions) n ≡ assign_to (planned tables inputs functions) m
-  assigns = λ i v s. assign_alike tables inputs functions n m alike v s i
-
-  -- what is evaluated is then given to the reference
-  pub used_assigned : (r : Expr) (i : ℕ) (s : State) → and_plan (Ask (an_expr r i) s Give) (with_result Value (assign_to (planned tables inputs functions) n)) ≡ used (planned tables inputs functions) (asking tables inputs functions) (assigned r) i m s
-  unfolding used
-  used_assigned r i s = ap (λ g. and_plan (Ask (an_expr r i) s Give) (with_result Value g)) assigns
-
-  compounds : (o : BinaryOperator) (old : Val) → compound_done (planned tables inputs functions) (asking tables inputs functions) o n old ≡ compound_done (planned tables inputs functions) (asking tables inputs functions) o m old
-  unfolding compound_done
-  compounds o old = λ i v s. and_plan (binary_values (planned tables inputs functions) o old v s) (with_result Value (assigns i))
-
-  pub updated_right : (o : BinaryOperator) (old : Val) (r : Expr) (i : ℕ) (s : State) → and_plan (Ask (an_expr r i) s Give) (with_result Value (compound_done (planned tables inputs functions) (asking tables inputs functions) o n old)) ≡ compound_right (planned tables inputs functions) (asking tables inputs functions) o r i m old s
-  unfolding compound_right
-  updated_right o old r i s = ap (λ g. and_plan (Ask (an_expr r i) s Give) (with_result Value g)) (compounds o old)
-
-  more : (ds : List (Ident × MaybeExpr)) (i : ℕ) → more_variables (planned tables inputs functions) (asking tables inputs functions) n ds i ≡ more_variables (planned tables inputs functions) (asking tables inputs functions) m ds i
-  unfolding more_variables
-  more ds i = λ j v s. and_plan (as_plan One (alike v s j)) (with_result One (λ u. variables (planned tables inputs functions) (asking tables inputs functions) ds i))
-
-  pub initialised_alike : (r : Expr) (ds : List (Ident × MaybeExpr)) (i : ℕ) (s : State) → and_plan (Ask (an_expr r i) s Give) (with_result Value (more_variables (planned tables inputs functions) (asking tables inputs functions) n ds i)) ≡ (planned tables inputs functions).bind Value One ((asking tables inputs functions).expr r i) (more_variables (planned tables inputs functions) (asking tables inputs functions) m ds i) s
-  initialised_alike r ds i s = ap (λ g. and_plan (Ask (an_expr r i) s Give) (with_result Value g)) (more ds i)
-
--- a compound assignment gets the value first
-pub updated_as : (tables : Tables) (inputs : Given) (functions : List FunctionCode) (o : BinaryOperator) (r : Expr) (i : ℕ) (n : Reference) (s : State) → used (planned tables inputs functions) (asking tables inputs functions) (updated_by o r) i n s ≡ following ((labelled tables inputs functions).get_value n (enters (labelled tables inputs functions)) s) (compound_right (planned tables inputs functions) (asking tables inputs functions) o r i n)
-unfolding used
-updated_as tables inputs functions o r i n s = followed Value ((labelled tables inputs functions).get_value n (enters (labelled tables inputs functions)) s) (compound_right (planned tables inputs functions) (asking tables inputs functions) o r i n)
-
--- what work keeps of a reference, with the old value above it
-pub update_kept : {T : Type 0} (tables : Tables) (inputs : Given) (functions : List FunctionCode) (reading : T → Label) (r : code.Reference T) (t : Target) (loose : List (Labelled T)) (old : Labelled T) → t ≡ target_for r → loose ≡ laid_for r ++ old ∷ [] → (o : BinaryOperator) (e : Expr) (i : ℕ) (s : State)
-    → and_plan (Ask (an_expr e i) s Give) (with_result Value (compound_done (planned tables inputs functions) (asking tables inputs functions) o (target_of t (map (read_value reading) loose)) (nth (owns_target t) (map (read_value reading) loose)))) ≡ compound_right (planned tables inputs functions) (asking tables inputs functions) o e i (refers reading r) (read_value reading old) s
-update_kept tables inputs functions reading r t loose old is lies o e i s =
-    ap (λ u. and_plan (Ask (an_expr e i) s Give) (with_result Value (compound_done (planned tables inputs functions) (asking tables inputs functions) o (target_of t (map (read_value reading) loose)) u))) (value_above reading (laid_for r) loose old lies (owns_target t) (owns_laid r ∙ ap owns_target (sym is)))
-    ∙ updated_right tables inputs functions (target_of t (map (read_value reading) loose)) (refers reading r) (laid_alike reading r t loose (old ∷ []) is lies) o (read_value reading old) e i s
-
--- the variables behind one that was given its value
-pub more_as : (tables : Tables) (inputs : Given) (functions : List FunctionCode) (n : Reference) (ds : List (Ident × MaybeExpr)) (i : ℕ) (v : Val) (s : State) → more_variables (planned tables inputs functions) (asking tables inputs functions) n ds i v s ≡ following (put_value n v s) (λ u. variables (planned tables inputs functions) (asking tables inputs functions) ds i)
-unfolding more_variables
-more_as tables inputs functions n ds i v s = followed One (put_value n v s) (λ u. variables (planned tables inputs functions) (asking tables inputs functions) ds i)

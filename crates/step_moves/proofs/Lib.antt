@@ -1,10 +1,8 @@
-pub mod PlanLaws
 pub mod Loose
-pub mod Settled
-pub mod Parted
-pub mod Resumed
+pub mod Plans
 pub mod Begun
-pub mod CalledLaws
+pub mod Moved
 pub mod Kept
-pub mod Rows
+pub mod UseLaws
 pub mod VariableLaws
+pub mod Calls

@@ -1,5 +1,5 @@
 -- Values that lie loose.
-use Rattle.std.proofs.Common.{sym, ap, subst, ◌∙◌, ◌≡◌, ◌+◌, ℕ, Bool, zero, suc, List, [], ◌∷◌, ◌++◌, map, length, arith}
+use Rattle.std.proofs.Common.{refl, sym, ap, subst, ◌∙◌, ◌≡◌, ◌+◌, ℕ, Bool, zero, suc, List, [], ◌∷◌, ◌++◌, map, length, arith}
 use Rattle.std.specs.List.{All}
 use Rattle.std.proofs.lemmas.List.{length-append}
 use Rattle.origin_labels.specs.Label.{Label}
@@ -60,3 +60,21 @@ only P v has (suc k) d lt = absurd (omega (arith, lt))
 -- labels of a store are labels of a later one
 pub made_later : {S T : Type 0} (made : S → T → Type 0) (meaning : S → T → Label) (room : S → ℕ) (firm : S → Bool) (earlier later : S) → IsKept made meaning room firm earlier later → (vs : List (Labelled T)) → All (HasValue (made earlier)) vs → All (HasValue (made later)) vs
 made_later made meaning room firm earlier later kept vs all = All-weaker (HasValue (made earlier)) (HasValue (made later)) vs (λ v m. (kept.labels v.label m).0) all
+
+-- three values
+pub three : {X : Type 0} (P : X → Type 0) (p q r : X) → P p → P q → P r → All P (p ∷ q ∷ r ∷ [])
+three P p q r a b c zero d lt = a
+three P p q r a b c (suc zero) d lt = b
+three P p q r a b c (suc (suc zero)) d lt = c
+three P p q r a b c (suc (suc (suc k))) d lt = absurd (omega (arith, lt))
+
+-- one value is the last of none and itself
+pub lone_last : {X : Type 0} (xs : List X) → length xs ≡ 1 → (x : X) × (xs ≡ [] ++ x ∷ [])
+lone_last [] size = absurd (omega (arith, size))
+lone_last (x ∷ []) size = (x, refl)
+lone_last (x ∷ y ∷ xs) size = absurd (omega (arith, size))
+
+pub both : {X : Type 0} (P : X → Type 0) (p q : X) → P p → P q → All P (p ∷ q ∷ [])
+both P p q a b zero d lt = a
+both P p q a b (suc zero) d lt = b
+both P p q a b (suc (suc k)) d lt = absurd (omega (arith, lt))

@@ -7,6 +7,10 @@ use Rattle.step_world.specs.declared.came.Place.{Place}
 use Rattle.step_world.specs.declared.came.Place.TheVariants as place
 use Rattle.step_updates.specs.declared.references.Reference.{Reference}
 use Rattle.step_updates.specs.declared.references.Reference.TheVariants.{Name, Property}
+use Rattle.js_ast.specs.declared.operators.BinaryOperator.{BinaryOperator}
+use Rattle.es_meaning.specs.Operations.{Use, prefixed, postfixed}
+use Rattle.step_work.specs.declared.work.Counting.{Counting}
+use Rattle.step_work.specs.declared.work.Counting.TheVariants as counting
 use Rattle.step_work.specs.declared.work.Target.{Target}
 use Rattle.step_work.specs.declared.work.Target.TheVariants as target
 
@@ -28,3 +32,8 @@ owns_walk _ = 0
 abbrev pub laid_for : {T : Type 0} → Reference T → List (Labelled T)
 laid_for (Name named) = walk_laid named.place named.walk
 laid_for (Property base key) = base ∷ key ∷ []
+
+-- `++` and `--` in front of a reference and behind it
+abbrev pub counted_by : Counting → BinaryOperator → Use
+counted_by counting.Prefix o = prefixed o
+counted_by counting.Postfix o = postfixed o

@@ -57,7 +57,7 @@ fn lay_walk<T: Copy>(stack: &mut Stack<'_, T>, place: Place, walk: T) -> Result<
 }
 
 /// Takes the reference back with which work waited.
-pub(crate) fn take_reference<'p, L: Labels>(
+pub fn take_reference<'p, L: Labels>(
     labels: &L,
     stack: &mut Stack<'p, L::Label>,
     target: Target<'p>,

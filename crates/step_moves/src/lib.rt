@@ -1,20 +1,21 @@
-//! Pending work that acts on the run's state: operators, names and their values, variables.
+//! Pending work that acts on the run's state: names and their values, properties, uses of references, variables.
 #![tactic(auto)]
 
-mod calls;
+mod counting;
+mod entering;
 mod keeping;
-mod literals;
 mod names;
-mod operators;
 mod properties;
+mod reading;
 mod settling;
 mod uses;
 mod variables;
 
-pub use literals::{boolean, null, number, object, text};
+pub use entering::enter_access;
+pub use keeping::take_reference;
 pub use names::{assigned, read_name, this};
-pub use operators::{binary_done, compound_done, instance_done, unary};
-pub use properties::{index_key, member};
-pub use settling::{Went, go_on, settle};
+pub use properties::{index_key, key_of, member};
+pub use reading::{assign, assign_giving};
+pub use settling::{Went, go_on, settle, settle_access};
 pub use uses::begin_use;
-pub use variables::{declare, give_variable, more_variables};
+pub use variables::{declare, give_variable, more_variables, variables_behind};

@@ -11,20 +11,20 @@ ghost use Rattle.flow_meaning.specs.Planned.{planned, asking};
 ghost use Rattle.step_world.specs.Worlds.{Belongs, Grows};
 ghost use Rattle.step_work.specs.declared.work.Next.TheVariants as next;
 ghost use Rattle.step_work.specs.declared.work.Work.TheVariants as work;
-ghost use Rattle.step_work.specs.Loads.{Adds};
 ghost use Rattle.step_work.specs.Pending.{next_plan, owns_target};
+ghost use Rattle.step_work.specs.Settings.{entrance};
 ghost use Rattle.step_work.specs.Stops.{HasStop};
-ghost use Rattle.step_work.specs.Moving.{BeginsAt, Rests, Resumes, Stands};
+ghost use Rattle.step_moves.specs.Moving.{BegunAt, Moved, Resumed};
 
 use crate::keeping::take_reference;
-use crate::settling::settle;
+use crate::reading::{assign, read};
 use flow_frames::FlowFault;
 use flow_text::Text;
 use js_values::EnvId;
 use origin_labels::Labels;
 use std::alloc::Global;
-use step_names::{get_name, resolve};
-use step_updates::assign_to;
+use step_names::resolve;
+use step_updates::Reference;
 use step_work::{Next, Stack, Target};
 use step_world::World;
 
@@ -43,18 +43,15 @@ pub fn read_name<'p, L: Labels>(
     requires loose { length stack.old.loose ≡ 0 }
     requires at { at.0 < length world.old.records }
     requires belongs { Belongs L.made L.meaning labels.old world.old }
-    ensures goes_on { BeginsAt L.made L.meaning labels.new at.0 (λ tables inputs functions reading e. (planned tables inputs functions).resolve Value e.place name.now (read_value (planned tables inputs functions) (asking tables inputs functions))) stack.old stack.new world.old world.new result }
-    ensures rests { IfOk result (Rests (L.made labels.new) stack.old stack.new) }
-    ensures adds { IfOk result (Adds 1 stack.old stack.new) }
+    ensures goes_on { BegunAt L.made L.meaning labels.new at.0 (λ tables inputs set functions reading e. (planned tables inputs set functions).resolve Value e.env.place name.now (read_value (planned tables inputs set functions) (entrance tables inputs set functions) (asking tables inputs set functions))) stack.old stack.new world.old world.new result }
+    ensures moved { IfOk result (Moved (L.made labels.new) 6 stack.old stack.new world.old world.new) }
     ensures stopped { IfErr result (IfStop (HasStop (L.made labels.new))) }
-    ensures stands { IfOk result (Stands world.old world.new) }
     ensures belongs { Belongs L.made L.meaning labels.new world.new }
     ensures grows { Grows world.old world.new }
     ensures kept { IsKept L.made L.meaning L.room L.firm labels.old labels.new }
 {
     let named = resolve(labels, world, at, name)?;
-    let answer = get_name(alloc, labels, world, named);
-    settle(labels, stack, answer)
+    read(alloc, labels, world, stack, &Reference::Name(named))
 }
 
 /// The value of `this` (ECMA-262 11.1.1), which a record binds.
@@ -68,11 +65,9 @@ pub fn this<'p, L: Labels>(
     requires loose { length stack.old.loose ≡ 0 }
     requires at { at.0 < length world.old.records }
     requires belongs { Belongs L.made L.meaning labels.old world.old }
-    ensures goes_on { BeginsAt L.made L.meaning labels.new at.0 (λ tables inputs functions reading e. next_plan tables inputs functions next.This [] e) stack.old stack.new world.old world.new result }
-    ensures rests { IfOk result (Rests (L.made labels.new) stack.old stack.new) }
-    ensures adds { IfOk result (Adds 1 stack.old stack.new) }
+    ensures goes_on { BegunAt L.made L.meaning labels.new at.0 (λ tables inputs set functions reading e. next_plan tables inputs set functions next.This [] e) stack.old stack.new world.old world.new result }
+    ensures moved { IfOk result (Moved (L.made labels.new) 6 stack.old stack.new world.old world.new) }
     ensures stopped { IfErr result (IfStop (HasStop (L.made labels.new))) }
-    ensures stands { IfOk result (Stands world.old world.new) }
     ensures belongs { Belongs L.made L.meaning labels.new world.new }
     ensures grows { Grows world.old world.new }
     ensures kept { IsKept L.made L.meaning L.room L.firm labels.old labels.new }
@@ -93,17 +88,14 @@ pub fn assigned<'p, L: Labels>(
     requires loose { length stack.old.loose ≡ owns_target target + 1 }
     requires made { All (HasValue (L.made labels.old)) stack.old.loose }
     requires belongs { Belongs L.made L.meaning labels.old world.old }
-    ensures goes_on { Resumes L.made L.meaning labels.new (work.AssignTo target.entry) stack.old stack.new world.old world.new result }
-    ensures rests { IfOk result (Rests (L.made labels.new) stack.old stack.new) }
-    ensures adds { IfOk result (Adds 1 stack.old stack.new) }
+    ensures goes_on { Resumed L.made L.meaning labels.new (work.AssignTo target.entry) stack.old stack.new world.old world.new result }
+    ensures moved { IfOk result (Moved (L.made labels.new) 7 stack.old stack.new world.old world.new) }
     ensures stopped { IfErr result (IfStop (HasStop (L.made labels.new))) }
-    ensures stands { IfOk result (Stands world.old world.new) }
     ensures belongs { Belongs L.made L.meaning labels.new world.new }
     ensures grows { Grows world.old world.new }
     ensures kept { IsKept L.made L.meaning L.room L.firm labels.old labels.new }
 {
     let value = stack.pop();
     let reference = take_reference(labels, stack, target);
-    let answer = assign_to(alloc, labels, world, &reference, value);
-    settle(labels, stack, answer)
+    assign(alloc, labels, world, stack, &reference, value)
 }

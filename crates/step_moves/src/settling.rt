@@ -2,46 +2,90 @@
 
 ghost use Rattle.std.specs.Prelude.{◌≡◌, length, IfErr, IfOk};
 ghost use Rattle.flow_frames.specs.Stops.{IfStop};
-ghost use Rattle.js_values.specs.Readings.{HasValue};
+ghost use Rattle.js_values.specs.Readings.{HasValue, read_value};
 ghost use Rattle.step_world.specs.declared.world.World.{World};
+ghost use Rattle.step_world.specs.Accesses.{HasAccess, HasPutting, read_access, read_putting};
 ghost use Rattle.step_world.specs.Acts.{HasAnswer};
-ghost use Rattle.step_work.specs.Loads.{Adds};
 ghost use Rattle.step_work.specs.Stops.{HasStop};
 ghost use Rattle.step_updates.specs.Standing.{StandsBy};
-ghost use Rattle.step_work.specs.Moving.{Rests, Settles, Stands};
-ghost use Rattle.step_moves.specs.Moving.{Parts};
+ghost use Rattle.step_moves.specs.Moving.{Handed, IfGiven, Moved, Parts, entering_access, entering_putting, giving};
 
+use crate::entering::{enter_access, enter_putting};
 use flow_frames::FlowFault;
 use js_values::Labelled;
 use origin_labels::Labels;
-use step_work::{Jump, Next, Stack};
-use step_world::Came;
+use std::alloc::Global;
+use step_work::{Jump, Next, Stack, leave_by};
+use step_world::{Access, Came, Putting};
 
 /// What comes behind an act: its value, or what it threw, lies uppermost.
 pub fn settle<'p, L: Labels>(
-    _labels: &L,
+    labels: &L,
     stack: &mut Stack<'p, L::Label>,
     answer: Result<Came<Labelled<L::Label>, L::Label>, FlowFault<L::Label>>,
 ) -> Result<Next<'p>, FlowFault<L::Label>>
     requires loose { length stack.old.loose ≡ 0 }
-    requires made { HasAnswer (HasValue (L.made _labels.now)) (L.made _labels.now) answer }
-    ensures settles { Settles stack.old stack.new answer result }
-    ensures stands { (old : World L.Label) (new : World L.Label) → StandsBy old new answer → IfOk result (Stands old new) }
-    ensures rests { IfOk result (Rests (L.made _labels.now) stack.old stack.new) }
-    ensures adds { IfOk result (Adds 1 stack.old stack.new) }
-    ensures stopped { IfErr result (IfStop (HasStop (L.made _labels.now))) }
+    requires made { HasAnswer (HasValue (L.made labels.now)) (L.made labels.now) answer }
+    ensures hands { Handed (λ reading. read_value reading) giving stack.old stack.new answer result }
+    ensures moved { (world_old : World L.Label) (world_new : World L.Label) → StandsBy world_old world_new answer → IfOk result (Moved (L.made labels.now) 4 stack.old stack.new world_old world_new) }
+    ensures stopped { IfErr result (IfStop (HasStop (L.made labels.now))) }
 {
-    let came = answer?;
+    let came = go_on(labels, stack, 0, answer)?;
     match came {
-        Came::Goes(value) => {
+        Went::On(value) => {
             stack.lay(value)?;
             Ok(Next::Value)
         }
-        Came::Throws(value) => {
-            stack.lay(value)?;
-            Ok(Next::Jumps(Jump::Throws))
+        Went::Off(next) => Ok(next),
+    }
+}
+
+/// What comes behind a read: its value, or its getter is called.
+pub fn settle_access<'p, L: Labels>(
+    labels: &L,
+    stack: &mut Stack<'p, L::Label>,
+    answer: Result<Came<Access<L::Label>, L::Label>, FlowFault<L::Label>>,
+) -> Result<Next<'p>, FlowFault<L::Label>>
+    requires loose { length stack.old.loose ≡ 0 }
+    requires made { HasAnswer (HasAccess (L.made labels.now)) (L.made labels.now) answer }
+    ensures hands { Handed (λ reading. read_access reading) entering_access stack.old stack.new answer result }
+    ensures moved { (world_old : World L.Label) (world_new : World L.Label) → StandsBy world_old world_new answer → IfOk result (Moved (L.made labels.now) 6 stack.old stack.new world_old world_new) }
+    ensures stopped { IfErr result (IfStop (HasStop (L.made labels.now))) }
+{
+    let came = go_on(labels, stack, 0, answer)?;
+    match came {
+        Went::On(access) => {
+            let next = enter_access(labels, stack, access)?;
+            Ok(next)
         }
-        Came::Leaves(why) => Ok(Next::Leave(why)),
+        Went::Off(next) => Ok(next),
+    }
+}
+
+/// What comes behind a put: the value that the assignment gives, or its setter is called, with what the assignment gives as its value where no other is given.
+pub(crate) fn settle_putting<'p, L: Labels>(
+    alloc: Global,
+    labels: &L,
+    stack: &mut Stack<'p, L::Label>,
+    answer: Result<Came<Putting<L::Label>, L::Label>, FlowFault<L::Label>>,
+    value: Option<Labelled<L::Label>>,
+    gives: Labelled<L::Label>,
+) -> Result<Next<'p>, FlowFault<L::Label>>
+    requires loose { length stack.old.loose ≡ 0 }
+    requires made { HasAnswer (HasPutting (L.made labels.now)) (L.made labels.now) answer }
+    requires value { IfGiven (L.made labels.now) value }
+    requires gives { L.made labels.now gives.label }
+    ensures hands { Handed (λ reading. read_putting reading) (entering_putting value gives) stack.old stack.new answer result }
+    ensures moved { (world_old : World L.Label) (world_new : World L.Label) → StandsBy world_old world_new answer → IfOk result (Moved (L.made labels.now) 7 stack.old stack.new world_old world_new) }
+    ensures stopped { IfErr result (IfStop (HasStop (L.made labels.now))) }
+{
+    let came = go_on(labels, stack, 0, answer)?;
+    match came {
+        Went::On(putting) => {
+            let next = enter_putting(alloc, labels, stack, putting, value, gives)?;
+            Ok(next)
+        }
+        Went::Off(next) => Ok(next),
     }
 }
 
@@ -54,15 +98,15 @@ pub enum Went<'p, X> {
 
 /// An act's answer, where something follows that it doesn't give: what it threw lies uppermost, in place of the values that no work keeps.
 pub fn go_on<'p, X: Drop, L: Labels>(
-    _labels: &L,
+    labels: &L,
     stack: &mut Stack<'p, L::Label>,
     count: usize,
     answer: Result<Came<X, L::Label>, FlowFault<L::Label>>,
 ) -> Result<Went<'p, X>, FlowFault<L::Label>>
     requires loose { count ≡ length stack.old.loose }
-    requires made { HasAnswer (λ x. Unit {0}) (L.made _labels.now) answer }
-    ensures parts { Parts stack.old stack.new answer result }
-    ensures stopped { IfErr result (IfStop (HasStop (L.made _labels.now))) }
+    requires made { HasAnswer (λ x. Unit {0}) (L.made labels.now) answer }
+    ensures parts { Parts (L.made labels.now) stack.old stack.new answer result }
+    ensures stopped { IfErr result (IfStop (HasStop (L.made labels.now))) }
 {
     let came = answer?;
     match came {
@@ -74,7 +118,8 @@ pub fn go_on<'p, X: Drop, L: Labels>(
         }
         Came::Leaves(why) => {
             stack.clear(count);
-            Ok(Went::Off(Next::Leave(why)))
+            let next = leave_by(labels, stack, why)?;
+            Ok(Went::Off(next))
         }
     }
 }

@@ -6,30 +6,33 @@ ghost use Rattle.origin_labels.specs.Stores.{IsKept};
 ghost use Rattle.flow_frames.specs.Stops.{IfStop};
 ghost use Rattle.js_ast.specs.Views.{view_declarations, view_expr, view_other_declarations};
 ghost use Rattle.js_values.specs.Readings.{HasValue, read_value};
-ghost use Rattle.es_meaning.specs.Evaluation.{declarations, variables};
+ghost use Rattle.es_meaning.specs.Evaluation.{declarations, more_variables, variables};
 ghost use Rattle.flow_meaning.specs.Planned.{planned, asking};
+ghost use Rattle.step_updates.specs.References.{refers, HasReference};
+ghost use Rattle.step_world.specs.Accesses.{HasPutting, read_putting};
 ghost use Rattle.step_world.specs.Worlds.{Belongs, Grows};
 ghost use Rattle.step_work.specs.declared.work.Work.TheVariants as work;
 ghost use Rattle.step_work.specs.declared.work.Next.TheVariants as next;
-ghost use Rattle.step_work.specs.Loads.{Adds};
 ghost use Rattle.step_work.specs.Pending.{next_plan, owns_target};
+ghost use Rattle.step_work.specs.Settings.{entrance};
 ghost use Rattle.step_work.specs.Stops.{HasStop};
-ghost use Rattle.step_moves.specs.Variables.{first_given, initialised};
-ghost use Rattle.step_work.specs.Moving.{BeginsAt, Rests, ResumesAt, Stands};
+ghost use Rattle.step_moves.specs.Variables.{behind_putting, first_given, initialised};
+ghost use Rattle.step_moves.specs.Moving.{Begun, BegunAt, Moved, ResumedAt};
 
+use crate::entering::{begin_setter, called};
 use crate::keeping::{lay_reference, take_reference};
 use crate::settling::{Went, go_on};
 use crate::uses::give_text;
 use flow_frames::FlowFault;
-use flow_text::Text;
+use flow_text::{OutOfMemory, Text};
 use js_ast::{Declaration, Declarations, Expr, Ident};
-use js_values::EnvId;
+use js_values::{EnvId, Labelled};
 use origin_labels::Labels;
 use std::alloc::Global;
 use step_names::resolve;
 use step_updates::{Reference, put_value};
 use step_work::{Next, Stack, Target, Work};
-use step_world::World;
+use step_world::{Named, Putting, World};
 
 /// Variables in their order: the first that has an initialiser is given its value first.
 pub fn declare<'p, L: Labels>(
@@ -42,9 +45,8 @@ pub fn declare<'p, L: Labels>(
     requires loose { length stack.old.loose ≡ 0 }
     requires at { at.0 < length world.now.records }
     requires belongs { Belongs L.made L.meaning labels.old world.now }
-    ensures goes_on { BeginsAt L.made L.meaning labels.new at.0 (λ tables inputs functions reading e. declarations (planned tables inputs functions) (asking tables inputs functions) (view_declarations list.entry.now) e.place) stack.old stack.new world.now world.now result }
-    ensures rests { IfOk result (Rests (L.made labels.new) stack.old stack.new) }
-    ensures adds { IfOk result (Adds 1 stack.old stack.new) }
+    ensures goes_on { BegunAt L.made L.meaning labels.new at.0 (λ tables inputs set functions reading e. declarations (planned tables inputs set functions) (entrance tables inputs set functions) (asking tables inputs set functions) (view_declarations list.entry.now) e.env.place) stack.old stack.new world.now world.now result }
+    ensures moved { IfOk result (Moved (L.made labels.new) 4 stack.old stack.new world.now world.now) }
     ensures stopped { IfErr result (IfStop (HasStop (L.made labels.new))) }
     ensures belongs { Belongs L.made L.meaning labels.new world.now }
     ensures kept { IsKept L.made L.meaning L.room L.firm labels.old labels.new }
@@ -69,9 +71,8 @@ fn declare_others<'p, L: Labels>(
     requires loose { length stack.old.loose ≡ 0 }
     requires at { at.0 < length world.now.records }
     requires belongs { Belongs L.made L.meaning labels.old world.now }
-    ensures goes_on { BeginsAt L.made L.meaning labels.new at.0 (λ tables inputs functions reading e. variables (planned tables inputs functions) (asking tables inputs functions) (view_other_declarations list.entry.now) e.place) stack.old stack.new world.now world.now result }
-    ensures rests { IfOk result (Rests (L.made labels.new) stack.old stack.new) }
-    ensures adds { IfOk result (Adds 1 stack.old stack.new) }
+    ensures goes_on { BegunAt L.made L.meaning labels.new at.0 (λ tables inputs set functions reading e. variables (planned tables inputs set functions) (entrance tables inputs set functions) (asking tables inputs set functions) (view_other_declarations list.entry.now) e.env.place) stack.old stack.new world.now world.now result }
+    ensures moved { IfOk result (Moved (L.made labels.new) 4 stack.old stack.new world.now world.now) }
     ensures stopped { IfErr result (IfStop (HasStop (L.made labels.new))) }
     ensures belongs { Belongs L.made L.meaning labels.new world.now }
     ensures kept { IsKept L.made L.meaning L.room L.firm labels.old labels.new }
@@ -109,9 +110,8 @@ fn initialise<'p, L: Labels>(
     requires loose { length stack.old.loose ≡ 0 }
     requires at { at.0 < length world.now.records }
     requires belongs { Belongs L.made L.meaning labels.old world.now }
-    ensures goes_on { BeginsAt L.made L.meaning labels.new at.0 (λ tables inputs functions reading e. initialised tables inputs functions (name.entry.now, view_expr value.entry.now, view_other_declarations rest.entry.now) e.place) stack.old stack.new world.now world.now result }
-    ensures rests { IfOk result (Rests (L.made labels.new) stack.old stack.new) }
-    ensures adds { IfOk result (Adds 1 stack.old stack.new) }
+    ensures goes_on { BegunAt L.made L.meaning labels.new at.0 (λ tables inputs set functions reading e. initialised tables inputs set functions (name.entry.now, view_expr value.entry.now, view_other_declarations rest.entry.now) e.env.place) stack.old stack.new world.now world.now result }
+    ensures moved { IfOk result (Moved (L.made labels.new) 4 stack.old stack.new world.now world.now) }
     ensures stopped { IfErr result (IfStop (HasStop (L.made labels.new))) }
     ensures belongs { Belongs L.made L.meaning labels.new world.now }
     ensures kept { IsKept L.made L.meaning L.room L.firm labels.old labels.new }
@@ -136,23 +136,104 @@ pub fn more_variables<'p, L: Labels>(
     requires made { All (HasValue (L.made labels.old)) stack.old.loose }
     requires at { at.0 < length world.old.records }
     requires belongs { Belongs L.made L.meaning labels.old world.old }
-    ensures goes_on { ResumesAt L.made L.meaning labels.new at.0 (work.Variable target.entry rest.entry) stack.old stack.new world.old world.new result }
-    ensures rests { IfOk result (Rests (L.made labels.new) stack.old stack.new) }
-    ensures adds { IfOk result (Adds 1 stack.old stack.new) }
+    ensures goes_on { ResumedAt L.made L.meaning labels.new at.0 (work.Variable target.entry rest.entry) stack.old stack.new world.old world.new result }
+    ensures moved { IfOk result (Moved (L.made labels.new) 7 stack.old stack.new world.old world.new) }
     ensures stopped { IfErr result (IfStop (HasStop (L.made labels.new))) }
-    ensures stands { IfOk result (Stands world.old world.new) }
     ensures belongs { Belongs L.made L.meaning labels.new world.new }
     ensures grows { Grows world.old world.new }
     ensures kept { IsKept L.made L.meaning L.room L.firm labels.old labels.new }
 {
     let value = stack.pop();
     let reference = take_reference(labels, stack, target);
-    let answer = put_value(alloc, labels, world, &reference, value);
+    give_first(alloc, labels, world, stack, at, &reference, value, rest)
+}
+
+/// A variable is given its value, and those behind it follow.
+fn give_first<'p, L: Labels>(
+    alloc: Global,
+    labels: &mut L,
+    world: &mut World<L::Label>,
+    stack: &mut Stack<'p, L::Label>,
+    at: EnvId,
+    reference: &Reference<'_, L::Label>,
+    value: Labelled<L::Label>,
+    rest: &'p [Declaration],
+) -> Result<Next<'p>, FlowFault<L::Label>>
+    requires loose { length stack.old.loose ≡ 0 }
+    requires reference { HasReference (L.made labels.old) reference.now }
+    requires value { L.made labels.old value.label }
+    requires at { at.0 < length world.old.records }
+    requires belongs { Belongs L.made L.meaning labels.old world.old }
+    ensures goes_on { BegunAt L.made L.meaning labels.new at.0 (λ tables inputs set functions reading e. more_variables (planned tables inputs set functions) (entrance tables inputs set functions) (asking tables inputs set functions) (refers reading reference.now) (view_other_declarations rest.entry.now) e.env.place (read_value reading value)) stack.old stack.new world.old world.new result }
+    ensures moved { IfOk result (Moved (L.made labels.new) 7 stack.old stack.new world.old world.new) }
+    ensures stopped { IfErr result (IfStop (HasStop (L.made labels.new))) }
+    ensures belongs { Belongs L.made L.meaning labels.new world.new }
+    ensures grows { Grows world.old world.new }
+    ensures kept { IsKept L.made L.meaning L.room L.firm labels.old labels.new }
+{
+    let given = value.copy(alloc)?;
+    let answer = put_value(alloc, labels, world, reference, given);
     let came = go_on(labels, stack, 0, answer)?;
     match came {
-        Went::On(()) => declare_others(labels, world, stack, at, rest),
+        Went::On(putting) => behind_putting(labels, world, stack, at, putting, value, rest),
         Went::Off(next) => Ok(next),
     }
+}
+
+/// Behind a put those variables that follow, or its setter is called first.
+fn behind_putting<'p, L: Labels>(
+    labels: &mut L,
+    world: &World<L::Label>,
+    stack: &mut Stack<'p, L::Label>,
+    at: EnvId,
+    putting: Putting<L::Label>,
+    value: Labelled<L::Label>,
+    rest: &'p [Declaration],
+) -> Result<Next<'p>, FlowFault<L::Label>>
+    requires loose { length stack.old.loose ≡ 0 }
+    requires at { at.0 < length world.now.records }
+    requires putting { HasPutting (L.made labels.old) putting }
+    requires value { L.made labels.old value.label }
+    requires belongs { Belongs L.made L.meaning labels.old world.now }
+    ensures goes_on { BegunAt L.made L.meaning labels.new at.0 (λ tables inputs set functions reading e. behind_putting tables inputs set functions (view_other_declarations rest.entry.now) e.env.place (read_value reading value) (read_putting reading putting)) stack.old stack.new world.now world.now result }
+    ensures moved { IfOk result (Moved (L.made labels.new) 7 stack.old stack.new world.now world.now) }
+    ensures stopped { IfErr result (IfStop (HasStop (L.made labels.new))) }
+    ensures belongs { Belongs L.made L.meaning labels.new world.now }
+    ensures kept { IsKept L.made L.meaning L.room L.firm labels.old labels.new }
+{
+    match putting {
+        Putting::Put => declare_others(labels, world, stack, at, rest),
+        Putting::Setter {
+            label,
+            function,
+            this,
+        } => {
+            let work = Work::VariablesBehind(rest);
+            let next = begin_setter(stack, work, called(function, label), this, value)?;
+            Ok(next)
+        }
+    }
+}
+
+/// Behind a setter, which gave a value of no use, the variables that follow.
+pub fn variables_behind<'p, L: Labels>(
+    labels: &mut L,
+    world: &World<L::Label>,
+    stack: &mut Stack<'p, L::Label>,
+    at: EnvId,
+    rest: &'p [Declaration],
+) -> Result<Next<'p>, FlowFault<L::Label>>
+    requires loose { length stack.old.loose ≡ 1 }
+    requires at { at.0 < length world.now.records }
+    requires belongs { Belongs L.made L.meaning labels.old world.now }
+    ensures goes_on { ResumedAt L.made L.meaning labels.new at.0 (work.VariablesBehind rest.entry) stack.old stack.new world.now world.now result }
+    ensures moved { IfOk result (Moved (L.made labels.new) 4 stack.old stack.new world.now world.now) }
+    ensures stopped { IfErr result (IfStop (HasStop (L.made labels.new))) }
+    ensures belongs { Belongs L.made L.meaning labels.new world.now }
+    ensures kept { IsKept L.made L.meaning L.room L.firm labels.old labels.new }
+{
+    stack.clear(1);
+    declare_others(labels, world, stack, at, rest)
 }
 
 /// A variable is given the text that lies loose, as each key that a `for in` visits.
@@ -167,15 +248,13 @@ pub fn give_variable<'p, L: Labels>(
     requires loose { length stack.old.loose ≡ 1 }
     requires at { at.0 < length world.old.records }
     requires belongs { Belongs L.made L.meaning labels.old world.old }
-    ensures goes_on { BeginsAt L.made L.meaning labels.new at.0 (λ tables inputs functions reading e. next_plan tables inputs functions (next.GiveVariable variable.entry) (map (read_value reading) stack.old.loose) e) stack.old stack.new world.old world.new result }
-    ensures rests { IfOk result (Rests (L.made labels.new) stack.old stack.new) }
-    ensures adds { IfOk result (Adds 1 stack.old stack.new) }
+    ensures goes_on { BegunAt L.made L.meaning labels.new at.0 (λ tables inputs set functions reading e. next_plan tables inputs set functions (next.GiveVariable variable.entry) (map (read_value reading) stack.old.loose) e) stack.old stack.new world.old world.new result }
+    ensures moved { IfOk result (Moved (L.made labels.new) 7 stack.old stack.new world.old world.new) }
     ensures stopped { IfErr result (IfStop (HasStop (L.made labels.new))) }
-    ensures stands { IfOk result (Stands world.old world.new) }
     ensures belongs { Belongs L.made L.meaning labels.new world.new }
     ensures grows { Grows world.old world.new }
     ensures kept { IsKept L.made L.meaning L.room L.firm labels.old labels.new }
 {
     let named = resolve(labels, world, at, &variable.text)?;
-    give_text(alloc, labels, world, stack, Reference::Name(named))
+    give_text(alloc, labels, world, stack, &Reference::Name(named))
 }

@@ -1,6 +1,7 @@
 pub mod Reading
 pub mod Reaching
 pub mod ThrowLaws
+pub mod HeldLaws
 pub mod MeansLaws
 pub mod NameLaws
 pub mod PutLaws

@@ -7,10 +7,13 @@ use Rattle.flow_frames.specs.Held.{Held, Belong, seen, seen_frame}
 use Rattle.js_values.specs.declared.ids.ObjId.{ObjId}
 use Rattle.js_values.specs.declared.property.Slot.{Slot}
 use Rattle.js_values.specs.Objects.{Object}
-use Rattle.js_values.specs.Readings.{IsReading}
 use Rattle.js_values.proofs.ReadingLaws.{IsReading-earlier}
 use Rattle.prototype_walk.specs.declared.plan.PutPlan.{PutPlan}
 use Rattle.prototype_walk.specs.Answers.{Means, IsPlace, IsPlan}
+use Rattle.flow_meaning.specs.Tracked as tracked
+use Rattle.step_world.specs.declared.came.Access.{Access}
+use Rattle.step_world.specs.declared.came.Access.TheVariants as access
+use Rattle.step_world.specs.Accesses.{IsAccess}
 use Rattle.step_names.proofs.Reading.{read_frames}
 
 module _ {S T : Type 0} (made : S → T → Type 0) (meaning : S → T → Label) (room : S → ℕ) (firm : S → Bool) (old new : S) (kept : IsKept made meaning room firm old new) where
@@ -32,6 +35,13 @@ module _ {S T : Type 0} (made : S → T → Type 0) (meaning : S → T → Label
     belongs = (kept.labels walk p.belongs).0;
     slot = tt;
     is = λ reading read. p.is reading (IsReading-earlier made meaning room firm old new reading kept read);
+  }
+
+  pub access_later : (means : (T → Label) → tracked.Access) (a : Access T) → IsAccess made meaning old means a → IsAccess made meaning new means a
+  access_later means (access.Value v) x = record { belongs = (kept.labels v.label x.belongs).0; is = λ reading read. x.is reading (IsReading-earlier made meaning room firm old new reading kept read) }
+  access_later means (access.Getter label f this) x = record {
+    belongs = ((kept.labels label x.belongs.0).0, (kept.labels this.label x.belongs.1).0);
+    is = λ reading read. x.is reading (IsReading-earlier made meaning room firm old new reading kept read);
   }
 
 -- ---- the need of a put

@@ -12,25 +12,29 @@ use Rattle.js_values.specs.declared.property.Slot.{Slot}
 use Rattle.js_values.specs.declared.value.Labelled.{Labelled}
 use Rattle.js_values.specs.Objects.{Object, number_of}
 use Rattle.js_values.specs.Records.{Binding, Bindings, Record, found, bound_in, lookup}
-use Rattle.js_values.specs.Readings.{IsReading, HasValue, HasRecord, HasRecords, read_value, read_binding, read_records, read_heap}
-use Rattle.prototype_walk.specs.declared.found.Found.{Found}
-use Rattle.prototype_walk.specs.Answers.{IsFound}
-use Rattle.es_meaning.specs.Outcomes.{Goes}
+use Rattle.js_values.specs.Readings.{HasValue, HasRecord, HasRecords, read_value, read_binding, read_records, read_heap}
+use Rattle.es_meaning.specs.Outcomes.{Goes, and_then, ret}
 use Rattle.es_meaning.specs.Plain as plain
-use Rattle.es_meaning.specs.Plain.{undefined, binding_at, in_record, place_from, place_beyond}
-use Rattle.es_meaning.specs.Start.{reference_error, global_object}
+use Rattle.es_meaning.specs.Plain.{binding_at, in_record, place_from, place_beyond}
+use Rattle.native_protocol.specs.declared.request.ErrorKind.TheVariants as kinds
 use Rattle.flow_meaning.specs.Scopes.{Val, State}
-use Rattle.flow_meaning.specs.Tracked.{Reference, of_name, resolved, global_walk, walk_from, bound, named, get_value, typeof_value, throw_error}
+use Rattle.flow_meaning.specs.Tracked as tracked
+use Rattle.flow_meaning.specs.Tracked.{of_name, resolved, global_walk, walk_from, bound, as_access, has_value, named, accessed, accessed_for_typeof, throw_error}
+use Rattle.step_world.specs.declared.came.Access.{Access}
+use Rattle.step_world.specs.declared.came.Access.TheVariants as access
 use Rattle.step_world.specs.declared.came.Came.{Came}
 use Rattle.step_world.specs.declared.came.Came.TheVariants as came
 use Rattle.step_world.specs.declared.came.Place.{Place}
 use Rattle.step_world.specs.declared.came.Place.TheVariants as place
 use Rattle.step_world.specs.declared.world.World.{World}
+use Rattle.step_world.specs.Accesses.{read_access}
 use Rattle.step_world.specs.Acts.{Acts}
 use Rattle.step_world.specs.Names.{place_of}
 use Rattle.step_world.specs.Worlds.{state_of}
 use Rattle.step_world.proofs.ActLaws.{Acts-as}
+use Rattle.step_names.specs.Accessors.{undefined_with}
 use Rattle.step_names.proofs.Reading.{read_bound_in, read_lookup}
+use Rattle.step_names.proofs.ThrowLaws.{then_error}
 
 -- ---- where a name stands
 
@@ -82,62 +86,67 @@ module _ {T : Type 0} (reading : T → Label) (s : State) where
   got_value None v is = absurd (none-some v (sym is))
   got_value (Some b) v is = ap (λ (x : Labelled T). Goes (read_value reading x) s) (sym (same_Some v b.value is))
 
-  got_none : (o : Option (Binding (Labelled T))) → None ≡ option_map (λ b. b.value) o → bound (option_map (read_binding reading) o) s ≡ throw_error reference_error bottom s
+  got_none : (o : Option (Binding (Labelled T))) → None ≡ option_map (λ b. b.value) o → bound (option_map (read_binding reading) o) s ≡ throw_error kinds.ReferenceError bottom s
   unfolding bound
   got_none None is = refl
   got_none (Some b) is = absurd (none-some b.value is)
 
 module _ {S T : Type 0} (made : S → T → Type 0) (meaning : S → T → Label) (store : S) (w : World T) (i : ℕ) (name : List ℕ) where
-  pub name_read : (v : Labelled T) → Some v ≡ option_map (λ b. b.value) (binding_at w.records i name)
-      → Acts made meaning store (λ reading. read_value reading) (λ reading s. bound (binding_at s.records i name) s) w w (Ok (came.Goes v))
+  abbrev reads : World T → Result (Came (Access T) T) (FlowFault T) → Type 0
+  reads after result = Acts made meaning store (λ reading. read_access reading) (λ reading. as_access (λ s. bound (binding_at s.records i name) s)) w after result
+
+  pub name_read : (v : Labelled T) → Some v ≡ option_map (λ b. b.value) (binding_at w.records i name) → reads w (Ok (came.Goes (access.Value v)))
   name_read v is = record {
     says = λ reading read told turns.
         let s = state_of reading w told turns in
-        ap (λ b. bound b s) (read_bound_in reading name w.records i) ∙ got_value reading s (binding_at w.records i name) v is;
+        ap (λ o. and_then o (λ (x : Val). ret (has_value x))) (ap (λ b. bound b s) (read_bound_in reading name w.records i) ∙ got_value reading s (binding_at w.records i name) v is);
   }
 
-  pub name_unbound : {X : Type 0} (read : (T → Label) → X → Val) (after : World T) (result : Result (Came X T) (FlowFault T)) → None ≡ option_map (λ b. b.value) (binding_at w.records i name)
-      → Acts made meaning store read (λ reading. throw_error reference_error bottom) w after result
-      → Acts made meaning store read (λ reading s. bound (binding_at s.records i name) s) w after result
-  name_unbound read after result is acts =
-      Acts-as made meaning store read (λ reading. throw_error reference_error bottom) (λ reading s. bound (binding_at s.records i name) s) w after result
+  pub name_unbound : (after : World T) (result : Result (Came (Access T) T) (FlowFault T)) → None ≡ option_map (λ b. b.value) (binding_at w.records i name)
+      → Acts made meaning store (λ reading. read_access reading) (λ reading. throw_error {X = tracked.Access} kinds.ReferenceError bottom) w after result
+      → reads after result
+  name_unbound after result is acts =
+      Acts-as made meaning store (λ reading. read_access reading) (λ reading. throw_error {X = tracked.Access} kinds.ReferenceError bottom) (λ reading. as_access (λ s. bound (binding_at s.records i name) s)) w after result
       (λ reading agrees told turns.
       let s = state_of reading w told turns in
-      ap (λ b. bound b s) (read_bound_in reading name w.records i) ∙ got_none reading s (binding_at w.records i name) is)
+      ap (λ o. and_then o (λ (x : Val). ret (has_value x))) (ap (λ b. bound b s) (read_bound_in reading name w.records i) ∙ got_none reading s (binding_at w.records i name) is)
+      ∙ then_error Val tracked.Access kinds.ReferenceError bottom (λ x. ret (has_value x)) s)
       acts
 
 -- ---- the value of a name, by where it stands
 
-module _ {S T X : Type 0} (made : S → T → Type 0) (meaning : S → T → Label) (store : S) (read : (T → Label) → X → Val) (w after : World T) (result : Result (Came X T) (FlowFault T)) (p : Place) (name : List ℕ) (walk : T) where
+module _ {S T : Type 0} (made : S → T → Type 0) (meaning : S → T → Label) (store : S) (w after : World T) (result : Result (Came (Access T) T) (FlowFault T)) (p : Place) (name : List ℕ) (walk : T) where
   abbrev gets : Place → Type 0
-  gets q = Acts made meaning store read (λ reading. get_value (of_name name (place_of q) (reading walk))) w after result
+  gets q = Acts made meaning store (λ reading. read_access reading) (λ reading. accessed (of_name name (place_of q) (reading walk))) w after result
 
-  pub got_inside : (e : EnvId) → p ≡ place.Record e → Acts made meaning store read (λ reading s. bound (binding_at s.records e.0 name) s) w after result → gets p
-  unfolding get_value named
+  pub got_inside : (e : EnvId) → p ≡ place.Record e → Acts made meaning store (λ reading. read_access reading) (λ reading. as_access (λ s. bound (binding_at s.records e.0 name) s)) w after result → gets p
+  unfolding accessed named
   got_inside e is acts = subst gets (sym is) (record { says = acts.says })
 
-  pub got_globally : p ≡ place.Global → Acts made meaning store read (λ reading. named plain.on_global (reading walk) name) w after result → gets p
-  unfolding get_value
+  pub got_globally : p ≡ place.Global → Acts made meaning store (λ reading. read_access reading) (λ reading. named plain.on_global (reading walk) name) w after result → gets p
+  unfolding accessed
   got_globally is acts = subst gets (sym is) (record { says = acts.says })
 
-  pub got_nowhere : p ≡ place.Nowhere → Acts made meaning store read (λ reading. throw_error reference_error (reading walk)) w after result → gets p
-  unfolding get_value named
+  pub got_nowhere : p ≡ place.Nowhere → Acts made meaning store (λ reading. read_access reading) (λ reading. throw_error {X = tracked.Access} kinds.ReferenceError (reading walk)) w after result → gets p
+  unfolding accessed named
   got_nowhere is acts = subst gets (sym is) (record { says = acts.says })
 
 -- ---- for `typeof`
 
 module _ {S T : Type 0} (made : S → T → Type 0) (meaning : S → T → Label) (store : S) (w : World T) (p : Place) (name : List ℕ) (walk : T) where
-  abbrev asks : (after : World T) → Result (Came (Labelled T) T) (FlowFault T) → Place → Type 0
-  asks after result q = Acts made meaning store (λ reading. read_value reading) (λ reading. typeof_value (of_name name (place_of q) (reading walk))) w after result
+  abbrev asks : (after : World T) → Result (Came (Access T) T) (FlowFault T) → Place → Type 0
+  asks after result q = Acts made meaning store (λ reading. read_access reading) (λ reading. accessed_for_typeof (of_name name (place_of q) (reading walk))) w after result
 
-  pub asked_nowhere : p ≡ place.Nowhere → asks w (Ok (came.Goes (record { value = undefined; label = walk }))) p
-  unfolding typeof_value
-  asked_nowhere is = subst (asks w (Ok (came.Goes (record { value = undefined; label = walk })))) (sym is) (record { says = λ reading read told turns. refl })
+  pub asked_nowhere : p ≡ place.Nowhere → (v : Labelled T) → v ≡ undefined_with walk → asks w (Ok (came.Goes (access.Value v))) p
+  unfolding accessed_for_typeof
+  asked_nowhere is v gives =
+      subst (λ (u : Labelled T). asks w (Ok (came.Goes (access.Value u))) p) (sym gives)
+      (subst (asks w (Ok (came.Goes (access.Value (undefined_with walk))))) (sym is) (record { says = λ reading read told turns. refl }))
 
   -- a name that stands somewhere is asked for its value
-  pub asked_there : (after : World T) (result : Result (Came (Labelled T) T) (FlowFault T)) (q : Place) → q ≢ place.Nowhere
-      → Acts made meaning store (λ reading. read_value reading) (λ reading. get_value (of_name name (place_of q) (reading walk))) w after result → asks after result q
-  unfolding typeof_value
+  pub asked_there : (after : World T) (result : Result (Came (Access T) T) (FlowFault T)) (q : Place) → q ≢ place.Nowhere
+      → Acts made meaning store (λ reading. read_access reading) (λ reading. accessed (of_name name (place_of q) (reading walk))) w after result → asks after result q
+  unfolding accessed_for_typeof
   asked_there after result (place.Record e) there acts = record { says = acts.says }
   asked_there after result place.Global there acts = record { says = acts.says }
   asked_there after result place.Nowhere there acts = absurd (there refl)

@@ -1,5 +1,5 @@
 -- What the plan of a put says of the object.
-use Rattle.std.proofs.Common.{◌≡◌, ◌<◌, ℕ, Bool, true, false, ◌&&◌, List, [], ◌∷◌, length, Option, Some, None, is_some, IsSome, IfSome, refl, sym, ap, subst, ◌∙◌}
+use Rattle.std.proofs.Common.{◌≡◌, ◌<◌, ℕ, Bool, true, false, ◌&&◌, List, length, Option, Some, None, is_some, IsSome, IfSome, refl, sym, ap, subst, ◌∙◌}
 use Rattle.std.specs.List.{slice_get}
 use Rattle.std.specs.Option.{option_map}
 use Rattle.std.proofs.lemmas.Bool.{true≢false, false≢true}
@@ -13,7 +13,7 @@ use Rattle.js_values.specs.Chains.{beginning, onwards, chain_within}
 use Rattle.js_values.specs.Indices.{IsArrayIndex}
 use Rattle.js_values.specs.Numerals.{index_of}
 use Rattle.js_values.specs.Objects.{Object, number_of, own}
-use Rattle.js_values.specs.Readings.{IsReading, read_slot, read_object, read_heap}
+use Rattle.js_values.specs.Readings.{read_slot, read_object, read_heap}
 use Rattle.js_values.specs.Walks.{Found, find, object_chain}
 use Rattle.js_values.proofs.IndexLaws as indices
 use Rattle.object_heap.specs.Formed.{own_in}

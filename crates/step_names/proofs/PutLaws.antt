@@ -2,7 +2,6 @@
 use Rattle.std.proofs.Common.{refl, sym, ap, subst, ◌∙◌, ◌≡◌, ℕ, Bool, true, false, List, Option, Some, None, is_some, IsSome, Result, Ok, Err, if◌then◌else◌}
 use Rattle.std.specs.List.{slice_get}
 use Rattle.std.specs.Option.{option_map}
-use Rattle.std.specs.Result.{IsErrAnd}
 use Rattle.std.proofs.lemmas.Bool.{false≢true, true≢false}
 use Rattle.std.proofs.lemmas.Option.{none-some}
 use Rattle.origin_labels.specs.Label.{Label, IsLabel, bottom, within}
@@ -13,9 +12,6 @@ use Rattle.flow_frames.specs.declared.faults.FlowStop.{FlowStop}
 use Rattle.flow_frames.specs.declared.faults.Rule.TheVariants.{W1}
 use Rattle.flow_frames.specs.Frames.{context}
 use Rattle.flow_frames.specs.Held.{seen}
-use Rattle.flow_policy.specs.Policies.{Tables}
-use Rattle.flow_policy.specs.Inputs.{Given}
-use Rattle.js_ast.specs.Functions.{FunctionCode}
 use Rattle.js_values.specs.declared.value.Labelled.{Labelled}
 use Rattle.js_values.specs.Records.{Binding, Record, bound_in}
 use Rattle.js_values.specs.Readings.{IsReading, HasRecords, read_value, read_binding, read_records}
@@ -23,31 +19,34 @@ use Rattle.js_values.proofs.ReadingLaws.{IsReading-earlier}
 use Rattle.env_records.specs.Acts as variables
 use Rattle.env_records.specs.Acts.{Assigned, Variables, done, immutable, put, put_in_record, assign}
 use Rattle.env_records.specs.Answers.{Comes, read_stop}
-use Rattle.es_meaning.specs.Outcomes.{Outcome, Goes, Ends, and_then}
-use Rattle.es_meaning.specs.Plain.{in_record, on_global, nowhere, with_value}
-use Rattle.es_meaning.specs.Evaluation.{give, assign_to, assign_giving}
-use Rattle.es_meaning.specs.Start.{type_error, reference_error, global_object}
-use Rattle.flow_meaning.specs.Scopes.{Halt, stopped, Jump, Val, State, LabelledLine, guard, joined}
-use Rattle.flow_meaning.specs.Tracked.{Reference, of_name, labelled, assigned, assigned_to, put_named, put_value, rebinds, throw_error}
+use Rattle.es_meaning.specs.Outcomes.{Outcome, Goes, Ends, and_then, ret}
+use Rattle.es_meaning.specs.Plain.{in_record, on_global, with_value}
+use Rattle.native_protocol.specs.declared.request.ErrorKind.TheVariants as kinds
+use Rattle.es_meaning.specs.Start.{global_object}
+use Rattle.flow_meaning.specs.Scopes.{Halt, stopped, Jump, Val, State, L, LabelledLine, guard, joined}
+use Rattle.flow_meaning.specs.Tracked.{of_name, assigned, assigned_to, as_putting, is_put, put_named, put_value, rebinds, called_value, throw_error}
 use Rattle.flow_meaning.specs.Tracked as tracked
 use Rattle.step_world.specs.declared.came.Came.{Came}
 use Rattle.step_world.specs.declared.came.Came.TheVariants as came
+use Rattle.step_world.specs.declared.came.Putting.{Putting}
+use Rattle.step_world.specs.declared.came.Putting.TheVariants as putting
 use Rattle.step_world.specs.declared.came.Place.{Place}
 use Rattle.step_world.specs.declared.came.Place.TheVariants as place
 use Rattle.step_world.specs.declared.world.World.{World}
+use Rattle.step_world.specs.Accesses.{read_putting}
 use Rattle.step_world.specs.Acts.{Acts}
 use Rattle.step_world.specs.Names.{place_of}
 use Rattle.step_world.specs.Worlds.{state_of, Belongs}
-use Rattle.step_world.specs.declared.came.Leaving.{Leaving}
-use Rattle.step_world.proofs.ActLaws.{Acts-as, Acts-throws, Acts-leaves, Acts-passes, Belongs-later}
+use Rattle.step_world.proofs.ActLaws.{Acts-as, Belongs-later}
 use Rattle.step_names.proofs.Reading.{read_frames, read_bound_in}
+use Rattle.step_names.proofs.ThrowLaws.{then_error}
 
 -- ---- an assignment as the records have it, and as the meaning has it
 
 -- what an assignment comes to in a state
-abbrev from_assigned : Assigned → State → Outcome Halt Jump (Unit {0}) State
-from_assigned (done records) s = Goes tt (record s { records = records })
-from_assigned immutable s = throw_error type_error bottom s
+abbrev from_assigned : Assigned → State → Outcome Halt Jump tracked.Putting State
+from_assigned (done records) s = Goes is_put (record s { records = records })
+from_assigned immutable s = throw_error kinds.TypeError bottom s
 from_assigned (variables.stopped stop) s = Ends (stopped stop.rule stop.need stop.have) s
 
 same_put : (name : List ℕ) (v : Val) (o : Option (Record Val)) (records : Variables) (i : ℕ) → with_value name v o records i ≡ put_in_record o i name v records
@@ -55,55 +54,59 @@ same_put name v None records i = refl
 same_put name v (Some r) records i = refl
 
 module _ (i : ℕ) (name : List ℕ) (v : Val) (s : State) where
+  -- nothing follows a put
+  abbrev put_behind : Unit {0} → L tracked.Putting
+  put_behind u = ret is_put
+
   put_when : (mutable : Bool) (have : Label) (inside : Bool) → within (context s.frames) have ≡ inside
-      → assigned mutable have name i v s ≡ from_assigned (if mutable then (if inside then done (put i name (joined (context s.frames) v) s.records) else variables.stopped (record { rule = W1; need = context s.frames; have = have })) else immutable) s
+      → as_putting (assigned mutable have name i v) s ≡ from_assigned (if mutable then (if inside then done (put i name (joined (context s.frames) v) s.records) else variables.stopped (record { rule = W1; need = context s.frames; have = have })) else immutable) s
   unfolding assigned guard
-  put_when false have inside is = refl
+  put_when false have inside is = then_error (Unit {0}) tracked.Putting kinds.TypeError bottom put_behind s
   put_when true have true is =
-      ap (λ t. guard t W1 (context s.frames) have (rebinds name i (joined (context s.frames) v)) s) is
-      ∙ ap (λ (records : Variables). Goes tt (record s { records = records })) (same_put name (joined (context s.frames) v) (slice_get s.records i) s.records i)
-  put_when true have false is = ap (λ t. guard t W1 (context s.frames) have (rebinds name i (joined (context s.frames) v)) s) is
+      ap (λ t. and_then (guard t W1 (context s.frames) have (rebinds name i (joined (context s.frames) v)) s) put_behind) is
+      ∙ ap (λ (records : Variables). Goes is_put (record s { records = records })) (same_put name (joined (context s.frames) v) (slice_get s.records i) s.records i)
+  put_when true have false is = ap (λ t. and_then (guard t W1 (context s.frames) have (rebinds name i (joined (context s.frames) v)) s) put_behind) is
 
   put_bound : (walk : Label) (b : Binding Val) → bound_in name (slice_get s.records i) ≡ Some b → put_named (in_record i) walk name v s ≡ from_assigned (assign i name (context s.frames) v s.records) s
   unfolding put_named assigned_to
   put_bound walk b here =
-      ap (λ o. assigned_to o name i v s) here
+      ap (λ o. as_putting (assigned_to o name i v) s) here
       ∙ put_when b.mutable b.value.label (within (context s.frames) b.value.label) refl
       ∙ ap (λ o. from_assigned (variables.assigned o i name (context s.frames) v s.records) s) (sym here)
 
-  put_unbound : (walk : Label) → bound_in name (slice_get s.records i) ≡ None → put_named (in_record i) walk name v s ≡ throw_error reference_error bottom s
+  put_unbound : (walk : Label) → bound_in name (slice_get s.records i) ≡ None → put_named (in_record i) walk name v s ≡ throw_error kinds.ReferenceError bottom s
   unfolding put_named assigned_to
-  put_unbound walk here = ap (λ o. assigned_to o name i v s) here
+  put_unbound walk here = ap (λ o. as_putting (assigned_to o name i v) s) here ∙ then_error (Unit {0}) tracked.Putting kinds.ReferenceError bottom put_behind s
 
 -- ---- names, by where they stand
 
-module _ {S T : Type 0} (made : S → T → Type 0) (meaning : S → T → Label) (store : S) (w after : World T) (p : Place) (name : List ℕ) (walk : T) (v : Labelled T) (result : Result (Came (Unit {0}) T) (FlowFault T)) where
+module _ {S T : Type 0} (made : S → T → Type 0) (meaning : S → T → Label) (store : S) (w after : World T) (p : Place) (name : List ℕ) (walk : T) (v : Labelled T) (result : Result (Came (Putting T) T) (FlowFault T)) where
   abbrev puts_at : Place → Type 0
-  puts_at q = Acts made meaning store (λ reading (x : Unit {0}). x) (λ reading. put_value (of_name name (place_of q) (reading walk)) (read_value reading v)) w after result
+  puts_at q = Acts made meaning store (λ reading. read_putting reading) (λ reading. put_value (of_name name (place_of q) (reading walk)) (read_value reading v)) w after result
 
   -- what is done to a name by where it stands is done to its reference
-  pub put_there : (q : Place) → p ≡ q → Acts made meaning store (λ reading (x : Unit {0}). x) (λ reading. put_named (place_of q) (reading walk) name (read_value reading v)) w after result → puts_at p
+  pub put_there : (q : Place) → p ≡ q → Acts made meaning store (λ reading. read_putting reading) (λ reading. put_named (place_of q) (reading walk) name (read_value reading v)) w after result → puts_at p
   unfolding put_value
   put_there q is acts = subst puts_at (sym is) (record { says = acts.says })
 
-  pub put_nowhere : p ≡ place.Nowhere → Acts made meaning store (λ reading (x : Unit {0}). x) (λ reading. throw_error {X = Unit {0}} reference_error (reading walk)) w after result → puts_at p
+  pub put_nowhere : p ≡ place.Nowhere → Acts made meaning store (λ reading. read_putting reading) (λ reading. throw_error {X = tracked.Putting} kinds.ReferenceError (reading walk)) w after result → puts_at p
   unfolding put_value put_named
   put_nowhere is acts = subst puts_at (sym is) (record { says = acts.says })
 
   -- a name of the global object
   pub put_globally : (none : T) → ((reading : T → Label) → IsReading made meaning store reading → reading none ≡ bottom)
-      → Acts made meaning store (λ reading (x : Unit {0}). x) (λ reading. tracked.put W1 global_object.0 name (reading none) (read_value reading v)) w after result → Acts made meaning store (λ reading (x : Unit {0}). x) (λ reading. put_named on_global (reading walk) name (read_value reading v)) w after result
+      → Acts made meaning store (λ reading. read_putting reading) (λ reading. tracked.put W1 global_object.0 name (reading none) (called_value (reading none) global_object.0) (read_value reading v)) w after result → Acts made meaning store (λ reading. read_putting reading) (λ reading. put_named on_global (reading walk) name (read_value reading v)) w after result
   unfolding put_named
   put_globally none empty acts =
-      Acts-as made meaning store (λ reading (x : Unit {0}). x) (λ reading. tracked.put W1 global_object.0 name (reading none) (read_value reading v)) (λ reading. put_named on_global (reading walk) name (read_value reading v)) w after result
-      (λ reading is told turns. ap (λ l. tracked.put W1 global_object.0 name l (read_value reading v) (state_of reading w told turns)) (sym (empty reading is)))
+      Acts-as made meaning store (λ reading. read_putting reading) (λ reading. tracked.put W1 global_object.0 name (reading none) (called_value (reading none) global_object.0) (read_value reading v)) (λ reading. put_named on_global (reading walk) name (read_value reading v)) w after result
+      (λ reading is told turns. ap (λ l. tracked.put W1 global_object.0 name l (called_value l global_object.0) (read_value reading v) (state_of reading w told turns)) (sym (empty reading is)))
       acts
 
   -- a name without a binding in the record
-  pub put_absent : (i : ℕ) → bound_in name (slice_get w.records i) ≡ None → Acts made meaning store (λ reading (x : Unit {0}). x) (λ reading. throw_error {X = Unit {0}} reference_error bottom) w after result
-      → Acts made meaning store (λ reading (x : Unit {0}). x) (λ reading. put_named (in_record i) (reading walk) name (read_value reading v)) w after result
+  pub put_absent : (i : ℕ) → bound_in name (slice_get w.records i) ≡ None → Acts made meaning store (λ reading. read_putting reading) (λ reading. throw_error {X = tracked.Putting} kinds.ReferenceError bottom) w after result
+      → Acts made meaning store (λ reading. read_putting reading) (λ reading. put_named (in_record i) (reading walk) name (read_value reading v)) w after result
   put_absent i none acts =
-      Acts-as made meaning store (λ reading (x : Unit {0}). x) (λ reading. throw_error reference_error bottom) (λ reading. put_named (in_record i) (reading walk) name (read_value reading v)) w after result
+      Acts-as made meaning store (λ reading. read_putting reading) (λ reading. throw_error {X = tracked.Putting} kinds.ReferenceError bottom) (λ reading. put_named (in_record i) (reading walk) name (read_value reading v)) w after result
       (λ reading agrees told turns. put_unbound i name (read_value reading v) (state_of reading w told turns) (reading walk) (read_bound_in reading name w.records i ∙ ap (option_map (read_binding reading)) none))
       acts
 
@@ -138,7 +141,7 @@ module _ {S T : Type 0} (made : S → T → Type 0) (meaning : S → T → Label
         ∙ ap (λ l. from_assigned (assign i name l (read_value reading v) (read_records reading w.records)) s) (ap context (read_frames made meaning old reading w.frames.frames read belongs.frames) ∙ sym is ∙ sym (read.agrees label m))
 
     pub put_done : (records : List (Record (Labelled T))) → Comes made meaning new (λ reading. assign i name (reading label) (read_value reading v)) w.records (λ reading. done (read_records reading records))
-        → Acts made meaning new (λ reading x. x) (λ reading. put_named (in_record i) (reading walk) name (read_value reading v)) w (with_records records w) (Ok (came.Goes tt))
+        → Acts made meaning new (λ reading. read_putting reading) (λ reading. put_named (in_record i) (reading walk) name (read_value reading v)) w (with_records records w) (Ok (came.Goes putting.Put))
     put_done records comes = record {
       says = λ reading read told turns.
           put_is reading (IsReading-earlier made meaning room firm old new reading kept read) told turns
@@ -146,7 +149,7 @@ module _ {S T : Type 0} (made : S → T → Type 0) (meaning : S → T → Label
     }
 
     pub put_stopped : (stop : FlowStop T) (records : List (Record (Labelled T))) → records ≡ w.records → Comes made meaning new (λ reading. assign i name (reading label) (read_value reading v)) w.records (λ reading. variables.stopped (read_stop reading stop))
-        → Acts made meaning new (λ reading (x : Unit {0}). x) (λ reading. put_named (in_record i) (reading walk) name (read_value reading v)) w (with_records records w) (Err (fault.Stop stop))
+        → Acts made meaning new (λ reading. read_putting reading) (λ reading. put_named (in_record i) (reading walk) name (read_value reading v)) w (with_records records w) (Err (fault.Stop stop))
     put_stopped stop records same comes = record {
       says = λ reading read told turns.
           put_is reading (IsReading-earlier made meaning room firm old new reading kept read) told turns
@@ -155,45 +158,13 @@ module _ {S T : Type 0} (made : S → T → Type 0) (meaning : S → T → Label
     }
 
     -- a binding that can't be changed: the error is thrown in a later store
-    pub put_immutable : (last : S) → IsKept made meaning room firm new last → (records : List (Record (Labelled T))) (after : World T) (result : Result (Came (Unit {0}) T) (FlowFault T)) → records ≡ w.records → Comes made meaning new (λ reading. assign i name (reading label) (read_value reading v)) w.records (λ reading. immutable)
-        → Acts made meaning last (λ reading x. x) (λ reading. throw_error type_error bottom) (with_records records w) after result
-        → Acts made meaning last (λ reading x. x) (λ reading. put_named (in_record i) (reading walk) name (read_value reading v)) w after result
+    pub put_immutable : (last : S) → IsKept made meaning room firm new last → (records : List (Record (Labelled T))) (after : World T) (result : Result (Came (Putting T) T) (FlowFault T)) → records ≡ w.records → Comes made meaning new (λ reading. assign i name (reading label) (read_value reading v)) w.records (λ reading. immutable)
+        → Acts made meaning last (λ reading. read_putting reading) (λ reading. throw_error {X = tracked.Putting} kinds.TypeError bottom) (with_records records w) after result
+        → Acts made meaning last (λ reading. read_putting reading) (λ reading. put_named (in_record i) (reading walk) name (read_value reading v)) w after result
     put_immutable last later records after result same comes acts =
-        Acts-as made meaning last (λ reading x. x) (λ reading. throw_error type_error bottom) (λ reading. put_named (in_record i) (reading walk) name (read_value reading v)) w after result
+        Acts-as made meaning last (λ reading. read_putting reading) (λ reading. throw_error {X = tracked.Putting} kinds.TypeError bottom) (λ reading. put_named (in_record i) (reading walk) name (read_value reading v)) w after result
         (λ reading read told turns.
         let middle = IsReading-earlier made meaning room firm new last reading later read in
         put_is reading (IsReading-earlier made meaning room firm old new reading kept middle) told turns
         ∙ ap (λ a. from_assigned a (state_of reading w told turns)) (comes reading middle))
-        (subst (λ rs. Acts made meaning last (λ reading x. x) (λ reading. throw_error type_error bottom) (with_records rs w) after result) same acts)
-
--- ---- what an assignment gives
-
-module _ {S T : Type 0} (made : S → T → Type 0) (meaning : S → T → Label) (store : S) (tables : Tables) (inputs : Given) (functions : List FunctionCode) (r : (T → Label) → Reference) (other v : Labelled T) (old new : World T) where
-  abbrev puts : Result (Came (Unit {0}) T) (FlowFault T) → Type 0
-  puts result = Acts made meaning store (λ reading (x : Unit {0}). x) (λ reading. put_value (r reading) (read_value reading v)) old new result
-
-  abbrev gives : Result (Came (Labelled T) T) (FlowFault T) → Type 0
-  gives result = Acts made meaning store (λ reading. read_value reading) (λ reading. assign_giving (labelled tables inputs functions) (r reading) (read_value reading other) (read_value reading v)) old new result
-
-  pub giving_goes : (u : Unit {0}) → puts (Ok (came.Goes u)) → gives (Ok (came.Goes other))
-  unfolding assign_giving give
-  giving_goes u acts = record { says = λ reading is told turns. ap (λ o. and_then o (λ x s. Goes (read_value reading other) s)) (acts.says reading is told turns) }
-
-  pub giving_throws : (error : Labelled T) → puts (Ok (came.Throws error)) → gives (Ok (came.Throws error))
-  unfolding assign_giving
-  giving_throws error acts = Acts-throws made meaning store (λ reading (x : Unit {0}). x) (λ reading. read_value reading) (λ reading. put_value (r reading) (read_value reading v)) (λ reading. give (labelled tables inputs functions) (read_value reading other)) old new error acts
-
-  pub giving_leaves : (why : Leaving) → puts (Ok (came.Leaves why)) → gives (Ok (came.Leaves why))
-  unfolding assign_giving
-  giving_leaves why acts = Acts-leaves made meaning store (λ reading (x : Unit {0}). x) (λ reading. read_value reading) (λ reading. put_value (r reading) (read_value reading v)) (λ reading. give (labelled tables inputs functions) (read_value reading other)) old new why acts
-
-  pub giving_fails : (f : FlowFault T) (result : Result (Came (Labelled T) T) (FlowFault T)) → IsErrAnd result (λ e. e ≡ f) → puts (Err f) → gives result
-  unfolding assign_giving
-  giving_fails f result is acts = Acts-passes made meaning store (λ reading (x : Unit {0}). x) (λ reading. read_value reading) (λ reading. put_value (r reading) (read_value reading v)) (λ reading. give (labelled tables inputs functions) (read_value reading other)) old new f result is acts
-
-  -- the value itself is given
-  pub giving_itself : (result : Result (Came (Labelled T) T) (FlowFault T)) → other ≡ v → gives result → Acts made meaning store (λ reading. read_value reading) (λ reading. assign_to (labelled tables inputs functions) (r reading) (read_value reading v)) old new result
-  unfolding assign_giving assign_to
-  giving_itself result same acts =
-      let given = subst (λ (x : Labelled T). Acts made meaning store (λ reading. read_value reading) (λ reading. assign_giving (labelled tables inputs functions) (r reading) (read_value reading x) (read_value reading v)) old new result) same acts in
-      record { says = given.says }
+        (subst (λ rs. Acts made meaning last (λ reading. read_putting reading) (λ reading. throw_error {X = tracked.Putting} kinds.TypeError bottom) (with_records rs w) after result) same acts)

@@ -25,9 +25,10 @@ use Rattle.js_values.specs.Objects.{Object, fresh_object}
 use Rattle.js_values.specs.Readings.{IsReading, HasObject, HasHeap, read_object, read_heap}
 use Rattle.js_values.proofs.ReadingLaws.{IsReading-earlier}
 use Rattle.object_heap.specs.Acts.{new_object}
-use Rattle.es_meaning.specs.Outcomes.{Jumps, Ends}
-use Rattle.es_meaning.specs.Start.{ErrorKind, error_prototype}
-use Rattle.flow_meaning.specs.Scopes.{stopped, State, Jump, LabelledLine, guard, reached, jump_to, jump, cut_to}
+use Rattle.es_meaning.specs.Outcomes.{Jumps, Ends, and_then}
+use Rattle.native_protocol.specs.declared.request.ErrorKind.{ErrorKind}
+use Rattle.es_meaning.specs.Start.{error_prototype}
+use Rattle.flow_meaning.specs.Scopes.{stopped, State, Jump, LabelledLine, L, guard, reached, jump_to, jump, cut_to}
 use Rattle.flow_meaning.specs.Tracked.{throw_error, with_error, error_jump}
 use Rattle.step_world.specs.declared.came.Came.{Came}
 use Rattle.step_world.specs.declared.came.Came.TheVariants as came
@@ -162,6 +163,20 @@ recast_error X Y kind cause j t s =
     let k = error_jump cause (length s.heap) in
     let depth = reached k.to made.frames in
     recast_guard X Y (within (jump_need made.frames depth cause) (meant_at made.frames depth)) W9 (jump_need made.frames depth cause) (meant_at made.frames depth) k (suc depth) j t made
+
+-- nothing follows it
+then_guard : (X Y : Type 0) (b : Bool) (rule : Rule) (need have : Label) (k : Jump) (depth : ℕ) (f : X → L Y) (s : State) → and_then (guard {X = X} b rule need have (λ u. Jumps k (cut_to depth u)) s) f ≡ guard {X = Y} b rule need have (λ u. Jumps k (cut_to depth u)) s
+unfolding guard
+then_guard X Y true rule need have k depth f s = refl
+then_guard X Y false rule need have k depth f s = refl
+
+pub then_error : (X Y : Type 0) (kind : ErrorKind) (cause : Label) (f : X → L Y) (s : State) → and_then (throw_error {X = X} kind cause s) f ≡ throw_error {X = Y} kind cause s
+unfolding throw_error jump jump_to
+then_error X Y kind cause f s =
+    let made = with_error kind s in
+    let k = error_jump cause (length s.heap) in
+    let depth = reached k.to made.frames in
+    then_guard X Y (within (jump_need made.frames depth cause) (meant_at made.frames depth)) W9 (jump_need made.frames depth cause) (meant_at made.frames depth) k (suc depth) f made
 
 -- an error is thrown whatever the type of the results
 pub error_recast : {S T X Y Z : Type 0} (made : S → T → Type 0) (meaning : S → T → Label) (store : S) (read : (T → Label) → X → Y) (read_other : (T → Label) → X → Z) (kind : ErrorKind) (cause : (T → Label) → Label) (old new : World T) (result : Result (Came X T) (FlowFault T)) → HasAnswer (λ x. ⊥) (made store) result

@@ -1,3 +1,3 @@
+pub mod Accessors
 pub mod Elements
-pub mod ErrorKinds
 pub mod KeyTexts

@@ -1,15 +1,12 @@
 //! Names that are given values.
 
-ghost use Rattle.std.specs.Prelude.{◌≡◌, IsSome, slice_get, List};
+ghost use Rattle.std.specs.Prelude.{IsSome, slice_get};
 ghost use Rattle.origin_labels.specs.Stores.{IsKept};
-ghost use Rattle.flow_policy.specs.Policies.{Tables};
-ghost use Rattle.flow_policy.specs.Inputs.{Given};
-ghost use Rattle.js_ast.specs.Functions.{FunctionCode};
 ghost use Rattle.js_values.specs.Records.{bound_in};
-ghost use Rattle.js_values.specs.Readings.{HasValue, read_value};
+ghost use Rattle.js_values.specs.Readings.{read_value};
 ghost use Rattle.es_meaning.specs.Plain.{in_record, on_global};
-ghost use Rattle.es_meaning.specs.Evaluation.{assign_to, assign_giving};
-ghost use Rattle.flow_meaning.specs.Tracked.{labelled, put_value, put_named};
+ghost use Rattle.flow_meaning.specs.Tracked.{put_value, put_named};
+ghost use Rattle.step_world.specs.Accesses.{HasPutting, read_putting};
 ghost use Rattle.step_world.specs.Acts.{Acts, HasAnswer};
 ghost use Rattle.step_world.specs.Names.{reference_of};
 ghost use Rattle.step_world.specs.Worlds.{Belongs, Grows};
@@ -17,28 +14,29 @@ ghost use Rattle.step_world.specs.Worlds.{Belongs, Grows};
 use crate::naming::own;
 use crate::properties::GLOBAL;
 use crate::putting::put_on_object;
-use crate::throwing::{ErrorKind, throw_error, throw_without_cause};
+use crate::throwing::{throw_error, throw_without_cause};
 use env_records::AssignFault;
 use flow_frames::{FlowFault, Rule};
 use flow_text::Text;
 use js_values::{EnvId, Labelled};
+use native_protocol::ErrorKind;
 use origin_labels::Labels;
 use std::alloc::Global;
-use step_world::{Came, Named, Place, World};
+use step_world::{Came, Named, Place, Putting, World};
 
-/// Gives a name a value (ECMA-262 8.7.2), by rule W1. A name that stands nowhere throws.
+/// Gives a name a value (ECMA-262 8.7.2), by rule W1, or comes to its setter. A name that stands nowhere throws.
 pub fn put_name<T: Copy, L: Labels<Label = T>>(
     alloc: Global,
     labels: &mut L,
     world: &mut World<T>,
     named: Named<'_, T>,
     value: Labelled<T>,
-) -> Result<Came<(), T>, FlowFault<T>>
+) -> Result<Came<Putting<T>, T>, FlowFault<T>>
     requires walk { L.made labels.old named.walk }
     requires value { L.made labels.old value.label }
     requires belongs { Belongs L.made L.meaning labels.old world.old }
-    ensures acts { Acts L.made L.meaning labels.new (λ reading x. x) (λ reading. put_value (reference_of reading named.entry) (read_value reading value)) world.old world.new result }
-    ensures made { HasAnswer (λ x. Unit {0}) (L.made labels.new) result }
+    ensures acts { Acts L.made L.meaning labels.new (λ reading. read_putting reading) (λ reading. put_value (reference_of reading named.entry) (read_value reading value)) world.old world.new result }
+    ensures made { HasAnswer (HasPutting (L.made labels.new)) (L.made labels.new) result }
     ensures belongs { Belongs L.made L.meaning labels.new world.new }
     ensures grows { Grows world.old world.new }
     ensures kept { IsKept L.made L.meaning L.room L.firm labels.old labels.new }
@@ -50,53 +48,6 @@ pub fn put_name<T: Copy, L: Labels<Label = T>>(
     }
 }
 
-/// Gives a name a value, which is also what the assignment gives (ECMA-262 11.13).
-pub fn assign_to<T: Copy, L: Labels<Label = T>>(
-    alloc: Global,
-    labels: &mut L,
-    world: &mut World<T>,
-    named: Named<'_, T>,
-    value: Labelled<T>,
-) -> Result<Came<Labelled<T>, T>, FlowFault<T>>
-    requires walk { L.made labels.old named.walk }
-    requires value { L.made labels.old value.label }
-    requires belongs { Belongs L.made L.meaning labels.old world.old }
-    ensures acts { (tables : Tables) (inputs : Given) (functions : List FunctionCode) → Acts L.made L.meaning labels.new (λ reading. read_value reading) (λ reading. assign_to (labelled tables inputs functions) (reference_of reading named.entry) (read_value reading value)) world.old world.new result }
-    ensures made { HasAnswer (HasValue (L.made labels.new)) (L.made labels.new) result }
-    ensures belongs { Belongs L.made L.meaning labels.new world.new }
-    ensures grows { Grows world.old world.new }
-    ensures kept { IsKept L.made L.meaning L.room L.firm labels.old labels.new }
-{
-    let result = value.copy(alloc)?;
-    assign_giving(alloc, labels, world, named, result, value)
-}
-
-/// Gives a name a value, where the assignment gives another one.
-pub fn assign_giving<T: Copy, L: Labels<Label = T>>(
-    alloc: Global,
-    labels: &mut L,
-    world: &mut World<T>,
-    named: Named<'_, T>,
-    other: Labelled<T>,
-    value: Labelled<T>,
-) -> Result<Came<Labelled<T>, T>, FlowFault<T>>
-    requires walk { L.made labels.old named.walk }
-    requires other { L.made labels.old other.label }
-    requires value { L.made labels.old value.label }
-    requires belongs { Belongs L.made L.meaning labels.old world.old }
-    ensures acts { (tables : Tables) (inputs : Given) (functions : List FunctionCode) → Acts L.made L.meaning labels.new (λ reading. read_value reading) (λ reading. assign_giving (labelled tables inputs functions) (reference_of reading named.entry) (read_value reading other) (read_value reading value)) world.old world.new result }
-    ensures made { HasAnswer (HasValue (L.made labels.new)) (L.made labels.new) result }
-    ensures belongs { Belongs L.made L.meaning labels.new world.new }
-    ensures grows { Grows world.old world.new }
-    ensures kept { IsKept L.made L.meaning L.room L.firm labels.old labels.new }
-{
-    match put_name(alloc, labels, world, named, value)? {
-        Came::Goes(()) => Ok(Came::Goes(other)),
-        Came::Throws(error) => Ok(Came::Throws(error)),
-        Came::Leaves(why) => Ok(Came::Leaves(why)),
-    }
-}
-
 /// Gives a name of the global object a value.
 fn put_global<T: Copy, L: Labels<Label = T>>(
     alloc: Global,
@@ -104,17 +55,27 @@ fn put_global<T: Copy, L: Labels<Label = T>>(
     world: &mut World<T>,
     name: &Text,
     value: Labelled<T>,
-) -> Result<Came<(), T>, FlowFault<T>>
+) -> Result<Came<Putting<T>, T>, FlowFault<T>>
     requires value { L.made labels.old value.label }
     requires belongs { Belongs L.made L.meaning labels.old world.old }
-    ensures acts { (walk : T) → Acts L.made L.meaning labels.new (λ reading x. x) (λ reading. put_named on_global (reading walk) name.now (read_value reading value)) world.old world.new result }
-    ensures made { HasAnswer (λ x. Unit {0}) (L.made labels.new) result }
+    ensures acts { (walk : T) → Acts L.made L.meaning labels.new (λ reading. read_putting reading) (λ reading. put_named on_global (reading walk) name.now (read_value reading value)) world.old world.new result }
+    ensures made { HasAnswer (HasPutting (L.made labels.new)) (L.made labels.new) result }
     ensures belongs { Belongs L.made L.meaning labels.new world.new }
     ensures grows { Grows world.old world.new }
     ensures kept { IsKept L.made L.meaning L.room L.firm labels.old labels.new }
 {
     let none = labels.bottom();
-    put_on_object(alloc, labels, world, Rule::W1, GLOBAL, name, none, value)
+    put_on_object(
+        alloc,
+        labels,
+        world,
+        Rule::W1,
+        GLOBAL,
+        name,
+        none,
+        none,
+        value,
+    )
 }
 
 /// Gives a name in a record a value: a name without a binding throws.
@@ -124,11 +85,11 @@ fn put_bound<T: Copy, L: Labels<Label = T>>(
     e: EnvId,
     name: &Text,
     value: Labelled<T>,
-) -> Result<Came<(), T>, FlowFault<T>>
+) -> Result<Came<Putting<T>, T>, FlowFault<T>>
     requires value { L.made labels.old value.label }
     requires belongs { Belongs L.made L.meaning labels.old world.old }
-    ensures acts { (walk : T) → Acts L.made L.meaning labels.new (λ reading x. x) (λ reading. put_named (in_record e.0) (reading walk) name.now (read_value reading value)) world.old world.new result }
-    ensures made { HasAnswer (λ x. Unit {0}) (L.made labels.new) result }
+    ensures acts { (walk : T) → Acts L.made L.meaning labels.new (λ reading. read_putting reading) (λ reading. put_named (in_record e.0) (reading walk) name.now (read_value reading value)) world.old world.new result }
+    ensures made { HasAnswer (HasPutting (L.made labels.new)) (L.made labels.new) result }
     ensures belongs { Belongs L.made L.meaning labels.new world.new }
     ensures grows { Grows world.old world.new }
     ensures kept { IsKept L.made L.meaning L.room L.firm labels.old labels.new }
@@ -146,19 +107,19 @@ fn assign<T: Copy, L: Labels<Label = T>>(
     e: EnvId,
     name: &Text,
     value: Labelled<T>,
-) -> Result<Came<(), T>, FlowFault<T>>
+) -> Result<Came<Putting<T>, T>, FlowFault<T>>
     requires bound { IsSome (bound_in name.now (slice_get world.old.records e.0)) }
     requires value { L.made labels.old value.label }
     requires belongs { Belongs L.made L.meaning labels.old world.old }
-    ensures acts { (walk : T) → Acts L.made L.meaning labels.new (λ reading x. x) (λ reading. put_named (in_record e.0) (reading walk) name.now (read_value reading value)) world.old world.new result }
-    ensures made { HasAnswer (λ x. Unit {0}) (L.made labels.new) result }
+    ensures acts { (walk : T) → Acts L.made L.meaning labels.new (λ reading. read_putting reading) (λ reading. put_named (in_record e.0) (reading walk) name.now (read_value reading value)) world.old world.new result }
+    ensures made { HasAnswer (HasPutting (L.made labels.new)) (L.made labels.new) result }
     ensures belongs { Belongs L.made L.meaning labels.new world.new }
     ensures grows { Grows world.old world.new }
     ensures kept { IsKept L.made L.meaning L.room L.firm labels.old labels.new }
 {
     let context = world.frames.context(labels);
     match world.records.assign(labels, e, name, context, value) {
-        Ok(()) => Ok(Came::Goes(())),
+        Ok(()) => Ok(Came::Goes(Putting::Put)),
         Err(AssignFault::Immutable) => throw_without_cause(labels, world, ErrorKind::TypeError),
         Err(AssignFault::Stop(stop)) => Err(FlowFault::Stop(stop)),
         Err(AssignFault::OutOfMemory) => Err(FlowFault::OutOfMemory),

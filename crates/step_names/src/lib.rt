@@ -8,9 +8,9 @@ mod properties;
 mod putting;
 mod throwing;
 
-pub use assigning::{assign_giving, assign_to, put_name};
+pub use assigning::put_name;
 pub use members::{get_property, put_property};
 pub use naming::{get_name, resolve, typeof_name};
 pub use properties::{find_property, get_global, get_of};
 pub use putting::put_on_object;
-pub use throwing::{ErrorKind, throw_error};
+pub use throwing::{error_prototype, throw_error};

@@ -2,9 +2,10 @@
 
 ghost use Rattle.std.specs.Prelude.{◌≡◌, IfOk};
 ghost use Rattle.origin_labels.specs.Stores.{IsKept};
-ghost use Rattle.js_values.specs.Readings.{HasValue, read_value};
+ghost use Rattle.js_values.specs.Readings.{read_value};
 ghost use Rattle.es_meaning.specs.Plain as plain;
-ghost use Rattle.flow_meaning.specs.Tracked.{get_value, put_value};
+ghost use Rattle.flow_meaning.specs.Tracked.{accessed, put_value};
+ghost use Rattle.step_world.specs.Accesses.{HasAccess, HasPutting, read_access, read_putting};
 ghost use Rattle.step_names.specs.KeyTexts.{text_held};
 ghost use Rattle.step_world.specs.Acts.{Acts, HasAnswer};
 ghost use Rattle.step_world.specs.Names.{property_of};
@@ -18,21 +19,21 @@ use js_number::{Primitive, to_text};
 use js_values::{Labelled, Value};
 use origin_labels::Labels;
 use std::alloc::Global;
-use step_world::{Came, Leaving, World};
+use step_world::{Access, Came, Leaving, Putting, World};
 
-/// The value of the property of a base that a key names, a primitive value (ECMA-262 8.7.1). The properties of primitive values aren't built yet.
+/// What the property of a base comes to that a key names, a primitive value (ECMA-262 8.7.1). The properties of primitive values aren't built yet.
 pub fn get_property<T: Copy, L: Labels<Label = T>>(
     alloc: Global,
     labels: &mut L,
     world: &World<T>,
     base: &Labelled<T>,
     key: &Labelled<T>,
-) -> Result<Came<Labelled<T>, T>, FlowFault<T>>
+) -> Result<Came<Access<T>, T>, FlowFault<T>>
     requires base { L.made labels.old base.now.label }
     requires key { L.made labels.old key.now.label }
     requires belongs { Belongs L.made L.meaning labels.old world.now }
-    ensures acts { Acts L.made L.meaning labels.new (λ reading. read_value reading) (λ reading. get_value (property_of (read_value reading base.now) (read_value reading key.now))) world.now world.now result }
-    ensures made { HasAnswer (HasValue (L.made labels.new)) (L.made labels.new) result }
+    ensures acts { Acts L.made L.meaning labels.new (λ reading. read_access reading) (λ reading. accessed (property_of (read_value reading base.now) (read_value reading key.now))) world.now world.now result }
+    ensures made { HasAnswer (HasAccess (L.made labels.new)) (L.made labels.new) result }
     ensures belongs { Belongs L.made L.meaning labels.new world.now }
     ensures kept { IsKept L.made L.meaning L.room L.firm labels.old labels.new }
 {
@@ -41,11 +42,12 @@ pub fn get_property<T: Copy, L: Labels<Label = T>>(
     };
     let label = join(labels, base.label, key.label)?;
     let name = key_text(alloc, &key.value)?;
-    get_of(alloc, labels, world, o, name.text(), label)
+    let access = get_of(alloc, labels, world, o, base.label, name.text(), label)?;
+    Ok(Came::Goes(access))
 }
 
-/// Gives the property of a base that a key names, a primitive value, another value (ECMA-262 8.7.2), by rule W2 or W3. The properties of primitive values aren't
-/// built yet.
+/// Gives the property of a base that a key names, a primitive value, another value (ECMA-262 8.7.2), by rule W2 or W3, or comes to its setter. The properties of
+/// primitive values aren't built yet.
 pub fn put_property<T: Copy, L: Labels<Label = T>>(
     alloc: Global,
     labels: &mut L,
@@ -53,13 +55,13 @@ pub fn put_property<T: Copy, L: Labels<Label = T>>(
     base: &Labelled<T>,
     key: &Labelled<T>,
     value: Labelled<T>,
-) -> Result<Came<(), T>, FlowFault<T>>
+) -> Result<Came<Putting<T>, T>, FlowFault<T>>
     requires base { L.made labels.old base.now.label }
     requires key { L.made labels.old key.now.label }
     requires value { L.made labels.old value.label }
     requires belongs { Belongs L.made L.meaning labels.old world.old }
-    ensures acts { Acts L.made L.meaning labels.new (λ reading x. x) (λ reading. put_value (property_of (read_value reading base.now) (read_value reading key.now)) (read_value reading value)) world.old world.new result }
-    ensures made { HasAnswer (λ x. Unit {0}) (L.made labels.new) result }
+    ensures acts { Acts L.made L.meaning labels.new (λ reading. read_putting reading) (λ reading. put_value (property_of (read_value reading base.now) (read_value reading key.now)) (read_value reading value)) world.old world.new result }
+    ensures made { HasAnswer (HasPutting (L.made labels.new)) (L.made labels.new) result }
     ensures belongs { Belongs L.made L.meaning labels.new world.new }
     ensures grows { Grows world.old world.new }
     ensures kept { IsKept L.made L.meaning L.room L.firm labels.old labels.new }
@@ -69,7 +71,17 @@ pub fn put_property<T: Copy, L: Labels<Label = T>>(
     };
     let label = join(labels, base.label, key.label)?;
     let name = key_text(alloc, &key.value)?;
-    put_on_object(alloc, labels, world, Rule::W2, o, name.text(), label, value)
+    put_on_object(
+        alloc,
+        labels,
+        world,
+        Rule::W2,
+        o,
+        name.text(),
+        label,
+        base.label,
+        value,
+    )
 }
 
 /// The text of a key: that of a value that is one, or one that was made.

@@ -1,31 +1,28 @@
 //! Names and their values.
 
-ghost use Rattle.std.specs.Prelude.{◌≡◌, ◌<◌, length, IfOk, List};
+ghost use Rattle.std.specs.Prelude.{◌≡◌, ◌<◌, length, IfOk};
 ghost use Rattle.std.specs.Option.{option_map};
 ghost use Rattle.origin_labels.specs.Label.{Label};
 ghost use Rattle.origin_labels.specs.Stores.{IsKept};
-ghost use Rattle.flow_policy.specs.Policies.{Tables};
-ghost use Rattle.flow_policy.specs.Inputs.{Given};
-ghost use Rattle.js_ast.specs.Functions.{FunctionCode};
 ghost use Rattle.js_values.specs.Objects.{number_of};
-ghost use Rattle.js_values.specs.Readings.{HasValue, IsReading, read_heap, read_records, read_value};
+ghost use Rattle.js_values.specs.Readings.{IsReading, read_heap, read_records};
 ghost use Rattle.es_meaning.specs.Plain.{binding_at, place_beyond};
-ghost use Rattle.es_meaning.specs.Evaluation.{enters};
-ghost use Rattle.flow_meaning.specs.Tracked.{labelled, resolved, bound};
+ghost use Rattle.flow_meaning.specs.Tracked.{accessed, accessed_for_typeof, as_access, bound, resolved};
+ghost use Rattle.step_world.specs.Accesses.{HasAccess, read_access};
 ghost use Rattle.step_world.specs.Acts.{Acts, HasAnswer};
 ghost use Rattle.step_world.specs.Names.{reference_of, place_of};
 ghost use Rattle.step_world.specs.Worlds.{Belongs, Grows};
 
-use crate::properties::{GLOBAL, get_global};
-use crate::throwing::{ErrorKind, throw_error, throw_without_cause};
+use crate::properties::{GLOBAL, get_global, undefined};
+use crate::throwing::{throw_error, throw_without_cause};
 use flow_frames::FlowFault;
 use flow_text::{OutOfMemory, Text};
-use js_number::Primitive;
-use js_values::{EnvId, Labelled, ObjId, Value};
+use js_values::{EnvId, Labelled, ObjId};
+use native_protocol::ErrorKind;
 use origin_labels::Labels;
 use prototype_walk::find_named;
 use std::alloc::Global;
-use step_world::{Came, Named, Place, World};
+use step_world::{Access, Came, Named, Place, World};
 
 /// What a name stands for, from a record on outwards and then along the global object (ECMA-262 10.3.1).
 pub fn resolve<'p, T: Copy, L: Labels<Label = T>>(
@@ -61,17 +58,17 @@ fn beyond(at: Option<ObjId>) -> Place
     }
 }
 
-/// The value of a name (ECMA-262 8.7.1): a name that stands nowhere throws.
+/// What a name comes to (ECMA-262 8.7.1): a name that stands nowhere throws.
 pub fn get_name<T: Copy, L: Labels<Label = T>>(
     alloc: Global,
     labels: &mut L,
     world: &mut World<T>,
     named: Named<'_, T>,
-) -> Result<Came<Labelled<T>, T>, FlowFault<T>>
+) -> Result<Came<Access<T>, T>, FlowFault<T>>
     requires walk { L.made labels.old named.walk }
     requires belongs { Belongs L.made L.meaning labels.old world.old }
-    ensures acts { (tables : Tables) (inputs : Given) (functions : List FunctionCode) → Acts L.made L.meaning labels.new (λ reading. read_value reading) (λ reading. (labelled tables inputs functions).get_value (reference_of reading named.entry) (enters (labelled tables inputs functions))) world.old world.new result }
-    ensures made { HasAnswer (HasValue (L.made labels.new)) (L.made labels.new) result }
+    ensures acts { Acts L.made L.meaning labels.new (λ reading. read_access reading) (λ reading. accessed (reference_of reading named.entry)) world.old world.new result }
+    ensures made { HasAnswer (HasAccess (L.made labels.new)) (L.made labels.new) result }
     ensures belongs { Belongs L.made L.meaning labels.new world.new }
     ensures grows { Grows world.old world.new }
     ensures kept { IsKept L.made L.meaning L.room L.firm labels.old labels.new }
@@ -83,26 +80,23 @@ pub fn get_name<T: Copy, L: Labels<Label = T>>(
     }
 }
 
-/// The value of a name for `typeof` (ECMA-262 11.4.3): that of a name that stands nowhere is undefined.
+/// What a name comes to for `typeof` (ECMA-262 11.4.3): one that stands nowhere is undefined.
 pub fn typeof_name<T: Copy, L: Labels<Label = T>>(
     alloc: Global,
     labels: &mut L,
     world: &mut World<T>,
     named: Named<'_, T>,
-) -> Result<Came<Labelled<T>, T>, FlowFault<T>>
+) -> Result<Came<Access<T>, T>, FlowFault<T>>
     requires walk { L.made labels.old named.walk }
     requires belongs { Belongs L.made L.meaning labels.old world.old }
-    ensures acts { (tables : Tables) (inputs : Given) (functions : List FunctionCode) → Acts L.made L.meaning labels.new (λ reading. read_value reading) (λ reading. (labelled tables inputs functions).typeof_value (reference_of reading named.entry) (enters (labelled tables inputs functions))) world.old world.new result }
-    ensures made { HasAnswer (HasValue (L.made labels.new)) (L.made labels.new) result }
+    ensures acts { Acts L.made L.meaning labels.new (λ reading. read_access reading) (λ reading. accessed_for_typeof (reference_of reading named.entry)) world.old world.new result }
+    ensures made { HasAnswer (HasAccess (L.made labels.new)) (L.made labels.new) result }
     ensures belongs { Belongs L.made L.meaning labels.new world.new }
     ensures grows { Grows world.old world.new }
     ensures kept { IsKept L.made L.meaning L.room L.firm labels.old labels.new }
 {
     match named.place {
-        Place::Nowhere => Ok(Came::Goes(Labelled {
-            value: Value::Primitive(Primitive::Undefined),
-            label: named.walk,
-        })),
+        Place::Nowhere => Ok(Came::Goes(Access::Value(undefined(named.walk)))),
         _ => get_name(alloc, labels, world, named),
     }
 }
@@ -114,16 +108,16 @@ fn get_bound<T: Copy, L: Labels<Label = T>>(
     world: &mut World<T>,
     e: EnvId,
     name: &Text,
-) -> Result<Came<Labelled<T>, T>, FlowFault<T>>
+) -> Result<Came<Access<T>, T>, FlowFault<T>>
     requires belongs { Belongs L.made L.meaning labels.old world.old }
-    ensures acts { Acts L.made L.meaning labels.new (λ reading. read_value reading) (λ reading s. bound (binding_at s.records e.0 name.now) s) world.old world.new result }
-    ensures made { HasAnswer (HasValue (L.made labels.new)) (L.made labels.new) result }
+    ensures acts { Acts L.made L.meaning labels.new (λ reading. read_access reading) (λ reading. as_access (λ s. bound (binding_at s.records e.0 name.now) s)) world.old world.new result }
+    ensures made { HasAnswer (HasAccess (L.made labels.new)) (L.made labels.new) result }
     ensures belongs { Belongs L.made L.meaning labels.new world.new }
     ensures grows { Grows world.old world.new }
     ensures kept { IsKept L.made L.meaning L.room L.firm labels.old labels.new }
 {
     match value_of(alloc, world, e, name)? {
-        Some(value) => Ok(Came::Goes(value)),
+        Some(value) => Ok(Came::Goes(Access::Value(value))),
         None => throw_without_cause(labels, world, ErrorKind::ReferenceError),
     }
 }

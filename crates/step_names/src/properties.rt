@@ -4,77 +4,80 @@ ghost use Rattle.std.specs.Prelude.{◌≡◌, IfOk};
 ghost use Rattle.std.specs.Option.{option_map};
 ghost use Rattle.origin_labels.specs.Label.{union};
 ghost use Rattle.origin_labels.specs.Stores.{IsKept};
-ghost use Rattle.js_values.specs.declared.value.Value.TheVariants as value_kind;
-ghost use Rattle.js_values.specs.Readings.{HasValue, read_value};
+ghost use Rattle.js_values.specs.Readings.{read_heap, read_value};
+ghost use Rattle.js_values.specs.Walks.{find, object_chain};
 ghost use Rattle.prototype_walk.specs.Answers.{Means, IsPlace};
 ghost use Rattle.es_meaning.specs.Plain.{on_global};
-ghost use Rattle.flow_meaning.specs.Tracked.{held, property_of, named};
-ghost use Rattle.step_world.specs.declared.world.World.{World as WorldOf};
+ghost use Rattle.flow_meaning.specs.Tracked.{called_value, found_by, held, named};
+ghost use Rattle.step_world.specs.Accesses.{HasAccess, IsAccess, read_access};
 ghost use Rattle.step_world.specs.Acts.{Acts, HasAnswer};
 ghost use Rattle.step_world.specs.Worlds.{Belongs, Grows};
+ghost use Rattle.step_names.specs.Accessors.{getter_of, object_with, undefined_with};
 
-use crate::throwing::{ErrorKind, throw_error};
+use crate::throwing::throw_error;
 use flow_frames::FlowFault;
 use flow_text::{OutOfMemory, Text};
 use js_number::Primitive;
 use js_values::{Body, Labelled, ObjId, Slot, Value};
+use native_protocol::ErrorKind;
 use origin_labels::Labels;
 use prototype_walk::find_slot_named;
 use std::alloc::Global;
-use step_world::{Came, Leaving, World};
+use step_world::{Access, Came, World};
 
 /// The global object, with which a run starts.
 pub(crate) const GLOBAL: ObjId = ObjId(1);
 
-/// The value of a property of an object (ECMA-262 8.12.3): undefined where there is none. `label` is that of base and key, and the value's label has that of the
-/// walk besides. Getters aren't built yet.
+/// What a property of an object comes to (ECMA-262 8.12.3): undefined where there is none, and where it has a getter, the object is its `this`, with a label
+/// of its own. `label` is that of base and key, and the value's label has that of the walk besides.
 pub fn get_of<T: Copy, L: Labels<Label = T>>(
     alloc: Global,
     labels: &mut L,
     world: &World<T>,
     o: ObjId,
+    this_label: T,
     key: &Text,
     label: T,
-) -> Result<Came<Labelled<T>, T>, FlowFault<T>>
+) -> Result<Access<T>, OutOfMemory>
+    requires this { L.made labels.old this_label }
     requires label { L.made labels.old label }
     requires belongs { Belongs L.made L.meaning labels.old world.now }
-    ensures acts { Acts L.made L.meaning labels.new (λ reading. read_value reading) (λ reading. property_of (reading label) (value_kind.Object o) key.now) world.now world.now result }
-    ensures made { HasAnswer (HasValue (L.made labels.new)) (L.made labels.new) result }
-    ensures belongs { Belongs L.made L.meaning labels.new world.now }
+    ensures access { IfOk result (IsAccess L.made L.meaning labels.new (λ reading. found_by (reading label) (called_value (reading this_label) o.0) (find key.now (object_chain (read_heap reading world.now.heap) o.0)))) }
     ensures kept { IsKept L.made L.meaning L.room L.firm labels.old labels.new }
 {
     let (place, walk) = find_property(labels, world, o, key)?;
     let depends = join(labels, label, walk)?;
     match place {
-        Some((_, slot)) => held(alloc, labels, depends, slot),
-        None => Ok(Came::Goes(Labelled {
-            value: Value::Primitive(Primitive::Undefined),
-            label: depends,
-        })),
+        Some((_, slot)) => held(alloc, labels, depends, slot, object(o, this_label)),
+        None => Ok(Access::Value(undefined(depends))),
     }
 }
 
-/// The value of a name that was found along the global object (ECMA-262 10.2.1.2.4), with the label of that walk: a name that is gone throws. The value's label has
-/// that of the walk to it besides.
+/// What a name comes to that was found along the global object (ECMA-262 10.2.1.2.4), with the label of that walk: a name that is gone throws. The value's label
+/// has that of the walk to it besides.
 pub fn get_global<T: Copy, L: Labels<Label = T>>(
     alloc: Global,
     labels: &mut L,
     world: &mut World<T>,
     name: &Text,
     walk: T,
-) -> Result<Came<Labelled<T>, T>, FlowFault<T>>
+) -> Result<Came<Access<T>, T>, FlowFault<T>>
     requires walk { L.made labels.old walk }
     requires belongs { Belongs L.made L.meaning labels.old world.old }
-    ensures acts { Acts L.made L.meaning labels.new (λ reading. read_value reading) (λ reading. named on_global (reading walk) name.now) world.old world.new result }
-    ensures made { HasAnswer (HasValue (L.made labels.new)) (L.made labels.new) result }
+    ensures acts { Acts L.made L.meaning labels.new (λ reading. read_access reading) (λ reading. named on_global (reading walk) name.now) world.old world.new result }
+    ensures made { HasAnswer (HasAccess (L.made labels.new)) (L.made labels.new) result }
     ensures belongs { Belongs L.made L.meaning labels.new world.new }
     ensures grows { Grows world.old world.new }
     ensures kept { IsKept L.made L.meaning L.room L.firm labels.old labels.new }
 {
+    let none = labels.bottom();
     let (place, here) = find_property(labels, world, GLOBAL, name)?;
     let whole = join(labels, walk, here)?;
     match place {
-        Some((_, slot)) => held(alloc, labels, whole, slot),
+        Some((_, slot)) => {
+            let access = held(alloc, labels, whole, slot, object(GLOBAL, none))?;
+            Ok(Came::Goes(access))
+        }
         None => throw_error(labels, world, ErrorKind::ReferenceError, whole),
     }
 }
@@ -97,29 +100,64 @@ pub fn find_property<'w, T: Copy, L: Labels<Label = T>>(
     Ok((None, walk))
 }
 
-/// What a property holds, where finding it depends on a label.
+/// What a property holds, where finding it depends on a label: a getter is called with this `this`.
 fn held<T: Copy, L: Labels<Label = T>>(
     alloc: Global,
     labels: &mut L,
     label: T,
     slot: &Slot<T>,
-) -> Result<Came<Labelled<T>, T>, FlowFault<T>>
+    this: Labelled<T>,
+) -> Result<Access<T>, OutOfMemory>
     requires label { L.made labels.old label }
     requires slot { L.made labels.old slot.now.label }
-    ensures acts { (world : WorldOf T) → Acts L.made L.meaning labels.new (λ reading. read_value reading) (λ reading. held (union (reading label) (reading slot.now.label)) slot.now.body) world world result }
-    ensures made { HasAnswer (HasValue (L.made labels.new)) (L.made labels.new) result }
+    requires this { L.made labels.old this.label }
+    ensures access { IfOk result (IsAccess L.made L.meaning labels.new (λ reading. held (union (reading label) (reading slot.now.label)) (read_value reading this) slot.now.body)) }
     ensures kept { IsKept L.made L.meaning L.room L.firm labels.old labels.new }
 {
     let whole = join(labels, label, slot.label)?;
     match &slot.body {
         Body::Data(value) => {
             let value = value.copy(alloc)?;
-            Ok(Came::Goes(Labelled {
+            Ok(Access::Value(Labelled {
                 value,
                 label: whole,
             }))
         }
-        Body::Accessor { .. } => Ok(Came::Leaves(Leaving::Unbuilt)),
+        Body::Accessor { get, .. } => Ok(getter(whole, *get, this)),
+    }
+}
+
+/// What an accessor comes to by its getter: without one it is undefined.
+fn getter<T: Copy>(label: T, get: Option<ObjId>, this: Labelled<T>) -> Access<T>
+    ensures { result ≡ getter_of label get this }
+{
+    match get {
+        Some(function) => Access::Getter {
+            label,
+            function,
+            this,
+        },
+        None => Access::Value(undefined(label)),
+    }
+}
+
+/// Undefined with a label.
+pub(crate) fn undefined<T>(label: T) -> Labelled<T>
+    ensures { result ≡ undefined_with label }
+{
+    Labelled {
+        value: Value::Primitive(Primitive::Undefined),
+        label,
+    }
+}
+
+/// An object with a label.
+pub(crate) fn object<T>(o: ObjId, label: T) -> Labelled<T>
+    ensures { result ≡ object_with o label }
+{
+    Labelled {
+        value: Value::Object(o),
+        label,
     }
 }
 

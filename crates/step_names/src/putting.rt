@@ -1,6 +1,7 @@
 //! The properties of objects, as they are put.
 
 ghost use Rattle.std.specs.Prelude.{◌≡◌, ◌<◌, ℕ, List, None, IsSome, IfOk, length, map, slice_get};
+ghost use Rattle.std.specs.Option.{option_map};
 ghost use Rattle.origin_labels.specs.Label.{union};
 ghost use Rattle.origin_labels.specs.Stores.{IsKept};
 ghost use Rattle.flow_frames.specs.Frames.{context};
@@ -13,20 +14,24 @@ ghost use Rattle.prototype_walk.specs.Answers.{Means, IsPlan};
 ghost use Rattle.prototype_walk.specs.Plans.{can_put, IsNoElement};
 ghost use Rattle.prototype_walk.specs.declared.plan.PutPlan.TheVariants as plans;
 ghost use Rattle.es_meaning.specs.Objects.{is_element};
-ghost use Rattle.flow_meaning.specs.Tracked.{put, put_by};
+ghost use Rattle.es_meaning.specs.Definitions.{setter_in};
+ghost use Rattle.flow_meaning.specs.Tracked.{called_value, put, put_by, setter_found};
+ghost use Rattle.step_names.specs.Accessors.{setter_with};
 ghost use Rattle.step_names.specs.Elements.{element_in};
+ghost use Rattle.step_world.specs.Accesses.{HasPutting, read_putting};
 ghost use Rattle.step_world.specs.Acts.{Acts, HasAnswer};
 ghost use Rattle.step_world.specs.Worlds.{Belongs, Grows};
 
-use crate::properties::join;
-use crate::throwing::{ErrorKind, throw_error};
+use crate::properties::{join, object};
+use crate::throwing::throw_error;
 use flow_frames::{FlowFault, Frames, Rule};
 use flow_text::{OutOfMemory, Text};
 use js_values::{Body, Class, Key, Labelled, Marks, ObjId};
+use native_protocol::ErrorKind;
 use origin_labels::Labels;
 use prototype_walk::{PutPlan, can_put_named};
 use std::alloc::Global;
-use step_world::{Came, Leaving, World};
+use step_world::{Came, Leaving, Putting, World};
 
 /// The attributes of a property that a script makes (ECMA-262 8.12.5).
 const MADE_BY_SCRIPT: Marks = Marks {
@@ -35,8 +40,15 @@ const MADE_BY_SCRIPT: Marks = Marks {
     configurable: true,
 };
 
-/// Puts a value on an object by a key (ECMA-262 8.12.5): its property has another value by the rule, W1 for a name and W2 for a member, or is added by W3. `label` is
-/// that of base and key. Setters, and elements of arrays, aren't built yet.
+/// The setter of a property, with the property's value label.
+#[derive(Clone, Copy)]
+pub(crate) struct FoundSetter<T> {
+    pub label: T,
+    pub set: Option<ObjId>,
+}
+
+/// Puts a value on an object by a key (ECMA-262 8.12.5): its property has another value by the rule, W1 for a name and W2 for a member, or is added by W3; or
+/// it has a setter, whose `this` is the object with a label of its own. `label` is that of base and key. Elements of arrays aren't built yet.
 pub fn put_on_object<T: Copy, L: Labels<Label = T>>(
     alloc: Global,
     labels: &mut L,
@@ -45,13 +57,15 @@ pub fn put_on_object<T: Copy, L: Labels<Label = T>>(
     o: ObjId,
     key: &Text,
     label: T,
+    this_label: T,
     value: Labelled<T>,
-) -> Result<Came<(), T>, FlowFault<T>>
+) -> Result<Came<Putting<T>, T>, FlowFault<T>>
     requires label { L.made labels.old label }
+    requires this { L.made labels.old this_label }
     requires value { L.made labels.old value.label }
     requires belongs { Belongs L.made L.meaning labels.old world.old }
-    ensures acts { Acts L.made L.meaning labels.new (λ reading x. x) (λ reading. put rule o.0 key.now (reading label) (read_value reading value)) world.old world.new result }
-    ensures made { HasAnswer (λ x. Unit {0}) (L.made labels.new) result }
+    ensures acts { Acts L.made L.meaning labels.new (λ reading. read_putting reading) (λ reading. put rule o.0 key.now (reading label) (called_value (reading this_label) o.0) (read_value reading value)) world.old world.new result }
+    ensures made { HasAnswer (HasPutting (L.made labels.new)) (L.made labels.new) result }
     ensures belongs { Belongs L.made L.meaning labels.new world.new }
     ensures grows { Grows world.old world.new }
     ensures kept { IsKept L.made L.meaning L.room L.firm labels.old labels.new }
@@ -64,7 +78,15 @@ pub fn put_on_object<T: Copy, L: Labels<Label = T>>(
     match plan {
         PutPlan::Write { walk } => write(labels, world, rule, o, key, label, walk, value),
         PutPlan::Add { walk } => add(alloc, labels, world, o, key, label, walk, value),
-        PutPlan::Setter { .. } => Ok(Came::Leaves(Leaving::Unbuilt)),
+        PutPlan::Setter { at, walk } => setter(
+            labels,
+            world,
+            at,
+            key,
+            label,
+            walk,
+            object(o, this_label),
+        ),
         PutPlan::Refused { walk } => refuse(labels, world, label, walk),
     }
 }
@@ -126,21 +148,21 @@ fn write<T: Copy, L: Labels<Label = T>>(
     label: T,
     walk: T,
     value: Labelled<T>,
-) -> Result<Came<(), T>, FlowFault<T>>
+) -> Result<Came<Putting<T>, T>, FlowFault<T>>
     requires present { IsSome (own_in key.now (slice_get world.old.heap o.0)) }
     requires label { L.made labels.old label }
     requires walk { L.made labels.old walk }
     requires value { L.made labels.old value.label }
     requires belongs { Belongs L.made L.meaning labels.old world.old }
-    ensures acts { Acts L.made L.meaning labels.new (λ reading x. x) (λ reading. put_by (plans.Write (reading walk)) rule o.0 key.now (reading label) (read_value reading value)) world.old world.new result }
-    ensures made { HasAnswer (λ x. Unit {0}) (L.made labels.new) result }
+    ensures acts { (base : LabelledOf T) → Acts L.made L.meaning labels.new (λ reading. read_putting reading) (λ reading. put_by (plans.Write (reading walk)) rule o.0 key.now (reading label) (read_value reading base) (read_value reading value)) world.old world.new result }
+    ensures made { HasAnswer (HasPutting (L.made labels.new)) (L.made labels.new) result }
     ensures belongs { Belongs L.made L.meaning labels.new world.new }
     ensures grows { Grows world.old world.new }
     ensures kept { IsKept L.made L.meaning L.room L.firm labels.old labels.new }
 {
     let need = need_of(labels, &world.frames, label, walk)?;
     world.heap.write_named(labels, rule, o, key, need, value)?;
-    Ok(Came::Goes(()))
+    Ok(Came::Goes(Putting::Put))
 }
 
 /// Adds a property.
@@ -153,15 +175,15 @@ fn add<T: Copy, L: Labels<Label = T>>(
     label: T,
     walk: T,
     value: Labelled<T>,
-) -> Result<Came<(), T>, FlowFault<T>>
+) -> Result<Came<Putting<T>, T>, FlowFault<T>>
     requires there { o.0 < length world.old.heap }
     requires absent { own_in key.now (slice_get world.old.heap o.0) ≡ None }
     requires label { L.made labels.old label }
     requires walk { L.made labels.old walk }
     requires value { L.made labels.old value.label }
     requires belongs { Belongs L.made L.meaning labels.old world.old }
-    ensures acts { (rule : Rule) → Acts L.made L.meaning labels.new (λ reading x. x) (λ reading. put_by (plans.Add (reading walk)) rule o.0 key.now (reading label) (read_value reading value)) world.old world.new result }
-    ensures made { HasAnswer (λ x. Unit {0}) (L.made labels.new) result }
+    ensures acts { (rule : Rule) (base : LabelledOf T) → Acts L.made L.meaning labels.new (λ reading. read_putting reading) (λ reading. put_by (plans.Add (reading walk)) rule o.0 key.now (reading label) (read_value reading base) (read_value reading value)) world.old world.new result }
+    ensures made { HasAnswer (HasPutting (L.made labels.new)) (L.made labels.new) result }
     ensures belongs { Belongs L.made L.meaning labels.new world.new }
     ensures grows { Grows world.old world.new }
     ensures kept { IsKept L.made L.meaning L.room L.firm labels.old labels.new }
@@ -172,7 +194,90 @@ fn add<T: Copy, L: Labels<Label = T>>(
     world
         .heap
         .add(labels, o, key, need, body, value.label, MADE_BY_SCRIPT)?;
-    Ok(Came::Goes(()))
+    Ok(Came::Goes(Putting::Put))
+}
+
+/// The setter of the property of the object `at`, which is called with this `this`. The frame's label has the property's value label besides.
+fn setter<T: Copy, L: Labels<Label = T>>(
+    labels: &mut L,
+    world: &mut World<T>,
+    at: ObjId,
+    key: &Text,
+    label: T,
+    walk: T,
+    this: Labelled<T>,
+) -> Result<Came<Putting<T>, T>, FlowFault<T>>
+    requires label { L.made labels.old label }
+    requires walk { L.made labels.old walk }
+    requires this { L.made labels.old this.label }
+    requires belongs { Belongs L.made L.meaning labels.old world.old }
+    ensures acts { (rule : Rule) (o : ℕ) (value : LabelledOf T) → Acts L.made L.meaning labels.new (λ reading. read_putting reading) (λ reading. put_by (plans.Setter at (reading walk)) rule o key.now (reading label) (read_value reading this) (read_value reading value)) world.old world.new result }
+    ensures made { HasAnswer (HasPutting (L.made labels.new)) (L.made labels.new) result }
+    ensures belongs { Belongs L.made L.meaning labels.new world.new }
+    ensures grows { Grows world.old world.new }
+    ensures kept { IsKept L.made L.meaning L.room L.firm labels.old labels.new }
+{
+    let place = join(labels, label, walk)?;
+    match setter_at(world, at, key) {
+        Some(found) => {
+            let depends = join(labels, place, found.label)?;
+            enter_setter(labels, world, depends, found.set, this)
+        }
+        None => throw_error(labels, world, ErrorKind::TypeError, place),
+    }
+}
+
+/// The setter of an own property, with the property's value label.
+fn setter_at<T: Copy>(world: &World<T>, at: ObjId, key: &Text) -> Option<FoundSetter<T>>
+    ensures { result ≡ option_map setter_with (own_in key.now (slice_get world.now.heap at.0)) }
+{
+    if at.0 >= world.heap.len() {
+        return None;
+    }
+    match world.heap.own_named(at, key) {
+        Some(slot) => Some(FoundSetter {
+            label: slot.label,
+            set: setter_in(&slot.body),
+        }),
+        None => None,
+    }
+}
+
+/// The setter of what a property holds.
+fn setter_in(body: &Body) -> Option<ObjId>
+    ensures { result ≡ setter_in body.now }
+{
+    match body {
+        Body::Accessor { set, .. } => *set,
+        Body::Data(_) => None,
+    }
+}
+
+/// A put by a setter: without one it throws.
+fn enter_setter<T: Copy, L: Labels<Label = T>>(
+    labels: &mut L,
+    world: &mut World<T>,
+    label: T,
+    set: Option<ObjId>,
+    this: Labelled<T>,
+) -> Result<Came<Putting<T>, T>, FlowFault<T>>
+    requires label { L.made labels.old label }
+    requires this { L.made labels.old this.label }
+    requires belongs { Belongs L.made L.meaning labels.old world.old }
+    ensures acts { Acts L.made L.meaning labels.new (λ reading. read_putting reading) (λ reading. setter_found (reading label) (read_value reading this) set) world.old world.new result }
+    ensures made { HasAnswer (HasPutting (L.made labels.new)) (L.made labels.new) result }
+    ensures belongs { Belongs L.made L.meaning labels.new world.new }
+    ensures grows { Grows world.old world.new }
+    ensures kept { IsKept L.made L.meaning L.room L.firm labels.old labels.new }
+{
+    match set {
+        Some(function) => Ok(Came::Goes(Putting::Setter {
+            label,
+            function,
+            this,
+        })),
+        None => throw_error(labels, world, ErrorKind::TypeError, label),
+    }
 }
 
 /// Throws the error of a put that isn't allowed.
@@ -181,12 +286,12 @@ fn refuse<T: Copy, L: Labels<Label = T>>(
     world: &mut World<T>,
     label: T,
     walk: T,
-) -> Result<Came<(), T>, FlowFault<T>>
+) -> Result<Came<Putting<T>, T>, FlowFault<T>>
     requires label { L.made labels.old label }
     requires walk { L.made labels.old walk }
     requires belongs { Belongs L.made L.meaning labels.old world.old }
-    ensures acts { (rule : Rule) (o : ℕ) (key : List ℕ) (value : LabelledOf T) → Acts L.made L.meaning labels.new (λ reading x. x) (λ reading. put_by (plans.Refused (reading walk)) rule o key (reading label) (read_value reading value)) world.old world.new result }
-    ensures made { HasAnswer (λ x. Unit {0}) (L.made labels.new) result }
+    ensures acts { (rule : Rule) (o : ℕ) (key : List ℕ) (base value : LabelledOf T) → Acts L.made L.meaning labels.new (λ reading. read_putting reading) (λ reading. put_by (plans.Refused (reading walk)) rule o key (reading label) (read_value reading base) (read_value reading value)) world.old world.new result }
+    ensures made { HasAnswer (HasPutting (L.made labels.new)) (L.made labels.new) result }
     ensures belongs { Belongs L.made L.meaning labels.new world.new }
     ensures grows { Grows world.old world.new }
     ensures kept { IsKept L.made L.meaning L.room L.firm labels.old labels.new }

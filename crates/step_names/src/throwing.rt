@@ -9,43 +9,29 @@ ghost use Rattle.es_meaning.specs.Operations.{Ty, Res};
 ghost use Rattle.es_meaning.specs.Start.{error_prototype};
 ghost use Rattle.flow_meaning.specs.Scopes.{Val, LabelledLine, jump};
 ghost use Rattle.flow_meaning.specs.Tracked.{throw_error, with_error};
-ghost use Rattle.step_names.specs.ErrorKinds.{kind_of};
 ghost use Rattle.step_world.specs.Acts.{Acts, HasAnswer, thrown};
 ghost use Rattle.step_world.specs.Worlds.{Belongs, Grows, state_of};
 
 use flow_frames::FlowFault;
 use flow_text::OutOfMemory;
 use js_values::{Class, Inner, Labelled, ObjId, Value};
+use native_protocol::ErrorKind;
 use origin_labels::Labels;
 use step_world::{Came, World};
 
-/// The kinds of errors that the engine throws (ECMA-262 15.11.6).
-#[derive(Clone, Copy, Debug, PartialEq, Eq)]
-pub enum ErrorKind {
-    Error,
-    EvalError,
-    RangeError,
-    ReferenceError,
-    SyntaxError,
-    TypeError,
-    UriError,
-}
-
-impl ErrorKind {
-    /// The prototype of its errors, which a run starts with.
-    pub fn prototype(self) -> ObjId
-        ensures prototype { result ≡ error_prototype (kind_of self) }
-        ensures started { result.0 < 9 }
-    {
-        match self {
-            ErrorKind::Error => ObjId(2),
-            ErrorKind::EvalError => ObjId(3),
-            ErrorKind::RangeError => ObjId(4),
-            ErrorKind::ReferenceError => ObjId(5),
-            ErrorKind::SyntaxError => ObjId(6),
-            ErrorKind::TypeError => ObjId(7),
-            ErrorKind::UriError => ObjId(8),
-        }
+/// The prototype of errors of a kind (ECMA-262 15.11.7.7), which a run starts with.
+pub fn error_prototype(kind: ErrorKind) -> ObjId
+    ensures prototype { result ≡ error_prototype kind }
+    ensures started { result.0 < 9 }
+{
+    match kind {
+        ErrorKind::Error => ObjId(2),
+        ErrorKind::EvalError => ObjId(3),
+        ErrorKind::RangeError => ObjId(4),
+        ErrorKind::ReferenceError => ObjId(5),
+        ErrorKind::SyntaxError => ObjId(6),
+        ErrorKind::TypeError => ObjId(7),
+        ErrorKind::UriError => ObjId(8),
     }
 }
 
@@ -58,7 +44,7 @@ pub fn throw_error<X, T: Copy, L: Labels<Label = T>>(
 ) -> Result<Came<X, T>, FlowFault<T>>
     requires cause { L.made labels.old cause }
     requires belongs { Belongs L.made L.meaning labels.old world.old }
-    ensures acts { (t : Ty) (read : (T → Label) → X → Res Val t) → Acts L.made L.meaning labels.new read (λ reading. throw_error (kind_of kind) (reading cause)) world.old world.new result }
+    ensures acts { (t : Ty) (read : (T → Label) → X → Res Val t) → Acts L.made L.meaning labels.new read (λ reading. throw_error kind (reading cause)) world.old world.new result }
     ensures made { HasAnswer (λ x. ⊥) (L.made labels.new) result }
     ensures belongs { Belongs L.made L.meaning labels.new world.new }
     ensures grows { Grows world.old world.new }
@@ -79,7 +65,7 @@ pub(crate) fn throw_without_cause<X, T: Copy, L: Labels<Label = T>>(
     kind: ErrorKind,
 ) -> Result<Came<X, T>, FlowFault<T>>
     requires { Belongs L.made L.meaning labels.old world.old }
-    ensures acts { (t : Ty) (read : (T → Label) → X → Res Val t) → Acts L.made L.meaning labels.new read (λ reading. throw_error (kind_of kind) bottom) world.old world.new result }
+    ensures acts { (t : Ty) (read : (T → Label) → X → Res Val t) → Acts L.made L.meaning labels.new read (λ reading. throw_error kind bottom) world.old world.new result }
     ensures made { HasAnswer (λ x. ⊥) (L.made labels.new) result }
     ensures belongs { Belongs L.made L.meaning labels.new world.new }
     ensures grows { Grows world.old world.new }
@@ -96,13 +82,13 @@ fn make_error<T: Copy, L: Labels<Label = T>>(
     kind: ErrorKind,
 ) -> Result<ObjId, OutOfMemory>
     requires { Belongs L.made L.meaning labels.now world.old }
-    ensures acts { IfOk result (λ error. (reading : T → Label) → IsReading L.made L.meaning labels.now reading → (told : List LabelledLine) (turns : ℕ) → state_of reading world.new told turns ≡ with_error (kind_of kind) (state_of reading world.old told turns)) }
+    ensures acts { IfOk result (λ error. (reading : T → Label) → IsReading L.made L.meaning labels.now reading → (told : List LabelledLine) (turns : ℕ) → state_of reading world.new told turns ≡ with_error kind (state_of reading world.old told turns)) }
     ensures number { IfOk result (λ error. error.0 ≡ length world.old.heap) }
     ensures belongs { Belongs L.made L.meaning labels.now world.new }
     ensures grows { Grows world.old world.new }
 {
     let context = world.frames.context(labels);
-    let proto = Some(kind.prototype());
+    let proto = Some(error_prototype(kind));
     let heap = &mut world.heap;
     let error = heap.new_object(Class::Error, proto, context, context, Inner::Plain)?;
     Ok(error)

@@ -37,7 +37,7 @@ use Rattle.es_meaning.specs.Objects.{is_element}
 use Rattle.es_meaning.specs.Outcomes.{Goes}
 use Rattle.es_meaning.specs.Plain.{in_record, on_global, place_beyond, place_from}
 use Rattle.flow_meaning.specs.Scopes.{State, Val}
-use Rattle.flow_meaning.specs.Tracked.{acted, found_globally, get_value, global_walk, held, is_element_of, named, of_name, put, put_by, put_named, put_on, put_value, resolved, walk_from}
+use Rattle.flow_meaning.specs.Tracked.{accessed, acted, found_globally, global_value, global_walk, has_value, held, is_element_of, is_put, named, of_name, put, put_by, put_named, put_on, put_value, resolved, walk_from}
 use Rattle.step_world.specs.declared.world.World.{World}
 use Rattle.step_world.specs.Worlds.{Belongs, state_of}
 use Rattle.step_names.specs.Elements.{element_in}
@@ -126,7 +126,7 @@ ok_has P (Err e) a is holds = absurd (none-some a (sym is))
 module _ {S T : Type 0} (made : S → T → Type 0) (meaning_of : S → T → Label) (room : S → ℕ) (firm : S → Bool) (earlier store : S) (kept : IsKept made meaning_of room firm earlier store) (rising : (store : S) (label : T) → made store label → IsLabel (meaning_of store label)) where
   pub number_is_held : (name : List ℕ) (heap : List (Object T)) (s : Slot T) (n : ℤ) (label : T) → own_in name (global_in heap) ≡ Some s → s.body ≡ Data (value.Primitive (Num n)) → HasSlot (made earlier) s
       → made store label → meaning_of store label ≡ union (meaning_of earlier s.existence) (meaning_of earlier s.label) → IsHeld made meaning_of store name heap (labelled_number n label)
-  unfolding named found_globally held
+  unfolding named found_globally
   number_is_held name heap s n label has is slot m means = record {
     there = ap is_some has;
     comes = λ reading t read same.
@@ -134,8 +134,8 @@ module _ {S T : Type 0} (made : S → T → Type 0) (meaning_of : S → T → La
         let is_label : IsLabel (reading s.existence) = subst IsLabel (sym (before.agrees s.existence slot.1)) (rising earlier s.existence slot.1) in
         ap (λ h. found_globally (union (global_walk h name).walk (global_walk h name).walk) (global_walk h name).at t) same
         ∙ ap (λ (f : Found). found_globally (union f.walk f.walk) f.at t) (own_found reading name heap 1 s has)
-        ∙ ap (λ b. held (union (union (reading s.existence) (reading s.existence)) (reading s.label)) b t) is
-        ∙ ap (λ (l : Label). Goes (record { value = value.Primitive (Num n); label = l }) t)
+        ∙ ap (λ b. Goes (held (union (union (reading s.existence) (reading s.existence)) (reading s.label)) global_value b) t) is
+        ∙ ap (λ (l : Label). Goes (has_value (record { value = value.Primitive (Num n); label = l })) t)
         (ap (λ l. union l (reading s.label)) (union-same (reading s.existence) is_label) ∙ ap₂ union (before.agrees s.existence slot.1) (before.agrees s.label slot.0) ∙ sym means ∙ sym (read.agrees label m));
     labelled = m;
   }
@@ -146,22 +146,22 @@ module _ {S T : Type 0} (made : S → T → Type 0) (meaning_of : S → T → La
 
   pub named_inside : (e : ℕ) (result : Option (Counted T)) → Some e ≡ lookup name w.records at → HasRecords (made store) w.records
       → IfSome result (λ c. Some (labelled_number c.number c.label) ≡ option_map (λ b. b.value) (bound_in name (slice_get w.records e))) → IsNumber result
-  unfolding get_value named
+  unfolding accessed named
   named_inside e None is has found = tt
   named_inside e (Some c) is has found = record {
     comes = λ reading told turns read.
-        ap (λ n. get_value n (state_of reading w told turns)) (stands_inside reading w.records w.heap at name e is)
+        ap (λ n. accessed n (state_of reading w told turns)) (stands_inside reading w.records w.heap at name e is)
         ∙ (name_read made meaning_of store w e name (labelled_number c.number c.label) found).says reading read told turns;
     labelled = name_has (made store) w.records e name (labelled_number c.number c.label) has found;
   }
 
   pub named_beyond : (result : Option (Counted T)) → None ≡ lookup name w.records at → IfSome result (λ c. IsHeld made meaning_of store name w.heap (labelled_number c.number c.label)) → IsNumber result
-  unfolding get_value
+  unfolding accessed
   named_beyond None is held = tt
   named_beyond (Some c) is held = record {
     comes = λ reading told turns read.
         let s = state_of reading w told turns in
-        ap (λ n. get_value n s) (stands_beyond reading w.records w.heap at name held.there is) ∙ held.comes reading s read refl;
+        ap (λ n. accessed n s) (stands_beyond reading w.records w.heap at name held.there is) ∙ held.comes reading s read refl;
     labelled = held.labelled;
   }
 
@@ -240,15 +240,15 @@ module _ {T : Type 0} where
       subst made there.existence (own_made made name heap 1 there.slot has there.here).1
 
   -- a put writes over it
-  pub put_writes : (reading : T → Label) (name : List ℕ) (heap : List (Object T)) (walk : T) (v : Val) (s : State) → Some walk ≡ written_in name (global_in heap) → s.heap ≡ read_heap reading heap → put W1 1 name bottom v s ≡ put_by (Write (reading walk)) W1 1 name bottom v s
+  pub put_writes : (reading : T → Label) (name : List ℕ) (heap : List (Object T)) (walk : T) (v : Val) (s : State) → Some walk ≡ written_in name (global_in heap) → s.heap ≡ read_heap reading heap → put W1 1 name bottom global_value v s ≡ put_by (Write (reading walk)) W1 1 name bottom global_value v s
   unfolding put put_on
   put_writes reading name heap walk v s e same =
       let parts = no_array_there (array_in (global_in heap)) (own_in name (global_in heap)) walk e in
       let there = parts.1 in
-      ap (λ h. put_on (is_element_of (slice_get h 1) name) W1 1 name bottom v s) same
-      ∙ ap (λ b. put_on b W1 1 name bottom v s) (read_element reading name heap 1 ∙ no_element name (global_in heap) parts.0)
-      ∙ ap (λ h. put_by (can_put name (object_chain h 1)) W1 1 name bottom v s) same
-      ∙ ap (λ p. put_by p W1 1 name bottom v s) (own_planned reading name heap 1 there.slot there.what there.here there.holds there.writable ∙ ap (λ l. Write (reading l)) there.existence)
+      ap (λ h. put_on (is_element_of (slice_get h 1) name) W1 1 name bottom global_value v s) same
+      ∙ ap (λ b. put_on b W1 1 name bottom global_value v s) (read_element reading name heap 1 ∙ no_element name (global_in heap) parts.0)
+      ∙ ap (λ h. put_by (can_put name (object_chain h 1)) W1 1 name bottom global_value v s) same
+      ∙ ap (λ p. put_by p W1 1 name bottom global_value v s) (own_planned reading name heap 1 there.slot there.what there.here there.holds there.writable ∙ ap (λ l. Write (reading l)) there.existence)
 
 module _ {S T : Type 0} (made : S → T → Type 0) (meaning_of : S → T → Label) (room : S → ℕ) (firm : S → Bool) (earlier joined store : S) (before : IsKept made meaning_of room firm earlier joined) (behind : IsKept made meaning_of room firm joined store) where
   -- the global object's property has another value
@@ -265,6 +265,6 @@ module _ {S T : Type 0} (made : S → T → Type 0) (meaning_of : S → T → La
         let m_walk = written_made (made earlier) name w.heap walk belongs.heap e in
         let need_is : union (context s.frames) (union bottom (reading walk)) ≡ reading need = ap₂ union (ap context (read_frames made meaning_of earlier reading w.frames.frames read_earlier belongs.frames) ∙ sym is) (union-bottom_left (reading walk) ∙ read_earlier.agrees walk m_walk) ∙ sym means ∙ sym (read_joined.agrees need m_need) in
         put_writes reading name w.heap walk x s e refl
-        ∙ ap (λ n. acted tt (heap_acts.write W1 1 name n x s.heap) s) need_is
-        ∙ ap (λ a. acted tt a s) (does reading read);
+        ∙ ap (λ n. acted is_put (heap_acts.write W1 1 name n x s.heap) s) need_is
+        ∙ ap (λ a. acted is_put a s) (does reading read);
   }

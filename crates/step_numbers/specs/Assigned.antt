@@ -6,6 +6,7 @@ use Rattle.flow_frames.specs.Held.{seen_frame}
 use Rattle.flow_policy.specs.Policies.{Tables}
 use Rattle.flow_policy.specs.Inputs.{Given}
 use Rattle.js_ast.specs.Functions.{FunctionCode}
+use Rattle.es_meaning.specs.BuiltIns.{BuiltIns}
 use Rattle.js_ast.specs.Trees as trees
 use Rattle.js_ast.specs.Trees.{Expr, Statement}
 use Rattle.js_ast.specs.declared.operators.BinaryOperator.{BinaryOperator}
@@ -26,7 +27,7 @@ use Rattle.js_values.specs.declared.property.Body.TheVariants.{Data, Accessor}
 use Rattle.js_values.specs.declared.property.Slot.{Slot}
 use Rattle.js_values.specs.Objects.{Object}
 use Rattle.object_heap.specs.Formed.{own_in}
-use Rattle.flow_meaning.specs.Tracked.{put_named, put_value, resolved}
+use Rattle.flow_meaning.specs.Tracked.{is_put, put_named, put_value, resolved}
 use Rattle.step_world.specs.declared.world.World.{World}
 use Rattle.step_world.specs.Worlds.{Belongs, Grows, state_of}
 use Rattle.step_work.specs.Shapes.{step_of}
@@ -35,26 +36,26 @@ use Rattle.step_numbers.specs.Evaluated.{Left, and_left, combined_of, global_in,
 -- in the record with this number an expression comes to a value, with so many turns before it and so many behind it, and leaves another world: in each
 -- reading that agrees with the store, whatever was printed
 pub record Gives {S T : Type 0} (made : S → T → Type 0) (meaning_of : S → T → Label) (store : S) (e : Expr) (at : ℕ) (old new : World T) (turns : ℕ) (v : Labelled T) (left : ℕ) : Type 0 where
-  pub comes : (tables : Tables) (inputs : Given) (functions : List FunctionCode) (reading : T → Label) (told : List LabelledLine) → IsReading made meaning_of store reading
-      → meaning tables inputs functions (an_expr e at) (state_of reading old told turns) ≡ Goes (read_value reading v) (state_of reading new told left)
+  pub comes : (tables : Tables) (inputs : Given) (set : BuiltIns) (functions : List FunctionCode) (reading : T → Label) (told : List LabelledLine) → IsReading made meaning_of store reading
+      → meaning tables inputs set functions (an_expr e at) (state_of reading old told turns) ≡ Goes (read_value reading v) (state_of reading new told left)
   pub labelled : HasValue (made store) v
   pub fewer : left < turns
 
 -- a statement comes to its end
 pub record Finishes {S T : Type 0} (made : S → T → Type 0) (meaning_of : S → T → Label) (store : S) (s : Statement) (at : ℕ) (old new : World T) (turns : ℕ) (left : ℕ) : Type 0 where
-  pub comes : (tables : Tables) (inputs : Given) (functions : List FunctionCode) (e : Env ℕ) (reading : T → Label) (told : List LabelledLine) → e.place ≡ at → IsReading made meaning_of store reading
-      → meaning tables inputs functions (a_stmt s e) (state_of reading old told turns) ≡ Goes (unlabelled undefined) (state_of reading new told left)
+  pub comes : (tables : Tables) (inputs : Given) (set : BuiltIns) (functions : List FunctionCode) (e : Env ℕ) (reading : T → Label) (told : List LabelledLine) → e.place ≡ at → IsReading made meaning_of store reading
+      → meaning tables inputs set functions (a_stmt s e) (state_of reading old told turns) ≡ Goes (unlabelled undefined) (state_of reading new told left)
   pub fewer : left < turns
 
 -- in each reading that agrees with the store, whatever was printed and however many turns are left, the name at a place is given the value, whatever the
 -- walk to it was, and so is the name that is looked for from this record on
 pub record PutsAt {S T : Type 0} (made : S → T → Type 0) (meaning_of : S → T → Label) (store : S) (place : Place) (name : List ℕ) (v : Labelled T) (old new : World T) : Type 0 where
   pub goes : (reading : T → Label) (told : List LabelledLine) (turns : ℕ) (walk : Label) → IsReading made meaning_of store reading
-      → put_named place walk name (read_value reading v) (state_of reading old told turns) ≡ Goes tt (state_of reading new told turns)
+      → put_named place walk name (read_value reading v) (state_of reading old told turns) ≡ Goes is_put (state_of reading new told turns)
 
 pub record Puts {S T : Type 0} (made : S → T → Type 0) (meaning_of : S → T → Label) (store : S) (at : ℕ) (name : List ℕ) (v : Labelled T) (old new : World T) : Type 0 where
   pub goes : (reading : T → Label) (told : List LabelledLine) (turns : ℕ) → IsReading made meaning_of store reading
-      → put_value (resolved (read_records reading old.records) (read_heap reading old.heap) at name) (read_value reading v) (state_of reading old told turns) ≡ Goes tt (state_of reading new told turns)
+      → put_value (resolved (read_records reading old.records) (read_heap reading old.heap) at name) (read_value reading v) (state_of reading old told turns) ≡ Goes is_put (state_of reading new told turns)
 
 -- ---- the label of the existence of the global object's own property with a name, if its value can be written over; elements of arrays have rules of their own
 

@@ -5,6 +5,7 @@ use Rattle.origin_labels.specs.Label.{Label}
 use Rattle.flow_policy.specs.Policies.{Tables}
 use Rattle.flow_policy.specs.Inputs.{Given}
 use Rattle.js_ast.specs.Functions.{FunctionCode}
+use Rattle.es_meaning.specs.BuiltIns.{BuiltIns}
 use Rattle.js_ast.specs.declared.operators.BinaryOperator.{BinaryOperator}
 use Rattle.js_ast.specs.declared.operators.BinaryOperator.TheVariants as binary_operator
 use Rattle.js_ast.specs.Trees.{Expr, name, number as number_expr, paren, binary}
@@ -162,8 +163,8 @@ module _ {T : Type 0} (records : List (Record (Labelled T))) (heap : List (Objec
 -- in the record with this number an expression comes to a value, with so many turns before it and so many behind it, and the run goes on in the same
 -- state: in each reading that agrees with the store, whatever was printed
 pub record Evaluates {S T : Type 0} (made : S → T → Type 0) (meaning_of : S → T → Label) (store : S) (e : Expr) (at : ℕ) (w : World T) (turns : ℕ) (v : Labelled T) (left : ℕ) : Type 0 where
-  pub comes : (tables : Tables) (inputs : Given) (functions : List FunctionCode) (reading : T → Label) (told : List LabelledLine) → IsReading made meaning_of store reading
-      → meaning tables inputs functions (an_expr e at) (state_of reading w told turns) ≡ Goes (read_value reading v) (state_of reading w told left)
+  pub comes : (tables : Tables) (inputs : Given) (set : BuiltIns) (functions : List FunctionCode) (reading : T → Label) (told : List LabelledLine) → IsReading made meaning_of store reading
+      → meaning tables inputs set functions (an_expr e at) (state_of reading w told turns) ≡ Goes (read_value reading v) (state_of reading w told left)
   pub labelled : HasValue (made store) v
   pub fewer : left < turns
 

@@ -11,9 +11,10 @@ ghost use Rattle.js_ast.specs.Views.{view_expr, view_stmt};
 ghost use Rattle.js_number.specs.declared.primitive.Primitive.TheVariants as prims;
 ghost use Rattle.js_values.specs.declared.value.Value.TheVariants as value;
 ghost use Rattle.js_values.specs.Records.{bound_in};
+ghost use Rattle.native_protocol.specs.declared.request.Seen.TheVariants as seen;
 ghost use Rattle.object_heap.specs.Formed.{own_in};
 ghost use Rattle.es_meaning.specs.Evaluation.{operator_of};
-ghost use Rattle.es_meaning.specs.Operators.{a_primitive, binary_of, unary_of};
+ghost use Rattle.es_meaning.specs.Operators.{binary_of, unary_of};
 ghost use Rattle.step_world.specs.Worlds.{Belongs};
 ghost use Rattle.step_work.specs.Shapes.{step_of};
 ghost use Rattle.step_numbers.specs.Assigned.{Finishes, Gives, Puts, PutsAt, Rebinds, array_in, assigned_at, changes, changes_binding, changes_global, context_of, counted_by, finished_at, given_by, if_changes, is_array, name_in, slot_written, written_in};
@@ -145,11 +146,11 @@ fn step_of(operator: PostfixOperator) -> BinaryOperator
 }
 
 /// A number with one added or taken away, where that is a number of the profile.
-#[tactic(auto, using(crate::proofs::NumberLaws::between_numbers, crate::proofs::NumberLaws::plus_number))]
+#[tactic(auto, using(crate::proofs::NumberLaws::plus_number))]
 fn one_more(operator: BinaryOperator, number: Int) -> Option<Int>
     ensures exact { result ≡ combined_of operator number (pos 1) }
     ensures counts { IfSome result (λ n. binary_of operator (value.Primitive (prims.Num number)) (value.Primitive (prims.Num (pos 1))) ≡ Ok (prims.Num n)) }
-    ensures plus { unary_of unary_operator.Plus (a_primitive (prims.Num number)) ≡ Ok (prims.Num number) }
+    ensures plus { unary_of unary_operator.Plus (seen.Prim (prims.Num number)) ≡ Ok (prims.Num number) }
 {
     combined(operator, number, one())
 }

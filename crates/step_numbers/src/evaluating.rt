@@ -11,7 +11,7 @@ ghost use Rattle.js_values.specs.Records.{bound_in};
 ghost use Rattle.js_number.specs.declared.primitive.Primitive.TheVariants as prims;
 ghost use Rattle.origin_labels.specs.Label.{union};
 ghost use Rattle.js_values.specs.declared.value.Value.TheVariants as value;
-ghost use Rattle.step_values.specs.Converted.{converted};
+ghost use Rattle.es_meaning.specs.Operators.{binary_of};
 ghost use Rattle.step_work.specs.Shapes.{evaluates_both};
 ghost use Rattle.step_numbers.specs.Evaluated.{Evaluates, as_value, combined_of, global_in, labelled_number, left_with, name_number, number_at, number_held, number_of_body, number_of_value, truth_at, value_at};
 ghost use Rattle.object_heap.specs.Formed.{own_in};
@@ -268,7 +268,7 @@ pub(crate) fn joined<L: Labels>(
     requires first { L.made labels.old first.label }
     requires second { L.made labels.old second.label }
     ensures exact { L.firm labels.old ≡ true → option_map (λ c. (c.number, c.turns)) result ≡ left_with (combined_of operator first.number second.number) second.turns }
-    ensures gives { IfSome result (λ c. converted operator (value.Primitive (prims.Num first.number)) (value.Primitive (prims.Num second.number)) ≡ Ok (prims.Num c.number)) }
+    ensures gives { IfSome result (λ c. binary_of operator (value.Primitive (prims.Num first.number)) (value.Primitive (prims.Num second.number)) ≡ Ok (prims.Num c.number)) }
     ensures both { IfSome result (λ _. evaluates_both operator ≡ true) }
     ensures made { IfSome result (λ c. L.made labels.new c.label) }
     ensures means { IfSome result (λ c. L.meaning labels.new c.label ≡ union (L.meaning labels.old first.label) (L.meaning labels.old second.label)) }

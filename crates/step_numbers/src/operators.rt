@@ -3,7 +3,7 @@
 ghost use Rattle.std.specs.Prelude.{◌≡◌, true, Ok, IfSome};
 ghost use Rattle.js_number.specs.declared.primitive.Primitive.TheVariants as prims;
 ghost use Rattle.js_values.specs.declared.value.Value.TheVariants as value;
-ghost use Rattle.step_values.specs.Converted.{converted};
+ghost use Rattle.es_meaning.specs.Operators.{binary_of};
 ghost use Rattle.step_work.specs.Shapes.{evaluates_both};
 ghost use Rattle.step_numbers.specs.Evaluated.{combined_of, combines, compared_of, compares, in_numbers};
 
@@ -44,7 +44,7 @@ pub(crate) fn combines(operator: BinaryOperator) -> bool
 #[tactic(auto, using(crate::proofs::NumberLaws::converts_numbers, crate::proofs::NumberLaws::less_given, crate::proofs::NumberLaws::turned_given))]
 pub(crate) fn compared(operator: BinaryOperator, left: Int, right: Int) -> Option<bool>
     ensures exact { result ≡ compared_of operator left right }
-    ensures says { IfSome result (λ b. converted operator (value.Primitive (prims.Num left)) (value.Primitive (prims.Num right)) ≡ Ok (prims.Bool b)) }
+    ensures says { IfSome result (λ b. binary_of operator (value.Primitive (prims.Num left)) (value.Primitive (prims.Num right)) ≡ Ok (prims.Bool b)) }
     ensures both { IfSome result (λ _. evaluates_both operator ≡ true) }
 {
     match operator {
@@ -62,7 +62,7 @@ pub(crate) fn compared(operator: BinaryOperator, left: Int, right: Int) -> Optio
 #[tactic(auto, using(crate::proofs::NumberLaws::converts_numbers, crate::proofs::NumberLaws::of_both, crate::proofs::NumberLaws::sum_of_both))]
 pub(crate) fn combined(operator: BinaryOperator, left: Int, right: Int) -> Option<Int>
     ensures exact { result ≡ combined_of operator left right }
-    ensures gives { IfSome result (λ n. converted operator (value.Primitive (prims.Num left)) (value.Primitive (prims.Num right)) ≡ Ok (prims.Num n)) }
+    ensures gives { IfSome result (λ n. binary_of operator (value.Primitive (prims.Num left)) (value.Primitive (prims.Num right)) ≡ Ok (prims.Num n)) }
     ensures both { IfSome result (λ _. evaluates_both operator ≡ true) }
 {
     match operator {

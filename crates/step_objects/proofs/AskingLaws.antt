@@ -3,6 +3,8 @@ use Rattle.std.proofs.Common.{◌≡◌, ℕ, Bool, List, [], ◌∷◌, Option,
 use Rattle.std.specs.Option.{option_map}
 use Rattle.std.proofs.lemmas.Option.{none-some}
 use Rattle.origin_labels.specs.Label.{Label, union}
+use Rattle.flow_policy.specs.Policies.{Tables}
+use Rattle.flow_policy.specs.Inputs.{Given}
 use Rattle.origin_labels.specs.Stores.{IsKept}
 use Rattle.flow_frames.specs.declared.faults.FlowFault.{FlowFault}
 use Rattle.js_number.specs.declared.primitive.Primitive.{Primitive}
@@ -41,9 +43,9 @@ found_later made meaning room firm old new kept heap o key found f = record {
   walk = λ reading read. f.walk reading (IsReading-earlier made meaning room firm old new reading kept read);
 }
 
-module _ {S T : Type 0} (made : S → T → Type 0) (meaning : S → T → Label) (store : S) (w : World T) (key object : Labelled T) where
+module _ (tables : Tables) (inputs : Given) {S T : Type 0} (made : S → T → Type 0) (meaning : S → T → Label) (store : S) (w : World T) (key object : Labelled T) where
   abbrev asks : Result (Came (Labelled T) T) (FlowFault T) → Type 0
-  asks result = Acts made meaning store (λ reading. read_value reading) (λ reading. act has_key (read_value reading key ∷ read_value reading object ∷ [])) w w result
+  asks result = Acts made meaning store (λ reading. read_value reading) (λ reading. act tables inputs has_key (read_value reading key ∷ read_value reading object ∷ [])) w w result
 
   pub has_leaves : (p : Primitive) → object.value ≡ value.Primitive p → asks (Ok (came.Leaves leaving.Unbuilt))
   unfolding act has

@@ -21,7 +21,7 @@ use Rattle.object_heap.proofs.ReadLaws.{read_own}
 use Rattle.prototype_walk.specs.Answers.{Means}
 use Rattle.es_meaning.specs.Outcomes.{Goes}
 use Rattle.es_meaning.specs.Plain.{key_text}
-use Rattle.es_meaning.specs.Start.{type_error}
+use Rattle.native_protocol.specs.declared.request.ErrorKind.TheVariants as kinds
 use Rattle.flow_meaning.specs.Scopes.{Val}
 use Rattle.flow_meaning.specs.Tracked as tracked
 use Rattle.flow_meaning.specs.Tracked.{remove, removed_in, removed_own, removed_if, acted, truth_of, throw_error}
@@ -33,7 +33,7 @@ use Rattle.step_world.specs.Acts.{Acts}
 use Rattle.step_world.specs.Names.{property_of}
 use Rattle.step_world.specs.Worlds.{state_of}
 use Rattle.step_world.proofs.ActLaws.{Acts-as}
-use Rattle.step_objects.proofs.HeldLaws.{own_there, structure_there}
+use Rattle.step_names.proofs.HeldLaws.{own_there, structure_there}
 
 -- true, with a label
 abbrev pub yes_of : {T : Type 0} → T → Labelled T
@@ -104,11 +104,11 @@ module _ {S T : Type 0} (made : S → T → Type 0) (meaning : S → T → Label
   -- ---- a property that is there
 
   module _ (o : ObjId) (key : List ℕ) (configurable : Bool) (place : T) (after : World T) (result : Result (Came (Labelled T) T) (FlowFault T)) where
-    pub refuses : configurable ≡ false → Acts made meaning store (λ reading. read_value reading) (λ reading. throw_error {X = Val} type_error (reading place)) w after result
+    pub refuses : configurable ≡ false → Acts made meaning store (λ reading. read_value reading) (λ reading. throw_error {X = Val} kinds.TypeError (reading place)) w after result
         → Acts made meaning store (λ reading. read_value reading) (λ reading. removed_if configurable (reading place) o.0 key) w after result
     unfolding removed_if
     refuses test acts =
-        Acts-as made meaning store (λ reading. read_value reading) (λ reading. throw_error {X = Val} type_error (reading place)) (λ reading. removed_if configurable (reading place) o.0 key) w after result
+        Acts-as made meaning store (λ reading. read_value reading) (λ reading. throw_error {X = Val} kinds.TypeError (reading place)) (λ reading. removed_if configurable (reading place) o.0 key) w after result
         (λ reading read told turns. ap (λ b. removed_if b (reading place) o.0 key (state_of reading w told turns)) test)
         acts
 

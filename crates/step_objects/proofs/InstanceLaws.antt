@@ -1,8 +1,7 @@
 -- Whether a value is an instance of a function, in a reading of the labels.
-use Rattle.std.proofs.Common.{◌≡◌, ◌<◌, ℕ, zero, suc, Bool, true, false, List, [], ◌∷◌, length, nat_eq, Option, Some, None, Ok, Err, Result, refl, sym, ap, ap₂, subst, ◌∙◌, if◌then◌else◌, arith}
+use Rattle.std.proofs.Common.{◌≡◌, ◌<◌, ℕ, zero, suc, Bool, true, false, List, [], ◌∷◌, length, nat_eq, Option, Some, None, Ok, Result, refl, sym, ap, ap₂, subst, ◌∙◌, if◌then◌else◌, arith}
 use Rattle.std.specs.List.{slice_get}
 use Rattle.std.specs.Option.{option_map}
-use Rattle.std.specs.Result.{IsErrAnd}
 use Rattle.std.proofs.lemmas.Bool.{eqb-true}
 use Rattle.std.proofs.lemmas.Option.{slice_get-map}
 use Rattle.origin_labels.specs.Label.{Label, IsLabel, bottom, union}
@@ -23,20 +22,17 @@ use Rattle.object_heap.specs.declared.shape.Shape.{Shape}
 use Rattle.object_heap.specs.Formed.{IsFormed, IsShape}
 use Rattle.prototype_walk.specs.Answers.{Means}
 use Rattle.step_objects.proofs.ShapeLaws.{HasShape, chain_at, shape_there, object_has}
-use Rattle.es_meaning.specs.Outcomes.{Goes, ◌>>=◌}
-use Rattle.es_meaning.specs.Plain.{prototype_name}
-use Rattle.es_meaning.specs.Start.{type_error}
-use Rattle.flow_meaning.specs.Scopes.{Val, L}
+use Rattle.es_meaning.specs.Outcomes.{Goes}
+use Rattle.native_protocol.specs.declared.request.ErrorKind.TheVariants as kinds
+use Rattle.flow_meaning.specs.Scopes.{Val}
 use Rattle.flow_meaning.specs.Tracked as tracked
-use Rattle.flow_meaning.specs.Tracked.{linked, linked_from, linked_to, is_function_at, instance_if, instance_of, is_instance, property_of, throw_error, truth_of}
+use Rattle.flow_meaning.specs.Tracked.{linked, linked_from, linked_to, is_instance, throw_error, truth_of}
 use Rattle.step_world.specs.declared.came.Came.{Came}
 use Rattle.step_world.specs.declared.came.Came.TheVariants as came
-use Rattle.step_world.specs.declared.came.Leaving.{Leaving}
-use Rattle.step_world.specs.declared.came.Leaving.TheVariants as leaving
 use Rattle.step_world.specs.declared.world.World.{World}
 use Rattle.step_world.specs.Acts.{Acts}
 use Rattle.step_world.specs.Worlds.{state_of}
-use Rattle.step_world.proofs.ActLaws.{Acts-as, Acts-leaves, Acts-passes, Acts-then, Acts-throws}
+use Rattle.step_world.proofs.ActLaws.{Acts-as}
 use Rattle.step_objects.specs.declared.instances.Linked.{Linked}
 use Rattle.step_objects.specs.Instances.{IsLinked}
 
@@ -160,14 +156,6 @@ linked_later made meaning room firm old new kept heap o proto l is = record {
   is = λ reading read. is.is reading (IsReading-earlier made meaning room firm old new reading kept read);
 }
 
--- the label of both operands and of the read
-pub labels_joined : {S T : Type 0} (made : S → T → Type 0) (meaning : S → T → Label) (room : S → ℕ) (firm : S → Bool) (old new : S) (kept : IsKept made meaning room firm old new) (value function proto inner label : T) → Means made meaning old inner (λ reading. union (reading function) (reading proto)) → Means made meaning new label (λ reading. union (reading value) (reading inner))
-    → Means made meaning new label (λ reading. union (reading value) (union (reading function) (reading proto)))
-labels_joined made meaning room firm old new kept value function proto inner label first second = record {
-  belongs = second.belongs;
-  is = λ reading read. second.is reading read ∙ ap (union (reading value)) (first.is reading (IsReading-earlier made meaning room firm old new reading kept read));
-}
-
 module _ {S T : Type 0} (made : S → T → Type 0) (meaning : S → T → Label) (store : S) (w : World T) where
   pub prototype_found : (o : ℕ) (proto : ObjId) (label depends : T) (l : Linked T) → IsLinked made meaning store w.heap o proto.0 l → Means made meaning store depends (λ reading. union (reading label) (reading l.links))
       → Acts made meaning store (λ reading. read_value reading) (λ reading. is_instance (reading label) o (value.Object proto)) w w (Ok (came.Goes (record { value = value.Primitive (prims.Bool l.is); label = depends })))
@@ -178,95 +166,18 @@ module _ {S T : Type 0} (made : S → T → Type 0) (meaning : S → T → Label
         sym (ap (λ (x : tracked.Linked). Goes (truth_of x.is (union (reading label) x.links)) s) (is.is reading read)) ∙ ap (λ k. Goes (truth_of l.is k) s) (sym (means.is reading read));
   }
 
-  -- ---- the `prototype` of the function
-
-  pub prototype_left : (f : Labelled T) (p : Primitive) → f.value ≡ value.Primitive p → Acts made meaning store (λ reading. read_value reading) (λ reading. property_of (reading f.label) f.value prototype_name) w w (Ok (came.Leaves leaving.Unbuilt))
-  unfolding property_of
-  prototype_left f p is = record { says = λ reading read told turns. ap (λ v. property_of (reading f.label) v prototype_name (state_of reading w told turns)) is }
-
-  pub prototype_read : (f : Labelled T) (o : ObjId) → f.value ≡ value.Object o → (name : List ℕ) → name ≡ prototype_name → (result : Result (Came (Labelled T) T) (FlowFault T))
-      → Acts made meaning store (λ reading. read_value reading) (λ reading. property_of (reading f.label) (value.Object o) name) w w result
-      → Acts made meaning store (λ reading. read_value reading) (λ reading. property_of (reading f.label) f.value prototype_name) w w result
-  prototype_read f o is name named result acts =
-      Acts-as made meaning store (λ reading. read_value reading) (λ reading. property_of (reading f.label) (value.Object o) name) (λ reading. property_of (reading f.label) f.value prototype_name) w w result
-      (λ reading read told turns. ap₂ (λ v k. property_of (reading f.label) v k (state_of reading w told turns)) is (sym named)) acts
-
   -- ---- with its `prototype`
 
-  module _ (after : World T) (o : ℕ) (v f : T) (proto : Labelled T) (label : T) (means : Means made meaning store label (λ reading. union (reading v) (union (reading f) (reading proto.label)))) where
-    abbrev among : Result (Came (Labelled T) T) (FlowFault T) → Type 0
-    among result = Acts made meaning store (λ reading. read_value reading) (λ reading. is_instance (union (reading v) (union (reading f) (reading proto.label))) o proto.value) w after result
-
-    pub instance_refused : (p : Primitive) → proto.value ≡ value.Primitive p → (result : Result (Came (Labelled T) T) (FlowFault T)) → Acts made meaning store (λ reading. read_value reading) (λ reading. throw_error {X = Val} type_error (reading label)) w after result → among result
+  module _ (o : ℕ) (label depends : T) (proto : Labelled T) (means : Means made meaning store depends (λ reading. union (reading label) (reading proto.label))) where
+    pub instance_refused : (after : World T) (result : Result (Came (Labelled T) T) (FlowFault T)) (p : Primitive) → proto.value ≡ value.Primitive p → Acts made meaning store (λ reading. read_value reading) (λ reading. throw_error {X = Val} kinds.TypeError (reading depends)) w after result
+        → Acts made meaning store (λ reading. read_value reading) (λ reading. is_instance (union (reading label) (reading proto.label)) o proto.value) w after result
     unfolding is_instance
-    instance_refused p is result acts =
-        Acts-as made meaning store (λ reading. read_value reading) (λ reading. throw_error {X = Val} type_error (reading label)) (λ reading. is_instance (union (reading v) (union (reading f) (reading proto.label))) o proto.value) w after result
+    instance_refused after result p is acts =
+        Acts-as made meaning store (λ reading. read_value reading) (λ reading. throw_error {X = Val} kinds.TypeError (reading depends)) (λ reading. is_instance (union (reading label) (reading proto.label)) o proto.value) w after result
         (λ reading read told turns. ap₂ (λ l u. is_instance l o u (state_of reading w told turns)) (sym (means.is reading read)) is) acts
 
-  module _ (o : ℕ) (v f : T) (proto : Labelled T) (label : T) (means : Means made meaning store label (λ reading. union (reading v) (union (reading f) (reading proto.label)))) where
-    pub instance_among : (p : ObjId) → proto.value ≡ value.Object p → (result : Result (Came (Labelled T) T) (FlowFault T)) → Acts made meaning store (λ reading. read_value reading) (λ reading. is_instance (reading label) o (value.Object p)) w w result
-        → Acts made meaning store (λ reading. read_value reading) (λ reading. is_instance (union (reading v) (union (reading f) (reading proto.label))) o proto.value) w w result
-    instance_among p is result acts =
-        Acts-as made meaning store (λ reading. read_value reading) (λ reading. is_instance (reading label) o (value.Object p)) (λ reading. is_instance (union (reading v) (union (reading f) (reading proto.label))) o proto.value) w w result
+    pub instance_among : (result : Result (Came (Labelled T) T) (FlowFault T)) (p : ObjId) → proto.value ≡ value.Object p → Acts made meaning store (λ reading. read_value reading) (λ reading. is_instance (reading depends) o (value.Object p)) w w result
+        → Acts made meaning store (λ reading. read_value reading) (λ reading. is_instance (union (reading label) (reading proto.label)) o proto.value) w w result
+    instance_among result p is acts =
+        Acts-as made meaning store (λ reading. read_value reading) (λ reading. is_instance (reading depends) o (value.Object p)) (λ reading. is_instance (union (reading label) (reading proto.label)) o proto.value) w w result
         (λ reading read told turns. ap₂ (λ l u. is_instance l o u (state_of reading w told turns)) (sym (means.is reading read)) is) acts
-
--- what follows the read
-abbrev pub behind_read : {T : Type 0} → Labelled T → Labelled T → ObjId → (T → Label) → Val → L Val
-behind_read v f o reading proto = is_instance (union (reading v.label) (union (reading f.label) proto.label)) o.0 proto.value
-
-module _ {S T : Type 0} (made : S → T → Type 0) (meaning : S → T → Label) where
-  module _ (store : S) (w after : World T) (v f : Labelled T) where
-    abbrev tells : Result (Came (Labelled T) T) (FlowFault T) → Type 0
-    tells result = Acts made meaning store (λ reading. read_value reading) (λ reading. instance_of (read_value reading v) v.value (read_value reading f)) w after result
-
-    abbrev reads : Result (Came (Labelled T) T) (FlowFault T) → Type 0
-    reads result = Acts made meaning store (λ reading. read_value reading) (λ reading. property_of (reading f.label) f.value prototype_name) w w result
-
-    pub by_object : (o : ObjId) → v.value ≡ value.Object o → (result : Result (Came (Labelled T) T) (FlowFault T)) → Acts made meaning store (λ reading. read_value reading) (λ reading. property_of (reading f.label) f.value prototype_name >>= behind_read v f o reading) w after result → tells result
-    unfolding instance_of
-    by_object o is result acts =
-        Acts-as made meaning store (λ reading. read_value reading) (λ reading. property_of (reading f.label) f.value prototype_name >>= behind_read v f o reading) (λ reading. instance_of (read_value reading v) v.value (read_value reading f)) w after result
-        (λ reading read told turns. ap (λ u. instance_of (read_value reading v) u (read_value reading f) (state_of reading w told turns)) is) acts
-
-  module _ (store : S) (w : World T) (v f : Labelled T) where
-    pub instance_primitive : (label : T) → Means made meaning store label (λ reading. union (reading v.label) (reading f.label)) → (p : Primitive) → v.value ≡ value.Primitive p
-        → Acts made meaning store (λ reading. read_value reading) (λ reading. instance_of (read_value reading v) v.value (read_value reading f)) w w (Ok (came.Goes (record { value = value.Primitive (prims.Bool false); label = label })))
-    unfolding instance_of
-    instance_primitive label means p is = record {
-      says = λ reading read told turns.
-          let s = state_of reading w told turns in
-          ap (λ u. instance_of (read_value reading v) u (read_value reading f) s) is ∙ ap (λ l. Goes (truth_of false l) s) (sym (means.is reading read));
-    }
-
-    module _ (o : ObjId) (is : v.value ≡ value.Object o) where
-      pub instance_throws : (error : Labelled T) → reads store w w v f (Ok (came.Throws error)) → tells store w w v f (Ok (came.Throws error))
-      instance_throws error acts = by_object store w w v f o is (Ok (came.Throws error)) (Acts-throws made meaning store (λ reading. read_value reading) (λ reading. read_value reading) (λ reading. property_of (reading f.label) f.value prototype_name) (λ reading. behind_read v f o reading) w w error acts)
-
-      pub instance_leaves : (why : Leaving) → reads store w w v f (Ok (came.Leaves why)) → tells store w w v f (Ok (came.Leaves why))
-      instance_leaves why acts = by_object store w w v f o is (Ok (came.Leaves why)) (Acts-leaves made meaning store (λ reading. read_value reading) (λ reading. read_value reading) (λ reading. property_of (reading f.label) f.value prototype_name) (λ reading. behind_read v f o reading) w w why acts)
-
-      pub instance_fails : (g : FlowFault T) (result : Result (Came (Labelled T) T) (FlowFault T)) → IsErrAnd result (λ e. e ≡ g) → reads store w w v f (Err g) → tells store w w v f result
-      instance_fails g result fails acts = by_object store w w v f o is result (Acts-passes made meaning store (λ reading. read_value reading) (λ reading. read_value reading) (λ reading. property_of (reading f.label) f.value prototype_name) (λ reading. behind_read v f o reading) w w g result fails acts)
-
-  module _ (room : S → ℕ) (firm : S → Bool) (earlier later : S) (kept : IsKept made meaning room firm earlier later) (w after : World T) (v f : Labelled T) (o : ObjId) (is : v.value ≡ value.Object o) where
-    pub instance_goes : (proto : Labelled T) (result : Result (Came (Labelled T) T) (FlowFault T)) → reads earlier w w v f (Ok (came.Goes proto))
-        → Acts made meaning later (λ reading. read_value reading) (λ reading. is_instance (union (reading v.label) (union (reading f.label) (reading proto.label))) o.0 proto.value) w after result → tells later w after v f result
-    instance_goes proto result first second = by_object later w after v f o is result (Acts-then made meaning room firm earlier later kept (λ reading. read_value reading) (λ reading. read_value reading) (λ reading. property_of (reading f.label) f.value prototype_name) (λ reading. behind_read v f o reading) w w after proto result first second)
-
-  -- ---- is it a function
-
-  module _ (store : S) (w after : World T) (v f : Labelled T) (holds : Bool) where
-    abbrev asks : Result (Came (Labelled T) T) (FlowFault T) → Type 0
-    asks result = Acts made meaning store (λ reading. read_value reading) (λ reading s. instance_if (is_function_at s.heap f.value) (read_value reading v) (read_value reading f) s) w after result
-
-    pub instance_nothing : holds ≡ false → ((reading : T → Label) → holds ≡ is_function_at (read_heap reading w.heap) f.value) → (result : Result (Came (Labelled T) T) (FlowFault T)) → Acts made meaning store (λ reading. read_value reading) (λ reading. throw_error {X = Val} type_error (reading f.label)) w after result → asks result
-    unfolding instance_if
-    instance_nothing failed is result acts =
-        Acts-as made meaning store (λ reading. read_value reading) (λ reading. throw_error {X = Val} type_error (reading f.label)) (λ reading s. instance_if (is_function_at s.heap f.value) (read_value reading v) (read_value reading f) s) w after result
-        (λ reading read told turns. ap (λ b. instance_if b (read_value reading v) (read_value reading f) (state_of reading w told turns)) (sym (is reading) ∙ failed)) acts
-
-    pub instance_function : holds ≡ true → ((reading : T → Label) → holds ≡ is_function_at (read_heap reading w.heap) f.value) → (result : Result (Came (Labelled T) T) (FlowFault T)) → Acts made meaning store (λ reading. read_value reading) (λ reading. instance_of (read_value reading v) v.value (read_value reading f)) w after result → asks result
-    unfolding instance_if
-    instance_function held is result acts =
-        Acts-as made meaning store (λ reading. read_value reading) (λ reading. instance_of (read_value reading v) v.value (read_value reading f)) (λ reading s. instance_if (is_function_at s.heap f.value) (read_value reading v) (read_value reading f) s) w after result
-        (λ reading read told turns. ap (λ b. instance_if b (read_value reading v) (read_value reading f) (state_of reading w told turns)) (sym (is reading) ∙ held)) acts

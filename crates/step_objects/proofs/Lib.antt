@@ -1,4 +1,3 @@
-pub mod HeldLaws
 pub mod NeedingLaws
 pub mod AskingLaws
 pub mod DeletingLaws
@@ -7,3 +6,4 @@ pub mod LiteralLaws
 pub mod VisitingLaws
 pub mod ShapeLaws
 pub mod InstanceLaws
+pub mod TestLaws

@@ -47,7 +47,7 @@ handed_on (Some list) label next s = refl
 
 pub keys_handed_on : AreHandedOn
 unfolding taken
-keys_handed_on tables inputs functions v next s = handed_on (key_list s.heap v.value) v.label next s
+keys_handed_on tables inputs set functions v next s = handed_on (key_list s.heap v.value) v.label next s
 
 -- ---- the keys of a value
 

@@ -19,6 +19,8 @@ use Rattle.es_meaning.specs.Operators.{truth}
 use Rattle.es_meaning.specs.Plain.{key_text}
 use Rattle.flow_meaning.specs.Erased.{unlabelled}
 use Rattle.flow_meaning.specs.Scopes.{L, Val, raise}
+use Rattle.flow_policy.specs.Policies.{Tables}
+use Rattle.flow_policy.specs.Inputs.{Given}
 use Rattle.flow_meaning.specs.Tracked.{act}
 use Rattle.step_world.specs.declared.came.Came.{Came}
 use Rattle.step_world.specs.declared.came.Came.TheVariants as came
@@ -39,38 +41,38 @@ module _ {S T : Type 0} (made : S → T → Type 0) (meaning : S → T → Label
     is = λ reading told turns read. ap (λ (fs : List Frame). Goes tt (record (state_of reading w told turns) { frames = fs })) (frames_raised made meaning room firm old new kept w label frames before after m more reading read);
   }
 
-module _ {S T : Type 0} (made : S → T → Type 0) (meaning : S → T → Label) (store : S) (object : Labelled T) (key : Value) (text : List ℕ) (none : T) (is : text ≡ key_text key) (m : made store none) (empty : meaning store none ≡ bottom) (old new : World T) where
+module _ (tables : Tables) (inputs : Given) {S T : Type 0} (made : S → T → Type 0) (meaning : S → T → Label) (store : S) (object : Labelled T) (key : Value) (text : List ℕ) (none : T) (is : text ≡ key_text key) (m : made store none) (empty : meaning store none ≡ bottom) (old new : World T) where
   abbrev key_with : Labelled T
   key_with = record { value = value.Primitive (Str text); label = none }
 
   abbrev Asks : Result (Came (Labelled T) T) (FlowFault T) → Type 0
-  Asks answer = Acts made meaning store (λ reading. read_value reading) (λ reading. act has_key (read_value reading key_with ∷ read_value reading object ∷ [])) old new answer
+  Asks answer = Acts made meaning store (λ reading. read_value reading) (λ reading. act tables inputs has_key (read_value reading key_with ∷ read_value reading object ∷ [])) old new answer
 
   abbrev told_by : (T → Label) → L Val
-  told_by reading = act has_key (unlabelled (value.Primitive (Str (key_text key))) ∷ read_value reading object ∷ [])
+  told_by reading = act tables inputs has_key (unlabelled (value.Primitive (Str (key_text key))) ∷ read_value reading object ∷ [])
 
   abbrev raises : Val → L Bool
   raises v = raise v.label >>= λ u. ret (truth v.value)
 
   -- the key has no origin
   asks_text : (answer : Result (Came (Labelled T) T) (FlowFault T)) → Asks answer → Acts made meaning store (λ reading. read_value reading) told_by old new answer
-  asks_text answer acts = Acts-as made meaning store (λ reading. read_value reading) (λ reading. act has_key (read_value reading key_with ∷ read_value reading object ∷ [])) told_by old new answer
-      (λ reading read told turns. ap₂ (λ (t : List ℕ) (l : Label). act has_key (record { value = value.Primitive (Str t); label = l } ∷ read_value reading object ∷ []) (state_of reading old told turns)) (sym is) (sym (read.agrees none m ∙ empty))) acts
+  asks_text answer acts = Acts-as made meaning store (λ reading. read_value reading) (λ reading. act tables inputs has_key (read_value reading key_with ∷ read_value reading object ∷ [])) told_by old new answer
+      (λ reading read told turns. ap₂ (λ (t : List ℕ) (l : Label). act tables inputs has_key (record { value = value.Primitive (Str t); label = l } ∷ read_value reading object ∷ []) (state_of reading old told turns)) (sym is) (sym (read.agrees none m ∙ empty))) acts
 
-  pub still_throws : (error : Labelled T) → Asks (Ok (came.Throws error)) → Acts made meaning store (λ reading (b : Bool). b) (λ reading. still (read_value reading object) (key_text key)) old new (Ok (came.Throws error))
+  pub still_throws : (error : Labelled T) → Asks (Ok (came.Throws error)) → Acts made meaning store (λ reading (b : Bool). b) (λ reading. still tables inputs (read_value reading object) (key_text key)) old new (Ok (came.Throws error))
   unfolding still
   still_throws error acts = Acts-throws made meaning store (λ reading. read_value reading) (λ reading (b : Bool). b) told_by (λ reading. raises) old new error (asks_text (Ok (came.Throws error)) acts)
 
-  pub still_leaves : (why : Leaving) → Asks (Ok (came.Leaves why)) → Acts made meaning store (λ reading (b : Bool). b) (λ reading. still (read_value reading object) (key_text key)) old new (Ok (came.Leaves why))
+  pub still_leaves : (why : Leaving) → Asks (Ok (came.Leaves why)) → Acts made meaning store (λ reading (b : Bool). b) (λ reading. still tables inputs (read_value reading object) (key_text key)) old new (Ok (came.Leaves why))
   unfolding still
   still_leaves why acts = Acts-leaves made meaning store (λ reading. read_value reading) (λ reading (b : Bool). b) told_by (λ reading. raises) old new why (asks_text (Ok (came.Leaves why)) acts)
 
-  pub still_fails : (f : FlowFault T) (result : Result (Came Bool T) (FlowFault T)) → IsErrAnd result (λ e. e ≡ f) → Asks (Err f) → Acts made meaning store (λ reading (b : Bool). b) (λ reading. still (read_value reading object) (key_text key)) old new result
+  pub still_fails : (f : FlowFault T) (result : Result (Came Bool T) (FlowFault T)) → IsErrAnd result (λ e. e ≡ f) → Asks (Err f) → Acts made meaning store (λ reading (b : Bool). b) (λ reading. still tables inputs (read_value reading object) (key_text key)) old new result
   unfolding still
   still_fails f result failed acts = Acts-passes made meaning store (λ reading. read_value reading) (λ reading (b : Bool). b) told_by (λ reading. raises) old new f result failed (asks_text (Err f) acts)
 
   pub still_goes : (room : S → ℕ) (firm : S → Bool) (later : S) → IsKept made meaning room firm store later → (last : World T) (has : Labelled T) (b : Bool) → b ≡ truth has.value → Asks (Ok (came.Goes has)) → Raises made meaning later has.label new last
-      → Acts made meaning later (λ reading (b : Bool). b) (λ reading. still (read_value reading object) (key_text key)) old last (Ok (came.Goes b))
+      → Acts made meaning later (λ reading (b : Bool). b) (λ reading. still tables inputs (read_value reading object) (key_text key)) old last (Ok (came.Goes b))
   unfolding still
   still_goes room firm later kept last has b same acts raised = record {
     says = λ reading read told turns.

@@ -13,6 +13,7 @@ use Rattle.js_values.specs.Readings.{IsReading, read_heap}
 use Rattle.prototype_walk.specs.declared.key_list.KeyList.{KeyList}
 use Rattle.prototype_walk.specs.Answers.{read_keys}
 use Rattle.prototype_walk.specs.KeyLists.{Keys}
+use Rattle.es_meaning.specs.BuiltIns.{BuiltIns}
 use Rattle.es_meaning.specs.Outcomes.{left, Goes, ret, ◌>>=◌}
 use Rattle.es_meaning.specs.Operations.{has_key}
 use Rattle.es_meaning.specs.Operators.{truth}
@@ -38,11 +39,11 @@ pub record IsListed {S T : Type 0} (made : S → T → Type 0) (meaning : S → 
 
 -- what `for in` does with the keys of a value is done with those that are taken
 abbrev pub AreHandedOn : Type 0
-AreHandedOn = (tables : Tables) (inputs : Given) (functions : List FunctionCode) (v : Val) (next : List (List ℕ) → L (Unit {0})) (s : State) → (labelled tables inputs functions).keys v next s ≡ (taken v >>= next) s
+AreHandedOn = (tables : Tables) (inputs : Given) (set : BuiltIns) (functions : List FunctionCode) (v : Val) (next : List (List ℕ) → L (Unit {0})) (s : State) → (labelled tables inputs set functions).keys v next s ≡ (taken v >>= next) s
 
 -- whether an object still has a key: what is told raises the innermost frame, which is the loop's
-unfoldable pub still : Val → List ℕ → L Bool
-still o key = act has_key (unlabelled (value.Primitive (Str key)) ∷ o ∷ []) >>= λ v. raise v.label >>= λ u. ret (truth v.value)
+unfoldable pub still : Tables → Given → Val → List ℕ → L Bool
+still tables inputs o key = act tables inputs has_key (unlabelled (value.Primitive (Str key)) ∷ o ∷ []) >>= λ v. raise v.label >>= λ u. ret (truth v.value)
 
 -- the innermost frame was raised by a label, in each reading that agrees with the store
 pub record Raises {S T : Type 0} (made : S → T → Type 0) (meaning : S → T → Label) (store : S) (label : T) (old new : World T) : Type 0 where

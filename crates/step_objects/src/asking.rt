@@ -2,6 +2,8 @@
 
 ghost use Rattle.std.specs.Prelude.{◌≡◌, [], ◌∷◌, IfOk};
 ghost use Rattle.origin_labels.specs.Stores.{IsKept};
+ghost use Rattle.flow_policy.specs.Policies.{Tables};
+ghost use Rattle.flow_policy.specs.Inputs.{Given};
 ghost use Rattle.js_values.specs.Readings.{HasValue, read_value};
 ghost use Rattle.prototype_walk.specs.Answers.{IsFound};
 ghost use Rattle.es_meaning.specs.Operations as operations;
@@ -31,7 +33,7 @@ pub fn has_key<T: Copy, L: Labels<Label = T>>(
     requires key { L.made labels.old key.label }
     requires object { L.made labels.old object.label }
     requires belongs { Belongs L.made L.meaning labels.old world.now }
-    ensures acts { Acts L.made L.meaning labels.new (λ reading. read_value reading) (λ reading. act operations.has_key (read_value reading key ∷ read_value reading object ∷ [])) world.now world.now result }
+    ensures acts { (tables : Tables) (inputs : Given) → Acts L.made L.meaning labels.new (λ reading. read_value reading) (λ reading. act tables inputs operations.has_key (read_value reading key ∷ read_value reading object ∷ [])) world.now world.now result }
     ensures made { HasAnswer (HasValue (L.made labels.new)) (L.made labels.new) result }
     ensures belongs { Belongs L.made L.meaning labels.new world.now }
     ensures kept { IsKept L.made L.meaning L.room L.firm labels.old labels.new }

@@ -15,9 +15,10 @@ use crate::parts::{join, key_of};
 use flow_frames::FlowFault;
 use js_number::Primitive;
 use js_values::{Key, Labelled, ObjId, Value};
+use native_protocol::ErrorKind;
 use origin_labels::Labels;
 use std::alloc::Global;
-use step_names::{ErrorKind, throw_error};
+use step_names::throw_error;
 use step_world::{Came, Leaving, World};
 
 /// Deletes the property of a base that a key names (ECMA-262 8.12.7), by rules W4 and W5. True where the object has none, which depends on its structure. One

@@ -2,9 +2,10 @@
 
 ghost use Rattle.std.specs.Prelude.{◌≡◌, [], ◌∷◌};
 ghost use Rattle.origin_labels.specs.Stores.{IsKept};
+ghost use Rattle.flow_policy.specs.Policies.{Tables};
+ghost use Rattle.flow_policy.specs.Inputs.{Given};
 ghost use Rattle.js_values.specs.Readings.{HasValue, read_value};
 ghost use Rattle.es_meaning.specs.Operations as operations;
-ghost use Rattle.es_meaning.specs.Operators.{is_object};
 ghost use Rattle.es_meaning.specs.Plain.{is_coercible};
 ghost use Rattle.flow_meaning.specs.Tracked.{act, needed};
 ghost use Rattle.step_world.specs.Acts.{Acts, HasAnswer};
@@ -13,8 +14,10 @@ ghost use Rattle.step_world.specs.Worlds.{Belongs, Grows};
 use flow_frames::FlowFault;
 use js_number::Primitive;
 use js_values::{Labelled, Value};
+use native_protocol::ErrorKind;
 use origin_labels::Labels;
-use step_names::{ErrorKind, throw_error};
+use step_names::throw_error;
+use step_values::is_object;
 use step_world::{Came, World};
 
 /// The value, if it can have properties (ECMA-262 9.10). Undefined and null throw a TypeError, whose cause is the value's label.
@@ -25,7 +28,7 @@ pub fn base_needed<T: Copy, L: Labels<Label = T>>(
 ) -> Result<Came<Labelled<T>, T>, FlowFault<T>>
     requires value { L.made labels.old value.label }
     requires belongs { Belongs L.made L.meaning labels.old world.old }
-    ensures acts { Acts L.made L.meaning labels.new (λ reading. read_value reading) (λ reading. act operations.base_needed (read_value reading value ∷ [])) world.old world.new result }
+    ensures acts { (tables : Tables) (inputs : Given) → Acts L.made L.meaning labels.new (λ reading. read_value reading) (λ reading. act tables inputs operations.base_needed (read_value reading value ∷ [])) world.old world.new result }
     ensures made { HasAnswer (HasValue (L.made labels.new)) (L.made labels.new) result }
     ensures belongs { Belongs L.made L.meaning labels.new world.new }
     ensures grows { Grows world.old world.new }
@@ -43,7 +46,7 @@ pub fn object_needed<T: Copy, L: Labels<Label = T>>(
 ) -> Result<Came<Labelled<T>, T>, FlowFault<T>>
     requires value { L.made labels.old value.label }
     requires belongs { Belongs L.made L.meaning labels.old world.old }
-    ensures acts { Acts L.made L.meaning labels.new (λ reading. read_value reading) (λ reading. act operations.object_needed (read_value reading value ∷ [])) world.old world.new result }
+    ensures acts { (tables : Tables) (inputs : Given) → Acts L.made L.meaning labels.new (λ reading. read_value reading) (λ reading. act tables inputs operations.object_needed (read_value reading value ∷ [])) world.old world.new result }
     ensures made { HasAnswer (HasValue (L.made labels.new)) (L.made labels.new) result }
     ensures belongs { Belongs L.made L.meaning labels.new world.new }
     ensures grows { Grows world.old world.new }
@@ -81,15 +84,5 @@ pub(crate) fn is_coercible(value: &Value) -> bool
     match value {
         Value::Primitive(Primitive::Undefined | Primitive::Null) => false,
         _ => true,
-    }
-}
-
-/// Whether a value is an object.
-fn is_object(value: &Value) -> bool
-    ensures { result ≡ is_object value.now }
-{
-    match value {
-        Value::Primitive(_) => false,
-        Value::Object(_) => true,
     }
 }

@@ -3,6 +3,8 @@
 ghost use Rattle.std.specs.Prelude.{◌≡◌, length, IfOk};
 ghost use Rattle.origin_labels.specs.Label.{Label};
 ghost use Rattle.origin_labels.specs.Stores.{IsKept};
+ghost use Rattle.flow_policy.specs.Policies.{Tables};
+ghost use Rattle.flow_policy.specs.Inputs.{Given};
 ghost use Rattle.js_values.specs.Readings.{IsReading, read_value};
 ghost use Rattle.es_meaning.specs.Outcomes.{Goes};
 ghost use Rattle.es_meaning.specs.Plain.{key_text};
@@ -32,7 +34,7 @@ pub fn still_has<T: Copy, L: Labels<Label = T>>(
 ) -> Result<Came<bool, T>, FlowFault<T>>
     requires object { L.made labels.old object.now.label }
     requires belongs { Belongs L.made L.meaning labels.old world.old }
-    ensures acts { Acts L.made L.meaning labels.new (λ reading b. b) (λ reading. still (read_value reading object.now) (key_text key.now)) world.old world.new result }
+    ensures acts { (tables : Tables) (inputs : Given) → Acts L.made L.meaning labels.new (λ reading b. b) (λ reading. still tables inputs (read_value reading object.now) (key_text key.now)) world.old world.new result }
     ensures made { HasAnswer (λ b. Unit {0}) (L.made labels.new) result }
     ensures frames { length world.new.frames.frames ≡ length world.old.frames.frames }
     ensures belongs { Belongs L.made L.meaning labels.new world.new }

@@ -5,7 +5,7 @@ use Rattle.std.specs.List.{list_all, find, position}
 use Rattle.std.proofs.lemmas.Bool.{and_parts, and_from}
 use Rattle.std.proofs.lemmas.List.Quantifiers.{position-Some}
 use Rattle.std.proofs.lemmas.Option.{slice_get_cases}
-use Rattle.origin_labels.specs.Label.{Label, bottom, union, label_of}
+use Rattle.origin_labels.specs.Label.{Label, bottom, union}
 use Rattle.origin_labels.specs.Names.{same_name}
 use Rattle.flow_policy.specs.declared.policy.Channel.{Channel}
 use Rattle.flow_policy.specs.Policies.{Tables, channel_named}
@@ -14,35 +14,48 @@ use Rattle.flow_policy.proofs.ViewLaws.{named_is}
 use Rattle.flow_frames.specs.declared.kind.Kind.{Kind}
 use Rattle.flow_frames.specs.declared.kind.Kind.TheVariants as kind
 use Rattle.flow_frames.specs.declared.faults.Rule.{Rule}
-use Rattle.flow_frames.specs.declared.faults.Rule.TheVariants.{W1, W2, W9, W10, W11, W12}
+use Rattle.flow_frames.specs.declared.faults.Rule.TheVariants.{W1, W9, W10, W11, W12}
 use Rattle.js_number.specs.declared.primitive.Primitive.{Primitive}
 use Rattle.js_number.specs.declared.primitive.Primitive.TheVariants as prims
+use Rattle.js_values.specs.declared.ids.ObjId.{ObjId}
 use Rattle.js_values.specs.declared.value.Value.{Value}
 use Rattle.js_values.specs.declared.value.Value.TheVariants as value
 use Rattle.js_values.specs.declared.property.Body.{Body}
-use Rattle.js_values.specs.declared.property.Body.TheVariants.{Data, Accessor}
+use Rattle.js_values.specs.declared.property.Marks.{Marks}
 use Rattle.js_values.specs.declared.property.Slot.{Slot}
-use Rattle.js_values.specs.Objects.{Object}
+use Rattle.js_values.specs.declared.inner.Class.{Class}
+use Rattle.js_values.specs.Objects.{Property, Object, own}
 use Rattle.js_values.specs.Records.{Binding}
 use Rattle.object_heap.specs.Acts.{Acted}
 use Rattle.prototype_walk.specs.declared.plan.PutPlan.{PutPlan}
 use Rattle.prototype_walk.specs.declared.plan.PutPlan.TheVariants.{Write, Add, Setter, Refused}
 use Rattle.prototype_walk.specs.KeyLists.{Keys}
-use Rattle.js_ast.specs.Trees.{Statements, Function, body_of}
+use Rattle.native_protocol.specs.declared.hint.Hint.{Hint}
+use Rattle.native_protocol.specs.declared.hint.Hint.TheVariants as hint
+use Rattle.native_protocol.specs.declared.request.ErrorKind.{ErrorKind}
+use Rattle.native_protocol.specs.declared.request.GivenMarks.{GivenMarks}
+use Rattle.js_ast.specs.Trees.{Statements, body_of}
 use Rattle.js_ast.specs.Functions.{FunctionCode, functions_of}
+use Rattle.es_meaning.specs.BuiltIns.{BuiltIns}
+use Rattle.es_meaning.specs.Holders.{constructs_in}
+use Rattle.es_meaning.specs.Definitions.{GivenBody, Definition, changes_body}
 use Rattle.es_meaning.specs.Outcomes as es
 use Rattle.es_meaning.specs.Outcomes.{Exit, left, out_of_turns, Outcome, Goes, Jumps, Ends, ret, and_then, ◌>>=◌}
 use Rattle.es_meaning.specs.Environments.{Env, with_around, with_place, called_env, Leaving, aimed}
-use Rattle.es_meaning.specs.Functions.{Callee, not_callable, empty_callee, of_script, unbuilt_callee}
-use Rattle.es_meaning.specs.Operations.{Ty, One, Res, Direct, read, print, lbl, upgs, upge, Act, object_of, base_needed, object_needed, has_key, refused_declaration}
+use Rattle.es_meaning.specs.Functions.{Callee, not_callable, empty_callee, of_script, of_built_in, this_or}
+use Rattle.es_meaning.specs.Operations.{Ty, One, Res, OwnPart, Shape, Act, object_of, base_needed, object_needed, has_key, throws_error, own_property, define, own_keys, prototype_of_object, is_extensible, prevent_extensions, new_object, bind, read_line, print_line, join_label, raise_structure as raise_structure_by, raise_existence as raise_existence_by}
 use Rattle.es_meaning.specs.Operations.{Value as a_value}
 use Rattle.es_meaning.specs.Operators.{is_object, truth, converts_beside, unary_of, binary_of, not_built}
 use Rattle.es_meaning.specs.Evaluation.{program_step}
-use Rattle.es_meaning.specs.Start.{ErrorKind}
-use Rattle.es_meaning.specs.Plain.{leaves_wrappers, choose, is_throw, prototype_name, may_declare, key_text, binding_at, outermost_env, channel_of, channel_name, name_at, number_of_channel, Place, in_record, on_global, nowhere}
-use Rattle.es_meaning.proofs.Link.{Rel, Link, program_linked}
-use Rattle.flow_meaning.specs.Scopes.{Val, LabelledLine, Halt, State, Jump, L, guard, raise, jump_to, jump, cut_to, pushed_on, Left, Came, ended, caught, popped, stay, scope, settled, fork, round_kind, round, again, answer, construction, raise_frame, quiet, react, resume, finish, tried, attempt}
-use Rattle.flow_meaning.specs.Tracked.{ends, with_error, throw_error, given, unless_object, seen, Reference, of_name, of_property, resolved, bound, held, found_globally, found, property_of, named as value_named, get_value, typeof_value, assigned, assigned_to, acted, put_by, put_on, put, put_property, put_named, put_value, removed_if, removed_own, removed_in, remove_property, remove, make_object, needed, has, key_list, with_list, act, spend, argument, read_channel, print_value, print_channel, label_by, raise_structure, raise_existence, raise_of, raise_at, names_in, direct, labelled, timed, start, run_of, tracked_run, make_function, CallBody, entered, with_call, call, callee_at, constructed, with_fresh, prototype_of, construct, is_function_at, is_instance, instance_of, instance_if, jumps_to, raises, raised_by, named_origins, with_name}
+use Rattle.es_meaning.specs.Start.{id}
+use Rattle.es_meaning.specs.Plain.{leaves_wrappers, choose, is_throw, prototype_name, may_declare, binding_at, outermost_env, channel_of, channel_name, name_at, number_of_channel, others, Place, in_record, on_global, nowhere}
+use Rattle.es_meaning.specs.Requested.{behind_definition, is_array, are_origins}
+use Rattle.es_meaning.proofs.Link.{Rel, Rels, nils, conses, EnteringLinked, Link}
+use Rattle.es_meaning.proofs.RequestLinks.{program_linked}
+use Rattle.flow_meaning.specs.Erased.{unlabelled, erased_slot}
+use Rattle.flow_meaning.specs.Requested.{Aim, aim_of, property_in, is_function_in, is_function_at}
+use Rattle.flow_meaning.specs.Scopes.{Val, joined, LabelledLine, Halt, State, Jump, L, guard, raise, jump_to, jump, cut_to, pushed_on, Left, Came, ended, caught, popped, stay, scope, settled, settled_value, fork, round_kind, round, again, answer, construction, raise_frame, quiet, react, resume, finish, tried, attempt}
+use Rattle.flow_meaning.specs.Tracked.{ends, with_error, throw_error, given, seen, Reference, of_name, of_property, resolved, Access, has_value, has_getter, bound, found_globally, property_of, named as value_named, accessed, accessed_for_typeof, Putting, is_put, has_setter, assigned, assigned_to, acted, own_in, setter_found, setter_at, put_by, put_on, put, put_property, put_named, put_value, removed_if, removed_own, removed_in, remove_property, remove, make_object, needed, has, key_list, with_list, spend, argument, on_object_in, own_property_in, set_marks, set_body_if, redefine, define_over, define_given, define_in, prototype_in, extensible_in, prevent, made_new, make_new, bind_object, bind_value, bind_to, if_origins, raise_structure, raise_existence, make_function, with_call, callee_at, Enters, entered, called_value, call_by, call_aimed, call_value, prototype_of, with_fresh, constructed, construct_built_in, construct_by, construct_aimed, construct_value, entered_access, entered_putting, convert, converted_by, is_instance, instance_by, instance_of, instance_if, instance_value, jumps_to, raises, read_channel, print_text, print_channel, with_origins, act, named_origins, raised_by, with_name, labelled, timed, start, run_of, tracked_run}
 use Rattle.low_equal.specs.Runs.{state_of}
 
 -- ---- names of output channels
@@ -189,19 +202,13 @@ module _ (tables : Tables) (inputs : Given) where
   again_keeping : (v : Val) {m n : L (Unit {0})} → Keeping m → Keeping n → Keeping (again v m n)
   again_keeping v h k = bind_keeping _ (raise_keeping v.label) (λ u. choose_keeping (truth v.value) h k)
 
-  -- ---- acts
+  -- ---- values and references
 
   -- an operator's value
   given_keeping : (label : Label) (r : Result Primitive (List ℕ)) → Keeping (given label r)
   unfolding given
   given_keeping label (Ok v) = record { keeps = λ s h. h }
   given_keeping label (Err name) = record { keeps = λ s h. h }
-
-  -- a value that isn't to be converted
-  unless_keeping : (b : Bool) (v : Val) → Keeping (unless_object b v)
-  unfolding unless_object
-  unless_keeping true v = record { keeps = λ s h. h }
-  unless_keeping false v = record { keeps = λ s h. h }
 
   -- the value of a binding
   bound_keeps : (o : Option (Binding Val)) (s : State) → AreNamed tables s.lines → Keeps (bound o s)
@@ -210,45 +217,35 @@ module _ (tables : Tables) (inputs : Given) where
   bound_keeps None s h = throw_keeps _ _ _ s h
 
   -- of a property
-  held_keeps : (label : Label) (b : Body) (s : State) → AreNamed tables s.lines → Keeps (held label b s)
-  unfolding held
-  held_keeps label (Data v) s h = h
-  held_keeps label (Accessor get set) s h = h
-
   found_globally_keeps : (walk : Label) (o : Option (ℕ × Slot Label)) (s : State) → AreNamed tables s.lines → Keeps (found_globally walk o s)
   unfolding found_globally
-  found_globally_keeps walk (Some f) s h = held_keeps _ f.1.body s h
+  found_globally_keeps walk (Some f) s h = h
   found_globally_keeps walk None s h = throw_keeps _ _ _ s h
 
-  found_keeps : (label : Label) (o : Option (ℕ × Slot Label)) (s : State) → AreNamed tables s.lines → Keeps (found label o s)
-  unfolding found
-  found_keeps label (Some f) s h = held_keeps _ f.1.body s h
-  found_keeps label None s h = h
-
-  property_keeps : (label : Label) (v : Value) (key : List ℕ) (s : State) → AreNamed tables s.lines → Keeps (property_of label v key s)
+  property_keeps : (label : Label) (base : Val) (v : Value) (key : List ℕ) (s : State) → AreNamed tables s.lines → Keeps (property_of label base v key s)
   unfolding property_of
-  property_keeps label (value.Primitive p) key s h = h
-  property_keeps label (value.Object o) key s h = found_keeps _ _ s h
+  property_keeps label base (value.Primitive p) key s h = h
+  property_keeps label base (value.Object o) key s h = h
 
   -- of a name
   name_keeps : (place : Place) (walk : Label) (name : List ℕ) (s : State) → AreNamed tables s.lines → Keeps (value_named place walk name s)
   unfolding value_named
-  name_keeps (in_record i) walk name s h = bound_keeps (binding_at s.records i name) s h
+  name_keeps (in_record i) walk name s h = keeps_then (bound (binding_at s.records i name) s) (λ v. ret (has_value v)) (bound_keeps (binding_at s.records i name) s h) (λ v. ret_keeping (has_value v))
   name_keeps on_global walk name s h = found_globally_keeps _ _ s h
   name_keeps nowhere walk name s h = throw_keeps _ _ _ s h
 
   -- of a reference
-  value_keeping : (n : Reference) → Keeping (get_value n)
-  unfolding get_value
-  value_keeping (of_name name place walk) = record { keeps = λ s h. name_keeps place walk name s h }
-  value_keeping (of_property v key label) = record { keeps = λ s h. property_keeps _ v.value key s h }
+  accessed_keeping : (n : Reference) → Keeping (accessed n)
+  unfolding accessed
+  accessed_keeping (of_name name place walk) = record { keeps = λ s h. name_keeps place walk name s h }
+  accessed_keeping (of_property v key label) = record { keeps = λ s h. property_keeps _ v v.value key s h }
 
-  typeof_keeping : (n : Reference) → Keeping (typeof_value n)
-  unfolding typeof_value
-  typeof_keeping (of_name name (in_record i) walk) = value_keeping (of_name name (in_record i) walk)
-  typeof_keeping (of_name name on_global walk) = value_keeping (of_name name on_global walk)
+  typeof_keeping : (n : Reference) → Keeping (accessed_for_typeof n)
+  unfolding accessed_for_typeof
+  typeof_keeping (of_name name (in_record i) walk) = record { keeps = (accessed_keeping (of_name name (in_record i) walk)).keeps }
+  typeof_keeping (of_name name on_global walk) = record { keeps = (accessed_keeping (of_name name on_global walk)).keeps }
   typeof_keeping (of_name name nowhere walk) = record { keeps = λ s h. h }
-  typeof_keeping (of_property v key label) = value_keeping (of_property v key label)
+  typeof_keeping (of_property v key label) = record { keeps = (accessed_keeping (of_property v key label)).keeps }
 
   -- a value for a binding
   assigned_keeps : (mutable : Bool) (have : Label) (name : List ℕ) (i : ℕ) (v : Val) (s : State) → AreNamed tables s.lines → Keeps (assigned mutable have name i v s)
@@ -268,38 +265,49 @@ module _ (tables : Tables) (inputs : Given) where
   acted_keeps x (Ok heap) s h = h
   acted_keeps x (Err stop) s h = h
 
+  -- a setter that there may be
+  setter_keeps : (label : Label) (base : Val) (o : Option ObjId) (s : State) → AreNamed tables s.lines → Keeps (setter_found label base o s)
+  unfolding setter_found
+  setter_keeps label base None s h = throw_keeps _ _ _ s h
+  setter_keeps label base (Some f) s h = h
+
+  setter_at_keeps : (label : Label) (base : Val) (o : Option (Slot Label)) (s : State) → AreNamed tables s.lines → Keeps (setter_at label base o s)
+  unfolding setter_at
+  setter_at_keeps label base None s h = throw_keeps _ _ _ s h
+  setter_at_keeps label base (Some p) s h = setter_keeps _ base _ s h
+
   -- a put
-  put_by_keeps : (plan : PutPlan Label) (rule : Rule) (o : ℕ) (key : List ℕ) (label : Label) (v : Val) (s : State) → AreNamed tables s.lines → Keeps (put_by plan rule o key label v s)
+  put_by_keeps : (plan : PutPlan Label) (rule : Rule) (o : ℕ) (key : List ℕ) (label : Label) (base v : Val) (s : State) → AreNamed tables s.lines → Keeps (put_by plan rule o key label base v s)
   unfolding put_by
-  put_by_keeps (Write walk) rule o key label v s h = acted_keeps tt _ s h
-  put_by_keeps (Add walk) rule o key label v s h = acted_keeps tt _ s h
-  put_by_keeps (Refused walk) rule o key label v s h = throw_keeps _ _ _ s h
-  put_by_keeps (Setter at walk) rule o key label v s h = h
+  put_by_keeps (Write walk) rule o key label base v s h = acted_keeps is_put _ s h
+  put_by_keeps (Add walk) rule o key label base v s h = acted_keeps is_put _ s h
+  put_by_keeps (Refused walk) rule o key label base v s h = throw_keeps _ _ _ s h
+  put_by_keeps (Setter at walk) rule o key label base v s h = setter_at_keeps _ base (own_in key (slice_get s.heap at.0)) s h
 
-  put_on_keeps : (b : Bool) (rule : Rule) (o : ℕ) (key : List ℕ) (label : Label) (v : Val) (s : State) → AreNamed tables s.lines → Keeps (put_on b rule o key label v s)
+  put_on_keeps : (b : Bool) (rule : Rule) (o : ℕ) (key : List ℕ) (label : Label) (base v : Val) (s : State) → AreNamed tables s.lines → Keeps (put_on b rule o key label base v s)
   unfolding put_on
-  put_on_keeps true rule o key label v s h = h
-  put_on_keeps false rule o key label v s h = put_by_keeps _ rule o key label v s h
+  put_on_keeps true rule o key label base v s h = h
+  put_on_keeps false rule o key label base v s h = put_by_keeps _ rule o key label base v s h
 
-  put_keeps : (rule : Rule) (o : ℕ) (key : List ℕ) (label : Label) (v : Val) (s : State) → AreNamed tables s.lines → Keeps (put rule o key label v s)
+  put_keeps : (rule : Rule) (o : ℕ) (key : List ℕ) (label : Label) (base v : Val) (s : State) → AreNamed tables s.lines → Keeps (put rule o key label base v s)
   unfolding put
-  put_keeps rule o key label v s h = put_on_keeps _ rule o key label v s h
+  put_keeps rule o key label base v s h = put_on_keeps _ rule o key label base v s h
 
-  put_property_keeps : (label : Label) (base : Value) (key : List ℕ) (v : Val) (s : State) → AreNamed tables s.lines → Keeps (put_property label base key v s)
+  put_property_keeps : (label : Label) (base : Val) (x : Value) (key : List ℕ) (v : Val) (s : State) → AreNamed tables s.lines → Keeps (put_property label base x key v s)
   unfolding put_property
-  put_property_keeps label (value.Primitive p) key v s h = h
-  put_property_keeps label (value.Object o) key v s h = put_keeps W2 o.0 key label v s h
+  put_property_keeps label base (value.Primitive p) key v s h = h
+  put_property_keeps label base (value.Object o) key v s h = put_keeps _ o.0 key label base v s h
 
   put_named_keeps : (place : Place) (walk : Label) (name : List ℕ) (v : Val) (s : State) → AreNamed tables s.lines → Keeps (put_named place walk name v s)
   unfolding put_named
-  put_named_keeps (in_record i) walk name v s h = assigned_to_keeps (binding_at s.records i name) name i v s h
-  put_named_keeps on_global walk name v s h = put_keeps W1 _ name bottom v s h
+  put_named_keeps (in_record i) walk name v s h = keeps_then (assigned_to (binding_at s.records i name) name i v s) (λ u. ret is_put) (assigned_to_keeps (binding_at s.records i name) name i v s h) (λ u. ret_keeping is_put)
+  put_named_keeps on_global walk name v s h = put_keeps _ _ name bottom _ v s h
   put_named_keeps nowhere walk name v s h = throw_keeps _ _ _ s h
 
   put_keeping : (n : Reference) (v : Val) → Keeping (put_value n v)
   unfolding put_value
   put_keeping (of_name name place walk) v = record { keeps = λ s h. put_named_keeps place walk name v s h }
-  put_keeping (of_property base key label) v = record { keeps = λ s h. put_property_keeps _ base.value key v s h }
+  put_keeping (of_property base key label) v = record { keeps = λ s h. put_property_keeps _ base base.value key v s h }
 
   -- a deletion
   removed_if_keeps : (b : Bool) (place : Label) (o : ℕ) (key : List ℕ) (s : State) → AreNamed tables s.lines → Keeps (removed_if b place o key s)
@@ -327,29 +335,6 @@ module _ (tables : Tables) (inputs : Given) where
   remove_keeping (of_name name place walk) = record { keeps = λ s h. h }
   remove_keeping (of_property base key label) = record { keeps = λ s h. remove_property_keeps _ base.value key s h }
 
-  -- acts on values that enter no function
-  needed_keeps : (b : Bool) (v : Val) (s : State) → AreNamed tables s.lines → Keeps (needed b v s)
-  unfolding needed
-  needed_keeps true v s h = h
-  needed_keeps false v s h = throw_keeps _ _ _ s h
-
-  has_keeps : (label : Label) (key : List ℕ) (v : Value) (s : State) → AreNamed tables s.lines → Keeps (has label key v s)
-  unfolding has
-  has_keeps label key (value.Primitive p) s h = h
-  has_keeps label key (value.Object o) s h = h
-
-  made_keeps : (keys : List (List ℕ)) (vs : List Val) (s : State) → AreNamed tables s.lines → Keeps (make_object keys vs s)
-  unfolding make_object
-  made_keeps keys vs s h = h
-
-  act_keeping : (a : Act) (vs : List Val) → Keeping (act a vs)
-  unfolding act
-  act_keeping (object_of keys) vs = record { keeps = λ s h. made_keeps keys vs s h }
-  act_keeping refused_declaration vs = record { keeps = λ s h. throw_keeps _ _ _ s h }
-  act_keeping base_needed vs = record { keeps = λ s h. needed_keeps _ (argument 0 vs) s h }
-  act_keeping object_needed vs = record { keeps = λ s h. needed_keeps _ (argument 0 vs) s h }
-  act_keeping has_key vs = record { keeps = λ s h. has_keeps _ _ (argument 1 vs).value s h }
-
   -- the keys of a value
   list_keeping : (list : Option Keys) (label : Label) (f : List (List ℕ) → L (Unit {0})) → ((ks : List (List ℕ)) → Keeping (f ks)) → Keeping (with_list list label f)
   unfolding with_list
@@ -362,110 +347,165 @@ module _ (tables : Tables) (inputs : Given) where
   spend_keeps zero s h = h
   spend_keeps (suc n) s h = h
 
-  -- ---- the functions of the product
+  -- a function is made
+  function_keeps : (functions : List FunctionCode) (f : _) (place : ℕ) (s : State) → AreNamed tables s.lines → Keeps (make_function functions f place s)
+  unfolding make_function
+  function_keeps functions f place s h = h
+
+  -- ---- acts
+
+  needed_keeps : (b : Bool) (v : Val) (s : State) → AreNamed tables s.lines → Keeps (needed b v s)
+  unfolding needed
+  needed_keeps true v s h = h
+  needed_keeps false v s h = throw_keeps _ _ _ s h
+
+  has_keeps : (label : Label) (key : List ℕ) (v : Value) (s : State) → AreNamed tables s.lines → Keeps (has label key v s)
+  unfolding has
+  has_keeps label key (value.Primitive p) s h = h
+  has_keeps label key (value.Object o) s h = h
+
+  make_keeps : (parts : _) (vs : List Val) (s : State) → AreNamed tables s.lines → Keeps (make_object parts vs s)
+  unfolding make_object
+  make_keeps parts vs s h = h
+
+  -- on an object that a value is
+  on_object_keeping : (label : Label) (v : Value) (next : ℕ → L Val) → ((o : ℕ) → Keeping (next o)) → Keeping (on_object_in label v next)
+  unfolding on_object_in
+  on_object_keeping label (value.Primitive p) next k = record { keeps = λ s h. throw_keeps _ _ _ s h }
+  on_object_keeping label (value.Object o) next k = record { keeps = (k o.0).keeps }
+
+  part_keeps : (part : OwnPart) (key : List ℕ) (label : Label) (p : Option (Object Label)) (s : State) → AreNamed tables s.lines → Keeps (own_property_in part key label p s)
+  unfolding own_property_in
+  part_keeps part key label None s h = h
+  part_keeps part key label (Some p) s h = h
+
+  -- a definition
+  marks_keeping : (label : Label) (marks : Marks) (o : ℕ) (key : List ℕ) → Keeping (set_marks label marks o key)
+  unfolding set_marks
+  marks_keeping label marks o key = record { keeps = λ s h. acted_keeps _ _ s h }
+
+  body_keeping : (b : Bool) (place : Label) (body : Body) (label : Label) (o : ℕ) (key : List ℕ) → Keeping (set_body_if b place body label o key)
+  unfolding set_body_if
+  body_keeping true place body label o key = record { keeps = λ s h. acted_keeps _ _ s h }
+  body_keeping false place body label o key = record { keeps = λ s h. h }
+
+  redefine_keeping : (p : Slot Label) (q : Property) (d : Definition) (place given : Label) (o : ℕ) (key : List ℕ) → Keeping (redefine p q d place given o key)
+  unfolding redefine
+  redefine_keeping p q d place given o key = bind_keeping _ (marks_keeping (union place given) q.marks o key) (λ u. bind_keeping _ (body_keeping (changes_body (erased_slot p) d) place q.body _ o key) (λ w. ret_keeping _))
+
+  over_keeps : (old : Option (Slot Label)) (d : Definition) (place given : Label) (o : ℕ) (key : List ℕ) (q : Option Property) (s : State) → AreNamed tables s.lines → Keeps (define_over old d place given o key q s)
+  unfolding define_over
+  over_keeps None d place given o key None s h = throw_keeps _ _ _ s h
+  over_keeps (Some p) d place given o key None s h = throw_keeps _ _ _ s h
+  over_keeps None d place given o key (Some q) s h = acted_keeps _ _ s h
+  over_keeps (Some p) d place given o key (Some q) s h = (redefine_keeping p q d place given o key).keeps s h
+
+  given_body_keeps : (extensible : Bool) (old : Option (Slot Label)) (marks : GivenMarks) (body : Option GivenBody) (place given : Label) (o : ℕ) (key : List ℕ) (s : State) → AreNamed tables s.lines → Keeps (define_given extensible old marks body place given o key s)
+  unfolding define_given
+  given_body_keeps extensible old marks None place given o key s h = throw_keeps _ _ _ s h
+  given_body_keeps extensible old marks (Some body) place given o key s h = over_keeps old _ place given o key (behind_definition extensible (property_in old) (record { marks = marks; body = body })) s h
+
+  define_keeps : (p : Option (Object Label)) (label : Label) (o : ℕ) (key : List ℕ) (marks : GivenMarks) (shape : Shape) (v g set : Val) (s : State) → AreNamed tables s.lines → Keeps (define_in p label o key marks shape v g set s)
+  unfolding define_in
+  define_keeps None label o key marks shape v g set s h = throw_keeps _ _ _ s h
+  define_keeps (Some p) label o key marks shape v g set s h = (choose_keeping (is_array p.class) (halts_keeping (left not_built)) (record { keeps = λ t k. given_body_keeps p.extensible (own key p.rows) marks _ _ _ o key t k })).keeps s h
+
+  -- a prototype, and further properties
+  prototype_keeps : (label : Label) (p : Option (Object Label)) (s : State) → AreNamed tables s.lines → Keeps (prototype_in label p s)
+  unfolding prototype_in
+  prototype_keeps label None s h = h
+  prototype_keeps label (Some p) s h = h
+
+  extensible_keeps : (label : Label) (p : Option (Object Label)) (s : State) → AreNamed tables s.lines → Keeps (extensible_in label p s)
+  unfolding extensible_in
+  extensible_keeps label None s h = h
+  extensible_keeps label (Some p) s h = h
+
+  prevent_keeping : (label : Label) (o : ℕ) → Keeping (prevent label o)
+  unfolding prevent
+  prevent_keeping label o = record { keeps = λ s h. acted_keeps _ _ s h }
+
+  -- labels are raised
+  structure_keeping : (origins : List ℕ) (label : Label) (o : ℕ) → Keeping (raise_structure origins label o)
+  unfolding raise_structure
+  structure_keeping origins label o = record { keeps = λ s h. acted_keeps _ _ s h }
+
+  existence_keeping : (origins : List ℕ) (label : Label) (key : List ℕ) (o : ℕ) → Keeping (raise_existence origins label key o)
+  unfolding raise_existence
+  existence_keeping origins label key o = record { keeps = λ s h. acted_keeps _ _ s h }
+
+  -- new objects and bound functions
+  made_new_keeping : (c : Class) (proto : Option ObjId) (label : Label) → Keeping (made_new c proto label)
+  unfolding made_new
+  made_new_keeping c proto label = record { keeps = λ s h. h }
+
+  new_keeping : (c : Class) (proto : Option ObjId) (label : Label) → Keeping (make_new c proto label)
+  unfolding make_new
+  new_keeping c proto label = choose_keeping (is_array c) (halts_keeping (left not_built)) (made_new_keeping c proto label)
+
+  bind_value_keeps : (v : Value) (target this : Val) (args : List Val) (s : State) → AreNamed tables s.lines → Keeps (bind_value v target this args s)
+  unfolding bind_value bind_object
+  bind_value_keeps (value.Primitive p) target this args s h = throw_keeps _ _ _ s h
+  bind_value_keeps (value.Object o) target this args s h = h
+
+  bind_keeps : (b : Bool) (target this : Val) (args : List Val) (s : State) → AreNamed tables s.lines → Keeps (bind_to b target this args s)
+  unfolding bind_to
+  bind_keeps true target this args s h = bind_value_keeps target.value target this args s h
+  bind_keeps false target this args s h = throw_keeps _ _ _ s h
+
+  -- origins that are asked about first
+  origins_keeping : (b : Bool) (next : L Val) → Keeping next → Keeping (if_origins b next)
+  unfolding if_origins
+  origins_keeping true next k = record { keeps = k.keeps }
+  origins_keeping false next k = record { keeps = λ s h. h }
+
+  with_origins_keeping : (origins : List ℕ) (next : L Val) → Keeping next → Keeping (with_origins tables inputs origins next)
+  unfolding with_origins
+  with_origins_keeping origins next k = origins_keeping (are_origins (length tables.origins) origins) next k
 
   -- a line is read
   read_keeping : (i : Option ℕ) (name : Label) → Keeping (read_channel tables inputs i name)
   unfolding read_channel
-  read_keeping None name = halts_keeping _
+  read_keeping None name = record { keeps = λ s h. h }
   read_keeping (Some i) name = record { keeps = λ s h. guard_keeps _ W11 _ _ _ s h h }
 
-  -- a line is printed
-  print_value_keeping : (i : ℕ) (label : Label) (v : Value) → is_output tables (channel_name tables.outputs i) ≡ true → Keeping (print_value tables inputs i label v)
-  unfolding print_value
-  print_value_keeping i label (value.Object o) there = record { keeps = λ s h. h }
-  print_value_keeping i label (value.Primitive v) there = record { keeps = λ s h. guard_keeps _ W12 _ _ _ s h (named_more tables s.lines _ h there) }
+  -- a text is printed
+  text_keeping : (i : ℕ) (label : Label) (v : Value) → is_output tables (channel_name tables.outputs i) ≡ true → Keeping (print_text tables inputs i label v)
+  unfolding print_text
+  text_keeping i label (value.Object o) there = record { keeps = λ s h. h }
+  text_keeping i label (value.Primitive prims.Undefined) there = record { keeps = λ s h. h }
+  text_keeping i label (value.Primitive prims.Null) there = record { keeps = λ s h. h }
+  text_keeping i label (value.Primitive (prims.Bool b)) there = record { keeps = λ s h. h }
+  text_keeping i label (value.Primitive (prims.Num n)) there = record { keeps = λ s h. h }
+  text_keeping i label (value.Primitive (prims.Str text)) there = record { keeps = λ s h. guard_keeps _ W12 _ _ _ s h (named_more tables s.lines _ h there) }
 
   -- on a channel that there may be
   print_keeping : (o : Option ℕ) (name : Label) (v : Val) → ((i : ℕ) → o ≡ Some i → is_output tables (channel_name tables.outputs i) ≡ true) → Keeping (print_channel tables inputs o name v)
   unfolding print_channel
-  print_keeping None name v there = halts_keeping _
-  print_keeping (Some i) name v there = record { keeps = λ s h. (print_value_keeping i (union name v.label) v.value (there i refl)).keeps s h }
+  print_keeping None name v there = record { keeps = λ s h. h }
+  print_keeping (Some i) name v there = record { keeps = λ s h. (text_keeping i (union name v.label) v.value (there i refl)).keeps s h }
 
-  -- origins are joined
-  label_keeping : (os : Option (List ℕ)) (names : Label) (v : Val) → Keeping (label_by tables inputs os names v)
-  unfolding label_by
-  label_keeping None names v = halts_keeping _
-  label_keeping (Some os) names v = record { keeps = λ s h. h }
-
-  -- the structure of an object is raised
-  structure_keeping : (os : Option (List ℕ)) (label : Label) (o : ℕ) → Keeping (raise_structure tables inputs os label o)
-  unfolding raise_structure
-  structure_keeping None label o = halts_keeping _
-  structure_keeping (Some os) label o = record { keeps = λ s h. acted_keeps _ _ s h }
-
-  raise_of_keeping : (v : Value) (label : Label) (names : List Val) → Keeping (raise_of tables inputs v label names)
-  unfolding raise_of
-  raise_of_keeping (value.Primitive p) label names = record { keeps = λ s h. throw_keeps _ _ _ s h }
-  raise_of_keeping (value.Object o) label names = record { keeps = λ s h. (structure_keeping (names_in tables inputs names) _ o.0).keeps s h }
-
-  -- or the existence of a property
-  existence_keeping : (os : Option (List ℕ)) (label : Label) (o : ℕ) (key : List ℕ) → Keeping (raise_existence tables inputs os label o key)
-  unfolding raise_existence
-  existence_keeping None label o key = halts_keeping _
-  existence_keeping (Some os) label o key = record { keeps = λ s h. acted_keeps _ _ s h }
-
-  raise_at_keeping : (v : Value) (label : Label) (key : Val) (names : List Val) → Keeping (raise_at tables inputs v label key names)
-  unfolding raise_at
-  raise_at_keeping (value.Primitive p) label key names = record { keeps = λ s h. throw_keeps _ _ _ s h }
-  raise_at_keeping (value.Object o) label key names = record { keeps = λ s h. (bind_keeping _ (unless_keeping (is_object key.value) key) (λ k. existence_keeping (names_in tables inputs names) _ o.0 (key_text k.value))).keeps s h }
-
-  -- a function of the product
-  direct_keeping : (f : Direct) (vs : List Val) → Keeping (direct tables inputs f vs)
-  unfolding direct
-  direct_keeping read vs = read_keeping _ _
-  direct_keeping print vs = print_keeping _ _ _ (channel_there tables (argument 0 vs).value)
-  direct_keeping lbl vs = label_keeping _ _ _
-  direct_keeping upgs vs = raise_of_keeping _ _ _
-  direct_keeping upge vs = raise_at_keeping _ _ _ _
-
-  -- ---- functions
-
-  -- one is made
-  function_keeps : (functions : List FunctionCode) (f : Function) (place : ℕ) (s : State) → AreNamed tables s.lines → Keeps (make_function functions f place s)
-  unfolding make_function
-  function_keeps functions f place s h = h
-
-  -- a body of a call
-  entered_keeps : (functions : List FunctionCode) (c : Callee) (label : Label) (this : Val) (args : List Val) (k : CallBody) (depth : ℕ) → ((ss : Statements) (e : Env ℕ) → Keeping (k ss e)) → (s : State) → AreNamed tables s.lines → Keeps (entered functions c label this args k depth s)
-  unfolding entered with_call
-  entered_keeps functions not_callable label this args k depth l s h = throw_keeps _ _ _ s h
-  entered_keeps functions empty_callee label this args k depth l s h = h
-  entered_keeps functions unbuilt_callee label this args k depth l s h = h
-  entered_keeps functions (of_script number f place) label this args k depth l s h = (l (body_of f) (called_env (length s.records) depth)).keeps (with_call functions number f place this args s) h
-
-  call_keeping : (functions : List FunctionCode) (f this : Val) (args : List Val) (k : CallBody) → ((ss : Statements) (e : Env ℕ) → Keeping (k ss e)) → Keeping (call functions f this args k)
-  call_keeping functions f this args k l =
-      bind_keeping _ (scope_keeping kind.Call f.label (λ depth s. entered functions (callee_at functions s.heap f.value) f.label this args k depth s) (λ depth. record { keeps = λ s h. entered_keeps functions (callee_at functions s.heap f.value) f.label this args k depth l s h })) (λ c. ret_keeping (answer c))
-
-  -- of a construction
-  constructed_keeps : (functions : List FunctionCode) (c : Callee) (f : Val) (args : List Val) (k : CallBody) (depth : ℕ) → ((ss : Statements) (e : Env ℕ) → Keeping (k ss e)) → (s : State) → AreNamed tables s.lines → Keeps (constructed functions c f args k depth s)
-  unfolding constructed
-  constructed_keeps functions not_callable f args k depth l s h = throw_keeps _ _ _ s h
-  constructed_keeps functions empty_callee f args k depth l s h = throw_keeps _ _ _ s h
-  constructed_keeps functions unbuilt_callee f args k depth l s h = h
-  constructed_keeps functions (of_script number code place) f args k depth l s h = entered_keeps functions (of_script number code place) f.label _ args k depth l (with_fresh (prototype_of s.heap f.value) s) h
-
-  construct_keeping : (functions : List FunctionCode) (f : Val) (args : List Val) (k : CallBody) → ((ss : Statements) (e : Env ℕ) → Keeping (k ss e)) → Keeping (construct functions f args k)
-  construct_keeping functions f args k l = record {
-    keeps = λ s h. (bind_keeping (λ c. ret (construction (length s.heap) c)) (scope_keeping kind.Call f.label (λ depth t. constructed functions (callee_at functions t.heap f.value) f args k depth t) (λ depth. record { keeps = λ t g. constructed_keeps functions (callee_at functions t.heap f.value) f args k depth l t g })) (λ c. ret_keeping (construction (length s.heap) c))).keeps s h;
-  }
-
-  -- an object is asked whether it is an instance
-  is_instance_keeps : (label : Label) (o : ℕ) (v : Value) (s : State) → AreNamed tables s.lines → Keeps (is_instance label o v s)
-  unfolding is_instance
-  is_instance_keeps label o (value.Primitive p) s h = throw_keeps _ _ _ s h
-  is_instance_keeps label o (value.Object proto) s h = h
-
-  instance_of_keeps : (v : Val) (u : Value) (f : Val) (s : State) → AreNamed tables s.lines → Keeps (instance_of v u f s)
-  unfolding instance_of
-  instance_of_keeps v (value.Primitive p) f s h = h
-  instance_of_keeps v (value.Object o) f s h = keeps_then (property_of f.label f.value prototype_name s) (λ proto. is_instance (union v.label (union f.label proto.label)) o.0 proto.value) (property_keeps f.label f.value prototype_name s h) (λ proto. record { keeps = λ t g. is_instance_keeps _ o.0 proto.value t g })
-
-  instance_keeps : (b : Bool) (v f : Val) (s : State) → AreNamed tables s.lines → Keeps (instance_if b v f s)
-  unfolding instance_if
-  instance_keeps true v f s h = instance_of_keeps v v.value f s h
-  instance_keeps false v f s h = throw_keeps _ _ _ s h
+  act_keeping : (a : Act) (vs : List Val) → Keeping (act tables inputs a vs)
+  unfolding act
+  act_keeping (object_of parts) vs = record { keeps = λ s h. make_keeps parts vs s h }
+  act_keeping base_needed vs = record { keeps = λ s h. needed_keeps _ (argument 0 vs) s h }
+  act_keeping object_needed vs = record { keeps = λ s h. needed_keeps _ (argument 0 vs) s h }
+  act_keeping has_key vs = record { keeps = λ s h. has_keeps _ _ (argument 1 vs).value s h }
+  act_keeping (throws_error kind) vs = record { keeps = λ s h. throw_keeps _ _ _ s h }
+  act_keeping (own_property part key) vs = on_object_keeping _ _ _ (λ o. record { keeps = λ s h. part_keeps part key _ (slice_get s.heap o) s h })
+  act_keeping (define key marks shape) vs = on_object_keeping _ _ _ (λ o. record { keeps = λ s h. define_keeps (slice_get s.heap o) _ o key marks shape (argument 1 vs) (argument 2 vs) (argument 3 vs) s h })
+  act_keeping (own_keys all) vs = on_object_keeping _ _ _ (λ o. halts_keeping _)
+  act_keeping prototype_of_object vs = on_object_keeping _ _ _ (λ o. record { keeps = λ s h. prototype_keeps _ (slice_get s.heap o) s h })
+  act_keeping is_extensible vs = on_object_keeping _ _ _ (λ o. record { keeps = λ s h. extensible_keeps _ (slice_get s.heap o) s h })
+  act_keeping prevent_extensions vs = on_object_keeping _ _ _ (λ o. prevent_keeping _ o)
+  act_keeping (new_object c false) vs = new_keeping c _ bottom
+  act_keeping (new_object c true) vs = new_keeping c _ _
+  act_keeping bind vs = record { keeps = λ s h. bind_keeps (is_function_at s.heap (argument 0 vs).value) (argument 0 vs) (argument 1 vs) (others (others vs)) s h }
+  act_keeping read_line vs = read_keeping _ _
+  act_keeping print_line vs = print_keeping _ _ _ (channel_there tables (argument 0 vs).value)
+  act_keeping (join_label origins) vs = with_origins_keeping origins _ (ret_keeping _)
+  act_keeping (raise_structure_by origins) vs = with_origins_keeping origins _ (on_object_keeping _ _ _ (λ o. structure_keeping origins _ o))
+  act_keeping (raise_existence_by key origins) vs = with_origins_keeping origins _ (on_object_keeping _ _ _ (λ o. existence_keeping origins _ key o))
 
   -- ---- jumps, directives and `try`
 
@@ -481,8 +521,8 @@ module _ (tables : Tables) (inputs : Given) where
 
   raised_keeping : (leaving : Leaving) (to : Option (Exit × ℕ)) (os : Option (List ℕ)) → Keeping (raised_by tables inputs leaving to os)
   unfolding raised_by
-  raised_keeping leaving to None = halts_keeping _
-  raised_keeping leaving to (Some os) = raises_keeping leaving to (label_of os)
+  raised_keeping leaving to None = record { keeps = λ s h. h }
+  raised_keeping leaving to (Some os) = record { keeps = λ s h. (raises_keeping leaving to _).keeps s h }
 
   quiet_keeping : Keeping quiet
   unfolding quiet
@@ -519,16 +559,136 @@ module _ (tables : Tables) (inputs : Given) where
   attempt_keeping handles finishes {block} {last} handler b l f =
       bind_keeping _ (scope_keeping kind.Try bottom (tried handles finishes block handler last) (λ depth. bind_keeping _ (bind_keeping _ (record { keeps = λ s h. stay_keeps depth (block s) (b.keeps s h) }) (λ how. react_keeping handles finishes handler depth how l)) (λ how. finish_keeping finishes how f))) (λ c. ret_keeping tt)
 
+  -- ---- what is entered
+
+  record EntersKeeping (E : Enters) : Type 0 where
+    body : (ss : Statements) (e : Env ℕ) → Keeping (E.body ss e)
+    built_in : (which : ℕ) (construct : Bool) (vs : List Val) → Keeping (E.built_in which construct vs)
+    conversion : (h : Hint) (v : Val) → Keeping (E.conversion h v)
+
+  -- in a frame that gives a value
+  framed_keeping : (k : Kind) (label : Label) (m : ℕ → L Val) → ((depth : ℕ) → Keeping (m depth)) → Keeping (scope k label m >>= λ c. ret (settled_value c))
+  framed_keeping k label m l = bind_keeping _ (scope_keeping k label m l) (λ c. ret_keeping (settled_value c))
+
+  module _ (functions : List FunctionCode) {E : Enters} (c : EntersKeeping E) where
+    -- a call
+    entered_keeps : (callee : Callee) (label : Label) (this : Val) (vs : List Val) (depth : ℕ) (s : State) → AreNamed tables s.lines → Keeps (entered functions callee label this vs E depth s)
+    unfolding entered with_call
+    entered_keeps not_callable label this vs depth s h = throw_keeps _ _ _ s h
+    entered_keeps empty_callee label this vs depth s h = h
+    entered_keeps (of_built_in which) label this vs depth s h = throw_keeps _ _ _ s h
+    entered_keeps (of_script number f place) label this vs depth s h = (c.body (body_of f) (called_env (length s.records) depth)).keeps (with_call functions number f place this vs s) h
+
+    script_keeping : (callee : Callee) (label : Label) (this : Val) (vs : List Val) → Keeping (scope kind.Call label (λ depth. entered functions callee label this vs E depth) >>= λ l. ret (answer l))
+    script_keeping callee label this vs = bind_keeping _ (scope_keeping kind.Call label (λ depth. entered functions callee label this vs E depth) (λ depth. record { keeps = λ s h. entered_keeps callee label this vs depth s h })) (λ l. ret_keeping (answer l))
+
+    by_keeping : (callee : Callee) (label : Label) (o : ℕ) (this : Val) (vs : List Val) → Keeping (call_by functions callee label o this vs E)
+    unfolding call_by
+    by_keeping not_callable label o this vs = script_keeping not_callable label this vs
+    by_keeping empty_callee label o this vs = script_keeping empty_callee label this vs
+    by_keeping (of_script number f place) label o this vs = script_keeping (of_script number f place) label this vs
+    by_keeping (of_built_in which) label o this vs = framed_keeping kind.Native label _ (λ depth. c.built_in which false (this ∷ called_value label o ∷ vs))
+
+    aimed_keeps : (label : Label) (aim : Aim) (this : Val) (vs : List Val) (s : State) → AreNamed tables s.lines → Keeps (call_aimed functions label aim this vs E s)
+    unfolding call_aimed
+    aimed_keeps label aim this vs s h = (by_keeping (callee_at functions s.heap aim.target.function) (union label aim.label) aim.target.function (this_or aim.target.this this) (aim.target.args ++ vs)).keeps s h
+
+    call_keeping : (label : Label) (f : Value) (this : Val) (vs : List Val) → Keeping (call_value functions label f this vs E)
+    unfolding call_value
+    call_keeping label (value.Primitive p) this vs = record { keeps = λ s h. (by_keeping not_callable label 0 this vs).keeps s h }
+    call_keeping label (value.Object o) this vs = record { keeps = λ s h. aimed_keeps label (aim_of s.heap o.0) this vs s h }
+
+    -- a construction
+    constructed_keeps : (callee : Callee) (label : Label) (o : ℕ) (vs : List Val) (depth : ℕ) (s : State) → AreNamed tables s.lines → Keeps (constructed functions callee label o vs E depth s)
+    unfolding constructed
+    constructed_keeps not_callable label o vs depth s h = throw_keeps _ _ _ s h
+    constructed_keeps empty_callee label o vs depth s h = throw_keeps _ _ _ s h
+    constructed_keeps (of_built_in which) label o vs depth s h = throw_keeps _ _ _ s h
+    constructed_keeps (of_script number code place) label o vs depth s h = entered_keeps (of_script number code place) label _ vs depth (with_fresh (prototype_of s.heap o) s) h
+
+    new_script_keeps : (callee : Callee) (label : Label) (o : ℕ) (vs : List Val) (s : State) → AreNamed tables s.lines → Keeps ((scope kind.Call label (λ depth. constructed functions callee label o vs E depth) >>= λ l. ret (construction (length s.heap) l)) s)
+    new_script_keeps callee label o vs s h = (bind_keeping (λ l. ret (construction (length s.heap) l)) (scope_keeping kind.Call label (λ depth. constructed functions callee label o vs E depth) (λ depth. record { keeps = λ t k. constructed_keeps callee label o vs depth t k })) (λ l. ret_keeping (construction (length s.heap) l))).keeps s h
+
+    module _ (set : BuiltIns) where
+      native_keeping : (which : ℕ) (label : Label) (o : ℕ) (vs : List Val) → Keeping (construct_built_in set which label o vs E)
+      unfolding construct_built_in
+      native_keeping which label o vs = choose_keeping (constructs_in set which) (c.built_in which true (unlabelled _ ∷ called_value label o ∷ vs)) (record { keeps = λ s h. throw_keeps _ _ label s h })
+
+      construct_by_keeps : (callee : Callee) (label : Label) (o : ℕ) (vs : List Val) (s : State) → AreNamed tables s.lines → Keeps (construct_by set functions callee label o vs E s)
+      unfolding construct_by
+      construct_by_keeps not_callable label o vs s h = new_script_keeps not_callable label o vs s h
+      construct_by_keeps empty_callee label o vs s h = new_script_keeps empty_callee label o vs s h
+      construct_by_keeps (of_script number code place) label o vs s h = new_script_keeps (of_script number code place) label o vs s h
+      construct_by_keeps (of_built_in which) label o vs s h = (framed_keeping kind.Native label _ (λ depth. native_keeping which label o vs)).keeps s h
+
+      construct_aimed_keeps : (label : Label) (aim : Aim) (vs : List Val) (s : State) → AreNamed tables s.lines → Keeps (construct_aimed set functions label aim vs E s)
+      unfolding construct_aimed
+      construct_aimed_keeps label aim vs s h = construct_by_keeps (callee_at functions s.heap aim.target.function) (union label aim.label) aim.target.function (aim.target.args ++ vs) s h
+
+      construct_keeping : (label : Label) (f : Value) (vs : List Val) → Keeping (construct_value set functions label f vs E)
+      unfolding construct_value
+      construct_keeping label (value.Primitive p) vs = record { keeps = λ s h. construct_by_keeps not_callable label 0 vs s h }
+      construct_keeping label (value.Object o) vs = record { keeps = λ s h. construct_aimed_keeps label (aim_of s.heap o.0) vs s h }
+
+    -- getters and setters
+    access_entered : (a : Access) → Keeping (entered_access functions E a)
+    unfolding entered_access
+    access_entered (has_value v) = ret_keeping v
+    access_entered (has_getter label f this) = call_keeping label (value.Object f) this []
+
+    putting_entered : (v : Val) (p : Putting) → Keeping (entered_putting functions E v p)
+    unfolding entered_putting
+    putting_entered v is_put = ret_keeping tt
+    putting_entered v (has_setter label f this) = bind_keeping _ (call_keeping label (value.Object f) this (v ∷ [])) (λ u. ret_keeping tt)
+
+    -- the conversion of an object
+    converted_keeping : (b : Bool) (h : Hint) (label : Label) (v given : Val) → Keeping (converted_by b E h label v given)
+    unfolding converted_by convert
+    converted_keeping true h label v given = framed_keeping kind.Native label _ (λ depth. c.conversion h v)
+    converted_keeping false h label v given = ret_keeping given
+
+    -- `instanceof`
+    is_instance_keeps : (label : Label) (o : ℕ) (v : Value) (s : State) → AreNamed tables s.lines → Keeps (is_instance label o v s)
+    unfolding is_instance
+    is_instance_keeps label o (value.Primitive p) s h = throw_keeps _ _ _ s h
+    is_instance_keeps label o (value.Object proto) s h = h
+
+    instance_by_keeps : (v : Val) (x : Value) (label : Label) (f : ℕ) (s : State) → AreNamed tables s.lines → Keeps (instance_by functions v x label f E s)
+    unfolding instance_by
+    instance_by_keeps v (value.Primitive p) label f s h = h
+    instance_by_keeps v (value.Object o) label f s h = (bind_keeping {Y = Val} (λ proto. is_instance (union (union v.label label) proto.label) o.0 proto.value)
+        (bind_keeping {m = property_of (union v.label label) (called_value label f) (value.Object (id f)) prototype_name} (entered_access functions E)
+        (record { keeps = λ t k. property_keeps (union v.label label) (called_value label f) (value.Object (id f)) prototype_name t k }) access_entered)
+        (λ proto. record { keeps = λ t k. is_instance_keeps (union (union v.label label) proto.label) o.0 proto.value t k })).keeps s h
+
+    instance_if_keeps : (b : Bool) (v : Val) (label : Label) (f : ℕ) (s : State) → AreNamed tables s.lines → Keeps (instance_if functions b v label f E s)
+    unfolding instance_if instance_of
+    instance_if_keeps true v label f s h = instance_by_keeps v v.value _ (aim_of s.heap f).target.function s h
+    instance_if_keeps false v label f s h = throw_keeps _ _ _ s h
+
+    instance_keeping : (v : Val) (label : Label) (f : Value) → Keeping (instance_value functions v label f E)
+    unfolding instance_value
+    instance_keeping v label (value.Primitive p) = record { keeps = λ s h. throw_keeps _ _ _ s h }
+    instance_keeping v label (value.Object f) = record { keeps = λ s h. instance_if_keeps (is_function_in (slice_get s.heap f.0)) v label f.0 s h }
+
   -- ---- the operations
 
-  -- any result
+  -- any results
   any_result : (t : Ty) (a : Res Val t) → Rel (λ (w : Unit {0}) (v u : Val). Unit {0}) t tt a a
   any_result One a = tt
   any_result a_value a = tt
 
+  any_results : (vs : List Val) → Rels (λ (v u : Val). Unit {0}) vs vs
+  any_results [] = nils
+  any_results (v ∷ vs) = conses tt (any_results vs)
+
+  -- what is entered, of the first of two alone
+  entering : {E D : Enters} → EnteringLinked (Unit {0}) (λ w (v u : Val). Unit {0}) (λ w (e d : Env ℕ). Unit {0}) (λ t w (m n : L (Res Val t)). Keeping m) E D → EntersKeeping E
+  entering h = record { body = λ ss e. h.body tt ss e e tt; built_in = λ which construct vs. h.built_in tt which construct vs vs (any_results vs); conversion = λ kind v. h.conversion tt kind v v tt }
+
   -- linked with themselves: what is said of the first of two alone
-  module _ (functions : List FunctionCode) where
-    naming : Link (labelled tables inputs functions) (labelled tables inputs functions)
+  module _ (set : BuiltIns) (functions : List FunctionCode) where
+    naming : Link (labelled tables inputs set functions) (labelled tables inputs set functions)
     naming = record {
       W = Unit {0};
       Le = λ v w. Unit {0};
@@ -552,36 +712,37 @@ module _ (tables : Tables) (inputs : Given) where
       literal = λ w v. tt;
       unary = λ o {v = v} r. record { keeps = λ s h. (given_keeping v.label (unary_of o (seen s.heap v.value))).keeps s h };
       binary = λ o {v = v} {u = u} r q. given_keeping (union v.label u.label) (binary_of o v.value u.value);
-      primitive = λ hint {v = v} r. unless_keeping (is_object v.value) v;
-      comparable = λ {v = v} {u = u} r q. unless_keeping (converts_beside v.value u.value) v;
+      primitive = λ kind {v = v} r h. converted_keeping functions (entering h) (is_object v.value) kind v.label v v;
+      comparable = λ {v = v} {u = u} r q h. converted_keeping functions (entering h) (converts_beside v.value u.value) hint.Default (union v.label u.label) v (joined u.label v);
       act = λ a {vs = vs} rs. act_keeping a vs;
-      direct = λ f {vs = vs} rs. direct_keeping f vs;
+      look = λ {v = v} f g r h. bind_keeping _ (raise_keeping v.label) (λ u. record { keeps = λ s k. (h tt tt (seen s.heap v.value)).keeps s k });
       function = λ f {i = i} r. record { keeps = λ s h. function_keeps functions f i s h };
       jump = λ leaving {e = e} {v = v} r q. jumps_keeping (aimed 0 leaving e) v;
       raise = λ leaving {e = e} names r. raised_keeping leaving (aimed 0 leaving e) (named_origins tables inputs names);
-      unbuilt = λ t w. halts_keeping (left not_built);
+      throw = λ {v = v} r. record { keeps = λ s h. jump_keeps _ _ _ s h };
+      leave = λ t w name. halts_keeping (left name);
       resolve = λ t {i = i} x f g p h. record { keeps = λ s k. (h tt tt (resolved s.records s.heap i x) (resolved s.records s.heap i x) tt).keeps s k };
+      get_value = λ {n = n} r h. bind_keeping _ (accessed_keeping n) (access_entered functions (entering h));
+      typeof_value = λ {n = n} r h. bind_keeping _ (typeof_keeping n) (access_entered functions (entering h));
+      put_value = λ {n = n} {v = v} r q h. bind_keeping _ (put_keeping n v) (putting_entered functions (entering h) v);
       property = λ r q. tt;
-      get_value = λ {n = n} f g r h. value_keeping n;
-      typeof_value = λ {n = n} f g r h. typeof_keeping n;
-      put_value = λ {n = n} {v = v} f g r q h. put_keeping n v;
       remove = λ {n = n} r. remove_keeping n;
       this_of = λ r. tt;
-      instance = λ {v = v} {f = f} k k' r q h. record { keeps = λ s g. instance_keeps (is_function_at s.heap f.value) v f s g };
+      instance = λ {v = v} {f = f} r q h. instance_keeping functions (entering h) v f.label f.value;
       fork = λ t {v = v} r h k. fork_keeping t v (h tt tt) (k tt tt);
       round = λ turn labels {e = e} f g r h. round_keeping turn labels e f (λ d. h tt tt d d tt);
       again = λ {v = v} r h k. again_keeping v h k;
       keys = λ {v = v} f g r h. record { keeps = λ s k. (list_keeping (key_list s.heap v.value) v.label f (λ ks. h tt tt ks)).keeps s k };
-      declare = λ name {v = v} {e = e} k k' r q h. record { keeps = λ s g. (h tt tt (with_place (length s.records) e) (with_place (length s.records) e) tt).keeps (with_name e.place name v s) g };
-      call = λ {f = f} {this = this} {vs = vs} k k' r q rs h. call_keeping functions f this vs k (λ ss e. h tt ss e e tt);
-      construct = λ {f = f} {vs = vs} k k' r rs h. construct_keeping functions f vs k (λ ss e. h tt ss e e tt);
+      declare = λ name {v = v} {e = e} f g r q h. record { keeps = λ s k. (h tt tt (with_place (length s.records) e) (with_place (length s.records) e) tt).keeps (with_name e.place name v s) k };
+      call = λ {f = f} {this = this} {vs = vs} r q rs h. call_keeping functions (entering h) f.label f.value this vs;
+      construct = λ {f = f} {vs = vs} r rs h. construct_keeping functions (entering h) set f.label f.value vs;
       attempt = λ handles finishes h h' b l f. attempt_keeping handles finishes h (b tt tt) (λ v. l tt tt v v tt) (f tt tt);
     }
 
     -- a program
-    program_keeping : (n : ℕ) (declares : Bool) (program : Statements) → Keeping (program_step (timed tables inputs functions) n declares program (outermost_env 0))
+    program_keeping : (n : ℕ) (declares : Bool) (program : Statements) → Keeping (program_step (timed tables inputs set functions) set n declares program (outermost_env 0))
     unfolding naming
-    program_keeping n declares program = program_linked (timed tables inputs functions) (timed tables inputs functions) naming (λ w. record { keeps = λ s h. spend_keeps s.turns s h }) (λ t w. halts_keeping out_of_turns) n declares program {w = tt} {e = outermost_env 0} {d = outermost_env 0} tt
+    program_keeping n declares program = program_linked (timed tables inputs set functions) (timed tables inputs set functions) naming (λ w. record { keeps = λ s h. spend_keeps s.turns s h }) set (λ t w. halts_keeping out_of_turns) n declares program {w = tt} {e = outermost_env 0} {d = outermost_env 0} tt
 
 run_lines : (o : Outcome Halt Jump (Unit {0}) State) → (run_of o).lines ≡ (state_of o).lines
 run_lines (Goes u s) = refl
@@ -589,7 +750,8 @@ run_lines (Jumps j s) = refl
 run_lines (Ends halt s) = refl
 
 -- each line of a run is on an output channel
-pub named : (tables : Tables) (inputs : Given) (program : Statements) (turns : ℕ) → AreNamed tables (tracked_run tables inputs program turns).lines
+pub named : (set : BuiltIns) (tables : Tables) (inputs : Given) (program : Statements) (turns : ℕ) → AreNamed tables (tracked_run set tables inputs program turns).lines
 unfolding tracked_run
-named tables inputs program turns =
-    subst (AreNamed tables) (sym (run_lines (program_step (timed tables inputs (functions_of program)) turns (may_declare program) program (outermost_env 0) (start tables inputs program turns)))) ((program_keeping tables inputs (functions_of program) turns (may_declare program) program).keeps (start tables inputs program turns) refl)
+named set tables inputs program turns =
+    subst (AreNamed tables) (sym (run_lines (program_step (timed tables inputs set (functions_of program)) set turns (may_declare set program) program (outermost_env 0) (start tables inputs set program turns))))
+    ((program_keeping tables inputs set (functions_of program) turns (may_declare set program) program).keeps (start tables inputs set program turns) refl)

@@ -15,8 +15,8 @@ use Rattle.flow_policy.specs.Policies.{Tables, AreChannels, IsPolicy, channel_na
 use Rattle.es_meaning.specs.Plain.{name_at}
 use Rattle.flow_meaning.specs.Scopes.{LabelledLine}
 use Rattle.low_equal.specs.Observed.{on_seen_channel}
-use Rattle.step_channels.specs.declared.printing.Printed.{Printed}
-use Rattle.step_channels.specs.Answers.{line_of}
+use Rattle.channel_requests.specs.declared.printing.Printed.{Printed}
+use Rattle.channel_requests.specs.Answers.{line_of}
 use Rattle.step_run.specs.declared.ending.Show.{Show}
 use Rattle.step_run.specs.declared.ending.Show.TheVariants as show
 use Rattle.flow_meaning.specs.Written.{line_bytes, lines_bytes}

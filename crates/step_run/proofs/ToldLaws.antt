@@ -11,6 +11,9 @@ use Rattle.js_ast.specs.Trees.{Statements}
 use Rattle.js_values.specs.declared.value.Value.{Value}
 use Rattle.js_values.specs.Objects.{Object}
 use Rattle.js_values.specs.Readings.{read_heap}
+use Rattle.native_protocol.specs.declared.request.Answer.{Answer}
+use Rattle.native_protocol.specs.declared.request.Request.{Request}
+use Rattle.es_meaning.specs.BuiltIns.{BuiltIns}
 use Rattle.es_meaning.specs.Outcomes as es
 use Rattle.es_meaning.specs.Outcomes.{done, threw, halted}
 use Rattle.es_meaning.specs.Plain.{plain_run}
@@ -57,12 +60,12 @@ tells_no_fault wanted ending.WriteFault tells = absurd (none-some wanted tells)
 tells_no_fault wanted ending.OutOfMemory tells = refl
 
 -- what a stop of a machine needs and has is declared where its ending is
-pub stop_declared : {T : Type 0} (count : ℕ) (reading : T → Label) (m : Machine T) (e : core.Ending T) → EndsDeclared count (ending_of reading m e) → IfStopped (NeedsDeclared reading count) (Ends e)
-stop_declared count reading m machine.Done h = tt
-stop_declared count reading m (machine.Threw v) h = tt
-stop_declared count reading m (machine.Stopped stop) h = h
-stop_declared count reading m (machine.Left why) h = tt
-stop_declared count reading m machine.OutOfTurns h = tt
+pub stop_declared : {T X : Type 0} (set : BuiltIns) (tells : X → Answer → X) (asks : X → Request) (count : ℕ) (reading : T → Label) (m : Machine T X) (e : core.Ending T) → EndsDeclared count (ending_of set tells asks reading m e) → IfStopped (NeedsDeclared reading count) (Ends e)
+stop_declared set tells asks count reading m machine.Done h = tt
+stop_declared set tells asks count reading m (machine.Threw v) h = tt
+stop_declared set tells asks count reading m (machine.Stopped stop) h = h
+stop_declared set tells asks count reading m (machine.Left why) h = tt
+stop_declared set tells asks count reading m machine.OutOfTurns h = tt
 
 module _ (tables : Tables) (which : Show) (run : Run) (old new : Option (List ℕ)) where
   -- a run whose lines are appended, and whose ending is told
@@ -114,17 +117,17 @@ have_of (halted (stopped rule need have)) = have
 have_of _ = []
 
 -- a stop is by a rule that is broken
-stop_broken : (rule : Rule) (need have : Label) (tables : Tables) (inputs : Given) (program : Statements) (turns : ℕ) → halted (stopped rule need have) ≡ (tracked_run tables inputs program turns).ending
-    → Erases (tracked_run tables inputs program turns) (plain_run tables inputs program turns) → within need have ≡ false
+stop_broken : (set : BuiltIns) (rule : Rule) (need have : Label) (tables : Tables) (inputs : Given) (program : Statements) (turns : ℕ) → halted (stopped rule need have) ≡ (tracked_run set tables inputs program turns).ending
+    → Erases (tracked_run set tables inputs program turns) (plain_run set tables inputs program turns) → within need have ≡ false
 unfolding need_of have_of
-stop_broken rule need have tables inputs program turns is (goes_on same lines) = absurd (no_stop rule need have (plain_run tables inputs program turns).ending (is ∙ same))
-stop_broken rule need have tables inputs program turns is (stops r n h rest same broken lines) =
+stop_broken set rule need have tables inputs program turns is (goes_on same lines) = absurd (no_stop rule need have (plain_run set tables inputs program turns).ending (is ∙ same))
+stop_broken set rule need have tables inputs program turns is (stops r n h rest same broken lines) =
     ap₂ within (ap need_of (is ∙ same)) (ap have_of (is ∙ same)) ∙ broken
 
-module _ (tables : Tables) (which : Show) (inputs : Given) (program : Statements) (turns : ℕ) (old new : Option (List ℕ)) where
-  pub ran_broken : IsErasing → (result : code.Ending) → Ran tables which (tracked_run tables inputs program turns) old new result → IsBroken result
+module _ (set : BuiltIns) (tables : Tables) (which : Show) (inputs : Given) (program : Statements) (turns : ℕ) (old new : Option (List ℕ)) where
+  pub ran_broken : IsErasing → (result : code.Ending) → Ran tables which (tracked_run set tables inputs program turns) old new result → IsBroken result
   ran_broken erasing (ending.Stopped rule need have) ran =
-      stop_broken rule need have tables inputs program turns (same_Some (halted (stopped rule need have)) (tracked_run tables inputs program turns).ending ran.0) (erasing tables inputs program turns)
+      stop_broken set rule need have tables inputs program turns (same_Some (halted (stopped rule need have)) (tracked_run set tables inputs program turns).ending ran.0) (erasing set tables inputs program turns)
   ran_broken erasing ending.Done ran = tt
   ran_broken erasing (ending.Threw text) ran = tt
   ran_broken erasing (ending.Left why) ran = tt
@@ -132,20 +135,20 @@ module _ (tables : Tables) (which : Show) (inputs : Given) (program : Statements
   ran_broken erasing ending.WriteFault ran = tt
   ran_broken erasing ending.OutOfMemory ran = tt
 
-  pub ran_isolated : IsIsolating → (result : code.Ending) → Ran tables which (tracked_run tables inputs program turns) old new result → Isolates tables inputs program turns result
+  pub ran_isolated : IsIsolating → (result : code.Ending) → Ran tables which (tracked_run set tables inputs program turns) old new result → Isolates set tables inputs program turns result
   ran_isolated isolating result ran finished observer other others agree others_finished =
-      (isolating observer tables inputs other program turns others agree).on_channels (ran_finished tables which (tracked_run tables inputs program turns) old new result ran finished) others_finished
+      (isolating set observer tables inputs other program turns others agree).on_channels (ran_finished tables which (tracked_run set tables inputs program turns) old new result ran finished) others_finished
 
 -- what is put of lines that an observer can't tell looks alike to it
-views_alike : (tables : Tables) → IsPolicy tables → (observer : Label) (which : Show) (first second : Given) (program : Statements) (turns others : ℕ)
-    → seen_lines observer tables (tracked_run tables first program turns).lines ≡ seen_lines observer tables (tracked_run tables second program others).lines
-    → view_of observer tables (shown_bytes which tables (tracked_run tables first program turns).lines) ≡ view_of observer tables (shown_bytes which tables (tracked_run tables second program others).lines)
-views_alike tables formed observer which first second program turns others alike =
-    let ls = (tracked_run tables first program turns).lines in
-    let ms = (tracked_run tables second program others).lines in
-    view_shown tables formed observer which ls (named tables first program turns)
+views_alike : (set : BuiltIns) (tables : Tables) → IsPolicy tables → (observer : Label) (which : Show) (first second : Given) (program : Statements) (turns others : ℕ)
+    → seen_lines observer tables (tracked_run set tables first program turns).lines ≡ seen_lines observer tables (tracked_run set tables second program others).lines
+    → view_of observer tables (shown_bytes which tables (tracked_run set tables first program turns).lines) ≡ view_of observer tables (shown_bytes which tables (tracked_run set tables second program others).lines)
+views_alike set tables formed observer which first second program turns others alike =
+    let ls = (tracked_run set tables first program turns).lines in
+    let ms = (tracked_run set tables second program others).lines in
+    view_shown tables formed observer which ls (named set tables first program turns)
     ∙ ap bodies (shown_alike observer tables which ls ms alike)
-    ∙ sym (view_shown tables formed observer which ms (named tables second program others))
+    ∙ sym (view_shown tables formed observer which ms (named set tables second program others))
 
 -- a fact of what was appended
 put_says : (old new : Option (List ℕ)) (out : List ℕ) (Says : List ℕ → Type 0) → Appends old new out → Says out → Put old new Says
@@ -163,11 +166,11 @@ ran_appends tables which run old new ending.OutOfTurns ran finished = absurd fin
 ran_appends tables which run old new ending.WriteFault ran finished = absurd finished
 ran_appends tables which run old new ending.OutOfMemory ran finished = absurd finished
 
-pub ran_viewed : (tables : Tables) → IsPolicy tables → (which : Show) (inputs : Given) (program : Statements) (turns : ℕ) (old new : Option (List ℕ)) (result : code.Ending)
-    → Ran tables which (tracked_run tables inputs program turns) old new result → Isolates tables inputs program turns result → IsolatesView tables which inputs program old new result
-ran_viewed tables formed which inputs program turns old new result ran isolates finished observer other others agree others_finished =
-    let run = tracked_run tables inputs program turns in
-    let shown_of_other = shown_bytes which tables (tracked_run tables other program others).lines in
+pub ran_viewed : (set : BuiltIns) (tables : Tables) → IsPolicy tables → (which : Show) (inputs : Given) (program : Statements) (turns : ℕ) (old new : Option (List ℕ)) (result : code.Ending)
+    → Ran tables which (tracked_run set tables inputs program turns) old new result → Isolates set tables inputs program turns result → IsolatesView set tables which inputs program old new result
+ran_viewed set tables formed which inputs program turns old new result ran isolates finished observer other others agree others_finished =
+    let run = tracked_run set tables inputs program turns in
+    let shown_of_other = shown_bytes which tables (tracked_run set tables other program others).lines in
     put_says old new (shown_bytes which tables run.lines) (λ out. view_of observer tables out ≡ view_of observer tables shown_of_other)
     (ran_appends tables which run old new result ran finished)
-    (views_alike tables formed observer which inputs other program turns others (isolates finished observer other others agree others_finished))
+    (views_alike set tables formed observer which inputs other program turns others (isolates finished observer other others agree others_finished))

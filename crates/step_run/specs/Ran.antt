@@ -6,6 +6,7 @@ use Rattle.flow_policy.specs.Policies.{Tables}
 use Rattle.flow_policy.specs.Inputs.{Given}
 use Rattle.flow_policy.specs.Observed as policy
 use Rattle.js_ast.specs.Trees.{Statements}
+use Rattle.es_meaning.specs.BuiltIns.{BuiltIns}
 use Rattle.es_meaning.specs.Outcomes.{Ending, done, threw, halted, left, out_of_turns}
 use Rattle.flow_meaning.specs.Scopes.{Halt, as_plain, stopped}
 use Rattle.flow_meaning.specs.Tracked.{Run, tracked_run}
@@ -45,18 +46,18 @@ IsFinished (ending.Threw shown) = Unit {0}
 IsFinished _ = ⊥
 
 -- isolation: with every input that agrees with this one for an observer, and any number of turns, if that run finishes too, it writes the same lines on the channels that the observer sees
-abbrev pub Isolates : Tables → Given → Statements → ℕ → code.Ending → Type 0
-Isolates tables inputs program turns result = IsFinished result → (observer : Label) (other : Given) (others : ℕ) → policy.Agree observer tables inputs other → IsFinishedBy (tracked_run tables other program others).ending
-    → seen_lines observer tables (tracked_run tables inputs program turns).lines ≡ seen_lines observer tables (tracked_run tables other program others).lines
+abbrev pub Isolates : BuiltIns → Tables → Given → Statements → ℕ → code.Ending → Type 0
+Isolates set tables inputs program turns result = IsFinished result → (observer : Label) (other : Given) (others : ℕ) → policy.Agree observer tables inputs other → IsFinishedBy (tracked_run set tables other program others).ending
+    → seen_lines observer tables (tracked_run set tables inputs program turns).lines ≡ seen_lines observer tables (tracked_run set tables other program others).lines
 
 -- a fact of the bytes that came behind those taken before, where the bytes taken are told afterwards
 abbrev pub Put : Option (List ℕ) → Option (List ℕ) → (List ℕ → Type 0) → Type 0
 Put old new Says = IfSome new (λ after. IsSomeAnd old (λ before. (out : List ℕ) × (after ≡ before ++ out) × Says out))
 
 -- isolation of what the call put: under the same conditions the observer's view of these bytes is that of the bytes that the other run's shown lines are
-abbrev pub IsolatesView : Tables → Show → Given → Statements → Option (List ℕ) → Option (List ℕ) → code.Ending → Type 0
-IsolatesView tables show inputs program old new result = IsFinished result → (observer : Label) (other : Given) (others : ℕ) → policy.Agree observer tables inputs other → IsFinishedBy (tracked_run tables other program others).ending
-    → Put old new (λ out. policy.view_of observer tables out ≡ policy.view_of observer tables (shown_bytes show tables (tracked_run tables other program others).lines))
+abbrev pub IsolatesView : BuiltIns → Tables → Show → Given → Statements → Option (List ℕ) → Option (List ℕ) → code.Ending → Type 0
+IsolatesView set tables show inputs program old new result = IsFinished result → (observer : Label) (other : Given) (others : ℕ) → policy.Agree observer tables inputs other → IsFinishedBy (tracked_run set tables other program others).ending
+    → Put old new (λ out. policy.view_of observer tables out ≡ policy.view_of observer tables (shown_bytes show tables (tracked_run set tables other program others).lines))
 
 -- what a stop needs and what it has are declared origins, and the first isn't within the second
 abbrev pub HasDeclared : ℕ → code.Ending → Type 0

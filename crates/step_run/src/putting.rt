@@ -5,22 +5,24 @@ ghost use Rattle.origin_labels.specs.Label.{Label};
 ghost use Rattle.origin_labels.specs.Stores.{IsKept};
 ghost use Rattle.flow_io.specs.Files.{Rose};
 ghost use Rattle.js_values.specs.Readings.{IsReading};
+ghost use Rattle.es_meaning.specs.BuiltIns.{built_ins_of};
 ghost use Rattle.flow_meaning.specs.Laws.{performed_run};
 ghost use Rattle.flow_meaning.specs.Scopes.{LabelledLine};
-ghost use Rattle.step_calls.specs.Calling.{IsPrinted};
+ghost use Rattle.step_requests.specs.Doing.{IsPrinted};
 ghost use Rattle.step_work.specs.Stops.{HasStop};
-ghost use Rattle.step_channels.specs.Answers.{line_of};
+ghost use Rattle.channel_requests.specs.Answers.{line_of};
 ghost use Rattle.step_core.specs.Machines.{Comes, IfOn, IfPrinted, IfStopped, Runs, ahead, comes_to, ending_of};
 ghost use Rattle.step_run.specs.Puts.{PutsLine, PutsRun, is_cut_by_write};
 
 use crate::ending::Show;
 use crate::lines::{is_shown, line_bytes};
+use channel_requests::Printed;
 use flow_io::{Failed, Sink};
 use flow_policy::Policy;
 use flow_text::OutOfMemory;
+use native_protocol::Natives;
 use origin_labels::Labels;
 use std::alloc::Global;
-use step_channels::Printed;
 use step_core::{Ending, Machine, Step, only_adds};
 
 /// What cut a run off.
@@ -31,27 +33,28 @@ pub(crate) enum Cut {
 }
 
 /// Lets a machine go on to the end of its run, and puts each shown line with one put.
-pub(crate) fn put_lines<'p, L: Labels, K: Sink>(
+pub(crate) fn put_lines<'p, L: Labels, N: Natives, K: Sink>(
     alloc: Global,
     labels: &mut L,
+    natives: &N,
     policy: &Policy,
     show: &Show,
-    machine: &mut Machine<'p, L::Label>,
+    machine: &mut Machine<'p, L::Label, N::State>,
     sink: &mut K,
 ) -> Result<Ending<L::Label>, Cut>
     requires runs { Runs L.made L.meaning L.room labels.old machine.old }
     requires policy { machine.old.policy.now ≡ policy.now }
     requires open { K.shut sink.old ≡ false }
-    ensures puts { (reading : L.Label → Label) → IsReading L.made L.meaning labels.new reading → PutsRun show.now policy.now (performed_run (comes_to reading machine.old [])) (ending_of reading machine.new) (K.taken sink.old) (K.taken sink.new) result }
+    ensures puts { (reading : L.Label → Label) → IsReading L.made L.meaning labels.new reading → PutsRun show.now policy.now (performed_run (comes_to (built_ins_of (N.entries natives.now) (N.begin natives.now) (N.after natives.now) (N.asks natives.now)) (N.after natives.now) (N.asks natives.now) reading machine.old [])) (ending_of (built_ins_of (N.entries natives.now) (N.begin natives.now) (N.after natives.now) (N.asks natives.now)) (N.after natives.now) (N.asks natives.now) reading machine.new) (K.taken sink.old) (K.taken sink.new) result }
     ensures stop { IfOk result (λ e. IfStopped (HasStop (L.made labels.new)) (Step.Ends e)) }
     ensures kept { IsKept L.made L.meaning L.room L.firm labels.old labels.new }
     ensures shut { K.shut sink.new ≡ is_cut_by_write result }
     ensures faults_stay { K.faults sink.old ≤ K.faults sink.new }
     ensures failed { result ≡ Err Cut.WriteFault → Rose (K.faults sink.old) (K.faults sink.new) }
 {
-    only_adds::<L>();
+    only_adds::<L, N>();
     'steps: loop {
-        let Ok(came) = go_on(labels, machine) else {
+        let Ok(came) = go_on(labels, natives, machine) else {
             return Err(Cut::OutOfMemory);
         };
         match came {
@@ -66,12 +69,13 @@ pub(crate) fn put_lines<'p, L: Labels, K: Sink>(
 }
 
 /// Makes the room for a step, and takes it.
-fn go_on<'p, L: Labels>(
+fn go_on<'p, L: Labels, N: Natives>(
     labels: &mut L,
-    machine: &mut Machine<'p, L::Label>,
+    natives: &N,
+    machine: &mut Machine<'p, L::Label, N::State>,
 ) -> Result<Step<L::Label>, OutOfMemory>
     requires runs { Runs L.made L.meaning L.room labels.old machine.old }
-    ensures comes { IfOk result (λ s. (reading : L.Label → Label) (told : List LabelledLine) → IsReading L.made L.meaning labels.new reading → Comes reading machine.new told (comes_to reading machine.old told) s) }
+    ensures comes { IfOk result (λ s. (reading : L.Label → Label) (told : List LabelledLine) → IsReading L.made L.meaning labels.new reading → Comes (built_ins_of (N.entries natives.now) (N.begin natives.now) (N.after natives.now) (N.asks natives.now)) (N.after natives.now) (N.asks natives.now) reading machine.new told (comes_to (built_ins_of (N.entries natives.now) (N.begin natives.now) (N.after natives.now) (N.asks natives.now)) (N.after natives.now) (N.asks natives.now) reading machine.old told) s) }
     ensures runs { IfOk result (IfOn (Runs L.made L.meaning L.room labels.new machine.new)) }
     ensures lowers { IfOk result (IfOn (ahead machine.new < ahead machine.old)) }
     ensures printed { IfOk result (IfPrinted (IsPrinted (L.made labels.new) (length machine.old.policy.now.outputs))) }
@@ -80,7 +84,7 @@ fn go_on<'p, L: Labels>(
     ensures kept { IsKept L.made L.meaning L.room L.firm labels.old labels.new }
 {
     machine.reserve()?;
-    let came = machine.step(labels)?;
+    let came = machine.step(labels, natives)?;
     Ok(came)
 }
 

@@ -11,6 +11,9 @@ ghost use Rattle.flow_meaning.specs.Scopes as meaning;
 ghost use Rattle.step_work.specs.Stops.{HasStop};
 ghost use Rattle.step_core.specs.declared.steps.Step.TheVariants.{Ends};
 ghost use Rattle.step_core.specs.Machines.{IfStopped, ending_of};
+ghost use Rattle.native_protocol.specs.declared.request.Answer.{Answer};
+ghost use Rattle.native_protocol.specs.declared.request.Request.{Request};
+ghost use Rattle.es_meaning.specs.BuiltIns.{BuiltIns};
 ghost use Rattle.step_run.specs.Puts.{NeedsDeclared, Tells};
 
 use crate::ending::Ending;
@@ -26,16 +29,16 @@ use std::alloc::Global;
 use step_core::Machine;
 
 /// How a run ended.
-pub(crate) fn told<'p, L: Labels>(
+pub(crate) fn told<'p, L: Labels, S>(
     alloc: Global,
     labels: &L,
     policy: &Policy,
-    machine: &Machine<'p, L::Label>,
+    machine: &Machine<'p, L::Label, S>,
     ending: step_core::Ending<L::Label>,
 ) -> Ending
     requires stop { IfStopped (HasStop (L.made labels.now)) (Ends ending) }
     requires declared { IfStopped (NeedsDeclared (L.meaning labels.now) (length policy.now.origins)) (Ends ending) }
-    ensures { Tells (ending_of (L.meaning labels.now) machine.now ending) result }
+    ensures { (set : BuiltIns) (tells : S → Answer → S) (asks : S → Request) → Tells (ending_of set tells asks (L.meaning labels.now) machine.now ending) result }
 {
     match ending {
         step_core::Ending::Done => Ending::Done,

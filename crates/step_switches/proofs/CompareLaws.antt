@@ -16,11 +16,12 @@ use Rattle.js_values.specs.declared.value.Labelled.{Labelled}
 use Rattle.js_values.specs.Readings.{IsReading, read_value}
 use Rattle.es_meaning.specs.Environments.{Env}
 use Rattle.es_meaning.specs.Operators.{binary_of}
+use Rattle.es_meaning.specs.BuiltIns.{BuiltIns}
 use Rattle.flow_meaning.specs.Scopes.{State, Val, raised_in}
 use Rattle.step_work.specs.declared.work.Next.{Next}
 use Rattle.step_work.specs.declared.work.Work.TheVariants as work
-use Rattle.step_work.specs.Kept.{Kept, kept_operands, operands_of, scopes_of}
-use Rattle.step_work.specs.Pending.{behind, compared, env_above, first_or_undefined}
+use Rattle.step_work.specs.Kept.{Kept, kept_operands, operands_of, scopes_of, waiting}
+use Rattle.step_work.specs.Pending.{behind, tests_of, setting_above, first_or_undefined}
 use Rattle.step_work.specs.Resuming.{BeginsBehind, with_frames}
 use Rattle.step_switches.specs.Clauses.{chosen, testing}
 use Rattle.step_switches.specs.Fronts.{Fronts, ResumesBesideIn}
@@ -45,53 +46,55 @@ fronts_below old below new top next is tasks fronts =
     record {
       values = fronts.values;
       scopes = fronts.scopes ∙ ap scopes_of tasks;
+      natives = fronts.natives ∙ ap waiting tasks;
+      still = fronts.still;
       operands = front_more (operands_of new) (operands_of below) (top ∷ []) fronts.operands ∙ ap (λ vs. take (length (operands_of new)) vs) (sym all);
     }
 
 -- what is said of the clauses that were read is said of those of a list that holds them
 pub none_there : (number : ℕ) (read cs : List Clause) → read ≡ cs
-    → ((tables : Tables) (inputs : Given) (functions : List FunctionCode) (v u : Val) (e : Env ℕ) (s : State) → testing tables inputs functions read number v e s ≡ compared tables inputs functions v (view_clauses read) (view_clauses (drop number read)) e u s)
-    → (tables : Tables) (inputs : Given) (functions : List FunctionCode) (v u : Val) (e : Env ℕ) (s : State) → testing tables inputs functions cs number v e s ≡ compared tables inputs functions v (view_clauses cs) (view_clauses (drop number cs)) e u s
-none_there number read cs same none tables inputs functions v u e s =
-    subst (λ (ks : List Clause). testing tables inputs functions ks number v e s ≡ compared tables inputs functions v (view_clauses ks) (view_clauses (drop number ks)) e u s) same (none tables inputs functions v u e s)
+    → ((tables : Tables) (inputs : Given) (set : BuiltIns) (functions : List FunctionCode) (v u : Val) (e : Env ℕ) (s : State) → testing tables inputs set functions read number v e s ≡ tests_of tables inputs set functions v (view_clauses read) (view_clauses (drop number read)) e u s)
+    → (tables : Tables) (inputs : Given) (set : BuiltIns) (functions : List FunctionCode) (v u : Val) (e : Env ℕ) (s : State) → testing tables inputs set functions cs number v e s ≡ tests_of tables inputs set functions v (view_clauses cs) (view_clauses (drop number cs)) e u s
+none_there number read cs same none tables inputs set functions v u e s =
+    subst (λ (ks : List Clause). testing tables inputs set functions ks number v e s ≡ tests_of tables inputs set functions v (view_clauses ks) (view_clauses (drop number ks)) e u s) same (none tables inputs set functions v u e s)
 
 pub case_there : (number : ℕ) (left read cs : List Clause) → read ≡ cs
-    → ((tables : Tables) (inputs : Given) (functions : List FunctionCode) (v u : Val) (equal : Bool) (e : Env ℕ) (s : State) → binary_of operator.StrictEqual v.value u.value ≡ Ok (prims.Bool equal) → chosen tables inputs functions read number left equal v e (raised_in (union v.label u.label) s) ≡ compared tables inputs functions v (view_clauses read) (view_clauses (drop number read)) e u s)
-    → (tables : Tables) (inputs : Given) (functions : List FunctionCode) (v u : Val) (equal : Bool) (e : Env ℕ) (s : State) → binary_of operator.StrictEqual v.value u.value ≡ Ok (prims.Bool equal) → chosen tables inputs functions cs number left equal v e (raised_in (union v.label u.label) s) ≡ compared tables inputs functions v (view_clauses cs) (view_clauses (drop number cs)) e u s
-case_there number left read cs same found tables inputs functions v u equal e s is =
-    subst (λ (ks : List Clause). chosen tables inputs functions ks number left equal v e (raised_in (union v.label u.label) s) ≡ compared tables inputs functions v (view_clauses ks) (view_clauses (drop number ks)) e u s) same (found tables inputs functions v u equal e s is)
+    → ((tables : Tables) (inputs : Given) (set : BuiltIns) (functions : List FunctionCode) (v u : Val) (equal : Bool) (e : Env ℕ) (s : State) → binary_of operator.StrictEqual v.value u.value ≡ Ok (prims.Bool equal) → chosen tables inputs set functions read number left equal v e (raised_in (union v.label u.label) s) ≡ tests_of tables inputs set functions v (view_clauses read) (view_clauses (drop number read)) e u s)
+    → (tables : Tables) (inputs : Given) (set : BuiltIns) (functions : List FunctionCode) (v u : Val) (equal : Bool) (e : Env ℕ) (s : State) → binary_of operator.StrictEqual v.value u.value ≡ Ok (prims.Bool equal) → chosen tables inputs set functions cs number left equal v e (raised_in (union v.label u.label) s) ≡ tests_of tables inputs set functions v (view_clauses cs) (view_clauses (drop number cs)) e u s
+case_there number left read cs same found tables inputs set functions v u equal e s is =
+    subst (λ (ks : List Clause). chosen tables inputs set functions ks number left equal v e (raised_in (union v.label u.label) s) ≡ tests_of tables inputs set functions v (view_clauses ks) (view_clauses (drop number ks)) e u s) same (found tables inputs set functions v u equal e s is)
 
 module _ {S T : Type 0} (made : S → T → Type 0) (meaning : S → T → Label) (store : S) (clauses : Bor (NodeList Clause)) (number : ℕ) (old below new : Kept T) (top : Labelled T) (next : Next) where
   -- no case stands there
   pub none_goes : (frames : List (Held T)) → old.loose ≡ below.loose ++ top ∷ [] → below.tasks ≡ old.tasks
-      → ((tables : Tables) (inputs : Given) (functions : List FunctionCode) (v u : Val) (e : Env ℕ) (s : State) → testing tables inputs functions (nodes_of clauses.now) number v e s ≡ compared tables inputs functions v (view_clauses (nodes_of clauses.now)) (view_clauses (drop number (nodes_of clauses.now))) e u s)
-      → BeginsBehind (λ tables inputs functions vs e. testing tables inputs functions (nodes_of clauses.now) number (first_or_undefined vs) e) below new next
+      → ((tables : Tables) (inputs : Given) (set : BuiltIns) (functions : List FunctionCode) (v u : Val) (e : Env ℕ) (s : State) → testing tables inputs set functions (nodes_of clauses.now) number v e s ≡ tests_of tables inputs set functions v (view_clauses (nodes_of clauses.now)) (view_clauses (drop number (nodes_of clauses.now))) e u s)
+      → BeginsBehind (λ tables inputs set functions vs e. testing tables inputs set functions (nodes_of clauses.now) number (first_or_undefined vs) e.env) below new next
       → ResumesBesideIn made meaning store (work.Compared clauses number) old new frames frames next
-  none_goes frames is tasks none begins tables inputs functions reading e s operand value read loose =
+  none_goes frames is tasks none begins tables inputs set functions reading e s operand value read loose =
       let both = two_last below.loose top operand value (sym is ∙ loose) in
       let t = with_frames reading frames s in
-      begins tables inputs functions reading e t
-      ∙ ap₂ (λ ts vs. behind tables inputs functions reading ts e (testing tables inputs functions (nodes_of clauses.now) number (first_or_undefined (map (read_value reading) vs)) (env_above ts e) t)) tasks both.0
-      ∙ ap (behind tables inputs functions reading old.tasks e) (none tables inputs functions (read_value reading operand) (read_value reading value) (env_above old.tasks e) t)
+      begins tables inputs set functions reading e t
+      ∙ ap₂ (λ ts vs. behind tables inputs set functions reading ts e (testing tables inputs set functions (nodes_of clauses.now) number (first_or_undefined (map (read_value reading) vs)) (setting_above ts e).env t)) tasks both.0
+      ∙ ap (behind tables inputs set functions reading old.tasks e) (none tables inputs set functions (read_value reading operand) (read_value reading value) (setting_above old.tasks e).env t)
 
   -- the frame is raised by both values, and the comparison chooses
   pub case_goes : (left : List Clause) (equal : Bool) (lowest : Labelled T) (frames_old frames_new : List (Held T)) → old.loose ≡ below.loose ++ top ∷ [] → below.tasks ≡ old.tasks
       → ((value : Labelled T) → below.loose ≡ value ∷ [] → lowest ≡ value)
       → binary_of operator.StrictEqual lowest.value top.value ≡ Ok (prims.Bool equal)
       → ((reading : T → Label) (s : State) → IsReading made meaning store reading → with_frames reading frames_new s ≡ raised_in (union (reading lowest.label) (reading top.label)) (with_frames reading frames_old s))
-      → ((tables : Tables) (inputs : Given) (functions : List FunctionCode) (v u : Val) (equal : Bool) (e : Env ℕ) (s : State) → binary_of operator.StrictEqual v.value u.value ≡ Ok (prims.Bool equal) → chosen tables inputs functions (nodes_of clauses.now) number left equal v e (raised_in (union v.label u.label) s) ≡ compared tables inputs functions v (view_clauses (nodes_of clauses.now)) (view_clauses (drop number (nodes_of clauses.now))) e u s)
-      → BeginsBehind (λ tables inputs functions vs e. chosen tables inputs functions (nodes_of clauses.now) number left equal (first_or_undefined vs) e) below new next
+      → ((tables : Tables) (inputs : Given) (set : BuiltIns) (functions : List FunctionCode) (v u : Val) (equal : Bool) (e : Env ℕ) (s : State) → binary_of operator.StrictEqual v.value u.value ≡ Ok (prims.Bool equal) → chosen tables inputs set functions (nodes_of clauses.now) number left equal v e (raised_in (union v.label u.label) s) ≡ tests_of tables inputs set functions v (view_clauses (nodes_of clauses.now)) (view_clauses (drop number (nodes_of clauses.now))) e u s)
+      → BeginsBehind (λ tables inputs set functions vs e. chosen tables inputs set functions (nodes_of clauses.now) number left equal (first_or_undefined vs) e.env) below new next
       → ResumesBesideIn made meaning store (work.Compared clauses number) old new frames_old frames_new next
-  case_goes left equal lowest frames_old frames_new is tasks lies same frames found begins tables inputs functions reading e s operand value read loose =
+  case_goes left equal lowest frames_old frames_new is tasks lies same frames found begins tables inputs set functions reading e s operand value read loose =
       let both = two_last below.loose top operand value (sym is ∙ loose) in
       let low : lowest ≡ operand = lies operand both.0 in
       let t = with_frames reading frames_new s in
       let r = with_frames reading frames_old s in
-      let f = env_above old.tasks e in
+      let f = (setting_above old.tasks e).env in
       let v = read_value reading operand in
       let cs = nodes_of clauses.now in
-      begins tables inputs functions reading e t
-      ∙ ap₂ (λ ts vs. behind tables inputs functions reading ts e (chosen tables inputs functions cs number left equal (first_or_undefined (map (read_value reading) vs)) (env_above ts e) t)) tasks both.0
-      ∙ ap (λ q. behind tables inputs functions reading old.tasks e (chosen tables inputs functions cs number left equal v f q)) (frames reading s read)
-      ∙ ap₂ (λ (x : Labelled T) (y : Labelled T). behind tables inputs functions reading old.tasks e (chosen tables inputs functions cs number left equal v f (raised_in (union (reading x.label) (reading y.label)) r))) low both.1
-      ∙ ap (behind tables inputs functions reading old.tasks e) (found tables inputs functions v (read_value reading value) equal f r (sym (ap₂ (λ (x : Labelled T) (y : Labelled T). binary_of operator.StrictEqual x.value y.value) low both.1) ∙ same))
+      begins tables inputs set functions reading e t
+      ∙ ap₂ (λ ts vs. behind tables inputs set functions reading ts e (chosen tables inputs set functions cs number left equal (first_or_undefined (map (read_value reading) vs)) (setting_above ts e).env t)) tasks both.0
+      ∙ ap (λ q. behind tables inputs set functions reading old.tasks e (chosen tables inputs set functions cs number left equal v f q)) (frames reading s read)
+      ∙ ap₂ (λ (x : Labelled T) (y : Labelled T). behind tables inputs set functions reading old.tasks e (chosen tables inputs set functions cs number left equal v f (raised_in (union (reading x.label) (reading y.label)) r))) low both.1
+      ∙ ap (behind tables inputs set functions reading old.tasks e) (found tables inputs set functions v (read_value reading value) equal f r (sym (ap₂ (λ (x : Labelled T) (y : Labelled T). binary_of operator.StrictEqual x.value y.value) low both.1) ∙ same))

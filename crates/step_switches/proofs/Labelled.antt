@@ -13,7 +13,7 @@ use Rattle.flow_meaning.specs.Planned.{and_plan, planned, asking}
 use Rattle.step_work.specs.declared.work.Work.TheVariants as work
 use Rattle.step_work.specs.declared.work.Next.TheVariants as next
 use Rattle.step_work.specs.Kept.{Kept}
-use Rattle.step_work.specs.Pending.{after, behind, env_above, inside, next_plan}
+use Rattle.step_work.specs.Pending.{after, behind, setting_above, setting_inside, next_plan}
 use Rattle.step_work.specs.Resuming.{BeginsIn, with_frames}
 use Rattle.step_switches.proofs.Pushed.{pushed_plan}
 
@@ -21,9 +21,9 @@ module _ {S T : Type 0} (made : S → T → Type 0) (meaning : S → T → Label
   pub label_begins : (text : Bor (List ℕ)) (body : Bor Stmt) (old new : Kept T) (frames_old frames_new : List (Held T)) (depth : ℕ)
       → old.loose ≡ [] → new ≡ record { tasks = old.tasks ++ (work.EndLabel depth text, old.loose) ∷ []; loose = [] } → depth ≡ length frames_old
       → ((reading : T → Label) → IsReading made meaning store reading → map (seen_frame reading) frames_new ≡ map (seen_frame reading) frames_old ++ pushed kind.Loop bottom ∷ [])
-      → BeginsIn made meaning store (λ tables inputs functions e. (planned tables inputs functions).round false (Some text.now ∷ []) e ((asking tables inputs functions).stmt (view_stmt body.now))) old new frames_old frames_new (next.Stmt body)
-  label_begins text body old new frames_old frames_new depth none is deep entered tables inputs functions reading e s read loose =
-      let f = env_above old.tasks e in
+      → BeginsIn made meaning store (λ tables inputs set functions e. (planned tables inputs set functions).round false (Some text.now ∷ []) e.env ((asking tables inputs set functions).stmt (view_stmt body.now))) old new frames_old frames_new (next.Stmt body)
+  label_begins text body old new frames_old frames_new depth none is deep entered tables inputs set functions reading e s read loose =
+      let f = setting_above old.tasks e in
       let w = λ (d : ℕ). work.EndLabel d text in
-      pushed_plan tables inputs functions reading (w depth) (next.Stmt body) old new e (with_frames reading frames_new s) is
-      ∙ ap₂ (λ d t. behind tables inputs functions reading old.tasks e (and_plan (next_plan tables inputs functions (next.Stmt body) [] (inside (w d) f) t) (after tables inputs functions (w d) [] f))) (deep ∙ sym (length-map frames_old (seen_frame reading))) (ap (λ fs. record s { frames = fs }) (entered reading read))
+      pushed_plan tables inputs set functions reading (w depth) (next.Stmt body) old new e (with_frames reading frames_new s) is
+      ∙ ap₂ (λ d t. behind tables inputs set functions reading old.tasks e (and_plan (next_plan tables inputs set functions (next.Stmt body) [] (setting_inside (w d) f) t) (after tables inputs set functions (w d) [] f))) (deep ∙ sym (length-map frames_old (seen_frame reading))) (ap (λ fs. record s { frames = fs }) (entered reading read))

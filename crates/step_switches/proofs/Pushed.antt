@@ -8,7 +8,7 @@ use Rattle.js_ast.specs.declared.trees.Clause.{Clause}
 use Rattle.js_ast.specs.declared.trees.Stmt.{Stmt}
 use Rattle.js_ast.specs.Functions.{FunctionCode}
 use Rattle.js_values.specs.Readings.{read_value}
-use Rattle.es_meaning.specs.Environments.{Env}
+use Rattle.es_meaning.specs.BuiltIns.{BuiltIns}
 use Rattle.flow_meaning.specs.Scopes.{State}
 use Rattle.flow_meaning.specs.Planned.{and_plan}
 use Rattle.step_work.specs.declared.work.Work.{Work}
@@ -16,21 +16,22 @@ use Rattle.step_work.specs.declared.work.Work.TheVariants as work
 use Rattle.step_work.specs.declared.work.Next.{Next}
 use Rattle.step_work.specs.declared.work.Next.TheVariants as next
 use Rattle.step_work.specs.Kept.{Kept}
-use Rattle.step_work.specs.Pending.{inside, env_above, after, behind, next_plan}
+use Rattle.step_work.specs.Pending.{setting_inside, setting_above, after, behind, next_plan}
 use Rattle.step_work.specs.Resuming.{coming}
-use Rattle.step_work.proofs.Behind.{behind_more, env_more}
+use Rattle.step_work.proofs.Behind.{behind_more, setting_more}
+use Rattle.step_work.specs.Settings.{Setting}
 
-module _ (tables : Tables) (inputs : Given) (functions : List FunctionCode) {T : Type 0} (reading : T → Label) where
-  pub pushed_plan : (w : Work) (move : Next) (old new : Kept T) (e : Env ℕ) (s : State) → new ≡ record { tasks = old.tasks ++ (w, old.loose) ∷ []; loose = [] }
-      → coming tables inputs functions reading new move e s ≡ behind tables inputs functions reading old.tasks e (and_plan (next_plan tables inputs functions move [] (inside w (env_above old.tasks e)) s) (after tables inputs functions w (map (read_value reading) old.loose) (env_above old.tasks e)))
+module _ (tables : Tables) (inputs : Given) (set : BuiltIns) (functions : List FunctionCode) {T : Type 0} (reading : T → Label) where
+  pub pushed_plan : (w : Work) (move : Next) (old new : Kept T) (e : Setting) (s : State) → new ≡ record { tasks = old.tasks ++ (w, old.loose) ∷ []; loose = [] }
+      → coming tables inputs set functions reading new move e s ≡ behind tables inputs set functions reading old.tasks e (and_plan (next_plan tables inputs set functions move [] (setting_inside w (setting_above old.tasks e)) s) (after tables inputs set functions w (map (read_value reading) old.loose) (setting_above old.tasks e)))
   pushed_plan w move old new e s is =
-      ap (λ (k : Kept T). coming tables inputs functions reading k move e s) is
-      ∙ ap (λ f. behind tables inputs functions reading (old.tasks ++ (w, old.loose) ∷ []) e (next_plan tables inputs functions move [] f s)) (env_more old.tasks (w, old.loose) e)
-      ∙ behind_more tables inputs functions reading old.tasks (w, old.loose) e (next_plan tables inputs functions move [] (inside w (env_above old.tasks e)) s)
+      ap (λ (k : Kept T). coming tables inputs set functions reading k move e s) is
+      ∙ ap (λ f. behind tables inputs set functions reading (old.tasks ++ (w, old.loose) ∷ []) e (next_plan tables inputs set functions move [] f s)) (setting_more old.tasks (w, old.loose) e)
+      ∙ behind_more tables inputs set functions reading old.tasks (w, old.loose) e (next_plan tables inputs set functions move [] (setting_inside w (setting_above old.tasks e)) s)
 
   -- a statement of a clause, in front of those behind it
-  pub pushed_falls : (clauses : Bor (List Clause)) (n : ℕ) (st : Bor Stmt) (old new : Kept T) (e : Env ℕ) (s : State) → old.loose ≡ [] → new ≡ record { tasks = old.tasks ++ (work.Falls clauses n, old.loose) ∷ []; loose = [] }
-      → coming tables inputs functions reading new (next.Stmt st) e s ≡ behind tables inputs functions reading old.tasks e (and_plan (next_plan tables inputs functions (next.Stmt st) [] (env_above old.tasks e) s) (after tables inputs functions (work.Falls clauses n) [] (env_above old.tasks e)))
+  pub pushed_falls : (clauses : Bor (List Clause)) (n : ℕ) (st : Bor Stmt) (old new : Kept T) (e : Setting) (s : State) → old.loose ≡ [] → new ≡ record { tasks = old.tasks ++ (work.Falls clauses n, old.loose) ∷ []; loose = [] }
+      → coming tables inputs set functions reading new (next.Stmt st) e s ≡ behind tables inputs set functions reading old.tasks e (and_plan (next_plan tables inputs set functions (next.Stmt st) [] (setting_above old.tasks e) s) (after tables inputs set functions (work.Falls clauses n) [] (setting_above old.tasks e)))
   pushed_falls clauses n st old new e s none is =
       pushed_plan (work.Falls clauses n) (next.Stmt st) old new e s is
-      ∙ ap (λ vs. behind tables inputs functions reading old.tasks e (and_plan (next_plan tables inputs functions (next.Stmt st) [] (env_above old.tasks e) s) (after tables inputs functions (work.Falls clauses n) (map (read_value reading) vs) (env_above old.tasks e)))) none
+      ∙ ap (λ vs. behind tables inputs set functions reading old.tasks e (and_plan (next_plan tables inputs set functions (next.Stmt st) [] (setting_above old.tasks e) s) (after tables inputs set functions (work.Falls clauses n) (map (read_value reading) vs) (setting_above old.tasks e)))) none

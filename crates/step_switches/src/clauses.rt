@@ -10,8 +10,9 @@ ghost use Rattle.js_ast.specs.declared.operators.BinaryOperator.TheVariants as o
 ghost use Rattle.js_number.specs.declared.primitive.Primitive.TheVariants as prims;
 ghost use Rattle.es_meaning.specs.Environments.{Env};
 ghost use Rattle.es_meaning.specs.Operators.{binary_of};
+ghost use Rattle.es_meaning.specs.BuiltIns.{BuiltIns};
 ghost use Rattle.flow_meaning.specs.Scopes.{State, Val, raised_in};
-ghost use Rattle.step_work.specs.Pending.{compared};
+ghost use Rattle.step_work.specs.Pending.{tests_of};
 ghost use Rattle.step_switches.specs.Clauses.{by_default, chosen, falling, found_default, found_falls, found_test, testing};
 
 use crate::falling::one_more;
@@ -28,7 +29,7 @@ pub(crate) struct Found<'p> {
 
 /// The statement that is done first: that of the first clause with a number, or else the first of the clauses behind it.
 pub(crate) fn next_statement<'p>(clauses: &'p [Clause], number: u32) -> Option<Found<'p>>
-    ensures { (tables : Tables) (inputs : Given) (functions : List FunctionCode) (e : Env ℕ) (s : State) → found_falls tables inputs functions result e s ≡ falling tables inputs functions number clauses.entry.now e s }
+    ensures { (tables : Tables) (inputs : Given) (set : BuiltIns) (functions : List FunctionCode) (e : Env ℕ) (s : State) → found_falls tables inputs set functions result e s ≡ falling tables inputs set functions number clauses.entry.now e s }
 {
     let mut left = clauses;
     let mut number = number;
@@ -58,7 +59,7 @@ pub(crate) fn next_test<'p>(
     clauses: &'p [Clause],
     from: u32,
 ) -> Result<Option<Test<'p>>, OutOfMemory>
-    ensures { IfOk result (λ found. (tables : Tables) (inputs : Given) (functions : List FunctionCode) (v : Val) (e : Env ℕ) (s : State) → found_test tables inputs functions clauses.entry.now found v e s ≡ testing tables inputs functions clauses.entry.now from v e s) }
+    ensures { IfOk result (λ found. (tables : Tables) (inputs : Given) (set : BuiltIns) (functions : List FunctionCode) (v : Val) (e : Env ℕ) (s : State) → found_test tables inputs set functions clauses.entry.now found v e s ≡ testing tables inputs set functions clauses.entry.now from v e s) }
 {
     let mut number = from;
     while let Some(clause) = clauses.get(number as usize) {
@@ -72,7 +73,7 @@ pub(crate) fn next_test<'p>(
 
 /// The default clause, and those behind it.
 pub(crate) fn default_clause<'p>(clauses: &'p [Clause]) -> Option<&'p [Clause]>
-    ensures { (tables : Tables) (inputs : Given) (functions : List FunctionCode) (e : Env ℕ) (s : State) → found_default tables inputs functions result e s ≡ by_default tables inputs functions clauses.entry.now e s }
+    ensures { (tables : Tables) (inputs : Given) (set : BuiltIns) (functions : List FunctionCode) (e : Env ℕ) (s : State) → found_default tables inputs set functions result e s ≡ by_default tables inputs set functions clauses.entry.now e s }
 {
     let mut left = clauses;
     while let Some((clause, others)) = left.split_first() {
@@ -86,8 +87,8 @@ pub(crate) fn default_clause<'p>(clauses: &'p [Clause]) -> Option<&'p [Clause]>
 
 /// The clauses from a case on. None is there where the number is that of the default clause, or of no clause.
 pub(crate) fn case_from<'p>(clauses: &'p [Clause], number: u32) -> Option<&'p [Clause]>
-    ensures found { IfSome result (λ left. (tables : Tables) (inputs : Given) (functions : List FunctionCode) (v u : Val) (equal : Bool) (e : Env ℕ) (s : State) → binary_of operator.StrictEqual v.value u.value ≡ Ok (prims.Bool equal) → chosen tables inputs functions clauses.entry.now number left.now equal v e (raised_in (union v.label u.label) s) ≡ compared tables inputs functions v (view_clauses clauses.entry.now) (view_clauses (drop number clauses.entry.now)) e u s) }
-    ensures none { IfNone result ((tables : Tables) (inputs : Given) (functions : List FunctionCode) (v u : Val) (e : Env ℕ) (s : State) → testing tables inputs functions clauses.entry.now number v e s ≡ compared tables inputs functions v (view_clauses clauses.entry.now) (view_clauses (drop number clauses.entry.now)) e u s) }
+    ensures found { IfSome result (λ left. (tables : Tables) (inputs : Given) (set : BuiltIns) (functions : List FunctionCode) (v u : Val) (equal : Bool) (e : Env ℕ) (s : State) → binary_of operator.StrictEqual v.value u.value ≡ Ok (prims.Bool equal) → chosen tables inputs set functions clauses.entry.now number left.now equal v e (raised_in (union v.label u.label) s) ≡ tests_of tables inputs set functions v (view_clauses clauses.entry.now) (view_clauses (drop number clauses.entry.now)) e u s) }
+    ensures none { IfNone result ((tables : Tables) (inputs : Given) (set : BuiltIns) (functions : List FunctionCode) (v u : Val) (e : Env ℕ) (s : State) → testing tables inputs set functions clauses.entry.now number v e s ≡ tests_of tables inputs set functions v (view_clauses clauses.entry.now) (view_clauses (drop number clauses.entry.now)) e u s) }
 {
     let Some(clause) = clauses.get(number as usize) else {
         return None;

@@ -3,6 +3,7 @@
 ghost use Rattle.std.specs.Prelude.{◌≡◌, ◌+◌, length, IfOk};
 ghost use Rattle.step_work.specs.Loads.{Adds};
 ghost use Rattle.step_work.specs.Resuming.{Begins, Keeps};
+ghost use Rattle.step_work.specs.Standing.{running};
 ghost use Rattle.step_switches.specs.Clauses.{falling};
 
 use crate::clauses::next_statement;
@@ -17,9 +18,10 @@ pub(crate) fn fall<'p, T: Copy>(
     number: u32,
 ) -> Result<Next<'p>, OutOfMemory>
     requires loose { length stack.old.loose ≡ 0 }
-    ensures goes_on { IfOk result (Begins (λ tables inputs functions e. falling tables inputs functions number clauses.entry.now e) stack.old stack.new) }
+    ensures goes_on { IfOk result (Begins (λ tables inputs set functions e. falling tables inputs set functions number clauses.entry.now e.env) stack.old stack.new) }
     ensures keeps { IfOk result (Keeps stack.old stack.new) }
-    ensures adds { IfOk result (Adds 1 stack.old stack.new) }
+    ensures still { IfOk result (λ move. running move ≡ 0) }
+    ensures adds { IfOk result (Adds 4 stack.old stack.new) }
 {
     let Some(found) = next_statement(clauses, number) else {
         return Ok(Next::Done);

@@ -13,6 +13,7 @@ ghost use Rattle.flow_meaning.specs.Scopes.{State, pushed_on, raised_in};
 ghost use Rattle.step_work.specs.declared.work.Work.TheVariants as work;
 ghost use Rattle.step_work.specs.Loads.{Adds};
 ghost use Rattle.step_work.specs.Resuming.{BeginsIn, Opened, ResumesIn, with_frames};
+ghost use Rattle.step_work.specs.Standing.{running};
 ghost use Rattle.step_switches.specs.Fronts.{Fronts, ResumesBesideIn};
 
 use crate::clauses::case_from;
@@ -64,8 +65,9 @@ pub(crate) fn labelled_in<'p, L: Labels>(
 ) -> Result<Next<'p>, OutOfMemory>
     requires loose { length stack.old.loose ≡ 0 }
     requires belongs { Belong L.made L.meaning labels.old frames.old.frames }
-    ensures goes_on { IfOk result (BeginsIn L.made L.meaning labels.new (λ tables inputs functions e. (planned tables inputs functions).round false (Some text.entry.now ∷ []) e ((asking tables inputs functions).stmt (view_stmt body.entry.now))) stack.old stack.new frames.old.frames frames.new.frames) }
+    ensures goes_on { IfOk result (BeginsIn L.made L.meaning labels.new (λ tables inputs set functions e. (planned tables inputs set functions).round false (Some text.entry.now ∷ []) e.env ((asking tables inputs set functions).stmt (view_stmt body.entry.now))) stack.old stack.new frames.old.frames frames.new.frames) }
     ensures opened { IfOk result (Opened stack.old stack.new frames.old.frames frames.new.frames) }
+    ensures still { IfOk result (λ move. running move ≡ 0) }
     ensures adds { IfOk result (Adds 1 stack.old stack.new) }
     ensures catch { IfOk result (λ _. CatchByTry frames.new.frames) }
     ensures belongs { Belong L.made L.meaning labels.new frames.new.frames }
@@ -91,7 +93,8 @@ pub(crate) fn switched_in<'p, L: Labels>(
     requires belongs { Belong L.made L.meaning labels.old frames.old.frames }
     ensures goes_on { IfOk result (ResumesIn L.made L.meaning labels.new (work.Switched of.entry clauses.entry) stack.old stack.new frames.old.frames frames.new.frames) }
     ensures opened { IfOk result (Opened stack.old stack.new frames.old.frames frames.new.frames) }
-    ensures adds { IfOk result (Adds 2 stack.old stack.new) }
+    ensures still { IfOk result (λ move. running move ≡ 0) }
+    ensures adds { IfOk result (Adds 5 stack.old stack.new) }
     ensures catch { IfOk result (λ _. CatchByTry frames.new.frames) }
     ensures belongs { Belong L.made L.meaning labels.new frames.new.frames }
     ensures kept { IsKept L.made L.meaning L.room L.firm labels.old labels.new }
@@ -144,7 +147,7 @@ pub(crate) fn compared_in<'p, L: Labels>(
     requires belongs { Belong L.made L.meaning labels.old frames.old.frames }
     ensures goes_on { IfOk result (ResumesBesideIn L.made L.meaning labels.new (work.Compared clauses.entry number) stack.old stack.new frames.old.frames frames.new.frames) }
     ensures fronts { IfOk result (Fronts stack.old stack.new) }
-    ensures adds { IfOk result (Adds 1 stack.old stack.new) }
+    ensures adds { IfOk result (Adds 4 stack.old stack.new) }
     ensures length { length frames.new.frames ≡ length frames.old.frames }
     ensures catch { IfOk result (λ _. CatchByTry frames.new.frames) }
     ensures belongs { Belong L.made L.meaning labels.new frames.new.frames }

@@ -10,11 +10,13 @@ ghost use Rattle.step_world.specs.Worlds.{Grows};
 ghost use Rattle.step_work.specs.declared.work.Next.TheVariants as next;
 ghost use Rattle.step_work.specs.declared.work.Work.TheVariants as work;
 ghost use Rattle.step_work.specs.Going.{Begins, Resumes};
-ghost use Rattle.step_work.specs.Kept.{scope_of, scopes_of};
+ghost use Rattle.step_work.specs.Kept.{scope_of, scopes_of, waiting};
 ghost use Rattle.step_work.specs.Loads.{Adds, lift, weight};
 ghost use Rattle.step_work.specs.Pending.{owns, values_of};
 ghost use Rattle.step_work.specs.Standing.{Standing, awaits};
 ghost use Rattle.step_work.specs.Stops.{HasStop};
+ghost use Rattle.es_meaning.specs.BuiltIns.{BuiltIns};
+ghost use Rattle.native_protocol.specs.Steps.{Steps};
 
 use crate::falling::fall;
 use crate::scopes::{compared_in, labelled_in, switched_in};
@@ -33,10 +35,10 @@ pub fn falls<'p, L: Labels>(
     clauses: &'p [Clause],
     number: u32,
 ) -> Result<Next<'p>, FlowFault<L::Label>>
-    requires standing { Standing L.made L.meaning labels.old stack.old world.old (owns (work.Falls clauses number) + awaits (work.Falls clauses number)) (scopes_of stack.old.tasks ++ scope_of (work.Falls clauses number)) next.Value }
-    ensures resumes { (tables : Tables) (inputs : Given) (functions : List FunctionCode) → Resumes L.made L.meaning labels.new tables inputs functions (work.Falls clauses.entry number) stack.old stack.new world.old world.new result }
-    ensures standing { IfOk result (λ move. Standing L.made L.meaning labels.new stack.new world.new (values_of move) (scopes_of stack.new.tasks) move) }
-    ensures adds { IfOk result (Adds (weight (work.Falls clauses.entry number)) stack.old stack.new) }
+    requires standing { Standing L.made L.meaning labels.old stack.old world.old (owns (work.Falls clauses number) + awaits (work.Falls clauses number)) (scopes_of stack.old.tasks ++ scope_of (work.Falls clauses number)) (waiting stack.old.tasks) next.Value }
+    ensures resumes { (tables : Tables) (inputs : Given) (set : BuiltIns) (functions : List FunctionCode) (natives : List Steps) → Resumes L.made L.meaning labels.new tables inputs set functions (work.Falls clauses.entry number) natives natives stack.old stack.new world.old world.new result }
+    ensures standing { IfOk result (λ move. Standing L.made L.meaning labels.new stack.new world.new (values_of move) (scopes_of stack.new.tasks) (waiting stack.old.tasks) move) }
+    ensures adds { IfOk result (Adds (weight (work.Falls clauses.entry number) + 3) stack.old stack.new) }
     ensures stopped { IfErr result (IfStop (HasStop (L.made labels.new))) }
     ensures grows { Grows world.old world.new }
     ensures kept { IsKept L.made L.meaning L.room L.firm labels.old labels.new }
@@ -55,10 +57,10 @@ pub fn switched<'p, L: Labels>(
     of: &'p Stmt,
     clauses: &'p ClauseList,
 ) -> Result<Next<'p>, FlowFault<L::Label>>
-    requires standing { Standing L.made L.meaning labels.old stack.old world.old (owns (work.Switched of clauses) + awaits (work.Switched of clauses)) (scopes_of stack.old.tasks ++ scope_of (work.Switched of clauses)) next.Value }
-    ensures resumes { (tables : Tables) (inputs : Given) (functions : List FunctionCode) → Resumes L.made L.meaning labels.new tables inputs functions (work.Switched of.entry clauses.entry) stack.old stack.new world.old world.new result }
-    ensures standing { IfOk result (λ move. Standing L.made L.meaning labels.new stack.new world.new (values_of move) (scopes_of stack.new.tasks) move) }
-    ensures adds { IfOk result (Adds (weight (work.Switched of.entry clauses.entry)) stack.old stack.new) }
+    requires standing { Standing L.made L.meaning labels.old stack.old world.old (owns (work.Switched of clauses) + awaits (work.Switched of clauses)) (scopes_of stack.old.tasks ++ scope_of (work.Switched of clauses)) (waiting stack.old.tasks) next.Value }
+    ensures resumes { (tables : Tables) (inputs : Given) (set : BuiltIns) (functions : List FunctionCode) (natives : List Steps) → Resumes L.made L.meaning labels.new tables inputs set functions (work.Switched of.entry clauses.entry) natives natives stack.old stack.new world.old world.new result }
+    ensures standing { IfOk result (λ move. Standing L.made L.meaning labels.new stack.new world.new (values_of move) (scopes_of stack.new.tasks) (waiting stack.old.tasks) move) }
+    ensures adds { IfOk result (Adds (weight (work.Switched of.entry clauses.entry) + 3) stack.old stack.new) }
     ensures stopped { IfErr result (IfStop (HasStop (L.made labels.new))) }
     ensures grows { Grows world.old world.new }
     ensures kept { IsKept L.made L.meaning L.room L.firm labels.old labels.new }
@@ -75,10 +77,10 @@ pub fn compared<'p, L: Labels>(
     clauses: &'p ClauseList,
     number: u32,
 ) -> Result<Next<'p>, FlowFault<L::Label>>
-    requires standing { Standing L.made L.meaning labels.old stack.old world.old (owns (work.Compared clauses number) + awaits (work.Compared clauses number)) (scopes_of stack.old.tasks ++ scope_of (work.Compared clauses number)) next.Value }
-    ensures resumes { (tables : Tables) (inputs : Given) (functions : List FunctionCode) → Resumes L.made L.meaning labels.new tables inputs functions (work.Compared clauses.entry number) stack.old stack.new world.old world.new result }
-    ensures standing { IfOk result (λ move. Standing L.made L.meaning labels.new stack.new world.new (values_of move) (scopes_of stack.new.tasks) move) }
-    ensures adds { IfOk result (Adds (weight (work.Compared clauses.entry number)) stack.old stack.new) }
+    requires standing { Standing L.made L.meaning labels.old stack.old world.old (owns (work.Compared clauses number) + awaits (work.Compared clauses number)) (scopes_of stack.old.tasks ++ scope_of (work.Compared clauses number)) (waiting stack.old.tasks) next.Value }
+    ensures resumes { (tables : Tables) (inputs : Given) (set : BuiltIns) (functions : List FunctionCode) (natives : List Steps) → Resumes L.made L.meaning labels.new tables inputs set functions (work.Compared clauses.entry number) natives natives stack.old stack.new world.old world.new result }
+    ensures standing { IfOk result (λ move. Standing L.made L.meaning labels.new stack.new world.new (values_of move) (scopes_of stack.new.tasks) (waiting stack.old.tasks) move) }
+    ensures adds { IfOk result (Adds (weight (work.Compared clauses.entry number) + 3) stack.old stack.new) }
     ensures stopped { IfErr result (IfStop (HasStop (L.made labels.new))) }
     ensures grows { Grows world.old world.new }
     ensures kept { IsKept L.made L.meaning L.room L.firm labels.old labels.new }
@@ -95,9 +97,9 @@ pub fn begin_labelled<'p, L: Labels>(
     text: &'p Text,
     body: &'p Stmt,
 ) -> Result<Next<'p>, FlowFault<L::Label>>
-    requires standing { Standing L.made L.meaning labels.old stack.old world.old (values_of (next.Labelled text body)) (scopes_of stack.old.tasks) (next.Labelled text body) }
-    ensures begins { (tables : Tables) (inputs : Given) (functions : List FunctionCode) → Begins L.made L.meaning labels.new tables inputs functions stack.old stack.new world.old world.new (next.Labelled text.entry body.entry) result }
-    ensures standing { IfOk result (λ move. Standing L.made L.meaning labels.new stack.new world.new (values_of move) (scopes_of stack.new.tasks) move) }
+    requires standing { Standing L.made L.meaning labels.old stack.old world.old (values_of (next.Labelled text body)) (scopes_of stack.old.tasks) (waiting stack.old.tasks) (next.Labelled text body) }
+    ensures begins { (tables : Tables) (inputs : Given) (set : BuiltIns) (functions : List FunctionCode) (natives : List Steps) → Begins L.made L.meaning labels.new tables inputs set functions natives natives stack.old stack.new world.old world.new (next.Labelled text.entry body.entry) result }
+    ensures standing { IfOk result (λ move. Standing L.made L.meaning labels.new stack.new world.new (values_of move) (scopes_of stack.new.tasks) (waiting stack.old.tasks) move) }
     ensures adds { IfOk result (Adds 1 stack.old stack.new) }
     ensures stopped { IfErr result (IfStop (HasStop (L.made labels.new))) }
     ensures grows { Grows world.old world.new }

@@ -5,6 +5,7 @@ ghost use Rattle.js_ast.specs.Nodes.{nodes_of};
 ghost use Rattle.step_work.specs.Loads.{Adds};
 ghost use Rattle.step_work.specs.Pending.{first_or_undefined};
 ghost use Rattle.step_work.specs.Resuming.{Begins, BeginsBehind, Keeps};
+ghost use Rattle.step_work.specs.Standing.{running};
 ghost use Rattle.step_switches.specs.Clauses.{by_default, chosen, testing};
 ghost use Rattle.step_switches.specs.Fronts.{Fronts};
 
@@ -21,9 +22,9 @@ pub(crate) fn test_from<'p, T: Copy>(
     from: u32,
 ) -> Result<Next<'p>, OutOfMemory>
     requires loose { length stack.old.loose ≡ 1 }
-    ensures goes_on { IfOk result (BeginsBehind (λ tables inputs functions vs e. testing tables inputs functions (nodes_of all.entry.now) from (first_or_undefined vs) e) stack.old stack.new) }
+    ensures goes_on { IfOk result (BeginsBehind (λ tables inputs set functions vs e. testing tables inputs set functions (nodes_of all.entry.now) from (first_or_undefined vs) e.env) stack.old stack.new) }
     ensures fronts { IfOk result (Fronts stack.old stack.new) }
-    ensures adds { IfOk result (Adds 1 stack.old stack.new) }
+    ensures adds { IfOk result (Adds 4 stack.old stack.new) }
 {
     let Some(test) = next_test(all.items(), from)? else {
         stack.clear(1);
@@ -40,9 +41,10 @@ pub(crate) fn do_default<'p, T: Copy>(
     clauses: &'p [Clause],
 ) -> Result<Next<'p>, OutOfMemory>
     requires loose { length stack.old.loose ≡ 0 }
-    ensures goes_on { IfOk result (Begins (λ tables inputs functions e. by_default tables inputs functions clauses.entry.now e) stack.old stack.new) }
+    ensures goes_on { IfOk result (Begins (λ tables inputs set functions e. by_default tables inputs set functions clauses.entry.now e.env) stack.old stack.new) }
     ensures keeps { IfOk result (Keeps stack.old stack.new) }
-    ensures adds { IfOk result (Adds 1 stack.old stack.new) }
+    ensures still { IfOk result (λ move. running move ≡ 0) }
+    ensures adds { IfOk result (Adds 4 stack.old stack.new) }
 {
     let Some(left) = default_clause(clauses) else {
         return Ok(Next::Done);
@@ -60,9 +62,9 @@ pub(crate) fn choose<'p, T: Copy>(
     equal: bool,
 ) -> Result<Next<'p>, OutOfMemory>
     requires loose { length stack.old.loose ≡ 1 }
-    ensures goes_on { IfOk result (BeginsBehind (λ tables inputs functions vs e. chosen tables inputs functions (nodes_of all.entry.now) number left.entry.now equal (first_or_undefined vs) e) stack.old stack.new) }
+    ensures goes_on { IfOk result (BeginsBehind (λ tables inputs set functions vs e. chosen tables inputs set functions (nodes_of all.entry.now) number left.entry.now equal (first_or_undefined vs) e.env) stack.old stack.new) }
     ensures fronts { IfOk result (Fronts stack.old stack.new) }
-    ensures adds { IfOk result (Adds 1 stack.old stack.new) }
+    ensures adds { IfOk result (Adds 4 stack.old stack.new) }
 {
     if equal {
         stack.clear(1);

@@ -4,16 +4,26 @@ ghost use Rattle.flow_frames.specs.Held.{Belong};
 ghost use Rattle.js_values.specs.Readings.{HasValue};
 
 use crate::told::holds;
-use crate::works::{empty, name};
 use flow_frames::{Frames, Kind};
-use flow_text::OutOfMemory;
-use js_ast::{Expr, Stmt};
+use flow_text::{OutOfMemory, Text};
+use js_ast::{Expr, ExprKind, Stmt, StmtKind};
 use js_number::Primitive;
 use js_values::{Labelled, Value};
 use origin_labels::{Labels, Masks};
 use std::alloc::Global;
 use std::test::*;
 use step_work::*;
+
+fn name(alloc: Global, spelling: &str) -> Result<Expr, OutOfMemory> {
+    let text = Text::spelled(alloc, spelling)?;
+    let kind = Box::new(alloc, ExprKind::Name(text))?;
+    Ok(Expr { at: 0, kind })
+}
+
+fn empty(alloc: Global) -> Result<Stmt, OutOfMemory> {
+    let kind = Box::new(alloc, StmtKind::Empty)?;
+    Ok(Stmt { at: 0, kind })
+}
 
 // A stack with this value alone.
 fn one_value<'p, L: Labels>(

@@ -4,14 +4,4 @@
 #[cfg(test)]
 mod branching;
 #[cfg(test)]
-mod channels;
-#[cfg(test)]
-mod evaluating;
-#[cfg(test)]
-mod names;
-#[cfg(test)]
-mod objects;
-#[cfg(test)]
 mod told;
-#[cfg(test)]
-mod works;

@@ -1,24 +1,24 @@
 -- The ends of calls and of constructions.
-use Rattle.std.proofs.Common.{refl, sym, ap, ap₂, subst, ◌∙◌, ◌≡◌, ◌<◌, ◌≤◌, ◌+◌, ◌-◌, ℕ, zero, suc, Bool, List, [], ◌∷◌, ◌++◌, map, take, drop, length, append_assoc, arith, Ok}
+use Rattle.std.proofs.Common.{refl, sym, ap, ap₂, subst, ◌∙◌, ◌≡◌, ◌<◌, ◌≤◌, ◌+◌, ℕ, zero, suc, Bool, List, [], ◌∷◌, ◌++◌, map, take, drop, length, append_assoc, arith, Ok}
 use Rattle.std.specs.List.{All}
 use Rattle.std.proofs.lemmas.Bool.{lt-ltb, le-ltb}
 use Rattle.std.proofs.lemmas.List.{length-map, length_push, nil_from_length, take_all}
 use Rattle.std.proofs.lemmas.List.Elements.{All-append, All-weaker}
-use Rattle.origin_labels.specs.Label.{Label, bottom, union}
+use Rattle.origin_labels.specs.Label.{Label, union}
 use Rattle.origin_labels.specs.Stores.{IsKept}
 use Rattle.flow_policy.specs.Policies.{Tables}
 use Rattle.flow_policy.specs.Inputs.{Given}
-use Rattle.flow_frames.specs.Held.{Held, meant_at, seen_frame}
+use Rattle.flow_frames.specs.Held.{meant_at, seen_frame}
 use Rattle.flow_frames.specs.Frames.{Frame}
 use Rattle.js_ast.specs.Functions.{FunctionCode}
 use Rattle.js_values.specs.declared.ids.EnvId.{EnvId}
 use Rattle.js_values.specs.declared.value.Labelled.{Labelled}
 use Rattle.js_values.specs.Readings.{IsReading, HasValue, read_value}
 use Rattle.js_values.proofs.ReadingLaws.{HasHeap-kept, HasRecords-kept}
-use Rattle.es_meaning.specs.Environments.{Env}
-use Rattle.es_meaning.specs.Operations.{One, Value}
+use Rattle.es_meaning.specs.Operations.{Value}
 use Rattle.es_meaning.specs.Outcomes.{Goes, Jumps, ret, and_then}
 use Rattle.es_meaning.specs.Plain.{undefined, choose, object_or, object_or_default}
+use Rattle.es_meaning.specs.BuiltIns.{BuiltIns}
 use Rattle.flow_meaning.specs.Erased.{unlabelled}
 use Rattle.flow_meaning.specs.Scopes.{Val, State, LabelledLine, Jump, Left, caught, popped, cut_to, answer, construction}
 use Rattle.flow_meaning.specs.Planned.{Plan, Give, as_plan, gave, jumped, end_call, end_construction}
@@ -30,15 +30,17 @@ use Rattle.step_work.specs.declared.work.Next.{Next}
 use Rattle.step_work.specs.declared.work.Next.TheVariants as next
 use Rattle.step_work.specs.declared.work.Work.TheVariants as work
 use Rattle.step_work.specs.Going.{Passes, Resumes, here}
-use Rattle.step_work.specs.Kept.{Kept, kept_operands, operands_of, scopes_of}
+use Rattle.step_work.specs.Kept.{Kept, kept_operands, operands_of, scopes_of, waiting}
 use Rattle.step_work.specs.Pending.{behind, first_or_undefined, values_of}
 use Rattle.step_work.specs.Resuming.{coming}
 use Rattle.step_work.specs.Shapes.{jump_of, nth}
-use Rattle.step_work.specs.Standing.{Standing, Framed, depths}
+use Rattle.step_work.specs.Standing.{Standing, depths, running}
 use Rattle.step_work.proofs.EndLaws.{last_has}
 use Rattle.step_work.proofs.Handed.{gives_alone, jumps_alone}
+use Rattle.step_work.specs.Settings.{Setting, setting_of}
 use Rattle.step_tries.specs.Calling.{Answers}
 use Rattle.step_tries.proofs.StandLaws.{front_has, last_depths, one_more}
+use Rattle.native_protocol.specs.Steps.{Steps}
 
 -- ---- what the meaning says
 
@@ -94,22 +96,22 @@ module _ {X : Type 0} (P : X → Type 0) where
 module _ {S T : Type 0} (made : S → T → Type 0) (meaning : S → T → Label) where
   -- ---- where the frame stands
 
-  module _ {count : ℕ} (store : S) (stack : Kept T) (world : World T) (depth : ℕ) where
-    innermost : (move : Next) → Standing made meaning store stack world count (scopes_of stack.tasks ++ depth ∷ []) move → depth ≡ suc (length (scopes_of stack.tasks))
+  module _ {count natives : ℕ} (store : S) (stack : Kept T) (world : World T) (depth : ℕ) where
+    innermost : (move : Next) → Standing made meaning store stack world count (scopes_of stack.tasks ++ depth ∷ []) natives move → depth ≡ suc (length (scopes_of stack.tasks))
     innermost move stands = (last_depths (scopes_of stack.tasks) depth stands.scopes).1
 
-    pub at_inner : (move : Next) → Standing made meaning store stack world count (scopes_of stack.tasks ++ depth ∷ []) move → 0 < depth
+    pub at_inner : (move : Next) → Standing made meaning store stack world count (scopes_of stack.tasks ++ depth ∷ []) natives move → 0 < depth
     at_inner move stands = let deep = innermost move stands in omega (arith, deep)
 
-    pub at_end : Standing made meaning store stack world count (scopes_of stack.tasks ++ depth ∷ []) next.Value → length world.frames.frames ≡ depth + 1
+    pub at_end : Standing made meaning store stack world count (scopes_of stack.tasks ++ depth ∷ []) natives next.Value → length world.frames.frames ≡ depth + 1
     at_end stands = let all = stands.frames in let deep = innermost next.Value stands in omega (arith, all, deep, one_more (scopes_of stack.tasks) depth)
 
-    pub at_jump : (j : moves.Jump) → Standing made meaning store stack world count (scopes_of stack.tasks ++ depth ∷ []) (next.Jumps j) → depth < length world.frames.frames → length world.frames.frames ≡ depth + 1
+    pub at_jump : (j : moves.Jump) → Standing made meaning store stack world count (scopes_of stack.tasks ++ depth ∷ []) natives (next.Jumps j) → depth < length world.frames.frames → length world.frames.frames ≡ depth + 1
     at_jump j stands there = let few = stands.frames in let deep = innermost (next.Jumps j) stands in omega (arith, few, deep, there, one_more (scopes_of stack.tasks) depth)
 
     -- its frame was left before
-    pub standing_passing : (new : Kept T) (j : moves.Jump) → Standing made meaning store stack world count (scopes_of stack.tasks ++ depth ∷ []) (next.Jumps j) → length world.frames.frames ≤ depth
-        → new.tasks ≡ stack.tasks → All (HasValue (made store)) (operands_of new) → length new.loose ≡ 1 → Standing made meaning store new world 1 (scopes_of new.tasks) (next.Jumps j)
+    pub standing_passing : (new : Kept T) (j : moves.Jump) → Standing made meaning store stack world count (scopes_of stack.tasks ++ depth ∷ []) natives (next.Jumps j) → length world.frames.frames ≤ depth
+        → new.tasks ≡ stack.tasks → All (HasValue (made store)) (operands_of new) → length new.loose ≡ 1 → Standing made meaning store new world 1 (scopes_of new.tasks) natives (next.Jumps j)
     standing_passing new j stands few tasks operands one =
         let deep = innermost (next.Jumps j) stands in
         record {
@@ -119,31 +121,32 @@ module _ {S T : Type 0} (made : S → T → Type 0) (meaning : S → T → Label
           scopes = subst (λ ts. scopes_of ts ≡ depths (length (scopes_of ts))) (sym tasks) (last_depths (scopes_of stack.tasks) depth stands.scopes).0;
           frames = subst (λ ts. length world.frames.frames ≤ suc (length (scopes_of ts))) (sym tasks) (omega (arith, few, deep));
           records = stands.records;
+          natives = stands.natives ∙ ap (λ ts. waiting ts + 0) (sym tasks);
         }
 
   -- ---- a value is given
 
   module _ (store : S) (depth : ℕ) (value : Labelled T) (old new : Kept T) (before after : World T) (move : Next) (a : Answers made meaning store depth value old new before after move) where
-    pub answered : (tables : Tables) (inputs : Given) (functions : List FunctionCode) (reading : T → Label) (e : Env ℕ) (told : List LabelledLine) (turns : ℕ) → IsReading made meaning store reading
-        → coming tables inputs functions reading new move e (state_of reading after told turns) ≡ behind tables inputs functions reading old.tasks e (Gives depth (read_value reading value) (state_of reading before told turns))
-    answered tables inputs functions reading e told turns read =
+    pub answered : (tables : Tables) (inputs : Given) (set : BuiltIns) (functions : List FunctionCode) (reading : T → Label) (e : Setting) (told : List LabelledLine) (turns : ℕ) → IsReading made meaning store reading
+        → coming tables inputs set functions reading new move e (state_of reading after told turns) ≡ behind tables inputs set functions reading old.tasks e (Gives depth (read_value reading value) (state_of reading before told turns))
+    answered tables inputs set functions reading e told turns read =
         let v : Labelled T = record { value = value.value; label = a.label } in
-        ap (λ m. coming tables inputs functions reading new m e (state_of reading after told turns)) a.gives
-        ∙ gives_alone tables inputs functions reading old new v e (state_of reading after told turns) a.tasks a.alone
-        ∙ ap₂ (λ l t. behind tables inputs functions reading old.tasks e (Give (gave (record { value = value.value; label = l })) t)) (a.means reading read)
+        ap (λ m. coming tables inputs set functions reading new m e (state_of reading after told turns)) a.gives
+        ∙ gives_alone tables inputs set functions reading old new v e (state_of reading after told turns) a.tasks a.alone
+        ∙ ap₂ (λ l t. behind tables inputs set functions reading old.tasks e (Give (gave (record { value = value.value; label = l })) t)) (a.means reading read)
         (ap (λ w. state_of reading w told turns) a.rest ∙ ap (λ (fs : List Frame). record (state_of reading before told turns) { frames = fs }) (a.outside reading))
 
-    pub standing_answered : {count : ℕ} (room : S → ℕ) (firm : S → Bool) (earlier : S) (kept : IsKept made meaning room firm earlier store) (stack : Kept T) (first : Next) → Standing made meaning earlier stack before count (scopes_of stack.tasks ++ depth ∷ []) first
-        → old.tasks ≡ stack.tasks → length before.frames.frames ≡ depth + 1 → Standing made meaning store new after (values_of move) (scopes_of new.tasks) move
-    standing_answered room firm earlier kept stack first stands tasks frame =
+    pub standing_answered : {count natives : ℕ} (room : S → ℕ) (firm : S → Bool) (earlier : S) (kept : IsKept made meaning room firm earlier store) (stack : Kept T) (first : Next) → Standing made meaning earlier stack before count (scopes_of stack.tasks ++ depth ∷ []) natives first → running first ≡ 0
+        → old.tasks ≡ stack.tasks → length before.frames.frames ≡ depth + 1 → Standing made meaning store new after (values_of move) (scopes_of new.tasks) natives move
+    standing_answered {natives = natives} room firm earlier kept stack first stands ready tasks frame =
         let same : new.tasks ≡ stack.tasks = a.tasks ∙ tasks in
         let below = All-weaker (HasValue (made earlier)) (HasValue (made store)) (λ v m. (kept.labels v.label m).0) (kept_operands stack.tasks) (front_has (HasValue (made earlier)) (kept_operands stack.tasks) stack.loose stands.operands) in
         let v : Labelled T = record { value = value.value; label = a.label } in
         let deep = (last_depths (scopes_of stack.tasks) depth stands.scopes).1 in
         let less = a.shallower in
         let size : length after.frames.frames ≡ suc (length (scopes_of stack.tasks)) = omega (arith, less, frame, deep) in
-        subst (λ m. Standing made meaning store new after (values_of m) (scopes_of new.tasks) m) (sym a.gives)
-        (subst (λ w. Standing made meaning store new w 1 (scopes_of new.tasks) next.Value) (sym a.rest) (record {
+        subst (λ m. Standing made meaning store new after (values_of m) (scopes_of new.tasks) natives m) (sym a.gives)
+        (subst (λ w. Standing made meaning store new w 1 (scopes_of new.tasks) natives next.Value) (sym a.rest) (record {
           belongs = record {
             frames = a.belong;
             catch = a.catch;
@@ -156,29 +159,30 @@ module _ {S T : Type 0} (made : S → T → Type 0) (meaning : S → T → Label
           scopes = subst (λ ts. scopes_of ts ≡ depths (length (scopes_of ts))) (sym same) (last_depths (scopes_of stack.tasks) depth stands.scopes).0;
           frames = size ∙ ap (λ ts. suc (length (scopes_of ts))) (sym same);
           records = stands.records;
+          natives = omega (arith, stands.natives, ready, ap waiting same);
         }))
 
-    module _ (tables : Tables) (inputs : Given) (functions : List FunctionCode) (own : EnvId) (stack : Kept T) (tasks : old.tasks ≡ stack.tasks) where
+    module _ (tables : Tables) (inputs : Given) (set : BuiltIns) (functions : List FunctionCode) (natives : List Steps) (own : EnvId) (stack : Kept T) (tasks : old.tasks ≡ stack.tasks) where
       -- with another plan, behind the work that was there
       answered_as : (reading : T → Label) (told : List LabelledLine) (turns : ℕ) → IsReading made meaning store reading → (q : Plan) → Gives depth (read_value reading value) (state_of reading before told turns) ≡ q
-          → coming tables inputs functions reading new move here (state_of reading after told turns) ≡ behind tables inputs functions reading stack.tasks here q
+          → coming tables inputs set functions reading new move (setting_of natives here) (state_of reading after told turns) ≡ behind tables inputs set functions reading stack.tasks (setting_of natives here) q
       answered_as reading told turns read q same =
-          answered tables inputs functions reading here told turns read
-          ∙ ap (λ ts. behind tables inputs functions reading ts here (Gives depth (read_value reading value) (state_of reading before told turns))) tasks
-          ∙ ap (behind tables inputs functions reading stack.tasks here) same
+          answered tables inputs set functions reading (setting_of natives here) told turns read
+          ∙ ap (λ ts. behind tables inputs set functions reading ts (setting_of natives here) (Gives depth (read_value reading value) (state_of reading before told turns))) tasks
+          ∙ ap (behind tables inputs set functions reading stack.tasks (setting_of natives here)) same
 
       there_read : (reading : T → Label) → depth < length before.frames.frames → depth < length (map (seen_frame reading) before.frames.frames)
       there_read reading there = omega (arith, there, length-map before.frames.frames (seen_frame reading))
 
       pub call_done : ((reading : T → Label) → IsReading made meaning store reading → read_value reading value ≡ unlabelled undefined)
-          → Resumes made meaning store tables inputs functions (work.EndCall own depth) stack new before after (Ok move)
+          → Resumes made meaning store tables inputs set functions (work.EndCall own depth) natives natives stack new before after (Ok move)
       call_done is = λ reading told turns read.
           let t = state_of reading before told turns in
           let v = first_or_undefined (map (read_value reading) (drop 0 stack.loose)) in
           answered_as reading told turns read (end_call depth (gave v) t) (ap (λ u. Gives depth u t) (is reading read) ∙ sym (call_ends depth v t))
 
       pub call_given : (j : moves.Jump) (given : Labelled T) → value ≡ given → depth < length before.frames.frames
-          → Passes made meaning store tables inputs functions j (work.EndCall own depth) given stack new before after (Ok move)
+          → Passes made meaning store tables inputs set functions j (work.EndCall own depth) given natives natives stack new before after (Ok move)
       call_given j given same there = λ reading told turns read.
           let t = state_of reading before told turns in
           let k = jump_of j (read_value reading given) in
@@ -186,7 +190,7 @@ module _ {S T : Type 0} (made : S → T → Type 0) (meaning : S → T → Label
           (ap (λ u. Gives depth (read_value reading u) t) same ∙ ap (λ u. Gives depth u t) (sym (jump_value j (read_value reading given))) ∙ sym (call_reached depth k t (there_read reading there)))
 
       pub construction_done : (fresh : Labelled T) → stack.loose ≡ fresh ∷ [] → ((reading : T → Label) → IsReading made meaning store reading → read_value reading value ≡ unlabelled (object_or (object_or_default fresh.value).0 undefined))
-          → Resumes made meaning store tables inputs functions (work.EndNew own depth) stack new before after (Ok move)
+          → Resumes made meaning store tables inputs set functions (work.EndNew own depth) natives natives stack new before after (Ok move)
       construction_done fresh alone is = λ reading told turns read.
           let t = state_of reading before told turns in
           let v = first_or_undefined (map (read_value reading) (drop 1 stack.loose)) in
@@ -196,7 +200,7 @@ module _ {S T : Type 0} (made : S → T → Type 0) (meaning : S → T → Label
           ∙ ap (λ us. end_construction (object_or_default (nth 0 (map (read_value reading) (take 1 us))).value).0 depth (gave v) t) (sym alone))
 
       pub construction_given : (j : moves.Jump) (fresh popped_value given : Labelled T) → stack.loose ≡ fresh ∷ popped_value ∷ [] → drop 1 stack.loose ≡ given ∷ [] → value.label ≡ popped_value.label → value.value ≡ object_or (object_or_default fresh.value).0 popped_value.value → depth < length before.frames.frames
-          → Passes made meaning store tables inputs functions j (work.EndNew own depth) given stack new before after (Ok move)
+          → Passes made meaning store tables inputs set functions j (work.EndNew own depth) given natives natives stack new before after (Ok move)
       construction_given j fresh popped_value given both above label chosen there = λ reading told turns read.
           let t = state_of reading before told turns in
           let k = jump_of j (read_value reading given) in
@@ -210,23 +214,23 @@ module _ {S T : Type 0} (made : S → T → Type 0) (meaning : S → T → Label
 
   -- ---- where the frame was left before
 
-  module _ (store : S) (tables : Tables) (inputs : Given) (functions : List FunctionCode) (own : EnvId) (depth : ℕ) (j : moves.Jump) (stack : Kept T) (world : World T) (few : length world.frames.frames ≤ depth) where
+  module _ (store : S) (tables : Tables) (inputs : Given) (set : BuiltIns) (functions : List FunctionCode) (natives : List Steps) (own : EnvId) (depth : ℕ) (j : moves.Jump) (stack : Kept T) (world : World T) (few : length world.frames.frames ≤ depth) where
     few_read : (reading : T → Label) → length (map (seen_frame reading) world.frames.frames) ≤ depth
     few_read reading = omega (arith, few, length-map world.frames.frames (seen_frame reading))
 
-    pub call_passed : (given : Labelled T) → stack.loose ≡ given ∷ [] → Passes made meaning store tables inputs functions j (work.EndCall own depth) given stack stack world world (Ok (next.Jumps j))
+    pub call_passed : (given : Labelled T) → stack.loose ≡ given ∷ [] → Passes made meaning store tables inputs set functions j (work.EndCall own depth) given natives natives stack stack world world (Ok (next.Jumps j))
     call_passed given alone = λ reading told turns read.
         let t = state_of reading world told turns in
-        jumps_alone tables inputs functions reading j stack stack given here t refl alone
-        ∙ ap (behind tables inputs functions reading stack.tasks here) (sym (call_passes depth (jump_of j (read_value reading given)) t (few_read reading)))
+        jumps_alone tables inputs set functions reading j stack stack given (setting_of natives here) t refl alone
+        ∙ ap (behind tables inputs set functions reading stack.tasks (setting_of natives here)) (sym (call_passes depth (jump_of j (read_value reading given)) t (few_read reading)))
 
     pub construction_passed : (new : Kept T) (fresh popped_value given : Labelled T) → stack.loose ≡ fresh ∷ popped_value ∷ [] → drop 1 stack.loose ≡ given ∷ [] → new.tasks ≡ stack.tasks → new.loose ≡ popped_value ∷ []
-        → Passes made meaning store tables inputs functions j (work.EndNew own depth) given stack new world world (Ok (next.Jumps j))
+        → Passes made meaning store tables inputs set functions j (work.EndNew own depth) given natives natives stack new world world (Ok (next.Jumps j))
     construction_passed new fresh popped_value given both above tasks alone = λ reading told turns read.
         let t = state_of reading world told turns in
         let same : popped_value ≡ given = same_head (sym (ap (drop 1) both) ∙ above) in
-        jumps_alone tables inputs functions reading j stack new given here t tasks (alone ∙ ap (λ v. v ∷ []) same)
-        ∙ ap (behind tables inputs functions reading stack.tasks here) (sym (construction_passes (object_or_default (nth 0 (map (read_value reading) (take 1 stack.loose))).value).0 depth (jump_of j (read_value reading given)) t (few_read reading)))
+        jumps_alone tables inputs set functions reading j stack new given (setting_of natives here) t tasks (alone ∙ ap (λ v. v ∷ []) same)
+        ∙ ap (behind tables inputs set functions reading stack.tasks (setting_of natives here)) (sym (construction_passes (object_or_default (nth 0 (map (read_value reading) (take 1 stack.loose))).value).0 depth (jump_of j (read_value reading given)) t (few_read reading)))
 
 -- two values that were popped
 pub both_popped : {X : Type 0} (one two three : List X) (fresh v : X) → one ≡ two ++ v ∷ [] → two ≡ three ++ fresh ∷ [] → length one ≡ 2 → (one ≡ fresh ∷ v ∷ []) × (three ≡ [])

@@ -1,9 +1,8 @@
 -- What is done last, and what comes before it, as a call does it.
-use Rattle.std.proofs.Common.{refl, sym, ap, ap₂, subst, ◌∙◌, ◌≡◌, ◌<◌, ◌≤◌, ◌+◌, ℕ, Bool, true, false, ◌&&◌, List, [], ◌∷◌, ◌++◌, map, length, Option, Some, None, Result, Ok, Err, arith}
+use Rattle.std.proofs.Common.{refl, sym, ap, ◌∙◌, ◌≡◌, ◌<◌, ◌≤◌, ℕ, Bool, true, false, ◌&&◌, List, map, length, Option, Some, None, Result, Ok}
 use Rattle.std.proofs.lemmas.Bool.{lt-ltb, le-ltb}
-use Rattle.std.proofs.lemmas.List.{length-map, nil_from_length}
 use Rattle.std.proofs.lemmas.Option.{none-some, same_Some}
-use Rattle.origin_labels.specs.Label.{Label, bottom}
+use Rattle.origin_labels.specs.Label.{Label}
 use Rattle.flow_policy.specs.Policies.{Tables}
 use Rattle.flow_policy.specs.Inputs.{Given}
 use Rattle.flow_frames.specs.Held as held
@@ -12,32 +11,31 @@ use Rattle.flow_frames.specs.Changes.{changed_at}
 use Rattle.flow_frames.specs.Frames.{Frame}
 use Rattle.flow_frames.specs.declared.faults.FlowFault.{FlowFault}
 use Rattle.js_ast.specs.Functions.{FunctionCode}
-use Rattle.js_ast.specs.Trees.{Ident, Block, block_of, Statement, try_catch, try_finally, try_both}
-use Rattle.js_values.specs.declared.value.Labelled.{Labelled}
-use Rattle.js_values.specs.Readings.{IsReading, read_value, read_record}
-use Rattle.es_meaning.specs.Environments.{Env, with_place}
-use Rattle.es_meaning.specs.Operations.{One}
-use Rattle.es_meaning.specs.Outcomes.{Goes, Jumps, ret}
-use Rattle.es_meaning.specs.Evaluation.{block_step, handled, statements, unhandled}
+use Rattle.js_ast.specs.Trees.{Ident, Block, Statement, try_catch, try_both}
+use Rattle.js_values.specs.Readings.{read_value}
+use Rattle.es_meaning.specs.Environments.{Env}
+use Rattle.es_meaning.specs.Outcomes.{Goes, Jumps}
+use Rattle.es_meaning.specs.Evaluation.{handled, statements}
 use Rattle.es_meaning.specs.Plain.{undefined, choose, is_throw}
+use Rattle.es_meaning.specs.BuiltIns.{BuiltIns}
 use Rattle.flow_meaning.specs.Erased.{unlabelled}
-use Rattle.flow_meaning.specs.Tracked.{with_name}
-use Rattle.flow_meaning.specs.Scopes.{Val, State, LabelledLine, Jump, caught, ended, quiet, quieted_in, innermost, stay}
-use Rattle.flow_meaning.specs.Planned.{Plan, Give, and_plan, as_plan, as_stayed, gave, jumped, planned, asking, do_last, do_react, do_handle, end_block, end_handler, end_last, with_result}
+use Rattle.flow_meaning.specs.Scopes.{Val, State, LabelledLine, Jump, caught, quieted_in, innermost, stay}
+use Rattle.flow_meaning.specs.Planned.{Plan, Give, and_plan, as_stayed, gave, jumped, planned, asking, do_last, do_react, end_block, end_handler, end_last}
 use Rattle.step_world.specs.declared.world.World.{World}
 use Rattle.step_world.specs.Worlds.{state_of}
 use Rattle.step_work.specs.declared.work.Jump as moves
 use Rattle.step_work.specs.declared.work.Jump.TheVariants.{Throws, Returns, Leaves}
 use Rattle.step_work.specs.declared.work.Next.{Next}
 use Rattle.step_work.specs.Kept.{Kept}
-use Rattle.step_work.specs.Moving.{BeginsWith, BeginsAt, Moves, Planning}
-use Rattle.step_work.specs.Pending.{env_above, behind, first_or_undefined, handler_of, last_of}
-use Rattle.step_work.specs.Resuming.{BeginsBehind, with_frames}
-use Rattle.step_work.specs.Shapes.{jump_of, waiting_of, handles, finishes}
-use Rattle.step_tries.specs.Parts.{statements_in, handler_in, last_in, caught_by}
-use Rattle.step_tries.specs.Trying.{catching_plan, ending_plan, last_plan, reacting_plan}
+use Rattle.step_work.specs.Moving.{BeginsWith}
+use Rattle.step_work.specs.Pending.{handler_of}
+use Rattle.step_work.specs.Resuming.{BeginsBehind}
+use Rattle.step_work.specs.Shapes.{jump_of, waiting_of, handles}
+use Rattle.step_work.specs.Settings.{entrance}
+use Rattle.step_tries.specs.Parts.{statements_in, last_in, caught_by}
+use Rattle.step_tries.specs.Trying.{ending_plan, last_plan}
 use Rattle.step_tries.proofs.Comings.{begins_from, begins_beside}
-use Rattle.step_tries.proofs.PlanLaws.{block_is, last_some, last_none}
+use Rattle.step_tries.proofs.PlanLaws.{last_some, last_none}
 
 -- frames of which the last catches no longer
 abbrev pub Quieted : {T : Type 0} → List (Held T) → List (Held T) → Type 0
@@ -49,14 +47,14 @@ module _ {S T : Type 0} (made : S → T → Type 0) (meaning : S → T → Label
 
   -- something is done last
   pub finishes_last : (b : Block) (move : Next) → last_in s ≡ Some b
-      → BeginsBehind (λ tables inputs functions vs e t. and_plan (statements (planned tables inputs functions) (asking tables inputs functions) (statements_in b) e t) (end_last (waiting_of waiting vs))) old new move
+      → BeginsBehind (λ tables inputs set functions vs e t. and_plan (statements (planned tables inputs set functions) (asking tables inputs set functions) (statements_in b) e.env t) (end_last (waiting_of waiting vs))) old new move
       → BeginsWith made meaning store (last_plan s waiting old.loose) old new world (record world { frames = frames }) (Ok move)
   finishes_last b move is begins =
-      begins_beside made meaning store (λ tables inputs functions vs e t. and_plan (statements (planned tables inputs functions) (asking tables inputs functions) (statements_in b) e t) (end_last (waiting_of waiting vs))) (last_plan s waiting old.loose) old new world (record world { frames = frames }) move
-      (λ tables inputs functions reading f told turns read.
+      begins_beside made meaning store (λ tables inputs set functions vs e t. and_plan (statements (planned tables inputs set functions) (asking tables inputs set functions) (statements_in b) e.env t) (end_last (waiting_of waiting vs))) (last_plan s waiting old.loose) old new world (record world { frames = frames }) move
+      (λ tables inputs set functions reading f told turns read.
       let how = waiting_of waiting (map (read_value reading) old.loose) in
-      ap (λ t. and_plan (statements (planned tables inputs functions) (asking tables inputs functions) (statements_in b) f t) (end_last how)) (quiet_state reading told turns)
-      ∙ sym (last_some tables inputs functions s b f how (state_of reading world told turns) is))
+      ap (λ t. and_plan (statements (planned tables inputs set functions) (asking tables inputs set functions) (statements_in b) f.env t) (end_last how)) (quiet_state reading told turns)
+      ∙ sym (last_some tables inputs set functions s b f.env how (state_of reading world told turns) is))
       begins
 
   -- nothing is
@@ -65,10 +63,10 @@ module _ {S T : Type 0} (made : S → T → Type 0) (meaning : S → T → Label
       → BeginsWith made meaning store (last_plan s waiting old.loose) old new world later result
   finishes_bare later result is begins =
       begins_from made meaning store (ending_plan waiting old.loose) (last_plan s waiting old.loose) old new world (record world { frames = frames }) later result
-      (λ tables inputs functions reading f told turns read.
+      (λ tables inputs set functions reading f told turns read.
       let how = waiting_of waiting (map (read_value reading) old.loose) in
       ap (end_last how (gave (unlabelled undefined))) (quiet_state reading told turns)
-      ∙ sym (last_none tables inputs functions s f how (state_of reading world told turns) is))
+      ∙ sym (last_none tables inputs set functions s f.env how (state_of reading world told turns) is))
       begins
 
 -- ---- the block and the handler, by their ends and by jumps
@@ -103,11 +101,11 @@ uncaught Throws s v is = refl
 uncaught (Returns to) s v is = never (handles s)
 uncaught (Leaves n to) s v is = never (handles s)
 
-module _ (tables : Tables) (inputs : Given) (functions : List FunctionCode) where
+module _ (tables : Tables) (inputs : Given) (set : BuiltIns) (functions : List FunctionCode) where
   pub caught_as : (j : moves.Jump) (s : Statement) (v : Val) (ident : Ident) (b : Block) (e : Env ℕ) → caught_by j s ≡ Some (ident, b)
-      → ((handles s && is_throw (jump_of j v).exit) ≡ true) × (handler_of tables inputs functions s e ≡ handled (planned tables inputs functions) (asking tables inputs functions) ident b e) × ((jump_of j v).value ≡ v)
-  caught_as Throws (try_catch at c i h) v ident b e is = let same = same_Some (i, h) (ident, b) is in (refl, ap (λ p. handled (planned tables inputs functions) (asking tables inputs functions) p.0 p.1 e) same, refl)
-  caught_as Throws (try_both at c i h last) v ident b e is = let same = same_Some (i, h) (ident, b) is in (refl, ap (λ p. handled (planned tables inputs functions) (asking tables inputs functions) p.0 p.1 e) same, refl)
+      → ((handles s && is_throw (jump_of j v).exit) ≡ true) × (handler_of tables inputs set functions s e ≡ handled (planned tables inputs set functions) (entrance tables inputs set functions) (asking tables inputs set functions) ident b e) × ((jump_of j v).value ≡ v)
+  caught_as Throws (try_catch at c i h) v ident b e is = let same = same_Some (i, h) (ident, b) is in (refl, ap (λ p. handled (planned tables inputs set functions) (entrance tables inputs set functions) (asking tables inputs set functions) p.0 p.1 e) same, refl)
+  caught_as Throws (try_both at c i h last) v ident b e is = let same = same_Some (i, h) (ident, b) is in (refl, ap (λ p. handled (planned tables inputs set functions) (entrance tables inputs set functions) (asking tables inputs set functions) p.0 p.1 e) same, refl)
   caught_as Throws _ v ident b e is = absurd (none-some (ident, b) is)
   caught_as (Returns to) s v ident b e is = absurd (none-some (ident, b) is)
   caught_as (Leaves n to) s v ident b e is = absurd (none-some (ident, b) is)

@@ -1,8 +1,7 @@
 -- A frame that catches no longer, in a reading of the labels.
-use Rattle.std.proofs.Common.{refl, sym, ap, ap₂, ◌∙◌, ◌≡◌, ◌-◌, ℕ, zero, suc, false, true, ◌&&◌, List, [], ◌∷◌, map, length, Option, Some, arith}
-use Rattle.std.specs.List.{All}
+use Rattle.std.proofs.Common.{refl, sym, ap, ◌∙◌, ◌≡◌, ◌-◌, ℕ, zero, suc, false, ◌&&◌, List, [], ◌∷◌, map, length, Some, arith}
 use Rattle.std.proofs.lemmas.List.{length-map}
-use Rattle.std.proofs.lemmas.Option.{none-some, same_Some}
+use Rattle.std.proofs.lemmas.Option.{same_Some}
 use Rattle.origin_labels.specs.Label.{Label}
 use Rattle.flow_frames.specs.declared.kind.Kind.{Kind}
 use Rattle.flow_frames.specs.Changes.{changed_at, quieted}

@@ -1,5 +1,5 @@
 -- What the end of a call leaves.
-use Rattle.std.specs.Prelude.{◌≡◌, ℕ, ◌+◌, List, [], ◌∷◌, map, take, length}
+use Rattle.std.specs.Prelude.{◌≡◌, ℕ, ◌+◌, [], ◌∷◌, map, take, length}
 use Rattle.origin_labels.specs.Label.{Label, union}
 use Rattle.flow_frames.specs.Held.{Belong, CatchByTry, meant_at, seen_frame}
 use Rattle.js_values.specs.declared.value.Labelled.{Labelled}

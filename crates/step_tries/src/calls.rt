@@ -10,16 +10,18 @@ ghost use Rattle.flow_frames.specs.Stops.{IfStop};
 ghost use Rattle.js_ast.specs.Functions.{FunctionCode};
 ghost use Rattle.js_values.specs.declared.value.Labelled.{Labelled as LabelledOf};
 ghost use Rattle.es_meaning.specs.Plain.{object_or, object_or_default};
+ghost use Rattle.es_meaning.specs.BuiltIns.{BuiltIns};
 ghost use Rattle.step_world.specs.Worlds.{Grows};
 ghost use Rattle.step_work.specs.declared.work.Next.TheVariants as next;
 ghost use Rattle.step_work.specs.declared.work.Work.TheVariants as work;
 ghost use Rattle.step_work.specs.Going.{Passes, Resumes};
-ghost use Rattle.step_work.specs.Kept.{scope_of, scopes_of};
+ghost use Rattle.step_work.specs.Kept.{scope_of, scopes_of, waiting};
 ghost use Rattle.step_work.specs.Loads.{Adds, weight};
 ghost use Rattle.step_work.specs.Pending.{owns, values_of};
 ghost use Rattle.step_work.specs.Standing.{Standing};
 ghost use Rattle.step_work.specs.Stops.{HasStop};
 ghost use Rattle.step_tries.specs.Calling.{Answers};
+ghost use Rattle.native_protocol.specs.Steps.{Steps};
 
 use flow_frames::{FlowFault, Frames, belonging_lasts};
 use flow_text::OutOfMemory;
@@ -85,10 +87,10 @@ pub fn end_call<'p, L: Labels>(
     own: EnvId,
     depth: usize,
 ) -> Result<Next<'p>, FlowFault<L::Label>>
-    requires standing { Standing L.made L.meaning labels.old stack.old world.old (owns (work.EndCall own depth)) (scopes_of stack.old.tasks ++ scope_of (work.EndCall own depth)) next.Value }
-    ensures resumes { (tables : Tables) (inputs : Given) (functions : List FunctionCode) → Resumes L.made L.meaning labels.new tables inputs functions (work.EndCall own depth) stack.old stack.new world.old world.new result }
-    ensures standing { IfOk result (λ move. Standing L.made L.meaning labels.new stack.new world.new (values_of move) (scopes_of stack.new.tasks) move) }
-    ensures adds { IfOk result (Adds (weight (work.EndCall own depth)) stack.old stack.new) }
+    requires standing { Standing L.made L.meaning labels.old stack.old world.old (owns (work.EndCall own depth)) (scopes_of stack.old.tasks ++ scope_of (work.EndCall own depth)) (waiting stack.old.tasks) next.Value }
+    ensures resumes { (tables : Tables) (inputs : Given) (set : BuiltIns) (functions : List FunctionCode) (natives : List Steps) → Resumes L.made L.meaning labels.new tables inputs set functions (work.EndCall own depth) natives natives stack.old stack.new world.old world.new result }
+    ensures standing { IfOk result (λ move. Standing L.made L.meaning labels.new stack.new world.new (values_of move) (scopes_of stack.new.tasks) (waiting stack.old.tasks) move) }
+    ensures adds { IfOk result (Adds (weight (work.EndCall own depth) + 3) stack.old stack.new) }
     ensures stopped { IfErr result (IfStop (HasStop (L.made labels.new))) }
     ensures grows { Grows world.old world.new }
     ensures kept { IsKept L.made L.meaning L.room L.firm labels.old labels.new }
@@ -112,10 +114,10 @@ pub fn pass_call<'p, L: Labels>(
     own: EnvId,
     depth: usize,
 ) -> Result<Next<'p>, FlowFault<L::Label>>
-    requires standing { Standing L.made L.meaning labels.old stack.old world.old (owns (work.EndCall own depth) + 1) (scopes_of stack.old.tasks ++ scope_of (work.EndCall own depth)) (next.Jumps jump) }
-    ensures passes { (tables : Tables) (inputs : Given) (functions : List FunctionCode) (value : LabelledOf L.Label) → drop (owns (work.EndCall own depth)) stack.old.loose ≡ value ∷ [] → Passes L.made L.meaning labels.new tables inputs functions jump (work.EndCall own depth) value stack.old stack.new world.old world.new result }
-    ensures standing { IfOk result (λ move. Standing L.made L.meaning labels.new stack.new world.new (values_of move) (scopes_of stack.new.tasks) move) }
-    ensures adds { IfOk result (Adds (weight (work.EndCall own depth)) stack.old stack.new) }
+    requires standing { Standing L.made L.meaning labels.old stack.old world.old (owns (work.EndCall own depth) + 1) (scopes_of stack.old.tasks ++ scope_of (work.EndCall own depth)) (waiting stack.old.tasks) (next.Jumps jump) }
+    ensures passes { (tables : Tables) (inputs : Given) (set : BuiltIns) (functions : List FunctionCode) (natives : List Steps) (value : LabelledOf L.Label) → drop (owns (work.EndCall own depth)) stack.old.loose ≡ value ∷ [] → Passes L.made L.meaning labels.new tables inputs set functions jump (work.EndCall own depth) value natives natives stack.old stack.new world.old world.new result }
+    ensures standing { IfOk result (λ move. Standing L.made L.meaning labels.new stack.new world.new (values_of move) (scopes_of stack.new.tasks) (waiting stack.old.tasks) move) }
+    ensures adds { IfOk result (Adds (weight (work.EndCall own depth) + 3) stack.old stack.new) }
     ensures stopped { IfErr result (IfStop (HasStop (L.made labels.new))) }
     ensures grows { Grows world.old world.new }
     ensures kept { IsKept L.made L.meaning L.room L.firm labels.old labels.new }
@@ -147,10 +149,10 @@ pub fn end_construction<'p, L: Labels>(
     own: EnvId,
     depth: usize,
 ) -> Result<Next<'p>, FlowFault<L::Label>>
-    requires standing { Standing L.made L.meaning labels.old stack.old world.old (owns (work.EndNew own depth)) (scopes_of stack.old.tasks ++ scope_of (work.EndNew own depth)) next.Value }
-    ensures resumes { (tables : Tables) (inputs : Given) (functions : List FunctionCode) → Resumes L.made L.meaning labels.new tables inputs functions (work.EndNew own depth) stack.old stack.new world.old world.new result }
-    ensures standing { IfOk result (λ move. Standing L.made L.meaning labels.new stack.new world.new (values_of move) (scopes_of stack.new.tasks) move) }
-    ensures adds { IfOk result (Adds (weight (work.EndNew own depth)) stack.old stack.new) }
+    requires standing { Standing L.made L.meaning labels.old stack.old world.old (owns (work.EndNew own depth)) (scopes_of stack.old.tasks ++ scope_of (work.EndNew own depth)) (waiting stack.old.tasks) next.Value }
+    ensures resumes { (tables : Tables) (inputs : Given) (set : BuiltIns) (functions : List FunctionCode) (natives : List Steps) → Resumes L.made L.meaning labels.new tables inputs set functions (work.EndNew own depth) natives natives stack.old stack.new world.old world.new result }
+    ensures standing { IfOk result (λ move. Standing L.made L.meaning labels.new stack.new world.new (values_of move) (scopes_of stack.new.tasks) (waiting stack.old.tasks) move) }
+    ensures adds { IfOk result (Adds (weight (work.EndNew own depth) + 3) stack.old stack.new) }
     ensures stopped { IfErr result (IfStop (HasStop (L.made labels.new))) }
     ensures grows { Grows world.old world.new }
     ensures kept { IsKept L.made L.meaning L.room L.firm labels.old labels.new }
@@ -189,10 +191,10 @@ pub fn pass_construction<'p, L: Labels>(
     own: EnvId,
     depth: usize,
 ) -> Result<Next<'p>, FlowFault<L::Label>>
-    requires standing { Standing L.made L.meaning labels.old stack.old world.old (owns (work.EndNew own depth) + 1) (scopes_of stack.old.tasks ++ scope_of (work.EndNew own depth)) (next.Jumps jump) }
-    ensures passes { (tables : Tables) (inputs : Given) (functions : List FunctionCode) (value : LabelledOf L.Label) → drop (owns (work.EndNew own depth)) stack.old.loose ≡ value ∷ [] → Passes L.made L.meaning labels.new tables inputs functions jump (work.EndNew own depth) value stack.old stack.new world.old world.new result }
-    ensures standing { IfOk result (λ move. Standing L.made L.meaning labels.new stack.new world.new (values_of move) (scopes_of stack.new.tasks) move) }
-    ensures adds { IfOk result (Adds (weight (work.EndNew own depth)) stack.old stack.new) }
+    requires standing { Standing L.made L.meaning labels.old stack.old world.old (owns (work.EndNew own depth) + 1) (scopes_of stack.old.tasks ++ scope_of (work.EndNew own depth)) (waiting stack.old.tasks) (next.Jumps jump) }
+    ensures passes { (tables : Tables) (inputs : Given) (set : BuiltIns) (functions : List FunctionCode) (natives : List Steps) (value : LabelledOf L.Label) → drop (owns (work.EndNew own depth)) stack.old.loose ≡ value ∷ [] → Passes L.made L.meaning labels.new tables inputs set functions jump (work.EndNew own depth) value natives natives stack.old stack.new world.old world.new result }
+    ensures standing { IfOk result (λ move. Standing L.made L.meaning labels.new stack.new world.new (values_of move) (scopes_of stack.new.tasks) (waiting stack.old.tasks) move) }
+    ensures adds { IfOk result (Adds (weight (work.EndNew own depth) + 3) stack.old stack.new) }
     ensures stopped { IfErr result (IfStop (HasStop (L.made labels.new))) }
     ensures grows { Grows world.old world.new }
     ensures kept { IsKept L.made L.meaning L.room L.firm labels.old labels.new }

@@ -15,6 +15,7 @@ ghost use Rattle.es_meaning.specs.Environments.{with_place};
 ghost use Rattle.es_meaning.specs.Operations.{One};
 ghost use Rattle.es_meaning.specs.Outcomes.{ret};
 ghost use Rattle.es_meaning.specs.Plain.{choose, undefined};
+ghost use Rattle.es_meaning.specs.BuiltIns.{BuiltIns};
 ghost use Rattle.flow_meaning.specs.Erased.{unlabelled};
 ghost use Rattle.flow_meaning.specs.Planned.{and_plan, as_plan, asking, end_handler as end_handler_meant, end_last as end_last_meant, gave, planned, Give};
 ghost use Rattle.flow_meaning.specs.Scopes.{State, quiet};
@@ -22,16 +23,18 @@ ghost use Rattle.step_world.specs.Worlds.{Belongs, Grows};
 ghost use Rattle.step_work.specs.declared.work.Next.TheVariants as next;
 ghost use Rattle.step_work.specs.declared.work.Work.TheVariants as work;
 ghost use Rattle.step_work.specs.Going.{Begins as BeginsHere, Passes, Resumes, here};
-ghost use Rattle.step_work.specs.Kept.{operands_of, scope_of, scopes_of};
-ghost use Rattle.step_work.specs.Loads.{Adds, lift, weight};
+ghost use Rattle.step_work.specs.Kept.{operands_of, scope_of, scopes_of, waiting as natives_waiting};
+ghost use Rattle.step_work.specs.Loads.{Adds, weight};
 ghost use Rattle.step_work.specs.Moving.{BeginsAt, BeginsWith};
 ghost use Rattle.step_work.specs.Pending.{env_above, last_of, owns, owns_waiting, values_of};
 ghost use Rattle.step_work.specs.Resuming.{BeginsBehind, Keeps, with_frames};
 ghost use Rattle.step_work.specs.Shapes.{finishes as finishes_meant, waiting_of};
 ghost use Rattle.step_work.specs.Standing.{Standing};
 ghost use Rattle.step_work.specs.Stops.{HasStop};
+ghost use Rattle.step_work.specs.Settings.{entrance};
 ghost use Rattle.step_tries.specs.Parts.{is_try, statements_in, tried_in};
-ghost use Rattle.step_tries.specs.Trying.{EndsAt, catching_plan, ending_plan, last_plan, reacting_plan, trying_plan};
+ghost use Rattle.step_tries.specs.Trying.{EndsAt, StandsStill, catching_plan, ending_plan, last_plan, reacting_plan, trying_plan};
+ghost use Rattle.native_protocol.specs.Steps.{Steps};
 
 use crate::parts::{caught, finishes, last, statements, tried};
 use crate::quieting::quiet_last;
@@ -55,9 +58,9 @@ fn begin_last<'p, T: Copy>(
     waiting: Option<Jump>,
 ) -> Result<Next<'p>, OutOfMemory>
     requires { length stack.old.loose ≡ owns_waiting waiting }
-    ensures goes_on { IfOk result (BeginsBehind (λ tables inputs functions vs e s. and_plan (statements_meant (planned tables inputs functions) (asking tables inputs functions) (statements_in (view_block block.entry.now)) e s) (end_last_meant (waiting_of waiting vs))) stack.old stack.new) }
+    ensures goes_on { IfOk result (BeginsBehind (λ tables inputs set functions vs e s. and_plan (statements_meant (planned tables inputs set functions) (asking tables inputs set functions) (statements_in (view_block block.entry.now)) e.env s) (end_last_meant (waiting_of waiting vs))) stack.old stack.new) }
     ensures keeps { IfOk result (Keeps stack.old stack.new) }
-    ensures adds { IfOk result (Adds 2 stack.old stack.new) }
+    ensures adds { IfOk result (Adds 5 stack.old stack.new) }
 {
     stack.push(Work::EndLast(waiting))?;
     begin_statements(stack, statements(block))
@@ -70,10 +73,10 @@ fn leave<'p, L: Labels>(
     stack: &mut Stack<'p, L::Label>,
     waiting: Option<Jump>,
 ) -> Result<Next<'p>, FlowFault<L::Label>>
-    requires standing { Standing L.made L.meaning labels.old stack.old world.old (owns_waiting waiting) (scopes_of stack.old.tasks) next.Value }
+    requires standing { Standing L.made L.meaning labels.old stack.old world.old (owns_waiting waiting) (scopes_of stack.old.tasks) (natives_waiting stack.old.tasks) next.Value }
     ensures begins { BeginsWith L.made L.meaning labels.new (ending_plan waiting stack.old.loose) stack.old stack.new world.old world.new result }
-    ensures standing { IfOk result (λ move. Standing L.made L.meaning labels.new stack.new world.new (values_of move) (scopes_of stack.new.tasks) move) }
-    ensures adds { IfOk result (Adds 1 stack.old stack.new) }
+    ensures standing { IfOk result (λ move. Standing L.made L.meaning labels.new stack.new world.new (values_of move) (scopes_of stack.new.tasks) (natives_waiting stack.old.tasks) move) }
+    ensures adds { IfOk result (Adds 4 stack.old stack.new) }
     ensures stopped { IfErr result (IfStop (HasStop (L.made labels.new))) }
     ensures grows { Grows world.old world.new }
     ensures kept { IsKept L.made L.meaning L.room L.firm labels.old labels.new }
@@ -96,10 +99,10 @@ fn finish<'p, L: Labels>(
     s: &'p Stmt,
     waiting: Option<Jump>,
 ) -> Result<Next<'p>, FlowFault<L::Label>>
-    requires standing { Standing L.made L.meaning labels.old stack.old world.old (owns_waiting waiting) (scopes_of stack.old.tasks) next.Value }
+    requires standing { Standing L.made L.meaning labels.old stack.old world.old (owns_waiting waiting) (scopes_of stack.old.tasks) (natives_waiting stack.old.tasks) next.Value }
     ensures begins { BeginsWith L.made L.meaning labels.new (last_plan (view_stmt s.entry.now) waiting stack.old.loose) stack.old stack.new world.old world.new result }
-    ensures standing { IfOk result (λ move. Standing L.made L.meaning labels.new stack.new world.new (values_of move) (scopes_of stack.new.tasks) move) }
-    ensures adds { IfOk result (Adds 2 stack.old stack.new) }
+    ensures standing { IfOk result (StandsStill L.made L.meaning labels.new (natives_waiting stack.old.tasks) stack.new world.new) }
+    ensures adds { IfOk result (Adds 5 stack.old stack.new) }
     ensures stopped { IfErr result (IfStop (HasStop (L.made labels.new))) }
     ensures grows { Grows world.old world.new }
     ensures kept { IsKept L.made L.meaning L.room L.firm labels.old labels.new }
@@ -121,10 +124,10 @@ pub fn end_last<'p, L: Labels>(
     stack: &mut Stack<'p, L::Label>,
     waiting: Option<Jump>,
 ) -> Result<Next<'p>, FlowFault<L::Label>>
-    requires standing { Standing L.made L.meaning labels.old stack.old world.old (owns (work.EndLast waiting)) (scopes_of stack.old.tasks ++ scope_of (work.EndLast waiting)) next.Value }
-    ensures resumes { (tables : Tables) (inputs : Given) (functions : List FunctionCode) → Resumes L.made L.meaning labels.new tables inputs functions (work.EndLast waiting) stack.old stack.new world.old world.new result }
-    ensures standing { IfOk result (λ move. Standing L.made L.meaning labels.new stack.new world.new (values_of move) (scopes_of stack.new.tasks) move) }
-    ensures adds { IfOk result (Adds (weight (work.EndLast waiting)) stack.old stack.new) }
+    requires standing { Standing L.made L.meaning labels.old stack.old world.old (owns (work.EndLast waiting)) (scopes_of stack.old.tasks ++ scope_of (work.EndLast waiting)) (natives_waiting stack.old.tasks) next.Value }
+    ensures resumes { (tables : Tables) (inputs : Given) (set : BuiltIns) (functions : List FunctionCode) (natives : List Steps) → Resumes L.made L.meaning labels.new tables inputs set functions (work.EndLast waiting) natives natives stack.old stack.new world.old world.new result }
+    ensures standing { IfOk result (λ move. Standing L.made L.meaning labels.new stack.new world.new (values_of move) (scopes_of stack.new.tasks) (natives_waiting stack.old.tasks) move) }
+    ensures adds { IfOk result (Adds (weight (work.EndLast waiting) + 3) stack.old stack.new) }
     ensures stopped { IfErr result (IfStop (HasStop (L.made labels.new))) }
     ensures grows { Grows world.old world.new }
     ensures kept { IsKept L.made L.meaning L.room L.firm labels.old labels.new }
@@ -143,9 +146,9 @@ fn begin_handler<'p, T: Copy>(
     block: &'p Block,
 ) -> Result<Next<'p>, OutOfMemory>
     requires { length stack.old.loose ≡ 0 }
-    ensures goes_on { IfOk result (BeginsBehind (λ tables inputs functions vs e t. and_plan (statements_meant (planned tables inputs functions) (asking tables inputs functions) (statements_in (view_block block.entry.now)) (with_place own.0 e) t) (end_handler_meant (finishes_meant (view_stmt s.entry.now)) (last_of tables inputs functions (view_stmt s.entry.now) e) depth)) stack.old stack.new) }
+    ensures goes_on { IfOk result (BeginsBehind (λ tables inputs set functions vs e t. and_plan (statements_meant (planned tables inputs set functions) (asking tables inputs set functions) (statements_in (view_block block.entry.now)) (with_place own.0 e.env) t) (end_handler_meant (finishes_meant (view_stmt s.entry.now)) (last_of tables inputs set functions (view_stmt s.entry.now) e.env) depth)) stack.old stack.new) }
     ensures keeps { IfOk result (Keeps stack.old stack.new) }
-    ensures adds { IfOk result (Adds 3 stack.old stack.new) }
+    ensures adds { IfOk result (Adds 6 stack.old stack.new) }
 {
     stack.push(Work::EndHandler(s, own, depth))?;
     begin_statements(stack, statements(block))
@@ -163,10 +166,10 @@ fn catch_value<'p, L: Labels>(
     ident: &'p Ident,
     block: &'p Block,
 ) -> Result<Next<'p>, OutOfMemory>
-    requires standing { Standing L.made L.meaning labels.old stack.old world.old 1 (scopes_of stack.old.tasks) next.Value }
+    requires standing { Standing L.made L.meaning labels.old stack.old world.old 1 (scopes_of stack.old.tasks) (natives_waiting stack.old.tasks) next.Value }
     ensures begins { IfOk result (λ move. BeginsAt L.made L.meaning labels.new place.0 (catching_plan (view_stmt s.entry.now) depth (view_ident ident.entry.now) (view_block block.entry.now) stack.old.loose) stack.old stack.new world.old world.new (Ok move)) }
-    ensures standing { IfOk result (λ move. Standing L.made L.meaning labels.new stack.new world.new (values_of move) (scopes_of stack.new.tasks) move) }
-    ensures adds { IfOk result (Adds 3 stack.old stack.new) }
+    ensures standing { IfOk result (StandsStill L.made L.meaning labels.new (natives_waiting stack.old.tasks) stack.new world.new) }
+    ensures adds { IfOk result (Adds 6 stack.old stack.new) }
     ensures grows { Grows world.old world.new }
     ensures kept { IsKept L.made L.meaning L.room L.firm labels.old labels.new }
 {
@@ -201,10 +204,10 @@ fn react<'p, L: Labels>(
     s: &'p Stmt,
     depth: usize,
 ) -> Result<Next<'p>, FlowFault<L::Label>>
-    requires standing { Standing L.made L.meaning labels.old stack.old world.old 1 (scopes_of stack.old.tasks) next.Value }
+    requires standing { Standing L.made L.meaning labels.old stack.old world.old 1 (scopes_of stack.old.tasks) (natives_waiting stack.old.tasks) next.Value }
     ensures begins { BeginsAt L.made L.meaning labels.new place.0 (reacting_plan (view_stmt s.entry.now) depth jump stack.old.loose) stack.old stack.new world.old world.new result }
-    ensures standing { IfOk result (λ move. Standing L.made L.meaning labels.new stack.new world.new (values_of move) (scopes_of stack.new.tasks) move) }
-    ensures adds { IfOk result (Adds 3 stack.old stack.new) }
+    ensures standing { IfOk result (StandsStill L.made L.meaning labels.new (natives_waiting stack.old.tasks) stack.new world.new) }
+    ensures adds { IfOk result (Adds 6 stack.old stack.new) }
     ensures stopped { IfErr result (IfStop (HasStop (L.made labels.new))) }
     ensures grows { Grows world.old world.new }
     ensures kept { IsKept L.made L.meaning L.room L.firm labels.old labels.new }
@@ -250,10 +253,10 @@ pub fn end_block<'p, L: Labels>(
     s: &'p Stmt,
     depth: usize,
 ) -> Result<Next<'p>, FlowFault<L::Label>>
-    requires standing { Standing L.made L.meaning labels.old stack.old world.old (owns (work.EndBlock s depth)) (scopes_of stack.old.tasks ++ scope_of (work.EndBlock s depth)) next.Value }
-    ensures resumes { (tables : Tables) (inputs : Given) (functions : List FunctionCode) → Resumes L.made L.meaning labels.new tables inputs functions (work.EndBlock s.entry depth) stack.old stack.new world.old world.new result }
-    ensures standing { IfOk result (λ move. Standing L.made L.meaning labels.new stack.new world.new (values_of move) (scopes_of stack.new.tasks) move) }
-    ensures adds { IfOk result (Adds (weight (work.EndBlock s.entry depth)) stack.old stack.new) }
+    requires standing { Standing L.made L.meaning labels.old stack.old world.old (owns (work.EndBlock s depth)) (scopes_of stack.old.tasks ++ scope_of (work.EndBlock s depth)) (natives_waiting stack.old.tasks) next.Value }
+    ensures resumes { (tables : Tables) (inputs : Given) (set : BuiltIns) (functions : List FunctionCode) (natives : List Steps) → Resumes L.made L.meaning labels.new tables inputs set functions (work.EndBlock s.entry depth) natives natives stack.old stack.new world.old world.new result }
+    ensures standing { IfOk result (StandsStill L.made L.meaning labels.new (natives_waiting stack.old.tasks) stack.new world.new) }
+    ensures adds { IfOk result (Adds (weight (work.EndBlock s.entry depth) + 3) stack.old stack.new) }
     ensures stopped { IfErr result (IfStop (HasStop (L.made labels.new))) }
     ensures grows { Grows world.old world.new }
     ensures kept { IsKept L.made L.meaning L.room L.firm labels.old labels.new }
@@ -271,10 +274,10 @@ pub fn end_handler<'p, L: Labels>(
     own: EnvId,
     depth: usize,
 ) -> Result<Next<'p>, FlowFault<L::Label>>
-    requires standing { Standing L.made L.meaning labels.old stack.old world.old (owns (work.EndHandler s own depth)) (scopes_of stack.old.tasks ++ scope_of (work.EndHandler s own depth)) next.Value }
-    ensures resumes { (tables : Tables) (inputs : Given) (functions : List FunctionCode) → Resumes L.made L.meaning labels.new tables inputs functions (work.EndHandler s.entry own depth) stack.old stack.new world.old world.new result }
-    ensures standing { IfOk result (λ move. Standing L.made L.meaning labels.new stack.new world.new (values_of move) (scopes_of stack.new.tasks) move) }
-    ensures adds { IfOk result (Adds (weight (work.EndHandler s.entry own depth)) stack.old stack.new) }
+    requires standing { Standing L.made L.meaning labels.old stack.old world.old (owns (work.EndHandler s own depth)) (scopes_of stack.old.tasks ++ scope_of (work.EndHandler s own depth)) (natives_waiting stack.old.tasks) next.Value }
+    ensures resumes { (tables : Tables) (inputs : Given) (set : BuiltIns) (functions : List FunctionCode) (natives : List Steps) → Resumes L.made L.meaning labels.new tables inputs set functions (work.EndHandler s.entry own depth) natives natives stack.old stack.new world.old world.new result }
+    ensures standing { IfOk result (StandsStill L.made L.meaning labels.new (natives_waiting stack.old.tasks) stack.new world.new) }
+    ensures adds { IfOk result (Adds (weight (work.EndHandler s.entry own depth) + 3) stack.old stack.new) }
     ensures stopped { IfErr result (IfStop (HasStop (L.made labels.new))) }
     ensures grows { Grows world.old world.new }
     ensures kept { IsKept L.made L.meaning L.room L.firm labels.old labels.new }
@@ -294,11 +297,11 @@ pub fn pass_block<'p, L: Labels>(
     s: &'p Stmt,
     depth: usize,
 ) -> Result<Next<'p>, FlowFault<L::Label>>
-    requires standing { Standing L.made L.meaning labels.old stack.old world.old (owns (work.EndBlock s depth) + 1) (scopes_of stack.old.tasks ++ scope_of (work.EndBlock s depth)) (next.Jumps jump) }
+    requires standing { Standing L.made L.meaning labels.old stack.old world.old (owns (work.EndBlock s depth) + 1) (scopes_of stack.old.tasks ++ scope_of (work.EndBlock s depth)) (natives_waiting stack.old.tasks) (next.Jumps jump) }
     requires place { (env_above stack.old.tasks here).place ≡ place.0 }
-    ensures passes { (tables : Tables) (inputs : Given) (functions : List FunctionCode) (value : LabelledOf L.Label) → drop (owns (work.EndBlock s.entry depth)) stack.old.loose ≡ value ∷ [] → Passes L.made L.meaning labels.new tables inputs functions jump (work.EndBlock s.entry depth) value stack.old stack.new world.old world.new result }
-    ensures standing { IfOk result (λ move. Standing L.made L.meaning labels.new stack.new world.new (values_of move) (scopes_of stack.new.tasks) move) }
-    ensures adds { IfOk result (Adds (weight (work.EndBlock s.entry depth)) stack.old stack.new) }
+    ensures passes { (tables : Tables) (inputs : Given) (set : BuiltIns) (functions : List FunctionCode) (natives : List Steps) (value : LabelledOf L.Label) → drop (owns (work.EndBlock s.entry depth)) stack.old.loose ≡ value ∷ [] → Passes L.made L.meaning labels.new tables inputs set functions jump (work.EndBlock s.entry depth) value natives natives stack.old stack.new world.old world.new result }
+    ensures standing { IfOk result (StandsStill L.made L.meaning labels.new (natives_waiting stack.old.tasks) stack.new world.new) }
+    ensures adds { IfOk result (Adds (weight (work.EndBlock s.entry depth) + 3) stack.old stack.new) }
     ensures stopped { IfErr result (IfStop (HasStop (L.made labels.new))) }
     ensures grows { Grows world.old world.new }
     ensures kept { IsKept L.made L.meaning L.room L.firm labels.old labels.new }
@@ -320,10 +323,10 @@ pub fn pass_handler<'p, L: Labels>(
     own: EnvId,
     depth: usize,
 ) -> Result<Next<'p>, FlowFault<L::Label>>
-    requires standing { Standing L.made L.meaning labels.old stack.old world.old (owns (work.EndHandler s own depth) + 1) (scopes_of stack.old.tasks ++ scope_of (work.EndHandler s own depth)) (next.Jumps jump) }
-    ensures passes { (tables : Tables) (inputs : Given) (functions : List FunctionCode) (value : LabelledOf L.Label) → drop (owns (work.EndHandler s.entry own depth)) stack.old.loose ≡ value ∷ [] → Passes L.made L.meaning labels.new tables inputs functions jump (work.EndHandler s.entry own depth) value stack.old stack.new world.old world.new result }
-    ensures standing { IfOk result (λ move. Standing L.made L.meaning labels.new stack.new world.new (values_of move) (scopes_of stack.new.tasks) move) }
-    ensures adds { IfOk result (Adds (weight (work.EndHandler s.entry own depth)) stack.old stack.new) }
+    requires standing { Standing L.made L.meaning labels.old stack.old world.old (owns (work.EndHandler s own depth) + 1) (scopes_of stack.old.tasks ++ scope_of (work.EndHandler s own depth)) (natives_waiting stack.old.tasks) (next.Jumps jump) }
+    ensures passes { (tables : Tables) (inputs : Given) (set : BuiltIns) (functions : List FunctionCode) (natives : List Steps) (value : LabelledOf L.Label) → drop (owns (work.EndHandler s.entry own depth)) stack.old.loose ≡ value ∷ [] → Passes L.made L.meaning labels.new tables inputs set functions jump (work.EndHandler s.entry own depth) value natives natives stack.old stack.new world.old world.new result }
+    ensures standing { IfOk result (StandsStill L.made L.meaning labels.new (natives_waiting stack.old.tasks) stack.new world.new) }
+    ensures adds { IfOk result (Adds (weight (work.EndHandler s.entry own depth) + 3) stack.old stack.new) }
     ensures stopped { IfErr result (IfStop (HasStop (L.made labels.new))) }
     ensures grows { Grows world.old world.new }
     ensures kept { IsKept L.made L.meaning L.room L.firm labels.old labels.new }
@@ -346,11 +349,12 @@ fn begin_block<'p, T: Copy>(
     block: &'p Block,
 ) -> Result<Next<'p>, OutOfMemory>
     requires { length stack.old.loose ≡ 0 }
-    ensures goes_on { IfOk result (BeginsBehind (λ tables inputs functions vs e t. trying_plan tables inputs functions (view_stmt s.entry.now) depth (statements_in (view_block block.entry.now)) e t) stack.old stack.new) }
+    ensures goes_on { IfOk result (BeginsBehind (λ tables inputs set functions vs e t. trying_plan tables inputs set functions (view_stmt s.entry.now) depth (statements_in (view_block block.entry.now)) e.env t) stack.old stack.new) }
     ensures values { IfOk result (λ move. length stack.new.loose ≡ values_of move) }
     ensures scopes { IfOk result (λ move. scopes_of stack.new.tasks ≡ scopes_of stack.old.tasks ++ depth ∷ []) }
+    ensures natives { IfOk result (λ move. natives_waiting stack.new.tasks ≡ natives_waiting stack.old.tasks) }
     ensures operands { IfOk result (λ move. operands_of stack.new ≡ operands_of stack.old) }
-    ensures adds { IfOk result (Adds 5 stack.old stack.new) }
+    ensures adds { IfOk result (Adds 8 stack.old stack.new) }
 {
     stack.push(Work::EndTry(depth))?;
     stack.push(Work::EndBlock(s, depth))?;
@@ -365,11 +369,11 @@ fn enter_try<'p, L: Labels>(
     s: &'p Stmt,
     block: &'p Block,
 ) -> Result<Next<'p>, OutOfMemory>
-    requires standing { Standing L.made L.meaning labels.old stack.old world.old 0 (scopes_of stack.old.tasks) (next.Try s) }
+    requires standing { Standing L.made L.meaning labels.old stack.old world.old 0 (scopes_of stack.old.tasks) (natives_waiting stack.old.tasks) (next.Try s) }
     requires block { tried_in (view_stmt s.now) ≡ Some (view_block block.now) }
-    ensures begins { IfOk result (λ move. BeginsWith L.made L.meaning labels.new (λ tables inputs functions reading e. stmt_step (planned tables inputs functions) (asking tables inputs functions) (view_stmt s.entry.now) e) stack.old stack.new world.old world.new (Ok move)) }
-    ensures standing { IfOk result (λ move. Standing L.made L.meaning labels.new stack.new world.new (values_of move) (scopes_of stack.new.tasks) move) }
-    ensures adds { IfOk result (Adds 5 stack.old stack.new) }
+    ensures begins { IfOk result (λ move. BeginsWith L.made L.meaning labels.new (λ tables inputs set functions reading e. stmt_step (planned tables inputs set functions) (entrance tables inputs set functions) (asking tables inputs set functions) (view_stmt s.entry.now) e.env) stack.old stack.new world.old world.new (Ok move)) }
+    ensures standing { IfOk result (StandsStill L.made L.meaning labels.new (natives_waiting stack.old.tasks) stack.new world.new) }
+    ensures adds { IfOk result (Adds 8 stack.old stack.new) }
     ensures grows { Grows world.old world.new }
     ensures kept { IsKept L.made L.meaning L.room L.firm labels.old labels.new }
 {
@@ -387,12 +391,11 @@ pub fn begin_try<'p, L: Labels>(
     stack: &mut Stack<'p, L::Label>,
     s: &'p Stmt,
 ) -> Result<Next<'p>, FlowFault<L::Label>>
-    requires standing { Standing L.made L.meaning labels.old stack.old world.old (values_of (next.Try s)) (scopes_of stack.old.tasks) (next.Try s) }
+    requires standing { Standing L.made L.meaning labels.old stack.old world.old (values_of (next.Try s)) (scopes_of stack.old.tasks) (natives_waiting stack.old.tasks) (next.Try s) }
     requires tries { is_try (view_stmt s.now) ≡ true }
-    ensures begins { (tables : Tables) (inputs : Given) (functions : List FunctionCode) → BeginsHere L.made L.meaning labels.new tables inputs functions stack.old stack.new world.old world.new (next.Try s.entry) result }
-    ensures standing { IfOk result (λ move. Standing L.made L.meaning labels.new stack.new world.new (values_of move) (scopes_of stack.new.tasks) move) }
-    ensures adds { IfOk result (Adds (lift (next.Try s.entry)) stack.old stack.new) }
-    ensures lower { IfOk result (Adds 5 stack.old stack.new) }
+    ensures begins { (tables : Tables) (inputs : Given) (set : BuiltIns) (functions : List FunctionCode) (natives : List Steps) → BeginsHere L.made L.meaning labels.new tables inputs set functions natives natives stack.old stack.new world.old world.new (next.Try s.entry) result }
+    ensures standing { IfOk result (StandsStill L.made L.meaning labels.new (natives_waiting stack.old.tasks) stack.new world.new) }
+    ensures adds { IfOk result (Adds 8 stack.old stack.new) }
     ensures stopped { IfErr result (IfStop (HasStop (L.made labels.new))) }
     ensures grows { Grows world.old world.new }
     ensures kept { IsKept L.made L.meaning L.room L.firm labels.old labels.new }

@@ -1,9 +1,10 @@
 -- Acts leave the frames as they are unless they throw, and a throw never adds frames.
-use Rattle.std.proofs.Common.{arith, ◌≡◌, refl, sym, ap, subst, ◌∙◌, ◌≤◌, ℕ, suc, pos, Bool, true, false, List, [], ◌∷◌, map, take, length, slice_get, Option, Some, None, Result, Ok, Err}
+use Rattle.std.proofs.Common.{arith, ◌≡◌, refl, sym, ap, subst, ◌∙◌, ◌≤◌, ℕ, suc, Bool, true, false, List, [], ◌∷◌, map, take, length, slice_get, Option, Some, None, Result, Ok, Err}
 use Rattle.std.proofs.lemmas.List.{length-map, length-take}
-use Rattle.origin_labels.specs.Label.{Label, bottom, union, within}
+use Rattle.origin_labels.specs.Label.{Label, bottom, union, within, label_of}
+use Rattle.flow_frames.specs.declared.faults.FlowFault.{FlowFault}
 use Rattle.flow_frames.specs.declared.faults.Rule.{Rule}
-use Rattle.flow_frames.specs.declared.faults.Rule.TheVariants.{W1, W2, W9}
+use Rattle.flow_frames.specs.declared.faults.Rule.TheVariants.{W1, W2, W9, W11, W12}
 use Rattle.flow_frames.specs.Frames.{context}
 use Rattle.flow_frames.specs.Held.{seen_frame, meant_at}
 use Rattle.flow_frames.specs.Rules.{jump_need}
@@ -11,41 +12,53 @@ use Rattle.flow_policy.specs.Policies.{Tables}
 use Rattle.flow_policy.specs.Inputs.{Given}
 use Rattle.js_ast.specs.Functions.{FunctionCode}
 use Rattle.js_ast.specs.declared.operators.UnaryOperator.{UnaryOperator}
-use Rattle.js_ast.specs.declared.operators.UnaryOperator.TheVariants as unary_operator
 use Rattle.js_ast.specs.declared.operators.BinaryOperator.{BinaryOperator}
 use Rattle.js_number.specs.declared.primitive.Primitive.{Primitive}
-use Rattle.js_number.specs.declared.primitive.Primitive.TheVariants.{Num}
+use Rattle.js_number.specs.declared.primitive.Primitive.TheVariants.{Undefined, Null, Num, Str}
+use Rattle.js_number.specs.declared.primitive.Primitive.TheVariants as prims
+use Rattle.js_values.specs.declared.ids.ObjId.{ObjId}
+use Rattle.js_values.specs.declared.inner.Class.{Class}
+use Rattle.js_values.specs.declared.property.Body.{Body}
+use Rattle.js_values.specs.declared.property.Body.TheVariants.{Data}
+use Rattle.js_values.specs.declared.property.Marks.{Marks}
+use Rattle.js_values.specs.declared.property.Slot.{Slot}
 use Rattle.js_values.specs.declared.value.Labelled.{Labelled}
 use Rattle.js_values.specs.declared.value.Value.{Value}
 use Rattle.js_values.specs.declared.value.Value.TheVariants as value
-use Rattle.js_values.specs.Records.{Binding}
+use Rattle.js_values.specs.Objects.{Object, Property, own}
 use Rattle.js_values.specs.Readings.{IsReading}
-use Rattle.es_meaning.specs.Outcomes.{Outcome, Goes, Jumps, Ends, and_then, ret, ◌>>=◌}
-use Rattle.es_meaning.specs.Operations.{Act, object_of, base_needed, object_needed, has_key, refused_declaration, Hint, number_hint, string_hint, Rec}
-use Rattle.es_meaning.specs.Operators.{is_object, converts_beside, unary_of, binary_of}
-use Rattle.es_meaning.specs.Plain.{prototype_name, binding_at, is_coercible, key_text, Place, in_record, on_global, nowhere}
-use Rattle.es_meaning.specs.Start.{ErrorKind, reference_error, type_error, global_object}
-use Rattle.es_meaning.specs.Evaluation.{Conversion, unconverted, compared, numbers, primitives, keyed, conversion_of, has_left, has_right, takes_number, enters, give, unary_done, unary_value, unary_by, binary_done, binary_by, binary_values, compared_left, primitive_left, number_left, assign_to, assign_giving, prefix_by, prefix_number, prefix_value, postfix_by, postfix_number, postfix_value, compound_done}
-use Rattle.flow_meaning.specs.Scopes.{Halt, State, Jump, Val, L, guard, joined, reached, jump, jump_to, cut_to}
-use Rattle.flow_meaning.specs.Tracked.{labelled, instance_if, instance_of, is_function_at, is_instance, make_object, throw_error, with_error, error_jump, given, unless_object, seen, bound, rebinds, assigned, assigned_to, Reference, of_name, of_property, global_walk, held, found_globally, found, property_of, named, get_value, typeof_value, acted, put_by, put_on, is_element_of, put, put_property, put_named, put_value, truth_of, removed_if, removed_own, removed_in, remove_property, remove, needed, has, argument, act}
-use Rattle.step_world.specs.declared.came.Came.TheVariants as came
-use Rattle.step_world.specs.declared.world.World.{World}
-use Rattle.step_world.specs.Acts.{Acts}
-use Rattle.step_world.specs.Worlds.{state_of}
-use Rattle.step_world.specs.declared.came.Came.{Came}
-use Rattle.step_world.specs.declared.came.Leaving.{Leaving}
-use Rattle.flow_frames.specs.declared.faults.FlowFault.{FlowFault}
-use Rattle.js_values.specs.declared.property.Body.{Body}
-use Rattle.js_values.specs.declared.property.Body.TheVariants.{Data, Accessor}
-use Rattle.js_values.specs.declared.property.Slot.{Slot}
-use Rattle.js_values.specs.Objects.{Object, own}
-use Rattle.js_values.specs.Walks.{find, object_chain}
+use Rattle.js_values.specs.Records.{Binding}
+use Rattle.js_values.specs.Walks.{object_chain}
+use Rattle.native_protocol.specs.declared.request.ErrorKind.{ErrorKind}
+use Rattle.native_protocol.specs.declared.request.ErrorKind.TheVariants as kinds
+use Rattle.native_protocol.specs.declared.request.GivenMarks.{GivenMarks}
 use Rattle.object_heap.specs.Acts as heap_acts
 use Rattle.object_heap.specs.Acts.{Acted}
 use Rattle.prototype_walk.specs.declared.plan.PutPlan.{PutPlan}
 use Rattle.prototype_walk.specs.declared.plan.PutPlan.TheVariants.{Write, Add, Setter, Refused}
 use Rattle.prototype_walk.specs.Plans.{can_put}
+use Rattle.es_meaning.specs.BuiltIns.{BuiltIns}
+use Rattle.es_meaning.specs.Definitions.{GivenBody, Definition, setter_in, changes_body, keeps_a_half}
 use Rattle.es_meaning.specs.Objects.{made_by_script}
+use Rattle.es_meaning.specs.Operations.{Act, OwnPart, Shape, object_of, base_needed, object_needed, has_key, throws_error, own_property, define, own_keys, prototype_of_object, is_extensible, prevent_extensions, new_object, bind, read_line, print_line, join_label, raise_structure as raise_structure_by, raise_existence as raise_existence_by}
+use Rattle.es_meaning.specs.Operators.{is_object, not_built, unary_of, binary_of}
+use Rattle.es_meaning.specs.Outcomes.{left, Outcome, Goes, Jumps, Ends, and_then, ret, ◌>>=◌}
+use Rattle.es_meaning.specs.Plain.{undefined, binding_at, channel_of, choose, is_coercible, key_text, others, Place, in_record, on_global, nowhere}
+use Rattle.es_meaning.specs.Requested.{given_body, behind_definition, is_array, class_prototype, prototype_given, are_origins}
+use Rattle.es_meaning.specs.Start.{global_object}
+use Rattle.flow_meaning.specs.Erased.{erased_slot, erased_heap}
+use Rattle.flow_meaning.specs.Requested.{property_in, own_test, own_walk, value_label, body_label, is_function_in, is_function_at}
+use Rattle.flow_meaning.specs.Scopes.{Halt, State, Jump, Val, L, guard, joined, reached, jump, jump_to, cut_to}
+use Rattle.flow_meaning.specs.Tracked.{labelled, ends, is_instance, make_object, throw_error, with_error, error_jump, given, seen, bound, rebinds, assigned, assigned_to, Reference, of_name, of_property, Access, has_value, as_access, global_value, global_walk, found_globally, property_of, named, accessed, accessed_for_typeof, acted, own_in, Putting, is_put, setter_found, setter_at, put_by, put_on, is_element_of, put, put_property, put_named, put_value, truth_of, removed_if, removed_own, removed_in, remove_property, remove, needed, has, argument, on_object, on_object_in, own_property_in, set_marks, set_body_if, redefine, define_over, define_given, define_in, prototype_in, extensible_in, prevent, made_new, make_new, bind_object, bind_value, bind_to, if_origins, raise_structure, raise_existence, channel_label, reads, read_channel, prints, print_text, print_channel, with_origins, act}
+use Rattle.step_values.specs.Converted.{is_keyed}
+use Rattle.step_world.specs.declared.came.Came.{Came}
+use Rattle.step_world.specs.declared.came.Came.TheVariants as came
+use Rattle.step_world.specs.declared.came.Leaving.{Leaving}
+use Rattle.step_world.specs.declared.world.World.{World}
+use Rattle.step_world.specs.Acts.{Acts}
+use Rattle.step_world.specs.Worlds.{state_of}
+use Rattle.step_objects.specs.Instances.{Test, tested, tested_if}
+use Rattle.step_updates.specs.Operated.{operated, operated_by}
 use Rattle.step_updates.specs.Standing.{FramesStand, StandsBy}
 use Rattle.step_updates.specs.References.{reached as property_reached}
 
@@ -88,55 +101,43 @@ unfolding given
 given_stands label (Ok v) s = refl
 given_stands label (Err name) s = refl
 
-unless_stands : (b : Bool) (v : Val) (s : State) → FramesStand (unless_object b v s) s
-unfolding unless_object
-unless_stands true v s = refl
-unless_stands false v s = refl
-
 -- ---- names and properties
 
 bound_stands : (b : Option (Binding Val)) (s : State) → FramesStand (bound b s) s
 unfolding bound
 bound_stands (Some b) s = refl
-bound_stands None s = error_stands Val reference_error bottom s
+bound_stands None s = error_stands Val kinds.ReferenceError bottom s
 
-held_stands : (label : Label) (body : Body) (s : State) → FramesStand (held label body s) s
-unfolding held
-held_stands label (Data v) s = refl
-held_stands label (Accessor get set) s = refl
+access_stands : (m : L Val) (s : State) → FramesStand (m s) s → FramesStand (as_access m s) s
+access_stands m s stand = then_stands (m s) (λ v. ret (has_value v)) s stand (λ v t. refl)
 
 globally_stands : (walk : Label) (at : Option (ℕ × Slot Label)) (s : State) → FramesStand (found_globally walk at s) s
 unfolding found_globally
-globally_stands walk (Some f) s = held_stands (union walk f.1.label) f.1.body s
-globally_stands walk None s = error_stands Val reference_error walk s
+globally_stands walk (Some f) s = refl
+globally_stands walk None s = error_stands Access kinds.ReferenceError walk s
 
-found_stands : (place : Label) (at : Option (ℕ × Slot Label)) (s : State) → FramesStand (found place at s) s
-unfolding found
-found_stands place (Some f) s = held_stands (union place f.1.label) f.1.body s
-found_stands place None s = refl
-
-property_stands : (label : Label) (v : Value) (key : List ℕ) (s : State) → FramesStand (property_of label v key s) s
+pub property_stands : (label : Label) (base : Val) (v : Value) (key : List ℕ) (s : State) → FramesStand (property_of label base v key s) s
 unfolding property_of
-property_stands label (value.Primitive p) key s = refl
-property_stands label (value.Object o) key s = let walk = find key (object_chain s.heap o.0) in found_stands (union label walk.walk) walk.at s
+property_stands label base (value.Primitive p) key s = refl
+property_stands label base (value.Object o) key s = refl
 
 named_stands : (place : Place) (walk : Label) (name : List ℕ) (s : State) → FramesStand (named place walk name s) s
 unfolding named
-named_stands (in_record i) walk name s = bound_stands (binding_at s.records i name) s
+named_stands (in_record i) walk name s = access_stands (bound (binding_at s.records i name)) s (bound_stands (binding_at s.records i name) s)
 named_stands on_global walk name s = let here = global_walk s.heap name in globally_stands (union walk here.walk) here.at s
-named_stands nowhere walk name s = error_stands Val reference_error walk s
+named_stands nowhere walk name s = error_stands Access kinds.ReferenceError walk s
 
-got_stands : (n : Reference) (s : State) → FramesStand (get_value n s) s
-unfolding get_value
-got_stands (of_name name place walk) s = named_stands place walk name s
-got_stands (of_property v key label) s = property_stands (union v.label label) v.value key s
+pub accessed_stands : (n : Reference) (s : State) → FramesStand (accessed n s) s
+unfolding accessed
+accessed_stands (of_name name place walk) s = named_stands place walk name s
+accessed_stands (of_property v key label) s = property_stands (union v.label label) v v.value key s
 
-asked_stands : (n : Reference) (s : State) → FramesStand (typeof_value n s) s
-unfolding typeof_value
-asked_stands (of_name name (in_record i) walk) s = got_stands (of_name name (in_record i) walk) s
-asked_stands (of_name name on_global walk) s = got_stands (of_name name on_global walk) s
+pub asked_stands : (n : Reference) (s : State) → FramesStand (accessed_for_typeof n s) s
+unfolding accessed_for_typeof
+asked_stands (of_name name (in_record i) walk) s = accessed_stands (of_name name (in_record i) walk) s
+asked_stands (of_name name on_global walk) s = accessed_stands (of_name name on_global walk) s
 asked_stands (of_name name nowhere walk) s = refl
-asked_stands (of_property v key label) s = got_stands (of_property v key label) s
+asked_stands (of_property v key label) s = accessed_stands (of_property v key label) s
 
 -- ---- they are given values
 
@@ -148,56 +149,66 @@ guard_stands false rule need have m s stand = refl
 assigned_stands : (mutable : Bool) (have : Label) (name : List ℕ) (i : ℕ) (v : Val) (s : State) → FramesStand (assigned mutable have name i v s) s
 unfolding assigned
 assigned_stands true have name i v s = guard_stands (within (context s.frames) have) W1 (context s.frames) have (rebinds name i (joined (context s.frames) v)) s refl
-assigned_stands false have name i v s = error_stands (Unit {0}) type_error bottom s
+assigned_stands false have name i v s = error_stands (Unit {0}) kinds.TypeError bottom s
 
 assigned_to_stands : (b : Option (Binding Val)) (name : List ℕ) (i : ℕ) (v : Val) (s : State) → FramesStand (assigned_to b name i v s) s
 unfolding assigned_to
 assigned_to_stands (Some b) name i v s = assigned_stands b.mutable b.value.label name i v s
-assigned_to_stands None name i v s = error_stands (Unit {0}) reference_error bottom s
+assigned_to_stands None name i v s = error_stands (Unit {0}) kinds.ReferenceError bottom s
 
 acted_stands : {X : Type 0} (x : X) (did : Acted (List (Object Label))) (s : State) → FramesStand (acted x did s) s
 unfolding acted
 acted_stands x (Ok heap) s = refl
 acted_stands x (Err stop) s = refl
 
-put_by_stands : (plan : PutPlan Label) (rule : Rule) (o : ℕ) (key : List ℕ) (label : Label) (v : Val) (s : State) → FramesStand (put_by plan rule o key label v s) s
+setter_found_stands : (label : Label) (base : Val) (set : Option ObjId) (s : State) → FramesStand (setter_found label base set s) s
+unfolding setter_found
+setter_found_stands label base None s = error_stands Putting kinds.TypeError label s
+setter_found_stands label base (Some f) s = refl
+
+setter_stands : (label : Label) (base : Val) (p : Option (Slot Label)) (s : State) → FramesStand (setter_at label base p s) s
+unfolding setter_at
+setter_stands label base None s = error_stands Putting kinds.TypeError label s
+setter_stands label base (Some p) s = setter_found_stands (union label p.label) base (setter_in p.body) s
+
+put_by_stands : (plan : PutPlan Label) (rule : Rule) (o : ℕ) (key : List ℕ) (label : Label) (base v : Val) (s : State) → FramesStand (put_by plan rule o key label base v s) s
 unfolding put_by
-put_by_stands (Write walk) rule o key label v s = acted_stands tt (heap_acts.write rule o key (union (context s.frames) (union label walk)) v s.heap) s
-put_by_stands (Add walk) rule o key label v s = acted_stands tt (heap_acts.add o key (union (context s.frames) (union label walk)) (Data v.value) v.label made_by_script s.heap) s
-put_by_stands (Refused walk) rule o key label v s = error_stands (Unit {0}) type_error (union label walk) s
-put_by_stands (Setter at walk) rule o key label v s = refl
+put_by_stands (Write walk) rule o key label base v s = acted_stands is_put (heap_acts.write rule o key (union (context s.frames) (union label walk)) v s.heap) s
+put_by_stands (Add walk) rule o key label base v s = acted_stands is_put (heap_acts.add o key (union (context s.frames) (union label walk)) (Data v.value) v.label made_by_script s.heap) s
+put_by_stands (Refused walk) rule o key label base v s = error_stands Putting kinds.TypeError (union label walk) s
+put_by_stands (Setter at walk) rule o key label base v s = setter_stands (union label walk) base (own_in key (slice_get s.heap at.0)) s
 
-put_on_stands : (b : Bool) (rule : Rule) (o : ℕ) (key : List ℕ) (label : Label) (v : Val) (s : State) → FramesStand (put_on b rule o key label v s) s
+put_on_stands : (b : Bool) (rule : Rule) (o : ℕ) (key : List ℕ) (label : Label) (base v : Val) (s : State) → FramesStand (put_on b rule o key label base v s) s
 unfolding put_on
-put_on_stands true rule o key label v s = refl
-put_on_stands false rule o key label v s = put_by_stands (can_put key (object_chain s.heap o)) rule o key label v s
+put_on_stands true rule o key label base v s = refl
+put_on_stands false rule o key label base v s = put_by_stands (can_put key (object_chain s.heap o)) rule o key label base v s
 
-object_stands : (rule : Rule) (o : ℕ) (key : List ℕ) (label : Label) (v : Val) (s : State) → FramesStand (put rule o key label v s) s
+object_stands : (rule : Rule) (o : ℕ) (key : List ℕ) (label : Label) (base v : Val) (s : State) → FramesStand (put rule o key label base v s) s
 unfolding put
-object_stands rule o key label v s = put_on_stands (is_element_of (slice_get s.heap o) key) rule o key label v s
+object_stands rule o key label base v s = put_on_stands (is_element_of (slice_get s.heap o) key) rule o key label base v s
 
-member_stands : (label : Label) (base : Value) (key : List ℕ) (v : Val) (s : State) → FramesStand (put_property label base key v s) s
+member_stands : (label : Label) (base : Val) (u : Value) (key : List ℕ) (v : Val) (s : State) → FramesStand (put_property label base u key v s) s
 unfolding put_property
-member_stands label (value.Primitive p) key v s = refl
-member_stands label (value.Object o) key v s = object_stands W2 o.0 key label v s
+member_stands label base (value.Primitive p) key v s = refl
+member_stands label base (value.Object o) key v s = object_stands W2 o.0 key label base v s
 
 name_stands : (place : Place) (walk : Label) (name : List ℕ) (v : Val) (s : State) → FramesStand (put_named place walk name v s) s
 unfolding put_named
-name_stands (in_record i) walk name v s = assigned_to_stands (binding_at s.records i name) name i v s
-name_stands on_global walk name v s = object_stands W1 global_object.0 name bottom v s
-name_stands nowhere walk name v s = error_stands (Unit {0}) reference_error walk s
+name_stands (in_record i) walk name v s = then_stands (assigned_to (binding_at s.records i name) name i v s) (λ u. ret is_put) s (assigned_to_stands (binding_at s.records i name) name i v s) (λ u t. refl)
+name_stands on_global walk name v s = object_stands W1 global_object.0 name bottom global_value v s
+name_stands nowhere walk name v s = error_stands Putting kinds.ReferenceError walk s
 
 pub put_stands : (n : Reference) (v : Val) (s : State) → FramesStand (put_value n v s) s
 unfolding put_value
 put_stands (of_name name place walk) v s = name_stands place walk name v s
-put_stands (of_property base key label) v s = member_stands (union base.label label) base.value key v s
+put_stands (of_property base key label) v s = member_stands (union base.label label) base base.value key v s
 
 -- ---- they are deleted
 
 removed_if_stands : (b : Bool) (place : Label) (o : ℕ) (key : List ℕ) (s : State) → FramesStand (removed_if b place o key s) s
 unfolding removed_if
 removed_if_stands true place o key s = acted_stands (truth_of true place) (heap_acts.remove o key (union (context s.frames) place) s.heap) s
-removed_if_stands false place o key s = error_stands Val type_error place s
+removed_if_stands false place o key s = error_stands Val kinds.TypeError place s
 
 removed_own_stands : (p : Option (Slot Label)) (label structure : Label) (o : ℕ) (key : List ℕ) (s : State) → FramesStand (removed_own p label structure o key s) s
 unfolding removed_own
@@ -224,153 +235,196 @@ remove_stands (of_property base key label) s = removed_stands (union base.label 
 needed_stands : (b : Bool) (v : Val) (s : State) → FramesStand (needed b v s) s
 unfolding needed
 needed_stands true v s = refl
-needed_stands false v s = error_stands Val type_error v.label s
+needed_stands false v s = error_stands Val kinds.TypeError v.label s
 
 has_stands : (label : Label) (key : List ℕ) (v : Value) (s : State) → FramesStand (has label key v s) s
 unfolding has
 has_stands label key (value.Primitive p) s = refl
 has_stands label key (value.Object o) s = refl
 
-pub act_stands : (a : Act) (vs : List Val) (s : State) → FramesStand (act a vs s) s
-unfolding act make_object
-act_stands (object_of keys) vs s = refl
-act_stands base_needed vs s = needed_stands (is_coercible (argument 0 vs).value) (argument 0 vs) s
-act_stands object_needed vs s = needed_stands (is_object (argument 0 vs).value) (argument 0 vs) s
-act_stands has_key vs s = has_stands (union (argument 0 vs).label (argument 1 vs).label) (key_text (argument 0 vs).value) (argument 1 vs).value s
-act_stands refused_declaration vs s = error_stands Val type_error bottom s
+-- ---- what built-ins ask for besides
 
--- ---- `instanceof`
+on_object_stands : (label : Label) (v : Value) (next : ℕ → L Val) → ((o : ℕ) (s : State) → FramesStand (next o s) s) → (s : State) → FramesStand (on_object_in label v next s) s
+unfolding on_object_in
+on_object_stands label (value.Primitive p) next stand s = error_stands Val kinds.TypeError label s
+on_object_stands label (value.Object o) next stand s = stand o.0 s
 
-is_instance_stands : (label : Label) (o : ℕ) (v : Value) (s : State) → FramesStand (is_instance label o v s) s
+own_stands : (part : OwnPart) (key : List ℕ) (label : Label) (p : Option (Object Label)) (s : State) → FramesStand (own_property_in part key label p s) s
+unfolding own_property_in
+own_stands part key label None s = refl
+own_stands part key label (Some p) s = refl
+
+marks_stands : (label : Label) (marks : Marks) (o : ℕ) (key : List ℕ) (s : State) → FramesStand (set_marks label marks o key s) s
+unfolding set_marks
+marks_stands label marks o key s = acted_stands tt (heap_acts.set_attributes o key (union (context s.frames) label) marks s.heap) s
+
+body_stands : (b : Bool) (place : Label) (body : Body) (label : Label) (o : ℕ) (key : List ℕ) (s : State) → FramesStand (set_body_if b place body label o key s) s
+unfolding set_body_if
+body_stands true place body label o key s = acted_stands tt (heap_acts.set_body o key (union (context s.frames) place) body label s.heap) s
+body_stands false place body label o key s = refl
+
+redefine_stands : (p : Slot Label) (q : Property) (d : Definition) (place given : Label) (o : ℕ) (key : List ℕ) (s : State) → FramesStand (redefine p q d place given o key s) s
+unfolding redefine
+redefine_stands p q d place given o key s =
+    let body = set_body_if (changes_body (erased_slot p) d) place q.body (body_label (keeps_a_half (erased_slot p) d) given p.label) o key in
+    let gives : Unit {0} → L Val = λ w. ret (record { value = undefined; label = place }) in
+    then_stands (set_marks (union place given) q.marks o key s) (λ u. body >>= gives) s (marks_stands (union place given) q.marks o key s)
+    (λ u t. then_stands (body t) gives t (body_stands (changes_body (erased_slot p) d) place q.body (body_label (keeps_a_half (erased_slot p) d) given p.label) o key t) (λ w r. refl))
+
+define_over_stands : (old : Option (Slot Label)) (d : Definition) (place given : Label) (o : ℕ) (key : List ℕ) (q : Option Property) (s : State) → FramesStand (define_over old d place given o key q s) s
+unfolding define_over
+define_over_stands None d place given o key None s = error_stands Val kinds.TypeError (union (union place given) (value_label None)) s
+define_over_stands (Some p) d place given o key None s = error_stands Val kinds.TypeError (union (union place given) (value_label (Some p))) s
+define_over_stands None d place given o key (Some q) s = acted_stands (record { value = undefined; label = place }) (heap_acts.add o key (union (context s.frames) (union place given)) q.body given q.marks s.heap) s
+define_over_stands (Some p) d place given o key (Some q) s = redefine_stands p q d place given o key s
+
+define_given_stands : (extensible : Bool) (old : Option (Slot Label)) (marks : GivenMarks) (body : Option GivenBody) (place given : Label) (o : ℕ) (key : List ℕ) (s : State) → FramesStand (define_given extensible old marks body place given o key s) s
+unfolding define_given
+define_given_stands extensible old marks None place given o key s = error_stands Val kinds.TypeError (union (union place given) (value_label old)) s
+define_given_stands extensible old marks (Some body) place given o key s = let d : Definition = record { marks = marks; body = body } in define_over_stands old d place given o key (behind_definition extensible (property_in old) d) s
+
+chosen_stands : (b : Bool) (m n : L Val) (s : State) → FramesStand (m s) s → FramesStand (n s) s → FramesStand (choose b m n s) s
+chosen_stands true m n s yes_stand no_stand = yes_stand
+chosen_stands false m n s yes_stand no_stand = no_stand
+
+define_stands : (p : Option (Object Label)) (label : Label) (o : ℕ) (key : List ℕ) (marks : GivenMarks) (shape : Shape) (v g set : Val) (s : State) → FramesStand (define_in p label o key marks shape v g set s) s
+unfolding define_in
+define_stands None label o key marks shape v g set s = error_stands Val kinds.TypeError label s
+define_stands (Some p) label o key marks shape v g set s =
+    let body = given_body (erased_heap s.heap) marks shape v.value g.value set.value in
+    let place = union label (own_test (own key p.rows) p.structure) in
+    let given = union v.label (union g.label set.label) in
+    chosen_stands (is_array p.class) (ends (left not_built)) (define_given p.extensible (own key p.rows) marks body place given o key) s refl (define_given_stands p.extensible (own key p.rows) marks body place given o key s)
+
+prototype_stands : (label : Label) (p : Option (Object Label)) (s : State) → FramesStand (prototype_in label p s) s
+unfolding prototype_in
+prototype_stands label None s = refl
+prototype_stands label (Some p) s = refl
+
+extensible_stands : (label : Label) (p : Option (Object Label)) (s : State) → FramesStand (extensible_in label p s) s
+unfolding extensible_in
+extensible_stands label None s = refl
+extensible_stands label (Some p) s = refl
+
+prevent_stands : (label : Label) (o : ℕ) (s : State) → FramesStand (prevent label o s) s
+unfolding prevent
+prevent_stands label o s = acted_stands (record { value = undefined; label = label }) (heap_acts.prevent_extensions o (union (context s.frames) label) s.heap) s
+
+new_stands : (c : Class) (proto : Option ObjId) (label : Label) (s : State) → FramesStand (make_new c proto label s) s
+unfolding make_new made_new
+new_stands c proto label s = chosen_stands (is_array c) (ends (left not_built)) (made_new c proto label) s refl refl
+
+bind_value_stands : (v : Value) (target this : Val) (args : List Val) (s : State) → FramesStand (bind_value v target this args s) s
+unfolding bind_value bind_object
+bind_value_stands (value.Primitive p) target this args s = error_stands Val kinds.TypeError target.label s
+bind_value_stands (value.Object o) target this args s = refl
+
+bind_stands : (b : Bool) (target this : Val) (args : List Val) (s : State) → FramesStand (bind_to b target this args s) s
+unfolding bind_to
+bind_stands true target this args s = bind_value_stands target.value target this args s
+bind_stands false target this args s = error_stands Val kinds.TypeError target.label s
+
+origins_stands : (b : Bool) (next : L Val) (s : State) → FramesStand (next s) s → FramesStand (if_origins b next s) s
+unfolding if_origins
+origins_stands true next s stand = stand
+origins_stands false next s stand = refl
+
+structure_stands : (origins : List ℕ) (label : Label) (o : ℕ) (s : State) → FramesStand (raise_structure origins label o s) s
+unfolding raise_structure
+structure_stands origins label o s = acted_stands (record { value = undefined; label = label }) (heap_acts.raise_structure o (union (context s.frames) label) (label_of origins) s.heap) s
+
+existence_stands : (origins : List ℕ) (label : Label) (key : List ℕ) (o : ℕ) (s : State) → FramesStand (raise_existence origins label key o s) s
+unfolding raise_existence
+existence_stands origins label key o s =
+    acted_stands (record { value = undefined; label = label }) (heap_acts.raise_existence o key (union (context s.frames) (union label (own_walk key (slice_get s.heap o)))) (label_of origins) s.heap) s
+
+module _ (tables : Tables) (inputs : Given) where
+  read_stands : (i : Option ℕ) (name : Label) (s : State) → FramesStand (read_channel tables inputs i name s) s
+  unfolding read_channel
+  read_stands None name s = refl
+  read_stands (Some i) name s = let have = channel_label tables.inputs i in guard_stands (within (union (context s.frames) name) have) W11 (union (context s.frames) name) have (reads tables inputs i have) s refl
+
+  print_stands : (i : ℕ) (label : Label) (v : Value) (s : State) → FramesStand (print_text tables inputs i label v s) s
+  unfolding print_text
+  print_stands i label (value.Primitive Undefined) s = refl
+  print_stands i label (value.Primitive Null) s = refl
+  print_stands i label (value.Primitive (prims.Bool b)) s = refl
+  print_stands i label (value.Primitive (Num n)) s = refl
+  print_stands i label (value.Primitive (Str text)) s =
+      let need = union (context s.frames) label in
+      let have = channel_label tables.outputs i in
+      guard_stands (within need have) W12 need have (prints tables inputs i need label text) s refl
+  print_stands i label (value.Object o) s = refl
+
+  channel_stands : (i : Option ℕ) (name : Label) (v : Val) (s : State) → FramesStand (print_channel tables inputs i name v s) s
+  unfolding print_channel
+  channel_stands None name v s = refl
+  channel_stands (Some i) name v s = print_stands i (union name v.label) v.value s
+
+  declared_stands : (origins : List ℕ) (next : L Val) (s : State) → FramesStand (next s) s → FramesStand (with_origins tables inputs origins next s) s
+  unfolding with_origins
+  declared_stands origins next s stand = origins_stands (are_origins (length tables.origins) origins) next s stand
+
+  pub act_stands : (a : Act) (vs : List Val) (s : State) → FramesStand (act tables inputs a vs s) s
+  unfolding act make_object
+  act_stands (object_of parts) vs s = refl
+  act_stands base_needed vs s = needed_stands (is_coercible (argument 0 vs).value) (argument 0 vs) s
+  act_stands object_needed vs s = needed_stands (is_object (argument 0 vs).value) (argument 0 vs) s
+  act_stands has_key vs s = has_stands (union (argument 0 vs).label (argument 1 vs).label) (key_text (argument 0 vs).value) (argument 1 vs).value s
+  act_stands (throws_error kind) vs s = error_stands Val kind bottom s
+  act_stands (own_property part key) vs s = let v = argument 0 vs in on_object_stands v.label v.value (λ o t. own_property_in part key v.label (slice_get t.heap o) t) (λ o t. own_stands part key v.label (slice_get t.heap o) t) s
+  act_stands (define key marks shape) vs s =
+      let v = argument 0 vs in
+      on_object_stands v.label v.value (λ o t. define_in (slice_get t.heap o) v.label o key marks shape (argument 1 vs) (argument 2 vs) (argument 3 vs) t) (λ o t. define_stands (slice_get t.heap o) v.label o key marks shape (argument 1 vs) (argument 2 vs) (argument 3 vs) t) s
+  act_stands (own_keys all) vs s = let v = argument 0 vs in on_object_stands v.label v.value (λ o. ends (left not_built)) (λ o t. refl) s
+  act_stands prototype_of_object vs s = let v = argument 0 vs in on_object_stands v.label v.value (λ o t. prototype_in v.label (slice_get t.heap o) t) (λ o t. prototype_stands v.label (slice_get t.heap o) t) s
+  act_stands is_extensible vs s = let v = argument 0 vs in on_object_stands v.label v.value (λ o t. extensible_in v.label (slice_get t.heap o) t) (λ o t. extensible_stands v.label (slice_get t.heap o) t) s
+  act_stands prevent_extensions vs s = let v = argument 0 vs in on_object_stands v.label v.value (prevent v.label) (prevent_stands v.label) s
+  act_stands (new_object c false) vs s = new_stands c (Some (class_prototype c)) bottom s
+  act_stands (new_object c true) vs s = new_stands c (prototype_given (argument 0 vs).value) (argument 0 vs).label s
+  act_stands bind vs s = bind_stands (is_function_at s.heap (argument 0 vs).value) (argument 0 vs) (argument 1 vs) (others (others vs)) s
+  act_stands read_line vs s = read_stands (channel_of tables.inputs (argument 0 vs).value) (argument 0 vs).label s
+  act_stands print_line vs s = channel_stands (channel_of tables.outputs (argument 0 vs).value) (argument 0 vs).label (argument 1 vs) s
+  act_stands (join_label origins) vs s = declared_stands origins (ret (joined (label_of origins) (argument 0 vs))) s refl
+  act_stands (raise_structure_by origins) vs s = let v = argument 0 vs in declared_stands origins (on_object v (raise_structure origins v.label)) s (on_object_stands v.label v.value (raise_structure origins v.label) (structure_stands origins v.label) s)
+  act_stands (raise_existence_by key origins) vs s = let v = argument 0 vs in declared_stands origins (on_object v (raise_existence origins v.label key)) s (on_object_stands v.label v.value (raise_existence origins v.label key) (existence_stands origins v.label key) s)
+
+-- ---- `instanceof`: up to the read of the `prototype`, and behind it
+
+pub is_instance_stands : (label : Label) (o : ℕ) (v : Value) (s : State) → FramesStand (is_instance label o v s) s
 unfolding is_instance
-is_instance_stands label o (value.Primitive p) s = error_stands Val type_error label s
+is_instance_stands label o (value.Primitive p) s = error_stands Val kinds.TypeError label s
 is_instance_stands label o (value.Object proto) s = refl
 
-instance_of_stands : (v : Val) (u : Value) (f : Val) (s : State) → FramesStand (instance_of v u f s) s
-unfolding instance_of
-instance_of_stands v (value.Primitive p) f s = refl
-instance_of_stands v (value.Object o) f s =
-    then_stands (property_of f.label f.value prototype_name s) (λ proto. is_instance (union v.label (union f.label proto.label)) o.0 proto.value) s (property_stands f.label f.value prototype_name s)
-    (λ proto t. is_instance_stands (union v.label (union f.label proto.label)) o.0 proto.value t)
+test_stands : (b : Bool) (v : Val) (label : Label) (f : ℕ) (s : State) → FramesStand (tested_if b v label f s) s
+unfolding tested_if
+test_stands true v label f s = refl
+test_stands false v label f s = error_stands Test kinds.TypeError label s
 
-instance_if_stands : (b : Bool) (v f : Val) (s : State) → FramesStand (instance_if b v f s) s
-unfolding instance_if
-instance_if_stands true v f s = instance_of_stands v v.value f s
-instance_if_stands false v f s = error_stands Val type_error f.label s
+pub tested_stands : (v : Val) (label : Label) (f : Value) (s : State) → FramesStand (tested v label f s) s
+unfolding tested
+tested_stands v label (value.Primitive p) s = error_stands Test kinds.TypeError label s
+tested_stands v label (value.Object f) s = test_stands (is_function_in (slice_get s.heap f.0)) v label f.0 s
 
-pub instance_stands : (v f : Val) (s : State) → FramesStand (instance_if (is_function_at s.heap f.value) v f s) s
-instance_stands v f s = instance_if_stands (is_function_at s.heap f.value) v f s
+-- ---- operators
 
-module _ (tables : Tables) (inputs : Given) (functions : List FunctionCode) where
-  -- ---- operators
+module _ (tables : Tables) (inputs : Given) (set : BuiltIns) (functions : List FunctionCode) where
+  pub unary_stands : (o : UnaryOperator) (v : Val) (s : State) → FramesStand ((labelled tables inputs set functions).unary o v s) s
+  unary_stands o v s = given_stands v.label (unary_of o (seen s.heap v.value)) s
 
-  pub front_stands : (o : UnaryOperator) (v : Val) (s : State) → FramesStand ((labelled tables inputs functions).unary o v s) s
-  front_stands o v s = given_stands v.label (unary_of o (seen s.heap v.value)) s
+  pub binary_stands : (o : BinaryOperator) (v u : Val) (s : State) → FramesStand ((labelled tables inputs set functions).binary o v u s) s
+  binary_stands o v u s = given_stands (union v.label u.label) (binary_of o v.value u.value) s
 
-  pub between_stands : (o : BinaryOperator) (v u : Val) (s : State) → FramesStand ((labelled tables inputs functions).binary o v u s) s
-  between_stands o v u s = given_stands (union v.label u.label) (binary_of o v.value u.value) s
+  operated_by_stands : (b : Bool) (o : BinaryOperator) (v u : Val) (s : State) → FramesStand (operated_by b tables inputs set functions o v u s) s
+  operated_by_stands true o v u s = then_stands (act tables inputs object_needed (u ∷ []) s) (λ w. act tables inputs has_key (v ∷ w ∷ [])) s (act_stands tables inputs object_needed (u ∷ []) s) (λ w t. act_stands tables inputs has_key (v ∷ w ∷ []) t)
+  operated_by_stands false o v u s = binary_stands o v u s
 
-  pub unary_done_stands : (o : UnaryOperator) (v : Val) (s : State) → FramesStand (unary_done (labelled tables inputs functions) o v s) s
-  unfolding unary_done
-  unary_done_stands o v s = front_stands o v s
+  pub operated_stands : (o : BinaryOperator) (v u : Val) (s : State) → FramesStand (operated tables inputs set functions o v u s) s
+  operated_stands o v u s = operated_by_stands (is_keyed o) o v u s
 
-  unary_by_stands : (b : Bool) (o : UnaryOperator) (v : Val) (s : State) → FramesStand (unary_by (labelled tables inputs functions) b o v s) s
-  unary_by_stands true o v s = then_stands (unless_object (is_object v.value) v s) (unary_done (labelled tables inputs functions) o) s (unless_stands (is_object v.value) v s) (unary_done_stands o)
-  unary_by_stands false o v s = front_stands o v s
-
-  pub unary_stands : (o : UnaryOperator) (v : Val) (s : State) → FramesStand (unary_value (labelled tables inputs functions) o v s) s
-  unfolding unary_value
-  unary_stands o v s = unary_by_stands (takes_number o) o v s
-
-  binary_done_stands : (o : BinaryOperator) (v u : Val) (s : State) → FramesStand (binary_done (labelled tables inputs functions) o v u s) s
-  unfolding binary_done
-  binary_done_stands o v u s = between_stands o v u s
-
-  compared_stands : (o : BinaryOperator) (u v : Val) (s : State) → FramesStand (compared_left (labelled tables inputs functions) o u v s) s
-  unfolding compared_left
-  compared_stands o u v s = then_stands (unless_object (converts_beside u.value v.value) u s) (binary_done (labelled tables inputs functions) o v) s (unless_stands (converts_beside u.value v.value) u s) (binary_done_stands o v)
-
-  primitive_stands : (hint : Hint) (o : BinaryOperator) (u v : Val) (s : State) → FramesStand (primitive_left (labelled tables inputs functions) hint o u v s) s
-  unfolding primitive_left
-  primitive_stands hint o u v s = then_stands (unless_object (is_object u.value) u s) (binary_done (labelled tables inputs functions) o v) s (unless_stands (is_object u.value) u s) (binary_done_stands o v)
-
-  number_stands : (o : BinaryOperator) (u v : Val) (s : State) → FramesStand (number_left (labelled tables inputs functions) o u v s) s
-  unfolding number_left
-  number_stands o u v s = then_stands ((labelled tables inputs functions).unary unary_operator.Plus v s) (primitive_left (labelled tables inputs functions) number_hint o u) s (front_stands unary_operator.Plus v s) (primitive_stands number_hint o u)
-
-  has_left_stands : (u v : Val) (s : State) → FramesStand (has_left (labelled tables inputs functions) u v s) s
-  unfolding has_left
-  has_left_stands u v s = act_stands has_key (v ∷ u ∷ []) s
-
-  has_right_stands : (v u : Val) (s : State) → FramesStand (has_right (labelled tables inputs functions) v u s) s
-  unfolding has_right
-  has_right_stands v u s = then_stands (unless_object (is_object v.value) v s) (has_left (labelled tables inputs functions) u) s (unless_stands (is_object v.value) v s) (has_left_stands u)
-
-  binary_by_stands : (c : Conversion) (o : BinaryOperator) (v u : Val) (s : State) → FramesStand (binary_by (labelled tables inputs functions) c o v u s) s
-  binary_by_stands unconverted o v u s = between_stands o v u s
-  binary_by_stands compared o v u s = then_stands (unless_object (converts_beside v.value u.value) v s) (compared_left (labelled tables inputs functions) o u) s (unless_stands (converts_beside v.value u.value) v s) (compared_stands o u)
-  binary_by_stands (primitives hint) o v u s = then_stands (unless_object (is_object v.value) v s) (primitive_left (labelled tables inputs functions) hint o u) s (unless_stands (is_object v.value) v s) (primitive_stands hint o u)
-  binary_by_stands numbers o v u s = then_stands (unless_object (is_object v.value) v s) (number_left (labelled tables inputs functions) o u) s (unless_stands (is_object v.value) v s) (number_stands o u)
-  binary_by_stands keyed o v u s = then_stands (act object_needed (u ∷ []) s) (has_right (labelled tables inputs functions) v) s (act_stands object_needed (u ∷ []) s) (has_right_stands v)
-
-  pub binary_stands : (o : BinaryOperator) (v u : Val) (s : State) → FramesStand (binary_values (labelled tables inputs functions) o v u s) s
-  unfolding binary_values
-  binary_stands o v u s = binary_by_stands (conversion_of o) o v u s
-
-  -- ---- references
-
-  pub get_stands : (n : Reference) (s : State) → FramesStand ((labelled tables inputs functions).get_value n (enters (labelled tables inputs functions)) s) s
-  get_stands n s = got_stands n s
-
-  pub typeof_stands : (n : Reference) (s : State) → FramesStand ((labelled tables inputs functions).typeof_value n (enters (labelled tables inputs functions)) s) s
-  typeof_stands n s = asked_stands n s
-
-  give_stands : (v : Val) (x : Unit {0}) (s : State) → FramesStand (give (labelled tables inputs functions) v x s) s
-  unfolding give
-  give_stands v x s = refl
-
-  pub assign_stands : (n : Reference) (v : Val) (s : State) → FramesStand (assign_to (labelled tables inputs functions) n v s) s
-  unfolding assign_to
-  assign_stands n v s = then_stands (put_value n v s) (give (labelled tables inputs functions) v) s (put_stands n v s) (give_stands v)
-
-  pub giving_stands : (n : Reference) (other v : Val) (s : State) → FramesStand (assign_giving (labelled tables inputs functions) n other v s) s
-  unfolding assign_giving
-  giving_stands n other v s = then_stands (put_value n v s) (give (labelled tables inputs functions) other) s (put_stands n v s) (give_stands other)
-
-  key_stands : (b k : Val) (s : State) → FramesStand (((labelled tables inputs functions).primitive string_hint k >>= λ u. ret ((labelled tables inputs functions).property b u)) s) s
-  key_stands b k s = then_stands (unless_object (is_object k.value) k s) (λ u. ret ((labelled tables inputs functions).property b u)) s (unless_stands (is_object k.value) k s) (λ u t. refl)
-
-  pub reached_stands : (base key : Val) (s : State) → FramesStand (property_reached tables inputs functions base key s) s
-  unfolding property_reached
-  reached_stands base key s = then_stands (act base_needed (base ∷ []) s) (λ b. (labelled tables inputs functions).primitive string_hint key >>= λ k. ret ((labelled tables inputs functions).property b k)) s (act_stands base_needed (base ∷ []) s) (λ b. key_stands b key)
-
-  pub compound_stands : (R : Rec (labelled tables inputs functions)) (o : BinaryOperator) (n : Reference) (old v : Val) (s : State) → FramesStand (compound_done (labelled tables inputs functions) R o n old v s) s
-  unfolding compound_done
-  compound_stands R o n old v s = then_stands (binary_values (labelled tables inputs functions) o old v s) (assign_to (labelled tables inputs functions) n) s (binary_stands o old v s) (assign_stands n)
-
-  prefix_by_stands : (o : BinaryOperator) (n : Reference) (v : Val) (s : State) → FramesStand (prefix_by (labelled tables inputs functions) o n v s) s
-  unfolding prefix_by
-  prefix_by_stands o n v s = then_stands ((labelled tables inputs functions).binary o v ((labelled tables inputs functions).literal (Num (pos 1))) s) (assign_to (labelled tables inputs functions) n) s (between_stands o v ((labelled tables inputs functions).literal (Num (pos 1))) s) (assign_stands n)
-
-  prefix_number_stands : (o : BinaryOperator) (n : Reference) (v : Val) (s : State) → FramesStand (prefix_number (labelled tables inputs functions) o n v s) s
-  unfolding prefix_number
-  prefix_number_stands o n v s = then_stands ((labelled tables inputs functions).unary unary_operator.Plus v s) (prefix_by (labelled tables inputs functions) o n) s (front_stands unary_operator.Plus v s) (prefix_by_stands o n)
-
-  pub prefix_stands : (o : BinaryOperator) (n : Reference) (v : Val) (s : State) → FramesStand (prefix_value (labelled tables inputs functions) o n v s) s
-  unfolding prefix_value
-  prefix_stands o n v s = then_stands (unless_object (is_object v.value) v s) (prefix_number (labelled tables inputs functions) o n) s (unless_stands (is_object v.value) v s) (prefix_number_stands o n)
-
-  postfix_by_stands : (o : BinaryOperator) (n : Reference) (v : Val) (s : State) → FramesStand (postfix_by (labelled tables inputs functions) o n v s) s
-  unfolding postfix_by
-  postfix_by_stands o n v s = then_stands ((labelled tables inputs functions).binary o v ((labelled tables inputs functions).literal (Num (pos 1))) s) (assign_giving (labelled tables inputs functions) n v) s (between_stands o v ((labelled tables inputs functions).literal (Num (pos 1))) s) (giving_stands n v)
-
-  postfix_number_stands : (o : BinaryOperator) (n : Reference) (v : Val) (s : State) → FramesStand (postfix_number (labelled tables inputs functions) o n v s) s
-  unfolding postfix_number
-  postfix_number_stands o n v s = then_stands ((labelled tables inputs functions).unary unary_operator.Plus v s) (postfix_by (labelled tables inputs functions) o n) s (front_stands unary_operator.Plus v s) (postfix_by_stands o n)
-
-  pub postfix_stands : (o : BinaryOperator) (n : Reference) (v : Val) (s : State) → FramesStand (postfix_value (labelled tables inputs functions) o n v s) s
-  unfolding postfix_value
-  postfix_stands o n v s = then_stands (unless_object (is_object v.value) v s) (postfix_number (labelled tables inputs functions) o n) s (unless_stands (is_object v.value) v s) (postfix_number_stands o n)
+pub reached_stands : (tables : Tables) (inputs : Given) (base key : Val) (s : State) → FramesStand (property_reached tables inputs base key s) s
+unfolding property_reached
+reached_stands tables inputs base key s = then_stands (act tables inputs base_needed (base ∷ []) s) (λ b. ret (of_property b (key_text key.value) key.label)) s (act_stands tables inputs base_needed (base ∷ []) s) (λ b t. refl)
 
 -- ---- worlds: a store's own meaning is a reading that agrees with it
 

@@ -1,28 +1,30 @@
-//! Operators between two values (ECMA-262 11.5 to 11.11), `in` among them.
+//! Operators between two values (ECMA-262 11.5 to 11.11), `in` among them, none of which has to be converted.
 
-ghost use Rattle.std.specs.Prelude.{◌≡◌, true, List};
+ghost use Rattle.std.specs.Prelude.{◌≡◌, pos, List};
 ghost use Rattle.origin_labels.specs.Stores.{IsKept};
 ghost use Rattle.flow_policy.specs.Policies.{Tables};
 ghost use Rattle.flow_policy.specs.Inputs.{Given};
 ghost use Rattle.js_ast.specs.Functions.{FunctionCode};
-ghost use Rattle.js_ast.specs.declared.operators.BinaryOperator.TheVariants as binary_operator;
+ghost use Rattle.js_number.specs.declared.primitive.Primitive.TheVariants.{Num};
 ghost use Rattle.js_values.specs.Readings.{HasValue, read_value};
-ghost use Rattle.es_meaning.specs.Evaluation.{binary_values, has_right};
+ghost use Rattle.es_meaning.specs.BuiltIns.{BuiltIns};
 ghost use Rattle.flow_meaning.specs.Tracked.{labelled};
 ghost use Rattle.step_values.specs.Converted.{is_keyed};
 ghost use Rattle.step_world.specs.Acts.{Acts, HasAnswer};
 ghost use Rattle.step_world.specs.Worlds.{Belongs, Grows};
+ghost use Rattle.step_updates.specs.Operated.{AreOperated, contained, operated};
 
 use flow_frames::FlowFault;
 use js_ast::BinaryOperator;
+use js_number::{Int, Primitive};
 use js_values::{Labelled, Value};
 use origin_labels::Labels;
 use std::alloc::Global;
 use step_objects::{has_key, object_needed};
-use step_values::binary_values;
-use step_world::{Came, Leaving, World};
+use step_values::binary;
+use step_world::{Came, World};
 
-/// What an operator between two values gives, of which the right one is that of its right operand.
+/// What an operator between two values gives, none of which has to be converted.
 pub fn operated<L: Labels>(
     alloc: Global,
     labels: &mut L,
@@ -34,7 +36,7 @@ pub fn operated<L: Labels>(
     requires left { L.made labels.old left.now.label }
     requires right { L.made labels.old right.now.label }
     requires belongs { Belongs L.made L.meaning labels.old world.old }
-    ensures acts { (tables : Tables) (inputs : Given) (functions : List FunctionCode) → Acts L.made L.meaning labels.new (λ reading. read_value reading) (λ reading. binary_values (labelled tables inputs functions) operator (read_value reading left.now) (read_value reading right.now)) world.old world.new result }
+    ensures acts { (tables : Tables) (inputs : Given) (set : BuiltIns) (functions : List FunctionCode) → Acts L.made L.meaning labels.new (λ reading. read_value reading) (λ reading. operated tables inputs set functions operator (read_value reading left.now) (read_value reading right.now)) world.old world.new result }
     ensures made { HasAnswer (HasValue (L.made labels.new)) (L.made labels.new) result }
     ensures belongs { Belongs L.made L.meaning labels.new world.new }
     ensures grows { Grows world.old world.new }
@@ -43,9 +45,14 @@ pub fn operated<L: Labels>(
     if is_keyed(operator) {
         contained(alloc, labels, world, left, right)
     } else {
-        binary_values(alloc, labels, world, operator, left, right)
+        binary(alloc, labels, operator, left, right)
     }
 }
+
+/// An operator that has no operand converted gives what the plan of the meaning gives.
+pub fn operating()
+    ensures { AreOperated }
+{}
 
 /// `in`, which takes its left operand as a key.
 fn is_keyed(operator: BinaryOperator) -> bool
@@ -65,41 +72,43 @@ fn contained<L: Labels>(
     requires key { L.made labels.old key.now.label }
     requires object { L.made labels.old object.now.label }
     requires belongs { Belongs L.made L.meaning labels.old world.old }
-    ensures acts { (tables : Tables) (inputs : Given) (functions : List FunctionCode) → Acts L.made L.meaning labels.new (λ reading. read_value reading) (λ reading. binary_values (labelled tables inputs functions) binary_operator.In (read_value reading key.now) (read_value reading object.now)) world.old world.new result }
+    ensures acts { (tables : Tables) (inputs : Given) → Acts L.made L.meaning labels.new (λ reading. read_value reading) (λ reading. contained tables inputs (read_value reading key.now) (read_value reading object.now)) world.old world.new result }
     ensures made { HasAnswer (HasValue (L.made labels.new)) (L.made labels.new) result }
     ensures belongs { Belongs L.made L.meaning labels.new world.new }
     ensures grows { Grows world.old world.new }
     ensures kept { IsKept L.made L.meaning L.room L.firm labels.old labels.new }
 {
     let object = object.copy(alloc)?;
+    let key = key.copy(alloc)?;
     match object_needed(labels, world, object)? {
-        Came::Goes(object) => contained_key(alloc, labels, world, key, object),
+        Came::Goes(object) => has_key(alloc, labels, world, key, object),
         Came::Throws(error) => Ok(Came::Throws(error)),
         Came::Leaves(why) => Ok(Came::Leaves(why)),
     }
 }
 
-/// Whether an object has a value as a key. The conversion of an object to a key isn't built yet.
-fn contained_key<L: Labels>(
+/// A number with one added or taken away (ECMA-262 11.3, 11.4.4, 11.4.5).
+pub fn one_more<L: Labels>(
     alloc: Global,
     labels: &mut L,
-    world: &World<L::Label>,
-    key: &Labelled<L::Label>,
-    object: Labelled<L::Label>,
+    operator: BinaryOperator,
+    number: &Labelled<L::Label>,
 ) -> Result<Came<Labelled<L::Label>, L::Label>, FlowFault<L::Label>>
-    requires key { L.made labels.old key.now.label }
-    requires object { L.made labels.old object.label }
-    requires belongs { Belongs L.made L.meaning labels.old world.now }
-    ensures acts { (tables : Tables) (inputs : Given) (functions : List FunctionCode) → Acts L.made L.meaning labels.new (λ reading. read_value reading) (λ reading. has_right (labelled tables inputs functions) (read_value reading key.now) (read_value reading object)) world.now world.now result }
+    requires number { L.made labels.old number.now.label }
+    ensures acts { (tables : Tables) (inputs : Given) (set : BuiltIns) (functions : List FunctionCode) (world : World L.Label) → Acts L.made L.meaning labels.new (λ reading. read_value reading) (λ reading. (labelled tables inputs set functions).binary operator (read_value reading number.now) ((labelled tables inputs set functions).literal (Num (pos 1)))) world world result }
     ensures made { HasAnswer (HasValue (L.made labels.new)) (L.made labels.new) result }
-    ensures belongs { Belongs L.made L.meaning labels.new world.now }
     ensures kept { IsKept L.made L.meaning L.room L.firm labels.old labels.new }
 {
-    match key.value {
-        Value::Primitive(_) => {
-            let key = key.copy(alloc)?;
-            has_key(alloc, labels, world, key, object)
-        }
-        Value::Object(_) => Ok(Came::Leaves(Leaving::Unbuilt)),
-    }
+    let other = Labelled {
+        value: Value::Primitive(Primitive::Num(one())),
+        label: labels.bottom(),
+    };
+    binary(alloc, labels, operator, number, &other)
+}
+
+/// The number one.
+fn one() -> Int
+    ensures { result ≡ pos 1 }
+{
+    Int::new(1).unwrap()
 }

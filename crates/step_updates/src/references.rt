@@ -1,13 +1,10 @@
 //! References: a name that is resolved, or a property of a base (ECMA-262 8.7).
 
-ghost use Rattle.std.specs.Prelude.{◌≡◌, List};
+ghost use Rattle.std.specs.Prelude.{◌≡◌};
 ghost use Rattle.origin_labels.specs.Stores.{IsKept};
-ghost use Rattle.flow_policy.specs.Policies.{Tables};
-ghost use Rattle.flow_policy.specs.Inputs.{Given};
-ghost use Rattle.js_ast.specs.Functions.{FunctionCode};
 ghost use Rattle.js_values.specs.Readings.{HasValue, read_value};
-ghost use Rattle.es_meaning.specs.Evaluation.{enters, assign_to, assign_giving};
-ghost use Rattle.flow_meaning.specs.Tracked.{labelled};
+ghost use Rattle.flow_meaning.specs.Tracked.{accessed, accessed_for_typeof, put_value, remove};
+ghost use Rattle.step_world.specs.Accesses.{HasAccess, HasPutting, read_access, read_putting};
 ghost use Rattle.step_world.specs.Acts.{Acts, HasAnswer};
 ghost use Rattle.step_world.specs.Worlds.{Belongs, Grows};
 ghost use Rattle.step_updates.specs.References.{refers, HasReference};
@@ -18,7 +15,7 @@ use origin_labels::Labels;
 use std::alloc::Global;
 use step_names::{get_name, get_property, put_name, put_property, typeof_name};
 use step_objects::remove_property;
-use step_world::{Came, Leaving, Named, World};
+use step_world::{Access, Came, Leaving, Named, Putting, World};
 
 /// A name that is resolved, or a base and a key, of which the key is a primitive value.
 #[derive(Drop)]
@@ -38,17 +35,17 @@ fn copied<'p, T: Copy>(named: &Named<'p, T>) -> Named<'p, T>
     }
 }
 
-/// The value of a reference (ECMA-262 8.7.1).
+/// What a reference comes to (ECMA-262 8.7.1).
 pub fn get_value<L: Labels>(
     alloc: Global,
     labels: &mut L,
     world: &mut World<L::Label>,
     reference: &Reference<'_, L::Label>,
-) -> Result<Came<Labelled<L::Label>, L::Label>, FlowFault<L::Label>>
+) -> Result<Came<Access<L::Label>, L::Label>, FlowFault<L::Label>>
     requires reference { HasReference (L.made labels.old) reference.now }
     requires belongs { Belongs L.made L.meaning labels.old world.old }
-    ensures acts { (tables : Tables) (inputs : Given) (functions : List FunctionCode) → Acts L.made L.meaning labels.new (λ reading. read_value reading) (λ reading. (labelled tables inputs functions).get_value (refers reading reference.now) (enters (labelled tables inputs functions))) world.old world.new result }
-    ensures made { HasAnswer (HasValue (L.made labels.new)) (L.made labels.new) result }
+    ensures acts { Acts L.made L.meaning labels.new (λ reading. read_access reading) (λ reading. accessed (refers reading reference.now)) world.old world.new result }
+    ensures made { HasAnswer (HasAccess (L.made labels.new)) (L.made labels.new) result }
     ensures belongs { Belongs L.made L.meaning labels.new world.new }
     ensures grows { Grows world.old world.new }
     ensures kept { IsKept L.made L.meaning L.room L.firm labels.old labels.new }
@@ -59,17 +56,17 @@ pub fn get_value<L: Labels>(
     }
 }
 
-/// The value of a reference for `typeof` (ECMA-262 11.4.3): that of a name without a binding is undefined.
+/// What a reference comes to for `typeof` (ECMA-262 11.4.3): a name without a binding is undefined.
 pub fn typeof_value<L: Labels>(
     alloc: Global,
     labels: &mut L,
     world: &mut World<L::Label>,
     reference: &Reference<'_, L::Label>,
-) -> Result<Came<Labelled<L::Label>, L::Label>, FlowFault<L::Label>>
+) -> Result<Came<Access<L::Label>, L::Label>, FlowFault<L::Label>>
     requires reference { HasReference (L.made labels.old) reference.now }
     requires belongs { Belongs L.made L.meaning labels.old world.old }
-    ensures acts { (tables : Tables) (inputs : Given) (functions : List FunctionCode) → Acts L.made L.meaning labels.new (λ reading. read_value reading) (λ reading. (labelled tables inputs functions).typeof_value (refers reading reference.now) (enters (labelled tables inputs functions))) world.old world.new result }
-    ensures made { HasAnswer (HasValue (L.made labels.new)) (L.made labels.new) result }
+    ensures acts { Acts L.made L.meaning labels.new (λ reading. read_access reading) (λ reading. accessed_for_typeof (refers reading reference.now)) world.old world.new result }
+    ensures made { HasAnswer (HasAccess (L.made labels.new)) (L.made labels.new) result }
     ensures belongs { Belongs L.made L.meaning labels.new world.new }
     ensures grows { Grows world.old world.new }
     ensures kept { IsKept L.made L.meaning L.room L.firm labels.old labels.new }
@@ -80,19 +77,19 @@ pub fn typeof_value<L: Labels>(
     }
 }
 
-/// Gives a reference a value (ECMA-262 8.7.2), by rule W1 for a name and W2 or W3 for a property.
+/// Gives a reference a value (ECMA-262 8.7.2), by rule W1 for a name and W2 or W3 for a property, or comes to a setter.
 pub fn put_value<L: Labels>(
     alloc: Global,
     labels: &mut L,
     world: &mut World<L::Label>,
     reference: &Reference<'_, L::Label>,
     value: Labelled<L::Label>,
-) -> Result<Came<(), L::Label>, FlowFault<L::Label>>
+) -> Result<Came<Putting<L::Label>, L::Label>, FlowFault<L::Label>>
     requires reference { HasReference (L.made labels.old) reference.now }
     requires value { L.made labels.old value.label }
     requires belongs { Belongs L.made L.meaning labels.old world.old }
-    ensures acts { (tables : Tables) (inputs : Given) (functions : List FunctionCode) → Acts L.made L.meaning labels.new (λ reading x. x) (λ reading. (labelled tables inputs functions).put_value (refers reading reference.now) (read_value reading value) (enters (labelled tables inputs functions))) world.old world.new result }
-    ensures made { HasAnswer (λ x. Unit {0}) (L.made labels.new) result }
+    ensures acts { Acts L.made L.meaning labels.new (λ reading. read_putting reading) (λ reading. put_value (refers reading reference.now) (read_value reading value)) world.old world.new result }
+    ensures made { HasAnswer (HasPutting (L.made labels.new)) (L.made labels.new) result }
     ensures belongs { Belongs L.made L.meaning labels.new world.new }
     ensures grows { Grows world.old world.new }
     ensures kept { IsKept L.made L.meaning L.room L.firm labels.old labels.new }
@@ -112,7 +109,7 @@ pub fn remove<L: Labels>(
 ) -> Result<Came<Labelled<L::Label>, L::Label>, FlowFault<L::Label>>
     requires reference { HasReference (L.made labels.old) reference.now }
     requires belongs { Belongs L.made L.meaning labels.old world.old }
-    ensures acts { (tables : Tables) (inputs : Given) (functions : List FunctionCode) → Acts L.made L.meaning labels.new (λ reading. read_value reading) (λ reading. (labelled tables inputs functions).remove (refers reading reference.now)) world.old world.new result }
+    ensures acts { Acts L.made L.meaning labels.new (λ reading. read_value reading) (λ reading. remove (refers reading reference.now)) world.old world.new result }
     ensures made { HasAnswer (HasValue (L.made labels.new)) (L.made labels.new) result }
     ensures belongs { Belongs L.made L.meaning labels.new world.new }
     ensures grows { Grows world.old world.new }
@@ -121,52 +118,5 @@ pub fn remove<L: Labels>(
     match reference {
         Reference::Name(_) => Ok(Came::Leaves(Leaving::Unbuilt)),
         Reference::Property(base, key) => remove_property(alloc, labels, world, base, key),
-    }
-}
-
-/// Gives a reference a value, which is also what the assignment gives (ECMA-262 11.13).
-pub fn assign_to<L: Labels>(
-    alloc: Global,
-    labels: &mut L,
-    world: &mut World<L::Label>,
-    reference: &Reference<'_, L::Label>,
-    value: Labelled<L::Label>,
-) -> Result<Came<Labelled<L::Label>, L::Label>, FlowFault<L::Label>>
-    requires reference { HasReference (L.made labels.old) reference.now }
-    requires value { L.made labels.old value.label }
-    requires belongs { Belongs L.made L.meaning labels.old world.old }
-    ensures acts { (tables : Tables) (inputs : Given) (functions : List FunctionCode) → Acts L.made L.meaning labels.new (λ reading. read_value reading) (λ reading. assign_to (labelled tables inputs functions) (refers reading reference.now) (read_value reading value)) world.old world.new result }
-    ensures made { HasAnswer (HasValue (L.made labels.new)) (L.made labels.new) result }
-    ensures belongs { Belongs L.made L.meaning labels.new world.new }
-    ensures grows { Grows world.old world.new }
-    ensures kept { IsKept L.made L.meaning L.room L.firm labels.old labels.new }
-{
-    let result = value.copy(alloc)?;
-    assign_giving(alloc, labels, world, reference, result, value)
-}
-
-/// Gives a reference a value, where the assignment gives another one.
-pub fn assign_giving<L: Labels>(
-    alloc: Global,
-    labels: &mut L,
-    world: &mut World<L::Label>,
-    reference: &Reference<'_, L::Label>,
-    other: Labelled<L::Label>,
-    value: Labelled<L::Label>,
-) -> Result<Came<Labelled<L::Label>, L::Label>, FlowFault<L::Label>>
-    requires reference { HasReference (L.made labels.old) reference.now }
-    requires other { L.made labels.old other.label }
-    requires value { L.made labels.old value.label }
-    requires belongs { Belongs L.made L.meaning labels.old world.old }
-    ensures acts { (tables : Tables) (inputs : Given) (functions : List FunctionCode) → Acts L.made L.meaning labels.new (λ reading. read_value reading) (λ reading. assign_giving (labelled tables inputs functions) (refers reading reference.now) (read_value reading other) (read_value reading value)) world.old world.new result }
-    ensures made { HasAnswer (HasValue (L.made labels.new)) (L.made labels.new) result }
-    ensures belongs { Belongs L.made L.meaning labels.new world.new }
-    ensures grows { Grows world.old world.new }
-    ensures kept { IsKept L.made L.meaning L.room L.firm labels.old labels.new }
-{
-    match put_value(alloc, labels, world, reference, value)? {
-        Came::Goes(()) => Ok(Came::Goes(other)),
-        Came::Throws(error) => Ok(Came::Throws(error)),
-        Came::Leaves(why) => Ok(Came::Leaves(why)),
     }
 }

@@ -1,66 +1,58 @@
--- What operators give of values that they convert. No label and no reading is in it: the laws in `proofs/ConvertedLaws` say that the labelled meaning
--- gives this with the labels of the operands.
-use Rattle.std.specs.Prelude.{ℤ, Bool, true, false, List, Option, Result, Ok, Err, slice_get}
+-- Which operands an operator has converted first. Where it has none converted, it takes them as they are: the laws in `proofs/ConvertedLaws`.
+use Rattle.std.specs.Prelude.{◌≡◌, Bool, true, false, ◌&&◌, ◌||◌, List, slice_get}
+use Rattle.origin_labels.specs.Label.{IsLabel}
+use Rattle.flow_policy.specs.Policies.{Tables}
+use Rattle.flow_policy.specs.Inputs.{Given}
+use Rattle.js_ast.specs.Functions.{FunctionCode}
 use Rattle.js_ast.specs.declared.operators.UnaryOperator.{UnaryOperator}
 use Rattle.js_ast.specs.declared.operators.BinaryOperator.{BinaryOperator}
-use Rattle.js_number.specs.declared.int.LeftNumbers.{LeftNumbers}
-use Rattle.js_number.specs.declared.primitive.Primitive.TheVariants.{Num}
 use Rattle.js_values.specs.declared.value.Value.{Value}
 use Rattle.js_values.specs.declared.value.Value.TheVariants as value
 use Rattle.js_values.specs.Objects.{Object}
+use Rattle.native_protocol.specs.declared.request.Seen.{Seen}
+use Rattle.native_protocol.specs.declared.request.Seen.TheVariants as seen
+use Rattle.es_meaning.specs.BuiltIns.{BuiltIns}
 use Rattle.es_meaning.specs.Evaluation as es
-use Rattle.es_meaning.specs.Evaluation.{takes_number}
-use Rattle.es_meaning.specs.Operators.{Given, Seen, an_object, is_object, binary_of, converts_beside, leaves_numbers, not_built, to_number, unary_of, unary_of_primitive}
+use Rattle.es_meaning.specs.Evaluation.{takes_number, unary_value, binary_values}
+use Rattle.es_meaning.specs.Operations as operations
+use Rattle.es_meaning.specs.Operators.{is_object, converts_beside}
 use Rattle.es_meaning.specs.Plain.{seen_of}
+use Rattle.flow_meaning.specs.Scopes.{Val, State}
+use Rattle.flow_meaning.specs.Tracked.{labelled}
+use Rattle.flow_meaning.specs.Planned.{Enters, as_plan, planned}
 use Rattle.step_values.specs.declared.conversions.Conversion.{Conversion}
 use Rattle.step_values.specs.declared.conversions.Conversion.TheVariants as conversion
 
--- ---- an operator in front of a value
+-- what can be asked of a value
+abbrev pub value_seen : {T : Type 0} → List (Object T) → Value → Seen
+value_seen heap (value.Primitive v) = seen.Prim v
+value_seen heap (value.Object i) = seen_of (λ p. seen.Object p.class) (slice_get heap i.0)
 
--- what can be asked of the object that there may be
-abbrev pub object_seen : {T : Type 0} → Option (Object T) → Seen
-object_seen p = seen_of (λ q. an_object q.class) p
+-- how an operator between two values converts them
+abbrev pub conversion_in : Conversion → es.Conversion
+conversion_in conversion.Unconverted = es.unconverted
+conversion_in conversion.Compared = es.compared
+conversion_in (conversion.Primitives h) = es.primitives h
+conversion_in conversion.Numbers = es.numbers
+conversion_in conversion.Keyed = es.keyed
 
--- an operator that takes its operand as a number has an object converted first
-abbrev pub of_object : {T : Type 0} → Bool → UnaryOperator → Option (Object T) → Given
-of_object true o p = Err not_built
-of_object false o p = unary_of o (object_seen p)
+-- ---- whether an operand is an object that is converted first
 
-unfoldable pub in_front : {T : Type 0} → List (Object T) → UnaryOperator → Value → Given
-in_front heap o (value.Primitive v) = unary_of_primitive o v
-in_front heap o (value.Object i) = of_object (takes_number o) o (slice_get heap i.0)
+abbrev pub converts_operand : UnaryOperator → Value → Bool
+converts_operand o v = takes_number o && is_object v
 
--- ---- an operator between two values
+-- of two operands the left one of `in` alone
+abbrev pub converts_by : es.Conversion → Value → Value → Bool
+converts_by es.unconverted v u = false
+converts_by es.compared v u = converts_beside v u || converts_beside u v
+converts_by (es.primitives h) v u = is_object v || is_object u
+converts_by es.numbers v u = is_object v || is_object u
+converts_by es.keyed v u = is_object v
 
--- where the test holds, a conversion is needed that isn't built yet
-abbrev pub unless : Bool → Given → Given
-unless true given = Err not_built
-unless false given = given
+abbrev pub converts : BinaryOperator → Value → Value → Bool
+converts o v u = converts_by (es.conversion_of o) v u
 
-abbrev pub as_compared : BinaryOperator → Value → Value → Given
-as_compared o v u = unless (converts_beside v u) (unless (converts_beside u v) (binary_of o v u))
-
-abbrev pub as_primitives : BinaryOperator → Value → Value → Given
-as_primitives o v u = unless (is_object v) (unless (is_object u) (binary_of o v u))
-
--- behind the left operand's conversion to a number, the right one is converted to a primitive value
-abbrev pub behind_number : BinaryOperator → Result ℤ LeftNumbers → Value → Given
-behind_number o (Ok n) u = unless (is_object u) (binary_of o (value.Primitive (Num n)) u)
-behind_number o (Err e) u = Err leaves_numbers
-
-abbrev pub as_numbers : BinaryOperator → Value → Value → Given
-as_numbers o (value.Object i) u = Err not_built
-as_numbers o (value.Primitive v) u = behind_number o (to_number v) u
-
--- the conversion, whatever primitive value of an object it asks for
-abbrev pub kind_of : es.Conversion → Conversion
-kind_of es.unconverted = conversion.Unconverted
-kind_of es.compared = conversion.Compared
-kind_of (es.primitives hint) = conversion.Primitives
-kind_of es.numbers = conversion.Numbers
-kind_of es.keyed = conversion.Unconverted
-
--- whether it asks for a key of an object, which is no matter of two values alone
+-- `in` is no matter of two values alone
 abbrev pub takes_key : es.Conversion → Bool
 takes_key es.keyed = true
 takes_key _ = false
@@ -68,11 +60,12 @@ takes_key _ = false
 abbrev pub is_keyed : BinaryOperator → Bool
 is_keyed o = takes_key (es.conversion_of o)
 
-unfoldable pub converted_by : Conversion → BinaryOperator → Value → Value → Given
-converted_by conversion.Unconverted o v u = binary_of o v u
-converted_by conversion.Compared o v u = as_compared o v u
-converted_by conversion.Primitives o v u = as_primitives o v u
-converted_by conversion.Numbers o v u = as_numbers o v u
+-- ---- where none is, the plan of the conversions and the operator is the operator alone
 
-unfoldable pub converted : BinaryOperator → Value → Value → Given
-converted o v u = converted_by (kind_of (es.conversion_of o)) o v u
+abbrev pub OperandAsItIs : Type 0
+OperandAsItIs = (tables : Tables) (inputs : Given) (set : BuiltIns) (functions : List FunctionCode) (E : Enters) (o : UnaryOperator) (v : Val) (s : State) → IsLabel v.label → converts_operand o v.value ≡ false
+    → unary_value (planned tables inputs set functions) E o v s ≡ as_plan operations.Value ((labelled tables inputs set functions).unary o v s)
+
+abbrev pub OperandsAsTheyAre : Type 0
+OperandsAsTheyAre = (tables : Tables) (inputs : Given) (set : BuiltIns) (functions : List FunctionCode) (E : Enters) (o : BinaryOperator) (v u : Val) (s : State) → IsLabel v.label → IsLabel u.label → is_keyed o ≡ false → converts o v.value u.value ≡ false
+    → binary_values (planned tables inputs set functions) E o v u s ≡ as_plan operations.Value ((labelled tables inputs set functions).binary o v u s)

@@ -1,4 +1,4 @@
-//! Operators between two values that are converted.
+//! Operators between two values as they are.
 
 ghost use Rattle.std.specs.Prelude.{Bool};
 ghost use Rattle.es_meaning.specs.Operators.{binary_of, binary_of_primitives, binary_with_object};
@@ -51,7 +51,7 @@ fn beside_object(operator: BinaryOperator, same: bool) -> Result<Primitive, Refu
 }
 
 /// An operator between two primitive values.
-pub(crate) fn between_primitives(
+fn between_primitives(
     alloc: Global,
     operator: BinaryOperator,
     left: &Primitive,

@@ -1,18 +1,14 @@
-//! The conversions of operands, in their order.
+//! Which operands an operator has converted first.
 
-ghost use Rattle.std.specs.Prelude.{◌≡◌, Ok};
-ghost use Rattle.es_meaning.specs.Evaluation.{conversion_of};
-ghost use Rattle.es_meaning.specs.Operators.{converts_beside, is_compared, truth};
-ghost use Rattle.step_values.specs.Answers.{Answers};
-ghost use Rattle.step_values.specs.Converted.{as_compared, as_numbers, as_primitives, behind_number, converted, kind_of};
+ghost use Rattle.std.specs.Prelude.{◌≡◌};
+ghost use Rattle.es_meaning.specs.Evaluation.{conversion_of, takes_number};
+ghost use Rattle.es_meaning.specs.Operators.{converts_beside, is_compared, is_object, truth};
+ghost use Rattle.step_values.specs.Converted.{conversion_in, converts, converts_operand};
 
-use crate::between::{between, between_primitives};
-use crate::refusal::Refusal;
-use js_ast::BinaryOperator;
-use js_number::{Int, Primitive, to_boolean, to_number};
+use js_ast::{BinaryOperator, UnaryOperator};
+use js_number::{Primitive, to_boolean};
 use js_values::Value;
-use std::alloc::Global;
-use step_world::Leaving;
+use native_protocol::Hint;
 
 /// ToBoolean (ECMA-262 9.2).
 pub fn truth(v: &Value) -> bool
@@ -24,29 +20,58 @@ pub fn truth(v: &Value) -> bool
     }
 }
 
-/// How an operator converts its operands.
+/// Whether a value is an object.
+pub fn is_object(v: &Value) -> bool
+    ensures { result ≡ is_object v.now }
+{
+    match v {
+        Value::Primitive(_) => false,
+        Value::Object(_) => true,
+    }
+}
+
+/// Whether an operator in front of a value takes it as a number (ECMA-262 11.4).
+pub fn takes_number(operator: UnaryOperator) -> bool
+    ensures { result ≡ takes_number operator }
+{
+    matches!(
+        operator,
+        UnaryOperator::Plus | UnaryOperator::Minus | UnaryOperator::BitNot
+    )
+}
+
+/// Whether an operator in front of a value has it converted first.
+pub fn converts_operand(operator: UnaryOperator, v: &Value) -> bool
+    ensures { result ≡ converts_operand operator v.now }
+{
+    takes_number(operator) && is_object(v)
+}
+
+/// How an operator between two values converts them (ECMA-262 11.5 to 11.10).
 #[derive(Clone, Copy)]
-enum Conversion {
+pub enum Conversion {
     Unconverted,
     /// As `==` does.
     Compared,
     /// Both to primitive values.
-    Primitives,
+    Primitives(Hint),
     /// The left one to a number, before the right one to a primitive value.
     Numbers,
+    /// The left one to a key, where the right one is an object.
+    Keyed,
 }
 
 /// How an operator converts its operands.
-fn conversion_of(operator: BinaryOperator) -> Conversion
-    ensures { result ≡ kind_of (conversion_of operator) }
+pub fn conversion_of(operator: BinaryOperator) -> Conversion
+    ensures { conversion_in result ≡ conversion_of operator }
 {
     match operator {
         BinaryOperator::Equal | BinaryOperator::NotEqual => Conversion::Compared,
-        BinaryOperator::Add
-        | BinaryOperator::Less
+        BinaryOperator::Add => Conversion::Primitives(Hint::Default),
+        BinaryOperator::Less
         | BinaryOperator::Greater
         | BinaryOperator::LessEqual
-        | BinaryOperator::GreaterEqual => Conversion::Primitives,
+        | BinaryOperator::GreaterEqual => Conversion::Primitives(Hint::Number),
         BinaryOperator::Multiply
         | BinaryOperator::Divide
         | BinaryOperator::Remainder
@@ -57,53 +82,32 @@ fn conversion_of(operator: BinaryOperator) -> Conversion
         | BinaryOperator::BitAnd
         | BinaryOperator::BitXor
         | BinaryOperator::BitOr => Conversion::Numbers,
+        BinaryOperator::In => Conversion::Keyed,
         BinaryOperator::StrictEqual
         | BinaryOperator::StrictNotEqual
         | BinaryOperator::And
         | BinaryOperator::Or
-        | BinaryOperator::In
         | BinaryOperator::Instanceof => Conversion::Unconverted,
     }
 }
 
-/// An operator between two values, which are converted first.
-#[tactic(auto, unfolding(crate::specs::Converted::converted, crate::specs::Converted::converted_by))]
-pub(crate) fn converted(
-    alloc: Global,
-    operator: BinaryOperator,
-    left: &Value,
-    right: &Value,
-) -> Result<Primitive, Refusal>
-    ensures { Answers result (converted operator left.now right.now) }
+/// Whether an operator between two values has one of them converted first.
+pub fn converts(operator: BinaryOperator, left: &Value, right: &Value) -> bool
+    ensures { result ≡ converts operator left.now right.now }
 {
     match conversion_of(operator) {
-        Conversion::Unconverted => between(alloc, operator, left, right),
-        Conversion::Compared => as_compared(alloc, operator, left, right),
-        Conversion::Primitives => as_primitives(alloc, operator, left, right),
-        Conversion::Numbers => as_numbers(alloc, operator, left, right),
+        Conversion::Unconverted => false,
+        Conversion::Compared => converts_beside(left, right) || converts_beside(right, left),
+        Conversion::Primitives(_) | Conversion::Numbers => is_object(left) || is_object(right),
+        Conversion::Keyed => is_object(left),
     }
 }
 
-/// An operator between two values as `==` takes them.
-fn as_compared(
-    alloc: Global,
-    operator: BinaryOperator,
-    left: &Value,
-    right: &Value,
-) -> Result<Primitive, Refusal>
-    ensures { Answers result (as_compared operator left.now right.now) }
+/// Whether `==` takes an object as a primitive value beside the other value (ECMA-262 11.9.3).
+pub fn converts_beside(v: &Value, other: &Value) -> bool
+    ensures { result ≡ converts_beside v.now other.now }
 {
-    if converts_beside(left, right) || converts_beside(right, left) {
-        return Err(Refusal::Leaves(Leaving::Unbuilt));
-    }
-    between(alloc, operator, left, right)
-}
-
-/// Whether `==` takes an object as a primitive value beside the other value.
-fn converts_beside(value: &Value, other: &Value) -> bool
-    ensures { result ≡ converts_beside value.now other.now }
-{
-    match (value, other) {
+    match (v, other) {
         (Value::Object(_), Value::Primitive(p)) => is_compared(p),
         _ => false,
     }
@@ -116,56 +120,5 @@ fn is_compared(p: &Primitive) -> bool
     match p {
         Primitive::Undefined | Primitive::Null => false,
         Primitive::Bool(_) | Primitive::Num(_) | Primitive::Str(_) => true,
-    }
-}
-
-/// An operator between two values as primitive values.
-#[tactic(auto, unfolding(es_meaning::specs::Operators::binary_of))]
-fn as_primitives(
-    alloc: Global,
-    operator: BinaryOperator,
-    left: &Value,
-    right: &Value,
-) -> Result<Primitive, Refusal>
-    ensures { Answers result (as_primitives operator left.now right.now) }
-{
-    match (left, right) {
-        (Value::Primitive(left), Value::Primitive(right)) => {
-            between_primitives(alloc, operator, left, right)
-        }
-        _ => Err(Refusal::Leaves(Leaving::Unbuilt)),
-    }
-}
-
-/// An operator between two values, of which the left one is converted to a number before the right one is looked at.
-fn as_numbers(
-    alloc: Global,
-    operator: BinaryOperator,
-    left: &Value,
-    right: &Value,
-) -> Result<Primitive, Refusal>
-    ensures { Answers result (as_numbers operator left.now right.now) }
-{
-    match left {
-        Value::Primitive(left) => behind_number(alloc, operator, to_number(left)?, right),
-        Value::Object(_) => Err(Refusal::Leaves(Leaving::Unbuilt)),
-    }
-}
-
-/// An operator between a number and a value as a primitive value.
-#[tactic(auto, unfolding(es_meaning::specs::Operators::binary_of))]
-fn behind_number(
-    alloc: Global,
-    operator: BinaryOperator,
-    left: Int,
-    right: &Value,
-) -> Result<Primitive, Refusal>
-    ensures { Answers result (behind_number operator (Ok left) right.now) }
-{
-    match right {
-        Value::Primitive(right) => {
-            between_primitives(alloc, operator, &Primitive::Num(left), right)
-        }
-        Value::Object(_) => Err(Refusal::Leaves(Leaving::Unbuilt)),
     }
 }

@@ -1,11 +1,11 @@
 //! Operators in front of a value.
 
-ghost use Rattle.std.specs.Prelude.{◌≡◌, IfOk, slice_get};
+ghost use Rattle.std.specs.Prelude.{◌≡◌, IfOk};
 ghost use Rattle.js_ast.specs.declared.operators.UnaryOperator.TheVariants as operator;
-ghost use Rattle.es_meaning.specs.Evaluation.{takes_number};
+ghost use Rattle.js_values.specs.declared.value.Value.TheVariants as value_kind;
 ghost use Rattle.es_meaning.specs.Operators.{type_of, type_of_class, unary_of, unary_of_object, unary_of_primitive};
 ghost use Rattle.step_values.specs.Answers.{Answers};
-ghost use Rattle.step_values.specs.Converted.{in_front, object_seen};
+ghost use Rattle.step_values.specs.Converted.{value_seen};
 
 use crate::refusal::Refusal;
 use flow_text::{OutOfMemory, Text};
@@ -16,31 +16,20 @@ use object_heap::Heap;
 use std::alloc::Global;
 use step_world::Leaving;
 
-/// An operator in front of a value, which is converted first where the operator takes it as a number.
-#[tactic(auto, unfolding(crate::specs::Converted::in_front))]
+/// An operator in front of a value as it is.
+#[tactic(auto, unfolding(es_meaning::specs::Operators::unary_of))]
 pub(crate) fn in_front<T: Copy>(
     alloc: Global,
     heap: &Heap<T>,
     operator: UnaryOperator,
     value: &Value,
 ) -> Result<Primitive, Refusal>
-    ensures { Answers result (in_front heap.now operator value.now) }
+    ensures { Answers result (unary_of operator (value_seen heap.now value.now)) }
 {
     match value {
         Value::Primitive(v) => of_primitive(alloc, operator, v),
-        Value::Object(_) if takes_number(operator) => Err(Refusal::Leaves(Leaving::Unbuilt)),
         Value::Object(o) => of_object(alloc, heap, operator, *o),
     }
-}
-
-/// Whether it takes its operand as a number.
-fn takes_number(operator: UnaryOperator) -> bool
-    ensures { result ≡ takes_number operator }
-{
-    matches!(
-        operator,
-        UnaryOperator::Plus | UnaryOperator::Minus | UnaryOperator::BitNot
-    )
 }
 
 /// An operator in front of a primitive value.
@@ -104,7 +93,7 @@ fn of_object<T: Copy>(
     operator: UnaryOperator,
     o: ObjId,
 ) -> Result<Primitive, Refusal>
-    ensures { Answers result (unary_of operator (object_seen (slice_get heap.now o.0))) }
+    ensures { Answers result (unary_of operator (value_seen heap.now (value_kind.Object o))) }
 {
     if o.0 < heap.len() {
         of_class(alloc, operator, heap.shape(o).class)

@@ -10,5 +10,8 @@ mod front;
 mod operators;
 mod refusal;
 
-pub use conversions::truth;
-pub use operators::{binary, binary_values, unary_value};
+pub use conversions::{
+    Conversion, conversion_of, converts, converts_beside, converts_operand, is_object,
+    takes_number, truth,
+};
+pub use operators::{binary, taking_operands, unary};

@@ -1,20 +1,18 @@
 //! Operators on values with labels.
 
-ghost use Rattle.std.specs.Prelude.{◌≡◌, false, List};
-ghost use Rattle.origin_labels.specs.Label.{union};
+ghost use Rattle.std.specs.Prelude.{◌≡◌, List};
 ghost use Rattle.origin_labels.specs.Stores.{IsKept};
 ghost use Rattle.flow_policy.specs.Policies.{Tables};
 ghost use Rattle.flow_policy.specs.Inputs.{Given};
 ghost use Rattle.js_ast.specs.Functions.{FunctionCode};
 ghost use Rattle.js_values.specs.Readings.{HasValue, read_value};
-ghost use Rattle.es_meaning.specs.Evaluation.{binary_values, unary_value};
+ghost use Rattle.es_meaning.specs.BuiltIns.{BuiltIns};
 ghost use Rattle.flow_meaning.specs.Tracked.{labelled};
 ghost use Rattle.step_world.specs.Acts.{Acts, Computes, HasAnswer};
 ghost use Rattle.step_values.specs.Answers.{came_of};
-ghost use Rattle.step_values.specs.Converted.{is_keyed};
+ghost use Rattle.step_values.specs.Converted.{OperandAsItIs, OperandsAsTheyAre};
 
 use crate::between::between;
-use crate::conversions::converted;
 use crate::front::in_front;
 use crate::refusal::Refusal;
 use flow_frames::FlowFault;
@@ -25,14 +23,14 @@ use origin_labels::Labels;
 use std::alloc::Global;
 use step_world::{Came, World};
 
-/// An operator in front of a value, which is converted first where the operator takes it as a number.
-pub fn unary_value<T: Copy>(
+/// An operator in front of a value as it is.
+pub fn unary<T: Copy>(
     alloc: Global,
     world: &World<T>,
     operator: UnaryOperator,
     value: &Labelled<T>,
 ) -> Result<Came<Labelled<T>, T>, FlowFault<T>>
-    ensures computes { (tables : Tables) (inputs : Given) (functions : List FunctionCode) → Computes (λ reading. read_value reading) (λ reading. unary_value (labelled tables inputs functions) operator (read_value reading value.now)) world.now result }
+    ensures computes { (tables : Tables) (inputs : Given) (set : BuiltIns) (functions : List FunctionCode) → Computes (λ reading. read_value reading) (λ reading. (labelled tables inputs set functions).unary operator (read_value reading value.now)) world.now result }
     ensures label { HasAnswer (λ v. v.label ≡ value.now.label) (λ label. label ≡ value.now.label) result }
 {
     came(
@@ -41,7 +39,13 @@ pub fn unary_value<T: Copy>(
     )
 }
 
-/// An operator between two values that are converted.
+/// Operators that have no operand converted take them as they are.
+pub fn taking_operands()
+    ensures operand { OperandAsItIs }
+    ensures operands { OperandsAsTheyAre }
+{}
+
+/// An operator between two values as they are.
 pub fn binary<L: Labels>(
     alloc: Global,
     labels: &mut L,
@@ -51,32 +55,12 @@ pub fn binary<L: Labels>(
 ) -> Result<Came<Labelled<L::Label>, L::Label>, FlowFault<L::Label>>
     requires left { L.made labels.old left.now.label }
     requires right { L.made labels.old right.now.label }
-    ensures acts { (tables : Tables) (inputs : Given) (functions : List FunctionCode) (world : World L.Label) → Acts L.made L.meaning labels.new (λ reading. read_value reading) (λ reading. (labelled tables inputs functions).binary operator (read_value reading left.now) (read_value reading right.now)) world world result }
+    ensures acts { (tables : Tables) (inputs : Given) (set : BuiltIns) (functions : List FunctionCode) (world : World L.Label) → Acts L.made L.meaning labels.new (λ reading. read_value reading) (λ reading. (labelled tables inputs set functions).binary operator (read_value reading left.now) (read_value reading right.now)) world world result }
     ensures made { HasAnswer (HasValue (L.made labels.new)) (L.made labels.new) result }
     ensures kept { IsKept L.made L.meaning L.room L.firm labels.old labels.new }
 {
     let label = labels.join(left.label, right.label)?;
     came(label, between(alloc, operator, &left.value, &right.value))
-}
-
-/// An operator between two values, which are converted first. `in` isn't its case: that is a matter of the heap.
-pub fn binary_values<L: Labels>(
-    alloc: Global,
-    labels: &mut L,
-    world: &World<L::Label>,
-    operator: BinaryOperator,
-    left: &Labelled<L::Label>,
-    right: &Labelled<L::Label>,
-) -> Result<Came<Labelled<L::Label>, L::Label>, FlowFault<L::Label>>
-    requires values { is_keyed operator ≡ false }
-    requires left { L.made labels.old left.now.label }
-    requires right { L.made labels.old right.now.label }
-    ensures acts { (tables : Tables) (inputs : Given) (functions : List FunctionCode) → Acts L.made L.meaning labels.new (λ reading. read_value reading) (λ reading. binary_values (labelled tables inputs functions) operator (read_value reading left.now) (read_value reading right.now)) world.now world.now result }
-    ensures made { HasAnswer (HasValue (L.made labels.new)) (L.made labels.new) result }
-    ensures kept { IsKept L.made L.meaning L.room L.firm labels.old labels.new }
-{
-    let label = labels.join(left.label, right.label)?;
-    came(label, converted(alloc, operator, &left.value, &right.value))
 }
 
 /// What a run comes to by an operator's answer: the value has this label.

@@ -11,7 +11,7 @@ use js_number::{AddFault, LeftNumbers};
 use step_world::Leaving;
 
 /// Why an operator gives no value.
-#[derive(Clone, Copy)]
+#[derive(Drop)]
 pub(crate) enum Refusal {
     /// The run leaves the language.
     Leaves(Leaving),

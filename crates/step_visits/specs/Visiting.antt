@@ -4,11 +4,11 @@ use Rattle.origin_labels.specs.Label.{Label}
 use Rattle.flow_policy.specs.Policies.{Tables}
 use Rattle.flow_policy.specs.Inputs.{Given}
 use Rattle.js_ast.specs.Functions.{FunctionCode}
+use Rattle.es_meaning.specs.BuiltIns.{BuiltIns}
 use Rattle.js_number.specs.declared.primitive.Primitive.TheVariants.{Str}
 use Rattle.js_values.specs.declared.value.Labelled.{Labelled}
 use Rattle.js_values.specs.declared.value.Value.TheVariants as value
 use Rattle.js_values.specs.Readings.{IsReading, read_value}
-use Rattle.es_meaning.specs.Environments.{Env}
 use Rattle.flow_meaning.specs.Scopes.{LabelledLine, State}
 use Rattle.flow_meaning.specs.Planned.{Plan}
 use Rattle.step_world.specs.declared.world.World.{World}
@@ -18,6 +18,7 @@ use Rattle.step_work.specs.declared.work.Next.{Next}
 use Rattle.step_work.specs.declared.work.Next.TheVariants as next
 use Rattle.flow_frames.specs.declared.faults.FlowFault.{FlowFault}
 use Rattle.step_work.specs.Kept.{Kept}
+use Rattle.step_work.specs.Settings.{Setting}
 use Rattle.step_work.specs.Pending.{next_plan}
 use Rattle.step_work.specs.Moving.{BeginsWith}
 use Rattle.step_visits.specs.declared.visits.Look.{Look}
@@ -29,13 +30,13 @@ laid_keys none keys = map (λ key. record { value = value.Primitive (Str key); l
 
 module _ {T : Type 0} where
   -- the plan of so many keys that are left, with the object below them
-  abbrev pub visits_of : Enumeration → ℕ → List (Labelled T) → Tables → Given → List FunctionCode → (T → Label) → Env ℕ → State → Plan
-  visits_of x count loose tables inputs functions reading e s = next_plan tables inputs functions (next.Visits x count) (map (read_value reading) loose) e s
+  abbrev pub visits_of : Enumeration → ℕ → List (Labelled T) → Tables → Given → BuiltIns → List FunctionCode → (T → Label) → Setting → State → Plan
+  visits_of x count loose tables inputs set functions reading e s = next_plan tables inputs set functions (next.Visits x count) (map (read_value reading) loose) e s
 
   -- in each reading that agrees with the store the keys that are left now are visited as those that were left
   abbrev pub VisitsAlike : {S : Type 0} → (S → T → Type 0) → (S → T → Label) → S → Enumeration → ℕ → List (Labelled T) → World T → ℕ → List (Labelled T) → World T → Type 0
-  VisitsAlike made meaning store x count loose world count_now loose_now world_now = (tables : Tables) (inputs : Given) (functions : List FunctionCode) (reading : T → Label) (e : Env ℕ) (told : List LabelledLine) (turns : ℕ) → IsReading made meaning store reading
-      → visits_of x count loose tables inputs functions reading e (state_of reading world told turns) ≡ visits_of x count_now loose_now tables inputs functions reading e (state_of reading world_now told turns)
+  VisitsAlike made meaning store x count loose world count_now loose_now world_now = (tables : Tables) (inputs : Given) (set : BuiltIns) (functions : List FunctionCode) (reading : T → Label) (e : Setting) (told : List LabelledLine) (turns : ℕ) → IsReading made meaning store reading
+      → visits_of x count loose tables inputs set functions reading e (state_of reading world told turns) ≡ visits_of x count_now loose_now tables inputs set functions reading e (state_of reading world_now told turns)
 
   -- a key was looked at: the machine goes on so, or the key is gone and lies there no more
   abbrev pub Looked : {S : Type 0} → (S → T → Type 0) → (S → T → Label) → S → Enumeration → ℕ → Kept T → Kept T → World T → World T → Look → Type 0

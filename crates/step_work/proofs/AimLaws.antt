@@ -8,7 +8,7 @@ use Rattle.js_ast.specs.Trees.{Statement, labelled}
 use Rattle.js_ast.specs.Views.{view_stmt}
 use Rattle.js_values.specs.declared.ids.EnvId.{EnvId}
 use Rattle.js_values.specs.declared.value.Labelled.{Labelled}
-use Rattle.es_meaning.specs.Environments.{Env, Around, is_label, same_mark, ends_it, find_around}
+use Rattle.es_meaning.specs.Environments.{Env, is_label, same_mark, find_around}
 use Rattle.step_work.specs.declared.work.Work.{Work}
 use Rattle.step_work.specs.declared.work.Work.TheVariants as work
 use Rattle.step_work.specs.Aims.{env_in, last_or, call_of, rounds_of, ended_by, reached_if, ends_round, ends_label, stands_before}

@@ -1,38 +1,39 @@
 -- Plans behind pending work.
-use Rattle.std.proofs.Common.{refl, ap, ◌∙◌, ◌≡◌, ℕ, List, [], ◌∷◌, ◌++◌, map, Result, Ok, Err, IfOk}
+use Rattle.std.proofs.Common.{refl, ap, ◌∙◌, ◌≡◌, List, [], ◌∷◌, ◌++◌, map, Result, Ok, Err, IfOk}
 use Rattle.js_values.specs.Readings.{read_value}
 use Rattle.origin_labels.specs.Label.{Label}
 use Rattle.flow_policy.specs.Policies.{Tables}
 use Rattle.flow_policy.specs.Inputs.{Given}
 use Rattle.js_ast.specs.Functions.{FunctionCode}
-use Rattle.es_meaning.specs.Environments.{Env}
+use Rattle.es_meaning.specs.BuiltIns.{BuiltIns}
+use Rattle.step_work.specs.Settings.{Setting}
 use Rattle.flow_text.specs.declared.memory.OutOfMemory.{OutOfMemory}
 use Rattle.flow_meaning.specs.Scopes.{Val, State}
 use Rattle.flow_meaning.specs.Planned.{Plan, and_plan}
 use Rattle.step_work.specs.declared.work.Next.{Next}
 use Rattle.step_work.specs.Kept.{Kept}
 use Rattle.step_work.specs.Resuming.{Begins, BeginsBehind}
-use Rattle.step_work.specs.Pending.{Task, inside, env_above, after_task, behind}
+use Rattle.step_work.specs.Pending.{Task, setting_inside, setting_above, after_task, behind}
 
-pub env_more : {T : Type 0} → (tasks : List (Task T)) (w : Task T) (e : Env ℕ) → env_above (tasks ++ w ∷ []) e ≡ inside w.0 (env_above tasks e)
-unfolding env_above
-env_more [] w e = refl
-env_more (v ∷ tasks) w e = env_more tasks w (inside v.0 e)
+pub setting_more : {T : Type 0} → (tasks : List (Task T)) (w : Task T) (e : Setting) → setting_above (tasks ++ w ∷ []) e ≡ setting_inside w.0 (setting_above tasks e)
+unfolding setting_above
+setting_more [] w e = refl
+setting_more (v ∷ tasks) w e = setting_more tasks w (setting_inside v.0 e)
 
-pub behind_more : {T : Type 0} → (tables : Tables) (inputs : Given) (functions : List FunctionCode) (reading : T → Label) (tasks : List (Task T)) (w : Task T) (e : Env ℕ) (p : Plan)
-    → behind tables inputs functions reading (tasks ++ w ∷ []) e p ≡ behind tables inputs functions reading tasks e (and_plan p (after_task tables inputs functions reading w (env_above tasks e)))
-unfolding behind env_above
-behind_more tables inputs functions reading [] w e p = refl
-behind_more tables inputs functions reading (v ∷ tasks) w e p = ap (λ q. and_plan q (after_task tables inputs functions reading v e)) (behind_more tables inputs functions reading tasks w (inside v.0 e) p)
+pub behind_more : {T : Type 0} → (tables : Tables) (inputs : Given) (set : BuiltIns) (functions : List FunctionCode) (reading : T → Label) (tasks : List (Task T)) (w : Task T) (e : Setting) (p : Plan)
+    → behind tables inputs set functions reading (tasks ++ w ∷ []) e p ≡ behind tables inputs set functions reading tasks e (and_plan p (after_task tables inputs set functions reading w (setting_above tasks e)))
+unfolding behind setting_above
+behind_more tables inputs set functions reading [] w e p = refl
+behind_more tables inputs set functions reading (v ∷ tasks) w e p = ap (λ q. and_plan q (after_task tables inputs set functions reading v e)) (behind_more tables inputs set functions reading tasks w (setting_inside v.0 e) p)
 
 -- a call that begins with one plan begins with an equal one
-pub begins_as : {T : Type 0} → (plan same : Tables → Given → List FunctionCode → Env ℕ → State → Plan) (old new : Kept T) (result : Result Next OutOfMemory) → ((tables : Tables) (inputs : Given) (functions : List FunctionCode) (e : Env ℕ) (s : State) → plan tables inputs functions e s ≡ same tables inputs functions e s)
+pub begins_as : {T : Type 0} → (plan same : Tables → Given → BuiltIns → List FunctionCode → Setting → State → Plan) (old new : Kept T) (result : Result Next OutOfMemory) → ((tables : Tables) (inputs : Given) (set : BuiltIns) (functions : List FunctionCode) (e : Setting) (s : State) → plan tables inputs set functions e s ≡ same tables inputs set functions e s)
     → IfOk result (Begins plan old new) → IfOk result (Begins same old new)
-begins_as plan same old new (Ok next) equal begins = λ tables inputs functions reading e s loose. begins tables inputs functions reading e s loose ∙ ap (behind tables inputs functions reading old.tasks e) (equal tables inputs functions (env_above old.tasks e) s)
+begins_as plan same old new (Ok next) equal begins = λ tables inputs set functions reading e s loose. begins tables inputs set functions reading e s loose ∙ ap (behind tables inputs set functions reading old.tasks e) (equal tables inputs set functions (setting_above old.tasks e) s)
 begins_as plan same old new (Err fault) equal begins = tt
 
 -- a call that begins a plan of the values that lie loose begins it of none where none lie so
-pub begins_alone : {T : Type 0} → (plan : Tables → Given → List FunctionCode → List Val → Env ℕ → State → Plan) (old new : Kept T) (result : Result Next OutOfMemory)
-    → IfOk result (BeginsBehind plan old new) → IfOk result (Begins (λ tables inputs functions e s. plan tables inputs functions [] e s) old new)
-begins_alone plan old new (Ok next) begins = λ tables inputs functions reading e s loose. begins tables inputs functions reading e s ∙ ap (λ vs. behind tables inputs functions reading old.tasks e (plan tables inputs functions (map (read_value reading) vs) (env_above old.tasks e) s)) loose
+pub begins_alone : {T : Type 0} → (plan : Tables → Given → BuiltIns → List FunctionCode → List Val → Setting → State → Plan) (old new : Kept T) (result : Result Next OutOfMemory)
+    → IfOk result (BeginsBehind plan old new) → IfOk result (Begins (λ tables inputs set functions e s. plan tables inputs set functions [] e s) old new)
+begins_alone plan old new (Ok next) begins = λ tables inputs set functions reading e s loose. begins tables inputs set functions reading e s ∙ ap (λ vs. behind tables inputs set functions reading old.tasks e (plan tables inputs set functions (map (read_value reading) vs) (setting_above old.tasks e) s)) loose
 begins_alone plan old new (Err fault) begins = tt

@@ -1,5 +1,5 @@
 -- Pending work beside the list of operands.
-use Rattle.std.proofs.Common.{refl, sym, ap, ◌∙◌, ◌≡◌, ◌≤◌, ◌<◌, ◌+◌, ◌-◌, ℕ, List, [], ◌∷◌, ◌++◌, length, take, drop, length-drop, append-nil, Option, Some, None, IfSome, arith}
+use Rattle.std.proofs.Common.{refl, sym, ap, ◌∙◌, ◌≡◌, ◌≤◌, ◌<◌, ◌+◌, ◌-◌, ℕ, zero, suc, set, List, [], ◌∷◌, ◌++◌, length, take, drop, length-drop, append-nil, Option, Some, None, IfSome, arith}
 use Rattle.std.specs.Option.{option_to_list}
 use Rattle.std.proofs.lemmas.List.{take-append-le, drop-append-le, drop-drop, drop-take, take-take, drop_all, take_all, length-take-le}
 use Rattle.js_values.specs.declared.value.Labelled.{Labelled}
@@ -15,6 +15,24 @@ owned_more (v ∷ works) w = omega (arith, owned_more works w)
 pub owned_front : (before behind : List Work) (result : Option Work) (n : ℕ) → before ≡ behind ++ option_to_list result → owned before ≤ n → owned behind ≤ n
 owned_front before behind None n e le = omega (arith, ap owned (e ∙ append-nil behind), le)
 owned_front before behind (Some w) n e le = omega (arith, ap owned e, owned_more behind w, le)
+
+-- an element is set, behind so many
+take_set : {X : Type 0} (n m : ℕ) (xs : List X) (v : X) → n ≤ m → take n (set xs m v) ≡ take n xs
+take_set zero m xs v le = refl
+take_set (suc n) m [] v le = refl
+take_set (suc n) zero (x ∷ xs) v le = absurd (omega (arith, le))
+take_set (suc n) (suc m) (x ∷ xs) v le = ap (λ ys. x ∷ ys) (take_set n m xs v (omega (arith, le)))
+
+drop_set : {X : Type 0} (n k m : ℕ) (xs : List X) (v : X) → m ≡ n + k → drop n (set xs m v) ≡ set (drop n xs) k v
+drop_set zero k m xs v e = let same : m ≡ k = omega (arith, e) in ap (λ i. set xs i v) same
+drop_set (suc n) k m [] v e = refl
+drop_set (suc n) k zero (x ∷ xs) v e = absurd (omega (arith, e))
+drop_set (suc n) k (suc m) (x ∷ xs) v e = drop_set n k m xs v (omega (arith, e))
+
+length_set : {X : Type 0} (xs : List X) (m : ℕ) (v : X) → length (set xs m v) ≡ length xs
+length_set [] m v = refl
+length_set (x ∷ xs) zero v = refl
+length_set (x ∷ xs) (suc m) v = ap suc (length_set xs m v)
 
 module _ {T : Type 0} where
   -- a further value is kept by no work
@@ -108,3 +126,41 @@ module _ {T : Type 0} where
 
   pub loose_alone : (works : List Work) (operands : List (Labelled T)) (count : ℕ) → owned works ≤ length operands → count ≡ length (loose_of works operands) → drop (length operands - count) operands ≡ loose_of works operands
   loose_alone works operands count le e = ap (λ n. drop n operands) (behind_loose works operands count le e)
+
+  -- a value that no work keeps is set
+  tasks_above : (works : List Work) (operands : List (Labelled T)) (m : ℕ) (v : Labelled T) → owned works ≤ m → tasks_of works (set operands m v) ≡ tasks_of works operands
+  tasks_above [] operands m v le = refl
+  tasks_above (w ∷ works) operands m v le =
+      let k = m - owns w in
+      let whole : m ≡ owns w + k = omega (arith, le) in
+      ap (λ kept. (w, kept) ∷ tasks_of works (drop (owns w) (set operands m v))) (take_set (owns w) m operands v (omega (arith, le)))
+      ∙ ap (λ others. (w, take (owns w) operands) ∷ tasks_of works others) (drop_set (owns w) k m operands v whole)
+      ∙ ap (λ tasks. (w, take (owns w) operands) ∷ tasks) (tasks_above works (drop (owns w) operands) k v (omega (arith, le)))
+
+  module _ (works : List Work) (operands : List (Labelled T)) (count at place : ℕ) (v : Labelled T)
+      (le : owned works ≤ length operands) (size : count ≡ length (loose_of works operands)) (is : place ≡ length operands - count + at) where
+    set_place : place ≡ owned works + at
+    set_place = let front = behind_loose works operands count le size in omega (arith, front, is)
+
+    pub tasks_set : tasks_of works (set operands place v) ≡ tasks_of works operands
+    tasks_set = tasks_above works operands place v (omega (arith, set_place))
+
+    pub loose_set : loose_of works (set operands place v) ≡ set (loose_of works operands) at v
+    loose_set = drop_set (owned works) at place operands v set_place
+
+    pub enough_set : owned works ≤ length (set operands place v)
+    enough_set = omega (arith, le, length_set operands place v)
+
+    pub place_fits : at < count → place < length operands
+    place_fits lt = omega (arith, lt, is, size, le, length-drop (owned works) operands)
+
+  -- work that keeps nothing stands below the values that no work keeps
+  module _ (works : List Work) (operands : List (Labelled T)) (w : Work) (none : owns w ≡ 0) where
+    pub tasks_under : tasks_of (works ++ w ∷ []) operands ≡ tasks_of works operands ++ (w, []) ∷ []
+    tasks_under = tasks_last works operands w ∙ ap (λ n. tasks_of works operands ++ (w, take n (loose_of works operands)) ∷ []) none
+
+    pub loose_under : loose_of (works ++ w ∷ []) operands ≡ loose_of works operands
+    loose_under = loose_last works operands w ∙ ap (λ n. drop n (loose_of works operands)) none
+
+    pub enough_under : owned works ≤ length operands → owned (works ++ w ∷ []) ≤ length operands
+    enough_under le = omega (arith, owned_more works w, none, le)

@@ -1,5 +1,5 @@
 -- Labels in front of statements.
-use Rattle.std.proofs.Common.{refl, ap, ◌∙◌, ◌≡◌, ◌≢◌, ◌-◌, arith, Some, None, ℕ, zero, suc, Bool, true, false, List, [], ◌∷◌}
+use Rattle.std.proofs.Common.{refl, ap, ◌∙◌, ◌≡◌, ◌≢◌, ◌-◌, arith, Some, None, ℕ, zero, suc, Bool, true, false, List, ◌∷◌}
 use Rattle.js_ast.specs.Trees.{Statement, labelled}
 use Rattle.step_work.specs.Shapes.{body_behind, inner_of, all_labels, behind_labels, passed_labels}
 

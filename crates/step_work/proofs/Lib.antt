@@ -15,3 +15,4 @@ pub mod VisitLaws
 pub mod LabelLaws
 pub mod NamedLaws
 pub mod AimLaws
+pub mod RegisterLaws

@@ -12,3 +12,6 @@ module _ {T : Type 0} where
 
   pub pushed_load : (old new : Kept T) (w : Work) → new ≡ record { tasks = old.tasks ++ (w, old.loose) ∷ []; loose = [] } → load new.tasks ≡ load old.tasks + weight w
   pushed_load old new w is = ap (λ k. load k.tasks) is ∙ load_more old.tasks (w, old.loose)
+
+  pub load_under : (old new : Kept T) (w : Work) → new ≡ record { tasks = old.tasks ++ (w, []) ∷ []; loose = old.loose } → load new.tasks ≡ load old.tasks + weight w
+  load_under old new w is = ap (λ k. load k.tasks) is ∙ load_more old.tasks (w, [])

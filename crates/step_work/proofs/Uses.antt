@@ -1,12 +1,17 @@
 -- The operand of a use and the base of a property, beside other values.
-use Rattle.std.proofs.Common.{refl, ap, subst, ◌≡◌, ◌<◌, ℕ, zero, suc, List, [], ◌∷◌, ◌++◌, length, arith}
+use Rattle.std.proofs.Common.{refl, ap, ap₂, subst, ◌≡◌, ◌<◌, ℕ, zero, suc, List, [], ◌∷◌, ◌++◌, length, arith}
 use Rattle.es_meaning.specs.Operations.{given_text}
 use Rattle.es_meaning.specs.Plain.{key_text}
 use Rattle.flow_meaning.specs.Scopes.{Val}
 use Rattle.step_work.specs.declared.work.Use.{Use}
 use Rattle.step_work.specs.declared.work.Use.TheVariants.{Assigned, Updated, Prefixed, Postfixed, Asked, Valued, Deleted, GivenText, Called}
-use Rattle.step_work.specs.Pending.{owns_use}
-use Rattle.step_work.specs.Shapes.{nth, use_of}
+use Rattle.flow_meaning.specs.Tracked.{of_name}
+use Rattle.step_world.specs.declared.came.Place.TheVariants as place
+use Rattle.step_world.specs.Names.{place_of, property_of}
+use Rattle.step_work.specs.declared.work.Target.{Target}
+use Rattle.step_work.specs.declared.work.Target.TheVariants as target
+use Rattle.step_work.specs.Pending.{owns_target, owns_use}
+use Rattle.step_work.specs.Shapes.{nth, target_of, use_of}
 
 -- one of values that begin others
 pub nth_kept : (n : ℕ) (vs us : List Val) → n < length vs → nth n (vs ++ us) ≡ nth n vs
@@ -32,3 +37,12 @@ use_kept GivenText vs v few = ap (λ u. given_text (key_text u.value)) (nth_kept
 
 pub base_kept : (how : Use) (vs : List Val) (v : Val) → length vs ≡ owns_use how → nth (owns_use how) (vs ++ v ∷ []) ≡ v
 base_kept how vs v few = subst (λ n. nth n (vs ++ v ∷ []) ≡ v) few (nth_behind vs v [])
+
+pub target_kept : (t : Target) (vs : List Val) (v : Val) → length vs ≡ owns_target t → target_of t (vs ++ v ∷ []) ≡ target_of t vs
+target_kept (target.Name x (place.Record e)) vs v few = refl
+target_kept (target.Name x place.Global) vs v few = refl
+target_kept (target.Name x place.Nowhere) vs v few = ap (λ (u : Val). of_name x.now (place_of place.Nowhere) u.label) (nth_kept 0 vs (v ∷ []) (omega (arith, few)))
+target_kept target.Property vs v few = ap₂ property_of (nth_kept 0 vs (v ∷ []) (omega (arith, few))) (nth_kept 1 vs (v ∷ []) (omega (arith, few)))
+
+pub last_kept : (n : ℕ) (vs : List Val) (v : Val) → length vs ≡ n → nth n (vs ++ v ∷ []) ≡ v
+last_kept n vs v size = subst (λ m. nth m (vs ++ v ∷ []) ≡ v) size (nth_behind vs v [])

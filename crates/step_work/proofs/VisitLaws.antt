@@ -1,11 +1,12 @@
 -- `for in`: its frame, and its turns.
-use Rattle.std.proofs.Common.{sym, ap, ap₂, subst, ◌∙◌, ◌≡◌, ◌+◌, ℕ, true, false, List, [], ◌∷◌, ◌++◌, None, map, take, length, arith}
+use Rattle.std.proofs.Common.{sym, ap, ap₂, subst, ◌∙◌, ◌≡◌, ◌+◌, ℕ, true, false, List, [], ◌∷◌, ◌++◌, map, take, length, arith}
 use Rattle.std.proofs.Math.Seq.{take-append_seam}
 use Rattle.std.proofs.lemmas.List.{length-append, length-map}
 use Rattle.origin_labels.specs.Label.{Label, bottom}
 use Rattle.flow_policy.specs.Policies.{Tables}
 use Rattle.flow_policy.specs.Inputs.{Given}
 use Rattle.js_ast.specs.Functions.{FunctionCode}
+use Rattle.es_meaning.specs.BuiltIns.{BuiltIns}
 use Rattle.flow_frames.specs.declared.kind.Kind.{Kind}
 use Rattle.flow_frames.specs.declared.kind.Kind.TheVariants as kind
 use Rattle.flow_frames.specs.Changes.{pushed}
@@ -24,13 +25,14 @@ use Rattle.step_work.specs.declared.work.Work.TheVariants as work
 use Rattle.step_work.specs.declared.work.Next.{Next}
 use Rattle.step_work.specs.declared.work.Next.TheVariants as next
 use Rattle.step_work.specs.Kept.{Kept}
-use Rattle.step_work.specs.Pending.{Task, env_above, next_plan, after_task, behind, keys_left, visit_of}
+use Rattle.step_work.specs.Pending.{Task, setting_inside, setting_above, next_plan, after_task, behind, keys_left, visit_of}
 use Rattle.step_work.specs.Resuming.{BeginsBeside, ResumesIn, with_frames}
 use Rattle.step_work.specs.Shapes.{nth, labels_at}
 use Rattle.step_work.proofs.BranchLaws.{last_one, none_in_front}
 use Rattle.step_work.proofs.ScopeLaws.{in_scope}
 use Rattle.step_work.proofs.Steps.{values_more}
 use Rattle.step_work.proofs.Uses.{nth_kept, nth_behind}
+use Rattle.step_work.specs.Settings.{Setting, entrance}
 
 -- a turn with these values
 abbrev visit_with : Enumeration → Val → List ℕ → List (List ℕ) → Visit Val
@@ -62,19 +64,19 @@ module _ {S T : Type 0} (made : S → T → Type 0) (meaning : S → T → Label
       → ((reading : T → Label) → IsReading made meaning store reading → reading label ≡ bottom)
       → ResumesIn made meaning store (work.Enumerated x) old new frames_old frames_new (next.Keys x)
   unfolding enumerated
-  enumeration_begins x old middle added new object frames_old frames_new depth label one top stays is same laid deep entered reads = λ tables inputs functions reading e s value read loose.
+  enumeration_begins x old middle added new object frames_old frames_new depth label one top stays is same laid deep entered reads = λ tables inputs set functions reading e s value read loose.
       let t : State = with_frames reading frames_new s in
       let before : State = with_frames reading frames_old s in
-      let f = env_above old.tasks e in
+      let f = setting_above old.tasks e in
       let w : Task T = (work.EndRound false depth x.of, []) in
       let size : depth ≡ length before.frames = deep ∙ sym (length-map frames_old (seen_frame reading)) in
       let tasks : new.tasks ≡ old.tasks ++ w ∷ [] = same ∙ ap (λ k. k.tasks) is ∙ ap₂ (λ ts vs. ts ++ (work.EndRound false depth x.of, vs) ∷ []) stays (none_in_front middle.loose old.loose object top one) in
       let lies : new.loose ≡ object ∷ [] = laid ∙ ap (λ k. k.loose ++ object ∷ []) is in
-      let keys = λ (v : Labelled T) (g : Env ℕ) (u : State). with_keys (planned tables inputs functions) (asking tables inputs functions) (labels_at (view_stmt x.of.now)) (view_target x.target.now) (view_stmt x.body.now) (read_value reading v) g u in
-      ap₂ (λ ts vs. behind tables inputs functions reading ts e (next_plan tables inputs functions (next.Keys x) (map (read_value reading) vs) (env_above ts e) t)) tasks lies
-      ∙ in_scope made meaning store tables inputs functions reading old.tasks w e (λ g. keys object g t)
-      ∙ ap₂ (λ d u. behind tables inputs functions reading old.tasks e (and_plan (keys object (with_around false (labels_at (view_stmt x.of.now)) d f) u) (end_round d))) size (entered_state kind.Loop frames_old frames_new label reading s entered reads read)
-      ∙ ap (λ v. behind tables inputs functions reading old.tasks e (and_plan (keys v (with_around false (labels_at (view_stmt x.of.now)) (length before.frames) f) (pushed_on kind.Loop bottom before)) (end_round (length before.frames)))) (last_one middle.loose object value (sym top ∙ loose))
+      let keys = λ (v : Labelled T) (g : Env ℕ) (u : State). with_keys (planned tables inputs set functions) (entrance tables inputs set functions) (asking tables inputs set functions) (labels_at (view_stmt x.of.now)) (view_target x.target.now) (view_stmt x.body.now) (read_value reading v) g u in
+      ap₂ (λ ts vs. behind tables inputs set functions reading ts e (next_plan tables inputs set functions (next.Keys x) (map (read_value reading) vs) (setting_above ts e) t)) tasks lies
+      ∙ in_scope made meaning store tables inputs set functions reading old.tasks w e (λ g. keys object g.env t)
+      ∙ ap₂ (λ d u. behind tables inputs set functions reading old.tasks e (and_plan (keys object (with_around false (labels_at (view_stmt x.of.now)) d f.env) u) (end_round d))) size (entered_state kind.Loop frames_old frames_new label reading s entered reads read)
+      ∙ ap (λ v. behind tables inputs set functions reading old.tasks e (and_plan (keys v (with_around false (labels_at (view_stmt x.of.now)) (length before.frames) f.env) (pushed_on kind.Loop bottom before)) (end_round (length before.frames)))) (last_one middle.loose object value (sym top ∙ loose))
 
   -- a turn, in a frame of its own: the target is given the key, then the body is done, and then the other keys are visited
   pub visit_begins : (x : Enumeration) (count : ℕ) (old middle first second third new : Kept T) (key : Labelled T) (frames_old frames_new : List (Held T)) (depth : ℕ) (label : T) (next : Next)
@@ -85,13 +87,13 @@ module _ {S T : Type 0} (made : S → T → Type 0) (meaning : S → T → Label
       → new.tasks ≡ third.tasks → new.loose ≡ third.loose ++ key ∷ [] → depth ≡ length frames_old
       → ((reading : T → Label) → IsReading made meaning store reading → map (seen_frame reading) frames_new ≡ map (seen_frame reading) frames_old ++ pushed kind.Turn (reading label) ∷ [])
       → ((reading : T → Label) → IsReading made meaning store reading → reading label ≡ bottom)
-      → ((tables : Tables) (inputs : Given) (functions : List FunctionCode) (v : Val) (e : Env ℕ) (s : State) → next_plan tables inputs functions next (v ∷ []) e s ≡ target_step (planned tables inputs functions) (asking tables inputs functions) (view_target x.target.now) (key_text v.value) e.place s)
-      → BeginsBeside made meaning store (λ tables inputs functions vs e. visit_step (planned tables inputs functions) (asking tables inputs functions) (visit_of x count vs) e) old new frames_old frames_new next
+      → ((tables : Tables) (inputs : Given) (set : BuiltIns) (functions : List FunctionCode) (v : Val) (e : Setting) (s : State) → next_plan tables inputs set functions next (v ∷ []) e s ≡ target_step (planned tables inputs set functions) (entrance tables inputs set functions) (asking tables inputs set functions) (view_target x.target.now) (key_text v.value) e.env.place s)
+      → BeginsBeside made meaning store (λ tables inputs set functions vs e. visit_step (planned tables inputs set functions) (entrance tables inputs set functions) (asking tables inputs set functions) (visit_of x count vs) e.env) old new frames_old frames_new next
   unfolding visit_step visit_turn visited visit_body
-  visit_begins x count old middle first second third new key frames_old frames_new depth label next size top stays is_first is_second is_third same laid deep entered reads gives = λ tables inputs functions reading e s read.
+  visit_begins x count old middle first second third new key frames_old frames_new depth label next size top stays is_first is_second is_third same laid deep entered reads gives = λ tables inputs set functions reading e s read.
       let t : State = with_frames reading frames_new s in
       let before : State = with_frames reading frames_old s in
-      let f = env_above old.tasks e in
+      let f = setting_above old.tasks e in
       let us = map (read_value reading) middle.loose in
       let k = read_value reading key in
       let a : Task T = (work.Visited x count, middle.loose) in
@@ -103,17 +105,17 @@ module _ {S T : Type 0} (made : S → T → Type 0) (meaning : S → T → Label
       let lies : new.loose ≡ key ∷ [] = laid ∙ ap (λ s. s.loose ++ key ∷ []) is_third in
       let whole : length (middle.loose ++ key ∷ []) ≡ count + 2 = ap length (sym top) ∙ size in
       let few : length us ≡ count + 1 = omega (arith, whole, length-append middle.loose (key ∷ []), length-map middle.loose (read_value reading)) in
-      let inside = with_around true (labels_at (view_stmt x.of.now)) depth f in
+      let inside = setting_inside (work.EndRound true depth x.of) f in
       let visit = visit_with x (nth 0 us) (key_text k.value) (keys_left us) in
-      let asks = λ (g : Env ℕ). next_plan tables inputs functions next (k ∷ []) g t in
-      let turn = λ (g : Env ℕ). and_plan (asks g) (after_task tables inputs functions reading c g) in
-      let round = λ (g : Env ℕ). and_plan (turn (with_around true (labels_at (view_stmt x.of.now)) depth g)) (after_task tables inputs functions reading b g) in
-      ap₂ (λ ts vs. behind tables inputs functions reading ts e (next_plan tables inputs functions next (map (read_value reading) vs) (env_above ts e) t)) tasks lies
-      ∙ in_scope made meaning store tables inputs functions reading ((old.tasks ++ a ∷ []) ++ b ∷ []) c e asks
-      ∙ in_scope made meaning store tables inputs functions reading (old.tasks ++ a ∷ []) b e turn
-      ∙ in_scope made meaning store tables inputs functions reading old.tasks a e round
-      ∙ ap (λ p. behind tables inputs functions reading old.tasks e (and_plan (and_plan (and_plan p (after_task tables inputs functions reading c inside)) (end_round depth)) (after_task tables inputs functions reading a f))) (gives tables inputs functions k inside t)
-      ∙ ap₂ (λ d u. behind tables inputs functions reading old.tasks e (and_plan (and_plan (visit_turn (planned tables inputs functions) (asking tables inputs functions) visit (with_around true (labels_at (view_stmt x.of.now)) d f) u) (end_round d)) (with_result One (visited (planned tables inputs functions) (asking tables inputs functions) visit f))))
+      let asks = λ (g : Setting). next_plan tables inputs set functions next (k ∷ []) g t in
+      let turn = λ (g : Setting). and_plan (asks g) (after_task tables inputs set functions reading c g) in
+      let round = λ (g : Setting). and_plan (turn (setting_inside (work.EndRound true depth x.of) g)) (after_task tables inputs set functions reading b g) in
+      ap₂ (λ ts vs. behind tables inputs set functions reading ts e (next_plan tables inputs set functions next (map (read_value reading) vs) (setting_above ts e) t)) tasks lies
+      ∙ in_scope made meaning store tables inputs set functions reading ((old.tasks ++ a ∷ []) ++ b ∷ []) c e asks
+      ∙ in_scope made meaning store tables inputs set functions reading (old.tasks ++ a ∷ []) b e turn
+      ∙ in_scope made meaning store tables inputs set functions reading old.tasks a e round
+      ∙ ap (λ p. behind tables inputs set functions reading old.tasks e (and_plan (and_plan (and_plan p (after_task tables inputs set functions reading c inside)) (end_round depth)) (after_task tables inputs set functions reading a f))) (gives tables inputs set functions k inside t)
+      ∙ ap₂ (λ d u. behind tables inputs set functions reading old.tasks e (and_plan (and_plan (visit_turn (planned tables inputs set functions) (entrance tables inputs set functions) (asking tables inputs set functions) visit (with_around true (labels_at (view_stmt x.of.now)) d f.env) u) (end_round d)) (with_result One (visited (planned tables inputs set functions) (entrance tables inputs set functions) (asking tables inputs set functions) visit f.env))))
       (deep ∙ sym (length-map frames_old (seen_frame reading))) (entered_state kind.Turn frames_old frames_new label reading s entered reads read)
-      ∙ ap (λ v. behind tables inputs functions reading old.tasks e (visit_step (planned tables inputs functions) (asking tables inputs functions) v f before)) (sym (visit_parts x count us k few))
-      ∙ ap (λ vs. behind tables inputs functions reading old.tasks e (visit_step (planned tables inputs functions) (asking tables inputs functions) (visit_of x count vs) f before)) (sym (ap (map (read_value reading)) top ∙ values_more reading middle.loose key))
+      ∙ ap (λ v. behind tables inputs set functions reading old.tasks e (visit_step (planned tables inputs set functions) (entrance tables inputs set functions) (asking tables inputs set functions) v f.env before)) (sym (visit_parts x count us k few))
+      ∙ ap (λ vs. behind tables inputs set functions reading old.tasks e (visit_step (planned tables inputs set functions) (entrance tables inputs set functions) (asking tables inputs set functions) (visit_of x count vs) f.env before)) (sym (ap (map (read_value reading)) top ∙ values_more reading middle.loose key))

@@ -1,5 +1,5 @@
 -- What pending works say of jumps: where one goes, and in which record the part is evaluated.
-use Rattle.std.specs.Prelude.{ℕ, Bool, true, false, ◌&&◌, ◌||◌, List, [], ◌∷◌, Option, Some, None, if◌then◌else◌}
+use Rattle.std.specs.Prelude.{ℕ, Bool, true, false, ◌&&◌, ◌||◌, List, [], ◌∷◌, Option, Some, None}
 use Rattle.std.specs.List.{list_any}
 use Rattle.origin_labels.specs.Names.{same_name}
 use Rattle.js_ast.specs.Trees.{Statement, labelled}

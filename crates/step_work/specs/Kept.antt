@@ -52,6 +52,15 @@ abbrev pub scopes_of : {T : Type 0} → List (Task T) → List ℕ
 scopes_of [] = []
 scopes_of (w ∷ tasks) = scope_of w.0 ++ scopes_of tasks
 
+-- how many built-ins wait
+abbrev pub waits : Work → ℕ
+waits (work.Answered count to) = 1
+waits _ = 0
+
+abbrev pub waiting : {T : Type 0} → List (Task T) → ℕ
+waiting [] = 0
+waiting (w ∷ tasks) = waits w.0 + waiting tasks
+
 -- whether a jump may stay there, though it ends no scope: in the block or the handler of a `try` statement
 abbrev pub may_stay : Work → Bool
 may_stay (work.EndBlock s depth) = true

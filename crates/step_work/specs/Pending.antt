@@ -4,6 +4,7 @@ use Rattle.origin_labels.specs.Label.{Label}
 use Rattle.flow_policy.specs.Policies.{Tables}
 use Rattle.flow_policy.specs.Inputs.{Given}
 use Rattle.js_ast.specs.Functions.{FunctionCode}
+use Rattle.es_meaning.specs.BuiltIns.{BuiltIns}
 use Rattle.js_values.specs.declared.value.Labelled.{Labelled}
 use Rattle.js_values.specs.Readings.{read_value}
 use Rattle.js_number.specs.declared.primitive.Primitive.TheVariants as prims
@@ -12,20 +13,21 @@ use Rattle.js_ast.specs.Views.{view_expr, view_exprs, view_properties, view_targ
 use Rattle.es_meaning.specs.Outcomes.{left}
 use Rattle.es_meaning.specs.Directives.{upgrade_of}
 use Rattle.es_meaning.specs.Environments.{Env, with_around, with_place, called_env, thrown, returned, left_by}
-use Rattle.js_ast.specs.Trees.{Properties, no_properties, more_properties, Statement, try_catch, try_finally, try_both, Clauses, no_clauses, case, default}
-use Rattle.es_meaning.specs.Operations.{One, Value, Ty, Visit, Act, object_of}
+use Rattle.js_ast.specs.declared.operators.BinaryOperator.{BinaryOperator}
+use Rattle.js_ast.specs.Trees.{Exprs, Statement, try_catch, try_finally, try_both, Clauses, no_clauses, case, default}
+use Rattle.native_protocol.specs.Steps.{Steps}
+use Rattle.es_meaning.specs.Operations.{One, Value, Ty, Visit, Ops, Rec, object_of, calls}
 use Rattle.es_meaning.specs.Plain.{undefined, argument_or, key_text, object_or_default}
 use Rattle.es_meaning.specs.Evaluation as evaluation
-use Rattle.es_meaning.specs.Evaluation.{discard, unary_value, binary_values, binary_right, and_right, or_right, choose_expr, comma_right, assign_to, compound_done, more_arguments, choose_stmt, choose_stmts, more_statements_behind, more_variables, looped_value, turn_test, updated, turned_round, used, member_base, index_base, index_key, keys_of, more_values, enumerated, visit_body, visited, with_keys, visits, declarations, loop, looped, call_with, call_value, construct_value, instance_right, instance_done, jump_with, behind_expression, switched, cases, case_compared, from_default, falls_on, handled, unhandled, block_step, text_of_label}
+use Rattle.es_meaning.specs.Evaluation.{Conversion, unconverted, compared, numbers, keyed, primitives, conversion_of, discard, give, unary_done, binary_done, has_left, compared_left, primitive_left, number_left, prefix_value, postfix_value, prefix_number, postfix_number, compound_right, with_key, arguments, properties, variables, answered_in, put_behind, unary_value, binary_values, binary_right, and_right, or_right, choose_expr, comma_right, assign_to, compound_done, more_arguments, choose_stmt, choose_stmts, more_statements_behind, more_variables, looped_value, turn_test, updated, turned_round, used, member_base, index_base, index_key, parts_of, more_values, enumerated, visit_body, visited, with_keys, visits, declarations, loop, looped, call_with, call_value, construct_value, instance_right, instance_done, jump_with, behind_expression, switched, cases, case_compared, from_default, falls_on, handled, unhandled, block_step, text_of_label}
 use Rattle.flow_meaning.specs.Erased.{unlabelled}
 use Rattle.flow_meaning.specs.Scopes.{Val, State, as_plain}
-use Rattle.flow_meaning.specs.Planned.{an_expr, a_use, a_stmt, a_named, a_turn, a_visit, gave, jumped, Plan, Give, Ask, End, Then, and_plan, with_result, end_branch, end_round, end_call, end_construction, end_block, end_handler, end_last, nothing_done, planned, asking}
+use Rattle.flow_meaning.specs.Planned.{Enters, an_expr, a_use, a_stmt, a_named, a_turn, a_visit, a_request, gave, jumped, Plan, Give, Ask, End, Then, and_plan, with_result, end_branch, end_round, end_call, end_construction, end_block, end_handler, end_last, end_setter, end_instance, nothing_done, planned, asking}
 use Rattle.step_work.specs.declared.work.Work.{Work}
 use Rattle.step_work.specs.declared.work.Work.TheVariants as work
 use Rattle.step_work.specs.declared.work.Next.{Next}
 use Rattle.step_work.specs.declared.work.Next.TheVariants as next
 use Rattle.step_world.specs.declared.came.Place.TheVariants as place
-use Rattle.step_world.specs.Names.{leaving_name}
 use Rattle.step_work.specs.declared.work.Use.{Use}
 use Rattle.step_work.specs.declared.work.Use.TheVariants as use_as
 use Rattle.step_work.specs.declared.work.Calling.{Calling}
@@ -34,7 +36,10 @@ use Rattle.step_work.specs.declared.work.Jump.{Jump}
 use Rattle.step_work.specs.declared.work.Target.{Target}
 use Rattle.step_work.specs.declared.work.Target.TheVariants as target
 use Rattle.step_work.specs.declared.work.Enumeration.{Enumeration}
-use Rattle.step_work.specs.Shapes.{nth, use_of, target_of, round_of, turn_of, direct_of, calling_of, jump_of, waiting_of, labels_at, behind_labels, passed_labels, all_labels, statements_from, handles, finishes}
+use Rattle.step_work.specs.Shapes.{nth, use_of, target_of, round_of, calling_of, name_of, jump_of, waiting_of, labels_at, behind_labels, passed_labels, all_labels, statements_from, handles, finishes}
+use Rattle.step_work.specs.declared.work.Counting.TheVariants as counting
+use Rattle.step_work.specs.declared.work.Reason.TheVariants as reason
+use Rattle.step_work.specs.Settings.{Setting, setting_of, outermost_steps, entrance}
 
 -- how many operands a use and a reference keep
 abbrev pub owns_use : Use → ℕ
@@ -48,7 +53,6 @@ owns_target target.Property = 2
 
 -- how many values lie below arguments
 abbrev pub owns_calling : Calling → ℕ
-owns_calling (calling.Directly f) = 0
 owns_calling calling.Calls = 2
 owns_calling calling.Constructs = 1
 
@@ -73,6 +77,17 @@ owns (work.IndexBase how x) = owns_use how
 owns (work.IndexKey how) = owns_use how + 1
 owns (work.Property ps count) = count
 owns (work.Visited e count) = count + 1
+owns (work.ConvertedLeft o) = 1
+owns (work.Operate o) = 1
+owns work.KeyHas = 1
+owns (work.KeyOf how) = owns_use how + 1
+owns (work.Counted how o t) = owns_target t
+owns (work.CountedNumber how o t) = owns_target t
+owns (work.CompoundRight o x t) = owns_target t
+owns (work.CalledBy es) = 1
+owns work.InstanceTest = 1
+owns work.GiveBehind = 1
+owns (work.Answered count to) = count
 owns _ = 0
 
 -- work with the operands that it keeps
@@ -93,6 +108,19 @@ unfoldable pub env_above : {T : Type 0} → List (Task T) → Env ℕ → Env �
 env_above [] e = e
 env_above (w ∷ tasks) e = env_above tasks (inside w.0 e)
 
+-- a built-in that waits has the steps that come first. What is left are those of the built-ins that wait or run inside it
+abbrev pub natives_inside : Work → List Steps → List Steps
+natives_inside (work.Answered count to) natives = drop 1 natives
+natives_inside _ natives = natives
+
+-- the setting of a part, and above pending work
+abbrev pub setting_inside : Work → Setting → Setting
+setting_inside w e = setting_of (natives_inside w e.natives) (inside w e.env)
+
+unfoldable pub setting_above : {T : Type 0} → List (Task T) → Setting → Setting
+setting_above [] e = e
+setting_above (w ∷ tasks) e = setting_above tasks (setting_inside w.0 e)
+
 -- the first of values, or undefined where there is none
 abbrev pub first_or_undefined : List Val → Val
 first_or_undefined vs = argument_or (unlabelled undefined) 0 vs
@@ -108,13 +136,16 @@ values_of next.Value = 1
 values_of (next.Jumps j) = 1
 values_of (next.Call count) = count + 2
 values_of (next.Construct count) = count + 1
-values_of (next.Direct f count) = count
+values_of (next.Request count) = count
+values_of (next.Convert h) = 1
+values_of next.Compare = 2
 values_of (next.Object ps count) = count
 values_of (next.Use how x) = owns_use how
 values_of (next.GiveVariable x) = 1
 values_of (next.Keys e) = 1
 values_of (next.Visits e count) = count + 1
 values_of (next.Visit e count) = count + 2
+values_of (next.Leave reason.Named) = 1
 values_of _ = 0
 
 -- the texts that values are
@@ -132,123 +163,162 @@ visit_of x count vs = record { labels = labels_at (view_stmt x.of.now); target =
 abbrev pub visit_behind : Enumeration → List Val → Visit Val
 visit_behind x vs = record { labels = labels_at (view_stmt x.of.now); target = view_target x.target.now; body = view_stmt x.body.now; object = nth 0 vs; key = []; others = keys_left vs }
 
-module _ (tables : Tables) (inputs : Given) (functions : List FunctionCode) where
+module _ (tables : Tables) (inputs : Given) (set : BuiltIns) (functions : List FunctionCode) where
+  -- the planned reading, how what is called is entered in it, and the parts that it asks for
+  abbrev O : Ops
+  O = planned tables inputs set functions
+
+  abbrev E : Enters
+  E = entrance tables inputs set functions
+
+  abbrev R : Rec O
+  R = asking tables inputs set functions
+
   -- a `switch` with the value of the test of its first clause that is left, of all
-  abbrev pub compared : Val → Clauses → Clauses → Env ℕ → Val → State → Plan
-  compared v all no_clauses e u = from_default (planned tables inputs functions) (asking tables inputs functions) all e
-  compared v all (case c ss cs) e u = case_compared (planned tables inputs functions) (asking tables inputs functions) v ss cs e (cases (planned tables inputs functions) (asking tables inputs functions) v all cs e) u
-  compared v all (default ss cs) e u = cases (planned tables inputs functions) (asking tables inputs functions) v all cs e
+  abbrev pub tests_of : Val → Clauses → Clauses → Env ℕ → Val → State → Plan
+  tests_of v all no_clauses e u = from_default O E R all e
+  tests_of v all (case c ss cs) e u = case_compared O E R v ss cs e (cases O E R v all cs e) u
+  tests_of v all (default ss cs) e u = cases O E R v all cs e
 
   -- the statements of the first clause that are left from one on, and then the other clauses
   abbrev pub fallen : ℕ → Clauses → Env ℕ → Then
-  fallen i no_clauses e came s = with_result One (falls_on (planned tables inputs functions) (asking tables inputs functions) no_clauses e) came s
-  fallen i (case c ss cs) e came s = and_plan (with_result One (more_statements_behind (planned tables inputs functions) (asking tables inputs functions) (statements_from i ss) e) came s) (with_result One (falls_on (planned tables inputs functions) (asking tables inputs functions) cs e))
-  fallen i (default ss cs) e came s = and_plan (with_result One (more_statements_behind (planned tables inputs functions) (asking tables inputs functions) (statements_from i ss) e) came s) (with_result One (falls_on (planned tables inputs functions) (asking tables inputs functions) cs e))
+  fallen i no_clauses e came s = with_result One (falls_on O E R no_clauses e) came s
+  fallen i (case c ss cs) e came s = and_plan (with_result One (more_statements_behind O R (statements_from i ss) e) came s) (with_result One (falls_on O E R cs e))
+  fallen i (default ss cs) e came s = and_plan (with_result One (more_statements_behind O R (statements_from i ss) e) came s) (with_result One (falls_on O E R cs e))
 
   -- the handler of a `try` statement, and what it does last
   abbrev pub handler_of : Statement → Env ℕ → Val → State → Plan
-  handler_of (try_catch at b ident handler) e = handled (planned tables inputs functions) (asking tables inputs functions) ident handler e
-  handler_of (try_both at b ident handler last) e = handled (planned tables inputs functions) (asking tables inputs functions) ident handler e
-  handler_of _ e = unhandled (planned tables inputs functions) (asking tables inputs functions)
+  handler_of (try_catch at b ident handler) e = handled O E R ident handler e
+  handler_of (try_both at b ident handler last) e = handled O E R ident handler e
+  handler_of _ e = unhandled O E R
 
   abbrev pub last_of : Statement → Env ℕ → State → Plan
-  last_of (try_finally at b last) e = block_step (planned tables inputs functions) (asking tables inputs functions) last e
-  last_of (try_both at b ident handler last) e = block_step (planned tables inputs functions) (asking tables inputs functions) last e
+  last_of (try_finally at b last) e = block_step O E R last e
+  last_of (try_both at b ident handler last) e = block_step O E R last e
   last_of _ e = nothing_done
 
-  -- what work does with a completion, with the operands that it keeps, in its environment
-  abbrev pub after : Work → List Val → Env ℕ → Then
-  after (work.Unary o) vs e = with_result Value (unary_value (planned tables inputs functions) o)
-  after (work.BinaryRight o r) vs e = with_result Value (binary_right (planned tables inputs functions) (asking tables inputs functions) o (view_expr r.now) e.place)
-  after (work.BinaryDone o) vs e = with_result Value (binary_values (planned tables inputs functions) o (first_or_undefined vs))
-  after (work.AndRight r) vs e = with_result Value (and_right (planned tables inputs functions) (asking tables inputs functions) (view_expr r.now) e.place)
-  after (work.OrRight r) vs e = with_result Value (or_right (planned tables inputs functions) (asking tables inputs functions) (view_expr r.now) e.place)
-  after (work.Choose a b) vs e = with_result Value (choose_expr (planned tables inputs functions) (asking tables inputs functions) (view_expr a.now) (view_expr b.now) e.place)
-  after (work.CommaRight r) vs e = with_result Value (comma_right (planned tables inputs functions) (asking tables inputs functions) (view_expr r.now) e.place)
-  after (work.AssignTo t) vs e = with_result Value (assign_to (planned tables inputs functions) (target_of t vs))
-  after (work.CompoundDone o t) vs e = with_result Value (compound_done (planned tables inputs functions) (asking tables inputs functions) o (target_of t vs) (nth (owns_target t) vs))
-  after (work.MemberBase how text) vs e = with_result Value (member_base (planned tables inputs functions) (asking tables inputs functions) (use_of how vs) text.now e.place)
-  after (work.IndexBase how x) vs e = with_result Value (index_base (planned tables inputs functions) (asking tables inputs functions) (use_of how vs) (view_expr x.now) e.place)
-  after (work.IndexKey how) vs e = with_result Value (index_key (planned tables inputs functions) (asking tables inputs functions) (use_of how vs) e.place (nth (owns_use how) vs))
-  after (work.Property ps count) vs e = with_result Value (more_values (planned tables inputs functions) (asking tables inputs functions) (object_of (keys_of (view_properties (nodes_of ps.now)))) vs (view_properties (drop (count + 1) (nodes_of ps.now))) e.place)
-  after (work.Argument f count rest) vs e = with_result Value (more_arguments (planned tables inputs functions) (asking tables inputs functions) (calling_of f vs) (drop (owns_calling f) vs) (view_exprs rest.now) e.place)
-  after (work.Callee es) vs e = with_result Value (call_value (planned tables inputs functions) (asking tables inputs functions) (view_exprs es.now) e.place)
-  after (work.Constructor es) vs e = with_result Value (construct_value (planned tables inputs functions) (asking tables inputs functions) (view_exprs es.now) e.place)
-  after (work.InstanceRight r) vs e = with_result Value (instance_right (planned tables inputs functions) (asking tables inputs functions) (view_expr r.now) e.place)
-  after work.InstanceDone vs e = with_result Value (instance_done (planned tables inputs functions) (asking tables inputs functions) (first_or_undefined vs))
-  after (work.Raise x) vs e = with_result Value (behind_expression (planned tables inputs functions) (asking tables inputs functions) (upgrade_of (view_expr x.now)) e)
-  after work.Throw vs e = with_result Value (jump_with (planned tables inputs functions) (asking tables inputs functions) thrown e)
-  after work.Return vs e = with_result Value (jump_with (planned tables inputs functions) (asking tables inputs functions) returned e)
-  after (work.Switched of cs) vs e = with_result Value (switched (planned tables inputs functions) (asking tables inputs functions) (all_labels [] (view_stmt of.now)) (view_clauses (nodes_of cs.now)) e)
-  after (work.Compared cs i) vs e = with_result Value (compared (first_or_undefined vs) (view_clauses (nodes_of cs.now)) (view_clauses (drop i (nodes_of cs.now))) e)
-  after (work.Falls cs i) vs e = fallen i (view_clauses cs.now) e
-  after work.Discard vs e = with_result Value (discard (planned tables inputs functions))
-  after (work.ChooseStmt s) vs e = with_result Value (choose_stmt (planned tables inputs functions) (asking tables inputs functions) (view_stmt s.now) e)
-  after (work.ChooseStmts s t) vs e = with_result Value (choose_stmts (planned tables inputs functions) (asking tables inputs functions) (view_stmt s.now) (view_stmt t.now) e)
-  after (work.Statements ss) vs e = with_result One (more_statements_behind (planned tables inputs functions) (asking tables inputs functions) (view_stmts ss.now) e)
-  after (work.Variable t ds) vs e = with_result Value (more_variables (planned tables inputs functions) (asking tables inputs functions) (target_of t vs) (view_other_declarations ds.now) e.place)
-  after (work.Looped r) vs e = with_result Value (looped_value (planned tables inputs functions) (asking tables inputs functions) (round_of r) e)
-  after (work.Declared r) vs e = with_result One (looped (planned tables inputs functions) (asking tables inputs functions) (round_of r) e)
-  after (work.Tested r) vs e = with_result Value (turn_test (planned tables inputs functions) (asking tables inputs functions) (round_of r) e)
-  after (work.Updated r) vs e = with_result Value (updated (planned tables inputs functions) (asking tables inputs functions) (round_of r) e)
-  after (work.Turned r) vs e = with_result One (turned_round (planned tables inputs functions) (asking tables inputs functions) (round_of r) e)
-  after (work.Enumerated x) vs e = with_result Value (enumerated (planned tables inputs functions) (asking tables inputs functions) (labels_at (view_stmt x.of.now)) (view_target x.target.now) (view_stmt x.body.now) e)
-  after (work.VisitBody s) vs e = with_result Value (visit_body (planned tables inputs functions) (asking tables inputs functions) (view_stmt s.now) e)
-  after (work.Visited x count) vs e = with_result One (visited (planned tables inputs functions) (asking tables inputs functions) (visit_behind x vs) e)
+  -- an operator with its left operand converted, beside the right one
+  abbrev pub converted_left : Conversion → BinaryOperator → Val → Val → State → Plan
+  converted_left compared o u v = compared_left O E o u v
+  converted_left (primitives h) o u v = primitive_left O E h o u v
+  converted_left numbers o u v = number_left O E o u v
+  converted_left keyed o u v = has_left O u v
+  converted_left unconverted o u v = binary_done O o v u
+
+  -- what a getter gave is called with this `this` and arguments
+  abbrev pub called_on : Val → Exprs → Env ℕ → Val → State → Plan
+  called_on own es e f = arguments O E R (calls f own) [] es e.place
+
+  -- what a setter gives is of no use
+  abbrev pub behind_setter : (Unit {0} → State → Plan) → Then
+  behind_setter next came s = and_plan (end_setter came s) (with_result One next)
+
+  -- what work does with a completion, with the operands that it keeps, in its setting
+  abbrev pub after : Work → List Val → Setting → Then
+  after (work.Unary o) vs e = with_result Value (unary_value O E o)
+  after (work.BinaryRight o r) vs e = with_result Value (binary_right O E R o (view_expr r.now) e.env.place)
+  after (work.BinaryDone o) vs e = with_result Value (binary_values O E o (first_or_undefined vs))
+  after (work.AndRight r) vs e = with_result Value (and_right O E R (view_expr r.now) e.env.place)
+  after (work.OrRight r) vs e = with_result Value (or_right O E R (view_expr r.now) e.env.place)
+  after (work.Choose a b) vs e = with_result Value (choose_expr O E R (view_expr a.now) (view_expr b.now) e.env.place)
+  after (work.CommaRight r) vs e = with_result Value (comma_right O E R (view_expr r.now) e.env.place)
+  after (work.AssignTo t) vs e = with_result Value (assign_to O E (target_of t vs))
+  after (work.CompoundDone o t) vs e = with_result Value (compound_done O E R o (target_of t vs) (nth (owns_target t) vs))
+  after (work.MemberBase how text) vs e = with_result Value (member_base O E R (use_of how vs) text.now e.env.place)
+  after (work.IndexBase how x) vs e = with_result Value (index_base O E R (use_of how vs) (view_expr x.now) e.env.place)
+  after (work.IndexKey how) vs e = with_result Value (index_key O E R (use_of how vs) e.env.place (nth (owns_use how) vs))
+  after (work.Property ps count) vs e = with_result Value (more_values O E R (object_of (parts_of (view_properties (nodes_of ps.now)))) vs (view_properties (drop (count + 1) (nodes_of ps.now))) e.env.place)
+  after (work.Argument f count rest) vs e = with_result Value (more_arguments O E R (calling_of f vs) (drop (owns_calling f) vs) (view_exprs rest.now) e.env.place)
+  after (work.Callee es) vs e = with_result Value (call_value O E R (view_exprs es.now) e.env.place)
+  after (work.Constructor es) vs e = with_result Value (construct_value O E R (view_exprs es.now) e.env.place)
+  after (work.InstanceRight r) vs e = with_result Value (instance_right O E R (view_expr r.now) e.env.place)
+  after work.InstanceDone vs e = with_result Value (instance_done O E R (first_or_undefined vs))
+  after (work.Raise x) vs e = with_result Value (behind_expression O E R (upgrade_of (view_expr x.now)) e.env)
+  after work.Throw vs e = with_result Value (jump_with O E R thrown e.env)
+  after work.Return vs e = with_result Value (jump_with O E R returned e.env)
+  after (work.Switched of cs) vs e = with_result Value (switched O E R (all_labels [] (view_stmt of.now)) (view_clauses (nodes_of cs.now)) e.env)
+  after (work.Compared cs i) vs e = with_result Value (tests_of (first_or_undefined vs) (view_clauses (nodes_of cs.now)) (view_clauses (drop i (nodes_of cs.now))) e.env)
+  after (work.Falls cs i) vs e = fallen i (view_clauses cs.now) e.env
+  after work.Discard vs e = with_result Value (discard O)
+  after (work.ChooseStmt s) vs e = with_result Value (choose_stmt O E R (view_stmt s.now) e.env)
+  after (work.ChooseStmts s t) vs e = with_result Value (choose_stmts O E R (view_stmt s.now) (view_stmt t.now) e.env)
+  after (work.Statements ss) vs e = with_result One (more_statements_behind O R (view_stmts ss.now) e.env)
+  after (work.Variable t ds) vs e = with_result Value (more_variables O E R (target_of t vs) (view_other_declarations ds.now) e.env.place)
+  after (work.Looped r) vs e = with_result Value (looped_value O E R (round_of r) e.env)
+  after (work.Declared r) vs e = with_result One (looped O E R (round_of r) e.env)
+  after (work.Tested r) vs e = with_result Value (turn_test O E R (round_of r) e.env)
+  after (work.Updated r) vs e = with_result Value (updated O E R (round_of r) e.env)
+  after (work.Turned r) vs e = with_result One (turned_round O E R (round_of r) e.env)
+  after (work.Enumerated x) vs e = with_result Value (enumerated O E R (labels_at (view_stmt x.of.now)) (view_target x.target.now) (view_stmt x.body.now) e.env)
+  after (work.VisitBody s) vs e = with_result Value (visit_body O E R (view_stmt s.now) e.env)
+  after (work.Visited x count) vs e = with_result One (visited O E R (visit_behind x vs) e.env)
   after (work.EndBranch gives depth) vs e = end_branch (result_type gives) depth
   after (work.EndRound turn depth of) vs e = end_round depth
   after (work.EndLabel depth text) vs e = end_round depth
   after (work.EndCall own depth) vs e = end_call depth
   after (work.EndNew own depth) vs e = end_construction (object_or_default (nth 0 vs).value).0 depth
-  after (work.EndBlock s depth) vs e = end_block (handles (view_stmt s.now)) (finishes (view_stmt s.now)) (handler_of (view_stmt s.now) e) (last_of (view_stmt s.now) e) depth
-  after (work.EndHandler s own depth) vs e = end_handler (finishes (view_stmt s.now)) (last_of (view_stmt s.now) e) depth
+  after (work.EndBlock s depth) vs e = end_block (handles (view_stmt s.now)) (finishes (view_stmt s.now)) (handler_of (view_stmt s.now) e.env) (last_of (view_stmt s.now) e.env) depth
+  after (work.EndHandler s own depth) vs e = end_handler (finishes (view_stmt s.now)) (last_of (view_stmt s.now) e.env) depth
   after (work.EndLast waiting) vs e = end_last (waiting_of waiting vs)
   after (work.EndTry depth) vs e = end_round depth
-
-  -- an object of the values of all its properties. What stands behind them isn't built yet
-  abbrev pub completed : Act → List Val → Properties → State → Plan
-  completed act vs no_properties s = (planned tables inputs functions).act act vs s
-  completed act vs (more_properties p ps) s = (planned tables inputs functions).unbuilt Value s
+  after (work.ConvertedLeft o) vs e = with_result Value (converted_left (conversion_of o) o (first_or_undefined vs))
+  after (work.Operate o) vs e = with_result Value (binary_done O o (first_or_undefined vs))
+  after (work.UnaryConverted o) vs e = with_result Value (unary_done O o)
+  after work.KeyHas vs e = with_result Value (has_left O (first_or_undefined vs))
+  after (work.KeyOf how) vs e = with_result Value (with_key O E R (use_of how vs) e.env.place (nth (owns_use how) vs))
+  after (work.Counted counting.Prefix o t) vs e = with_result Value (prefix_value O E o (target_of t vs))
+  after (work.Counted counting.Postfix o t) vs e = with_result Value (postfix_value O E o (target_of t vs))
+  after (work.CountedNumber counting.Prefix o t) vs e = with_result Value (prefix_number O E o (target_of t vs))
+  after (work.CountedNumber counting.Postfix o t) vs e = with_result Value (postfix_number O E o (target_of t vs))
+  after (work.CompoundRight o x t) vs e = with_result Value (compound_right O E R o (view_expr x.now) e.env.place (target_of t vs))
+  after (work.CalledBy es) vs e = with_result Value (called_on (first_or_undefined vs) (view_exprs es.now) e.env)
+  after work.InstanceTest vs e = end_instance (first_or_undefined vs).label (object_or_default (first_or_undefined vs).value).0
+  after work.GiveBehind vs e = behind_setter (give O (first_or_undefined vs))
+  after (work.VariablesBehind ds) vs e = behind_setter (λ u. variables O E R (view_other_declarations ds.now) e.env.place)
+  after (work.Answered count (Some to)) vs e = with_result Value (answered_in O E R (outermost_steps e.natives) vs to)
+  after (work.Answered count None) vs e = behind_setter (put_behind O E R (outermost_steps e.natives) vs)
 
   -- what a machine does next, with the values that no work keeps
-  abbrev pub next_plan : Next → List Val → Env ℕ → State → Plan
+  abbrev pub next_plan : Next → List Val → Setting → State → Plan
   next_plan next.Value vs e s = Give (gave (first_or_undefined vs)) s
   next_plan (next.Jumps j) vs e s = Give (jumped (jump_of j (first_or_undefined vs))) s
   next_plan next.Done vs e s = Give (gave (unlabelled undefined)) s
-  next_plan next.Null vs e s = Give (gave ((planned tables inputs functions).literal prims.Null)) s
-  next_plan (next.Bool b) vs e s = Give (gave ((planned tables inputs functions).literal (prims.Bool b))) s
-  next_plan (next.Number n) vs e s = Give (gave ((planned tables inputs functions).literal (prims.Num n.now))) s
-  next_plan (next.Text text) vs e s = Give (gave ((planned tables inputs functions).literal (prims.Str text.now))) s
-  next_plan (next.Name text) vs e s = (planned tables inputs functions).resolve Value e.place text.now (evaluation.read_value (planned tables inputs functions) (asking tables inputs functions)) s
-  next_plan next.This vs e s = (planned tables inputs functions).resolve Value e.place (codes "this") (evaluation.read_value (planned tables inputs functions) (asking tables inputs functions)) s
-  next_plan (next.Object ps count) vs e s = completed (object_of (keys_of (view_properties (nodes_of ps.now)))) vs (view_properties (drop count (nodes_of ps.now))) s
-  next_plan (next.GiveVariable x) vs e s = (planned tables inputs functions).resolve Value e.place x.now.text (used (planned tables inputs functions) (asking tables inputs functions) (use_of use_as.GivenText vs) e.place) s
-  next_plan (next.Keys x) vs e s = with_keys (planned tables inputs functions) (asking tables inputs functions) (labels_at (view_stmt x.of.now)) (view_target x.target.now) (view_stmt x.body.now) (nth 0 vs) e s
-  next_plan (next.Visits x count) vs e s = visits (planned tables inputs functions) (asking tables inputs functions) (labels_at (view_stmt x.of.now)) (view_target x.target.now) (view_stmt x.body.now) (nth 0 vs) (keys_left vs) e s
-  next_plan (next.Visit x count) vs e s = Ask (a_visit (visit_of x count vs) e) s Give
-  next_plan (next.Direct f count) vs e s = (planned tables inputs functions).direct (direct_of f) vs s
-  next_plan (next.Call count) vs e s = call_with (planned tables inputs functions) (asking tables inputs functions) (calling_of calling.Calls vs) (drop 2 vs) s
-  next_plan (next.Construct count) vs e s = call_with (planned tables inputs functions) (asking tables inputs functions) (calling_of calling.Constructs vs) (drop 1 vs) s
-  next_plan (next.Function f) vs e s = (planned tables inputs functions).function (view_function f.now) e.place s
-  next_plan (next.Break turn label) vs e s = (planned tables inputs functions).jump (left_by turn (text_of_label (view_name label.now))) e ((planned tables inputs functions).literal prims.Undefined) s
-  next_plan next.Return vs e s = (planned tables inputs functions).jump returned e ((planned tables inputs functions).literal prims.Undefined) s
-  next_plan (next.Labelled text x) vs e s = (planned tables inputs functions).round Bool.false (Some text.now ∷ []) e ((asking tables inputs functions).stmt (view_stmt x.now)) s
-  next_plan (next.Try x) vs e s = evaluation.stmt_step (planned tables inputs functions) (asking tables inputs functions) (view_stmt x.now) e s
-  next_plan (next.Named x n) vs e s = Ask (a_named (passed_labels n [] (view_stmt x.now)) (behind_labels n (view_stmt x.now)) e) s Give
-  next_plan (next.Expr x) vs e s = Ask (an_expr (view_expr x.now) e.place) s Give
-  next_plan (next.Use how x) vs e s = Ask (a_use (use_of how vs) (view_expr x.now) e.place) s Give
-  next_plan (next.Stmt x) vs e s = Ask (a_stmt (view_stmt x.now) e) s Give
-  next_plan (next.Variables ds) vs e s = declarations (planned tables inputs functions) (asking tables inputs functions) (view_declarations ds.now) e.place s
-  next_plan (next.Turn r) vs e s = Ask (a_turn (round_of r) e) s Give
-  next_plan (next.Loop r) vs e s = loop (planned tables inputs functions) (asking tables inputs functions) (round_of r) e s
-  next_plan (next.DoLoop r) vs e s = (planned tables inputs functions).round Bool.false (round_of r).labels e ((asking tables inputs functions).turn (round_of r)) s
-  next_plan (next.Leave why) vs e s = End (as_plain (left (leaving_name why))) s
+  next_plan next.Null vs e s = Give (gave (O.literal prims.Null)) s
+  next_plan (next.Bool b) vs e s = Give (gave (O.literal (prims.Bool b))) s
+  next_plan (next.Number n) vs e s = Give (gave (O.literal (prims.Num n.now))) s
+  next_plan (next.Text text) vs e s = Give (gave (O.literal (prims.Str text.now))) s
+  next_plan (next.Name text) vs e s = O.resolve Value e.env.place text.now (evaluation.read_value O E R) s
+  next_plan next.This vs e s = O.resolve Value e.env.place (codes "this") (evaluation.read_value O E R) s
+  next_plan (next.Object ps count) vs e s = properties O E R (object_of (parts_of (view_properties (nodes_of ps.now)))) vs (view_properties (drop count (nodes_of ps.now))) e.env.place s
+  next_plan (next.GiveVariable x) vs e s = O.resolve Value e.env.place x.now.text (used O E R (use_of use_as.GivenText vs) e.env.place) s
+  next_plan (next.Keys x) vs e s = with_keys O E R (labels_at (view_stmt x.of.now)) (view_target x.target.now) (view_stmt x.body.now) (nth 0 vs) e.env s
+  next_plan (next.Visits x count) vs e s = visits O E R (labels_at (view_stmt x.of.now)) (view_target x.target.now) (view_stmt x.body.now) (nth 0 vs) (keys_left vs) e.env s
+  next_plan (next.Visit x count) vs e s = Ask (a_visit (visit_of x count vs) e.env) s Give
+  next_plan (next.Request count) vs e s = Ask (a_request (outermost_steps e.natives) vs) s Give
+  next_plan (next.Call count) vs e s = call_with O E R (calling_of calling.Calls vs) (drop 2 vs) s
+  next_plan (next.Construct count) vs e s = call_with O E R (calling_of calling.Constructs vs) (drop 1 vs) s
+  next_plan (next.Convert h) vs e s = O.primitive h (first_or_undefined vs) E s
+  next_plan next.Compare vs e s = O.comparable (nth 0 vs) (nth 1 vs) E s
+  next_plan (next.Function f) vs e s = O.function (view_function f.now) e.env.place s
+  next_plan (next.Break turn label) vs e s = O.jump (left_by turn (text_of_label (view_name label.now))) e.env (O.literal prims.Undefined) s
+  next_plan next.Return vs e s = O.jump returned e.env (O.literal prims.Undefined) s
+  next_plan (next.Labelled text x) vs e s = O.round Bool.false (Some text.now ∷ []) e.env (R.stmt (view_stmt x.now)) s
+  next_plan (next.Try x) vs e s = evaluation.stmt_step O E R (view_stmt x.now) e.env s
+  next_plan (next.Named x n) vs e s = Ask (a_named (passed_labels n [] (view_stmt x.now)) (behind_labels n (view_stmt x.now)) e.env) s Give
+  next_plan (next.Expr x) vs e s = Ask (an_expr (view_expr x.now) e.env.place) s Give
+  next_plan (next.Use how x) vs e s = Ask (a_use (use_of how vs) (view_expr x.now) e.env.place) s Give
+  next_plan (next.Stmt x) vs e s = Ask (a_stmt (view_stmt x.now) e.env) s Give
+  next_plan (next.Variables ds) vs e s = declarations O E R (view_declarations ds.now) e.env.place s
+  next_plan (next.Turn r) vs e s = Ask (a_turn (round_of r) e.env) s Give
+  next_plan (next.Loop r) vs e s = loop O E R (round_of r) e.env s
+  next_plan (next.DoLoop r) vs e s = O.round Bool.false (round_of r).labels e.env (R.turn (round_of r)) s
+  next_plan (next.Leave why) vs e s = End (as_plain (left (name_of why vs))) s
 
   module _ {T : Type 0} (reading : T → Label) where
-    abbrev pub after_task : Task T → Env ℕ → Then
+    abbrev pub after_task : Task T → Setting → Then
     after_task w e = after w.0 (map (read_value reading) w.1) e
 
     -- a plan, and behind it pending work
-    unfoldable pub behind : List (Task T) → Env ℕ → Plan → Plan
+    unfoldable pub behind : List (Task T) → Setting → Plan → Plan
     behind [] e p = p
-    behind (w ∷ tasks) e p = and_plan (behind tasks (inside w.0 e) p) (after_task w e)
+    behind (w ∷ tasks) e p = and_plan (behind tasks (setting_inside w.0 e) p) (after_task w e)

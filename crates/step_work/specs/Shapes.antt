@@ -15,9 +15,9 @@ use Rattle.step_work.specs.declared.work.Use.{Use}
 use Rattle.step_work.specs.declared.work.Use.TheVariants.{Assigned, Updated, Prefixed, Postfixed, Asked, Valued, Deleted, GivenText, Called}
 use Rattle.step_work.specs.declared.work.Target.{Target}
 use Rattle.step_work.specs.declared.work.Target.TheVariants.{Name, Property}
-use Rattle.js_values.specs.declared.value.Labelled.{Labelled}
 use Rattle.origin_labels.specs.Label.{Label, bottom}
-use Rattle.es_meaning.specs.Plain.{argument_or, key_text, undefined}
+use Rattle.es_meaning.specs.Operators.{leaves_numbers, leaves_strings, not_built}
+use Rattle.es_meaning.specs.Plain.{argument_or, key_text, undefined, leaves_channels, leaves_origins, leaves_wrappers}
 use Rattle.flow_meaning.specs.Erased.{unlabelled}
 use Rattle.es_meaning.specs.Outcomes.{throws, returns, leaves}
 use Rattle.flow_meaning.specs.Scopes.{Val, Came, ended, caught}
@@ -28,11 +28,11 @@ use Rattle.step_world.specs.declared.came.Place.TheVariants as place
 use Rattle.step_world.specs.Names.{place_of, property_of}
 use Rattle.step_work.specs.declared.work.Round.{Round}
 use Rattle.step_work.specs.declared.work.Calling.{Calling}
-use Rattle.step_work.specs.declared.work.Calling.TheVariants.{Directly, Calls, Constructs}
+use Rattle.step_work.specs.declared.work.Calling.TheVariants.{Calls, Constructs}
 use Rattle.step_work.specs.declared.work.Jump.{Jump}
 use Rattle.step_work.specs.declared.work.Jump.TheVariants.{Throws, Returns, Leaves}
-use Rattle.step_work.specs.declared.work.Direct.{Direct}
-use Rattle.step_work.specs.declared.work.Direct.TheVariants.{Read, Print, Lbl, Upgs, Upge}
+use Rattle.step_work.specs.declared.work.Reason.{Reason}
+use Rattle.step_work.specs.declared.work.Reason.TheVariants as reason
 
 -- one of several values
 abbrev pub nth : ℕ → List Val → Val
@@ -120,18 +120,20 @@ turn_of labels s = evaluation.round_of labels (body_of s) (update_of s) (test_of
 abbrev pub round_of : Round → meaning.Round
 round_of r = turn_of (all_labels [] (view_stmt r.of.now)) (inner_of (view_stmt r.of.now))
 
-abbrev pub direct_of : Direct → meaning.Direct
-direct_of Read = meaning.read
-direct_of Print = meaning.print
-direct_of Lbl = meaning.lbl
-direct_of Upgs = meaning.upgs
-direct_of Upge = meaning.upge
-
 -- what is done with arguments, below which some values lie
 abbrev pub calling_of : Calling → List Val → meaning.Calling Val
-calling_of (Directly f) vs = meaning.directly (direct_of f)
-calling_of Calls vs = meaning.calls (nth 0 vs) (nth 1 vs)
+calling_of Calls vs = meaning.calls (nth 1 vs) (nth 0 vs)
 calling_of Constructs vs = meaning.constructs (nth 0 vs)
+
+-- the name by which a run leaves, which may be a text among the values
+abbrev pub name_of : Reason → List Val → List ℕ
+name_of reason.Number vs = leaves_numbers
+name_of reason.String vs = leaves_strings
+name_of reason.Channel vs = leaves_channels
+name_of reason.Origin vs = leaves_origins
+name_of reason.Wrapper vs = leaves_wrappers
+name_of reason.Unbuilt vs = not_built
+name_of reason.Named vs = key_text (nth 0 vs).value
 
 -- a jump with its value, and one that waits, or none
 abbrev pub jump_of : Jump → Val → scopes.Jump

@@ -1,5 +1,5 @@
 -- What holds of a run between its steps, and of one whose next work was taken.
-use Rattle.std.specs.Prelude.{◌≡◌, ◌≤◌, ◌<◌, ℕ, zero, suc, Bool, true, false, List, [], ◌∷◌, ◌++◌, length}
+use Rattle.std.specs.Prelude.{◌≡◌, ◌≤◌, ◌<◌, ◌+◌, ℕ, zero, suc, Bool, true, false, List, [], ◌∷◌, ◌++◌, length}
 use Rattle.std.specs.List.{All}
 use Rattle.origin_labels.specs.Label.{Label}
 use Rattle.js_values.specs.Readings.{HasValue}
@@ -9,7 +9,7 @@ use Rattle.step_work.specs.declared.work.Work.{Work}
 use Rattle.step_work.specs.declared.work.Work.TheVariants as work
 use Rattle.step_work.specs.declared.work.Next.{Next}
 use Rattle.step_work.specs.declared.work.Next.TheVariants as next
-use Rattle.step_work.specs.Kept.{Kept, operands_of}
+use Rattle.step_work.specs.Kept.{Kept, operands_of, waiting}
 
 -- the depths of so many frames inside the Root
 abbrev pub depths : ℕ → List ℕ
@@ -21,14 +21,20 @@ abbrev pub Framed : Next → ℕ → ℕ → Type 0
 Framed (next.Jumps j) frames scopes = frames ≤ suc scopes
 Framed _ frames scopes = frames ≡ suc scopes
 
--- so many values lie loose, these scopes are pending, and all labels are those of a store
-pub record Standing {S T : Type 0} (made : S → T → Type 0) (meaning : S → T → Label) (store : S) (stack : Kept T) (world : World T) (count : ℕ) (pending : List ℕ) (move : Next) : Type 0 where
+-- whether a built-in runs, as a number
+abbrev pub running : Next → ℕ
+running (next.Request count) = 1
+running _ = 0
+
+-- so many values lie loose, these scopes are pending, so many built-ins wait or run, and all labels are those of a store
+pub record Standing {S T : Type 0} (made : S → T → Type 0) (meaning : S → T → Label) (store : S) (stack : Kept T) (world : World T) (count : ℕ) (pending : List ℕ) (stopped : ℕ) (move : Next) : Type 0 where
   pub belongs : Belongs made meaning store world
   pub operands : All (HasValue (made store)) (operands_of stack)
   pub values : length stack.loose ≡ count
   pub scopes : pending ≡ depths (length pending)
   pub frames : Framed move (length world.frames.frames) (length pending)
   pub records : 0 < length world.records
+  pub natives : stopped ≡ waiting stack.tasks + running move
 
 -- how many values a part gave
 abbrev pub given : Bool → ℕ

@@ -4,14 +4,15 @@ ghost use Rattle.std.specs.Prelude.{◌≡◌, ◌≤◌, ◌+◌, ℕ, List, le
 ghost use Rattle.flow_policy.specs.Inputs.{Given};
 ghost use Rattle.flow_policy.specs.Policies.{Tables};
 ghost use Rattle.js_ast.specs.Functions.{FunctionCode};
-ghost use Rattle.es_meaning.specs.Environments.{Env};
+ghost use Rattle.es_meaning.specs.BuiltIns.{BuiltIns};
+ghost use Rattle.step_work.specs.Settings.{Setting, entrance};
 ghost use Rattle.flow_meaning.specs.Scopes.{State, Val};
 ghost use Rattle.js_ast.specs.Views.{view_exprs};
 ghost use Rattle.es_meaning.specs.Evaluation.{arguments, call_with};
 ghost use Rattle.flow_meaning.specs.Planned.{planned, asking};
 ghost use Rattle.step_work.specs.declared.work.Work.TheVariants as work;
 ghost use Rattle.step_work.specs.Loads.{Adds, lift};
-ghost use Rattle.step_work.specs.Resuming.{BeginsBehind, Keeps, ResumesBehind};
+ghost use Rattle.step_work.specs.Resuming.{BeginsBehind, Keeps, ResumesBehind, ResumesBeside};
 ghost use Rattle.step_work.specs.Pending.{next_plan, owns_calling, values_of};
 ghost use Rattle.step_work.specs.Shapes.{calling_of};
 
@@ -23,19 +24,18 @@ use js_ast::Expr;
 /// What is done with all arguments.
 #[tactic(auto, unfolding(es_meaning::specs::Evaluation::call_with))]
 fn called<'p>(calling: Calling, count: u32) -> Next<'p>
-    ensures plan { (tables : Tables) (inputs : Given) (functions : List FunctionCode) (vs : List Val) (e : Env ℕ) (s : State) → next_plan tables inputs functions result vs e s ≡ call_with (planned tables inputs functions) (asking tables inputs functions) (calling_of calling vs) (drop (owns_calling calling) vs) s }
+    ensures plan { (tables : Tables) (inputs : Given) (set : BuiltIns) (functions : List FunctionCode) (vs : List Val) (e : Setting) (s : State) → next_plan tables inputs set functions result vs e s ≡ call_with (planned tables inputs set functions) (entrance tables inputs set functions) (asking tables inputs set functions) (calling_of calling vs) (drop (owns_calling calling) vs) s }
     ensures values { values_of result ≡ owns_calling calling + count }
-    ensures lifts { lift result ≤ 3 }
+    ensures lifts { lift result ≤ 6 }
 {
     match calling {
-        Calling::Directly(function) => Next::Direct(function, count),
         Calling::Calls => Next::Call(count),
         Calling::Constructs => Next::Construct(count),
     }
 }
 
 /// Further arguments, behind those that were evaluated.
-#[tactic(auto, using(crate::proofs::Behind::behind_more, crate::proofs::Behind::env_more, crate::proofs::Steps::arguments_none, crate::proofs::Steps::arguments_more))]
+#[tactic(auto, using(crate::proofs::Behind::behind_more, crate::proofs::Behind::setting_more, crate::proofs::Steps::arguments_none, crate::proofs::Steps::arguments_more))]
 pub fn begin_arguments<'p, T: Copy>(
     stack: &mut Stack<'p, T>,
     calling: Calling,
@@ -43,9 +43,9 @@ pub fn begin_arguments<'p, T: Copy>(
     list: &'p [Expr],
 ) -> Result<Next<'p>, OutOfMemory>
     requires { length stack.old.loose ≡ owns_calling calling + count }
-    ensures goes_on { IfOk result (BeginsBehind (λ tables inputs functions vs e. arguments (planned tables inputs functions) (asking tables inputs functions) (calling_of calling vs) (drop (owns_calling calling) vs) (view_exprs list.entry.now) e.place) stack.old stack.new) }
+    ensures goes_on { IfOk result (BeginsBehind (λ tables inputs set functions vs e. arguments (planned tables inputs set functions) (entrance tables inputs set functions) (asking tables inputs set functions) (calling_of calling vs) (drop (owns_calling calling) vs) (view_exprs list.entry.now) e.env.place) stack.old stack.new) }
     ensures keeps { IfOk result (Keeps stack.old stack.new) }
-    ensures adds { IfOk result (Adds 3 stack.old stack.new) }
+    ensures adds { IfOk result (Adds 6 stack.old stack.new) }
 {
     match list.split_first() {
         None => Ok(called(calling, count)),
@@ -54,6 +54,19 @@ pub fn begin_arguments<'p, T: Copy>(
             Ok(Next::Expr(first))
         }
     }
+}
+
+/// Behind what is called, a getter's value, the arguments: it stands above what the call has as `this`.
+pub fn called_by<'p, T: Copy>(
+    stack: &mut Stack<'p, T>,
+    list: &'p [Expr],
+) -> Result<Next<'p>, OutOfMemory>
+    requires { length stack.old.loose ≡ 2 }
+    ensures goes_on { IfOk result (ResumesBeside (work.CalledBy list.entry) stack.old stack.new) }
+    ensures keeps { IfOk result (Keeps stack.old stack.new) }
+    ensures adds { IfOk result (Adds 6 stack.old stack.new) }
+{
+    begin_arguments(stack, Calling::Calls, 0, list)
 }
 
 /// Behind an argument those that stand behind it.
@@ -67,7 +80,7 @@ pub fn more_arguments<'p, T: Copy>(
     requires { length stack.old.loose ≡ owns_calling calling + count + 1 }
     ensures goes_on { IfOk result (ResumesBehind (work.Argument calling count rest.entry) stack.old stack.new) }
     ensures keeps { IfOk result (Keeps stack.old stack.new) }
-    ensures adds { IfOk result (Adds 3 stack.old stack.new) }
+    ensures adds { IfOk result (Adds 6 stack.old stack.new) }
 {
     match count.checked_add(1) {
         Some(count) => begin_arguments(stack, calling, count, rest),

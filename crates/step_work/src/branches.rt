@@ -59,11 +59,11 @@ fn branch<'p, L: Labels>(
     requires belongs { Belong L.made L.meaning labels.old frames.old.frames }
     requires then { values_of then ≡ 0 }
     requires other { values_of other ≡ 0 }
-    requires little { lift then ≤ 1 }
-    requires other_little { lift other ≤ 1 }
-    ensures forks { IfOk result (Forks L.made L.meaning labels.new gives (λ tables inputs functions v e. next_plan tables inputs functions then.entry [] e) (λ tables inputs functions v e. next_plan tables inputs functions other.entry [] e) stack.old stack.new frames.old.frames frames.new.frames) }
+    requires little { lift then ≤ 4 }
+    requires other_little { lift other ≤ 4 }
+    ensures forks { IfOk result (Forks L.made L.meaning labels.new gives (λ tables inputs set functions v e. next_plan tables inputs set functions then.entry [] e) (λ tables inputs set functions v e. next_plan tables inputs set functions other.entry [] e) stack.old stack.new frames.old.frames frames.new.frames) }
     ensures opened { IfOk result (Opened stack.old stack.new frames.old.frames frames.new.frames) }
-    ensures adds { IfOk result (Adds 2 stack.old stack.new) }
+    ensures adds { IfOk result (Adds 5 stack.old stack.new) }
     ensures belongs { Belong L.made L.meaning labels.new frames.new.frames }
     ensures kept { IsKept L.made L.meaning L.room L.firm labels.old labels.new }
 {
@@ -88,7 +88,7 @@ pub fn and_right<'p, L: Labels>(
     requires belongs { Belong L.made L.meaning labels.old frames.old.frames }
     ensures goes_on { IfOk result (ResumesIn L.made L.meaning labels.new (work.AndRight right.entry) stack.old stack.new frames.old.frames frames.new.frames) }
     ensures opened { IfOk result (Opened stack.old stack.new frames.old.frames frames.new.frames) }
-    ensures adds { IfOk result (Adds 2 stack.old stack.new) }
+    ensures adds { IfOk result (Adds 5 stack.old stack.new) }
     ensures belongs { Belong L.made L.meaning labels.new frames.new.frames }
     ensures kept { IsKept L.made L.meaning L.room L.firm labels.old labels.new }
 {
@@ -114,7 +114,7 @@ pub fn or_right<'p, L: Labels>(
     requires belongs { Belong L.made L.meaning labels.old frames.old.frames }
     ensures goes_on { IfOk result (ResumesIn L.made L.meaning labels.new (work.OrRight right.entry) stack.old stack.new frames.old.frames frames.new.frames) }
     ensures opened { IfOk result (Opened stack.old stack.new frames.old.frames frames.new.frames) }
-    ensures adds { IfOk result (Adds 2 stack.old stack.new) }
+    ensures adds { IfOk result (Adds 5 stack.old stack.new) }
     ensures belongs { Belong L.made L.meaning labels.new frames.new.frames }
     ensures kept { IsKept L.made L.meaning L.room L.firm labels.old labels.new }
 {
@@ -142,7 +142,7 @@ pub fn choose_expr<'p, L: Labels>(
     requires belongs { Belong L.made L.meaning labels.old frames.old.frames }
     ensures goes_on { IfOk result (ResumesIn L.made L.meaning labels.new (work.Choose then.entry other.entry) stack.old stack.new frames.old.frames frames.new.frames) }
     ensures opened { IfOk result (Opened stack.old stack.new frames.old.frames frames.new.frames) }
-    ensures adds { IfOk result (Adds 2 stack.old stack.new) }
+    ensures adds { IfOk result (Adds 5 stack.old stack.new) }
     ensures belongs { Belong L.made L.meaning labels.new frames.new.frames }
     ensures kept { IsKept L.made L.meaning L.room L.firm labels.old labels.new }
 {
@@ -169,7 +169,7 @@ pub fn choose_stmt<'p, L: Labels>(
     requires belongs { Belong L.made L.meaning labels.old frames.old.frames }
     ensures goes_on { IfOk result (ResumesIn L.made L.meaning labels.new (work.ChooseStmt then.entry) stack.old stack.new frames.old.frames frames.new.frames) }
     ensures opened { IfOk result (Opened stack.old stack.new frames.old.frames frames.new.frames) }
-    ensures adds { IfOk result (Adds 2 stack.old stack.new) }
+    ensures adds { IfOk result (Adds 5 stack.old stack.new) }
     ensures belongs { Belong L.made L.meaning labels.new frames.new.frames }
     ensures kept { IsKept L.made L.meaning L.room L.firm labels.old labels.new }
 {
@@ -190,7 +190,7 @@ pub fn choose_stmts<'p, L: Labels>(
     requires belongs { Belong L.made L.meaning labels.old frames.old.frames }
     ensures goes_on { IfOk result (ResumesIn L.made L.meaning labels.new (work.ChooseStmts then.entry other.entry) stack.old stack.new frames.old.frames frames.new.frames) }
     ensures opened { IfOk result (Opened stack.old stack.new frames.old.frames frames.new.frames) }
-    ensures adds { IfOk result (Adds 2 stack.old stack.new) }
+    ensures adds { IfOk result (Adds 5 stack.old stack.new) }
     ensures belongs { Belong L.made L.meaning labels.new frames.new.frames }
     ensures kept { IsKept L.made L.meaning L.room L.firm labels.old labels.new }
 {

@@ -4,101 +4,41 @@ ghost use Rattle.std.specs.Prelude.{◌≡◌, ◌≤◌, ℕ, [], List, false, 
 ghost use Rattle.flow_policy.specs.Inputs.{Given};
 ghost use Rattle.flow_policy.specs.Policies.{Tables};
 ghost use Rattle.js_ast.specs.Functions.{FunctionCode};
+ghost use Rattle.es_meaning.specs.BuiltIns.{BuiltIns};
 ghost use Rattle.js_ast.specs.Nodes.{nodes_of};
 ghost use Rattle.js_ast.specs.Trees.{labelled};
-ghost use Rattle.es_meaning.specs.Environments.{Env, thrown};
+ghost use Rattle.es_meaning.specs.Environments.{thrown};
 ghost use Rattle.es_meaning.specs.Directives.{upgrade_of};
 ghost use Rattle.js_ast.specs.Views.{view_clauses, view_expr, view_exprs, view_maybe_expr, view_stmt, view_first, view_target};
 ghost use Rattle.es_meaning.specs.Operations.{One, Value, postfixed};
-ghost use Rattle.es_meaning.specs.Evaluation.{expr_step, call_by, callee_step, construct_value, direct_in, direct_of, is_reference, choose_expr, comma_right, stmt_step, named_step, label_step, carries_labels, return_step, first_step, behind_expression, jump_with, choose_stmt, choose_stmts, enumerated, switched};
+ghost use Rattle.es_meaning.specs.Evaluation.{expr_step, callee_step, construct_value, is_reference, choose_expr, comma_right, stmt_step, named_step, label_step, carries_labels, return_step, first_step, behind_expression, jump_with, choose_stmt, choose_stmts, enumerated, switched};
 ghost use Rattle.flow_meaning.specs.Planned.{planned, asking};
 ghost use Rattle.flow_meaning.specs.Scopes.{State, Val};
 ghost use Rattle.step_work.specs.Loads.{Adds, lift};
 ghost use Rattle.step_work.specs.Pending.{next_plan, owns_use, values_of};
 ghost use Rattle.step_work.specs.Resuming.{Begins, Keeps};
-ghost use Rattle.step_work.specs.Shapes.{all_labels, behind_labels, body_behind, direct_of as meant, labels_at, passed_labels, round_of, step_of, use_of};
+ghost use Rattle.step_work.specs.Shapes.{all_labels, behind_labels, body_behind, labels_at, passed_labels, round_of, step_of, use_of};
+ghost use Rattle.step_work.specs.Settings.{Setting, entrance};
 
-use crate::arguments::begin_arguments;
 use crate::objects::{begin_index, begin_member, begin_properties};
 use crate::operators::{assigned_by, begin_binary, begin_unary, is_reference};
 use crate::stack::Stack;
 use crate::statements::begin_statements;
-use crate::work::{Calling, Direct, Enumeration, Next, Round, Use, Work};
+use crate::work::{Enumeration, Next, Reason, Round, Use, Work};
 use flow_text::{OutOfMemory, Text};
 use js_ast::{
     BinaryOperator, ClauseList, Expr, ExprKind, ForFirst, PostfixOperator, Stmt, StmtKind,
 };
-use step_world::Leaving;
 
-// `read`, `print`, `lbl`, `upgs` and `upge`
-const READ: [u16; 4] = [0x72, 0x65, 0x61, 0x64];
-
-const PRINT: [u16; 5] = [0x70, 0x72, 0x69, 0x6E, 0x74];
-
-const LBL: [u16; 3] = [0x6C, 0x62, 0x6C];
-
-const UPGS: [u16; 4] = [0x75, 0x70, 0x67, 0x73];
-
-const UPGE: [u16; 4] = [0x75, 0x70, 0x67, 0x65];
-
-/// The function of the product that a name calls.
-#[tactic(auto, unfolding(es_meaning::specs::Evaluation::direct_of))]
-fn direct_of(name: &Text) -> Option<Direct>
-    ensures { option_map meant result ≡ direct_of name.now }
-{
-    let name = name.units();
-    if name == READ.as_slice() {
-        Some(Direct::Read)
-    } else if name == PRINT.as_slice() {
-        Some(Direct::Print)
-    } else if name == LBL.as_slice() {
-        Some(Direct::Lbl)
-    } else if name == UPGS.as_slice() {
-        Some(Direct::Upgs)
-    } else if name == UPGE.as_slice() {
-        Some(Direct::Upge)
-    } else {
-        None
-    }
-}
-
-/// The function of the product that a callee names.
-#[tactic(auto, using(js_ast::specs::declared::trees::ExprKind::TheViews::the_lemmas), unfolding(es_meaning::specs::Evaluation::direct_in))]
-fn direct_in(callee: &Expr) -> Option<Direct>
-    ensures { option_map meant result ≡ direct_in (view_expr callee.now) }
-{
-    match &*callee.kind {
-        ExprKind::Name(name) => direct_of(name),
-        _ => None,
-    }
-}
-
-/// A call.
+/// A call. Its callee is a reference, or else an expression.
+#[tactic(auto, using(crate::proofs::Behind::behind_more, crate::proofs::Behind::setting_more))]
 fn begin_call<'p, T: Copy>(
     stack: &mut Stack<'p, T>,
     callee: &'p Expr,
     list: &'p [Expr],
 ) -> Result<Next<'p>, OutOfMemory>
     requires { length stack.old.loose ≡ 0 }
-    ensures goes_on { IfOk result (Begins (λ tables inputs functions e. call_by (planned tables inputs functions) (asking tables inputs functions) (direct_in (view_expr callee.entry.now)) (view_expr callee.entry.now) (view_exprs list.entry.now) e.place) stack.old stack.new) }
-    ensures keeps { IfOk result (Keeps stack.old stack.new) }
-    ensures adds { IfOk result (Adds 3 stack.old stack.new) }
-{
-    match direct_in(callee) {
-        Some(function) => begin_arguments(stack, Calling::Directly(function), 0, list),
-        None => begin_callee(stack, callee, list),
-    }
-}
-
-/// A callee is a reference, or else an expression.
-#[tactic(auto, using(crate::proofs::Behind::behind_more, crate::proofs::Behind::env_more))]
-fn begin_callee<'p, T: Copy>(
-    stack: &mut Stack<'p, T>,
-    callee: &'p Expr,
-    list: &'p [Expr],
-) -> Result<Next<'p>, OutOfMemory>
-    requires { length stack.old.loose ≡ 0 }
-    ensures goes_on { IfOk result (Begins (λ tables inputs functions e. callee_step (planned tables inputs functions) (asking tables inputs functions) (is_reference (view_expr callee.entry.now)) (view_expr callee.entry.now) (view_exprs list.entry.now) e.place) stack.old stack.new) }
+    ensures goes_on { IfOk result (Begins (λ tables inputs set functions e. callee_step (planned tables inputs set functions) (entrance tables inputs set functions) (asking tables inputs set functions) (is_reference (view_expr callee.entry.now)) (view_expr callee.entry.now) (view_exprs list.entry.now) e.env.place) stack.old stack.new) }
     ensures keeps { IfOk result (Keeps stack.old stack.new) }
     ensures adds { IfOk result (Adds 3 stack.old stack.new) }
 {
@@ -111,14 +51,14 @@ fn begin_callee<'p, T: Copy>(
 }
 
 /// `new` with arguments.
-#[tactic(auto, using(crate::proofs::Behind::behind_more, crate::proofs::Behind::env_more))]
+#[tactic(auto, using(crate::proofs::Behind::behind_more, crate::proofs::Behind::setting_more))]
 fn begin_new<'p, T: Copy>(
     stack: &mut Stack<'p, T>,
     callee: &'p Expr,
     list: &'p [Expr],
 ) -> Result<Next<'p>, OutOfMemory>
     requires { length stack.old.loose ≡ 0 }
-    ensures goes_on { IfOk result (Begins (λ tables inputs functions e. (planned tables inputs functions).bind Value Value ((asking tables inputs functions).expr (view_expr callee.entry.now) e.place) (construct_value (planned tables inputs functions) (asking tables inputs functions) (view_exprs list.entry.now) e.place)) stack.old stack.new) }
+    ensures goes_on { IfOk result (Begins (λ tables inputs set functions e. (planned tables inputs set functions).bind Value Value ((asking tables inputs set functions).expr (view_expr callee.entry.now) e.env.place) (construct_value (planned tables inputs set functions) (entrance tables inputs set functions) (asking tables inputs set functions) (view_exprs list.entry.now) e.env.place)) stack.old stack.new) }
     ensures keeps { IfOk result (Keeps stack.old stack.new) }
     ensures adds { IfOk result (Adds 3 stack.old stack.new) }
 {
@@ -138,7 +78,7 @@ fn postfix_use<'p>(operator: PostfixOperator) -> Use<'p>
 }
 
 /// A condition is evaluated, and then one of two expressions.
-#[tactic(auto, using(crate::proofs::Behind::behind_more, crate::proofs::Behind::env_more))]
+#[tactic(auto, using(crate::proofs::Behind::behind_more, crate::proofs::Behind::setting_more))]
 fn begin_choice<'p, T: Copy>(
     stack: &mut Stack<'p, T>,
     test: &'p Expr,
@@ -146,7 +86,7 @@ fn begin_choice<'p, T: Copy>(
     other: &'p Expr,
 ) -> Result<Next<'p>, OutOfMemory>
     requires { length stack.old.loose ≡ 0 }
-    ensures goes_on { IfOk result (Begins (λ tables inputs functions e. (planned tables inputs functions).bind Value Value ((asking tables inputs functions).expr (view_expr test.entry.now) e.place) (choose_expr (planned tables inputs functions) (asking tables inputs functions) (view_expr then.entry.now) (view_expr other.entry.now) e.place)) stack.old stack.new) }
+    ensures goes_on { IfOk result (Begins (λ tables inputs set functions e. (planned tables inputs set functions).bind Value Value ((asking tables inputs set functions).expr (view_expr test.entry.now) e.env.place) (choose_expr (planned tables inputs set functions) (entrance tables inputs set functions) (asking tables inputs set functions) (view_expr then.entry.now) (view_expr other.entry.now) e.env.place)) stack.old stack.new) }
     ensures keeps { IfOk result (Keeps stack.old stack.new) }
     ensures adds { IfOk result (Adds 2 stack.old stack.new) }
 {
@@ -155,16 +95,16 @@ fn begin_choice<'p, T: Copy>(
 }
 
 /// The left side of a comma is evaluated, and then the right one.
-#[tactic(auto, using(crate::proofs::Behind::behind_more, crate::proofs::Behind::env_more))]
+#[tactic(auto, using(crate::proofs::Behind::behind_more, crate::proofs::Behind::setting_more))]
 fn begin_comma<'p, T: Copy>(
     stack: &mut Stack<'p, T>,
     left: &'p Expr,
     right: &'p Expr,
 ) -> Result<Next<'p>, OutOfMemory>
     requires { length stack.old.loose ≡ 0 }
-    ensures goes_on { IfOk result (Begins (λ tables inputs functions e. (planned tables inputs functions).bind Value Value ((asking tables inputs functions).expr (view_expr left.entry.now) e.place) (comma_right (planned tables inputs functions) (asking tables inputs functions) (view_expr right.entry.now) e.place)) stack.old stack.new) }
+    ensures goes_on { IfOk result (Begins (λ tables inputs set functions e. (planned tables inputs set functions).bind Value Value ((asking tables inputs set functions).expr (view_expr left.entry.now) e.env.place) (comma_right (planned tables inputs set functions) (entrance tables inputs set functions) (asking tables inputs set functions) (view_expr right.entry.now) e.env.place)) stack.old stack.new) }
     ensures keeps { IfOk result (Keeps stack.old stack.new) }
-    ensures adds { IfOk result (Adds 2 stack.old stack.new) }
+    ensures adds { IfOk result (Adds 1 stack.old stack.new) }
 {
     stack.push(Work::CommaRight(right))?;
     Ok(Next::Expr(left))
@@ -177,9 +117,9 @@ pub fn begin_expression<'p, T: Copy>(
     e: &'p Expr,
 ) -> Result<Next<'p>, OutOfMemory>
     requires { length stack.old.loose ≡ 0 }
-    ensures goes_on { IfOk result (Begins (λ tables inputs functions env. expr_step (planned tables inputs functions) (asking tables inputs functions) (view_expr e.entry.now) env.place) stack.old stack.new) }
+    ensures goes_on { IfOk result (Begins (λ tables inputs set functions f. expr_step (planned tables inputs set functions) (entrance tables inputs set functions) (asking tables inputs set functions) (view_expr e.entry.now) f.env.place) stack.old stack.new) }
     ensures keeps { IfOk result (Keeps stack.old stack.new) }
-    ensures adds { IfOk result (Adds 3 stack.old stack.new) }
+    ensures adds { IfOk result (Adds 9 stack.old stack.new) }
 {
     match &*e.kind {
         ExprKind::Name(name) => Ok(Next::Name(name)),
@@ -212,21 +152,21 @@ pub fn begin_expression<'p, T: Copy>(
         ExprKind::Object { properties, .. } => begin_properties(stack, properties, 0),
         ExprKind::Member { base, name } => begin_member(stack, Use::Valued, base, name),
         ExprKind::Index { base, index } => begin_index(stack, Use::Valued, base, index),
-        ExprKind::Array { .. } => Ok(Next::Leave(Leaving::Unbuilt)),
+        ExprKind::Array { .. } => Ok(Next::Leave(Reason::Unbuilt)),
     }
 }
 
 /// A loop's first part, and then the loop.
-#[tactic(auto, using(crate::proofs::Behind::behind_more, crate::proofs::Behind::env_more, js_ast::specs::declared::trees::ExprKind::TheViews::the_lemmas), unfolding(es_meaning::specs::Evaluation::first_step))]
+#[tactic(auto, using(crate::proofs::Behind::behind_more, crate::proofs::Behind::setting_more, js_ast::specs::declared::trees::ExprKind::TheViews::the_lemmas), unfolding(es_meaning::specs::Evaluation::first_step))]
 fn begin_for<'p, T: Copy>(
     stack: &mut Stack<'p, T>,
     first: &'p ForFirst,
     round: Round<'p>,
 ) -> Result<Next<'p>, OutOfMemory>
     requires { length stack.old.loose ≡ 0 }
-    ensures goes_on { IfOk result (Begins (λ tables inputs functions e. first_step (planned tables inputs functions) (asking tables inputs functions) (view_first first.entry.now) (round_of round.entry) e) stack.old stack.new) }
+    ensures goes_on { IfOk result (Begins (λ tables inputs set functions e. first_step (planned tables inputs set functions) (entrance tables inputs set functions) (asking tables inputs set functions) (view_first first.entry.now) (round_of round.entry) e.env) stack.old stack.new) }
     ensures keeps { IfOk result (Keeps stack.old stack.new) }
-    ensures adds { IfOk result (Adds 5 stack.old stack.new) }
+    ensures adds { IfOk result (Adds 6 stack.old stack.new) }
 {
     match first {
         ForFirst::Expr(None) => Ok(Next::Loop(round)),
@@ -250,13 +190,13 @@ fn is_literal(e: &Expr) -> bool
 }
 
 /// An expression is evaluated, and its value is of no use, or it is a directive.
-#[tactic(auto, using(crate::proofs::Behind::behind_more, crate::proofs::Behind::env_more), unfolding(es_meaning::specs::Evaluation::behind_expression, es_meaning::specs::Evaluation::discard))]
+#[tactic(auto, using(crate::proofs::Behind::behind_more, crate::proofs::Behind::setting_more), unfolding(es_meaning::specs::Evaluation::behind_expression, es_meaning::specs::Evaluation::discard))]
 fn begin_discard<'p, T: Copy>(
     stack: &mut Stack<'p, T>,
     e: &'p Expr,
 ) -> Result<Next<'p>, OutOfMemory>
     requires { length stack.old.loose ≡ 0 }
-    ensures goes_on { IfOk result (Begins (λ tables inputs functions env. (planned tables inputs functions).bind Value One ((asking tables inputs functions).expr (view_expr e.entry.now) env.place) (behind_expression (planned tables inputs functions) (asking tables inputs functions) (upgrade_of (view_expr e.entry.now)) env)) stack.old stack.new) }
+    ensures goes_on { IfOk result (Begins (λ tables inputs set functions f. (planned tables inputs set functions).bind Value One ((asking tables inputs set functions).expr (view_expr e.entry.now) f.env.place) (behind_expression (planned tables inputs set functions) (entrance tables inputs set functions) (asking tables inputs set functions) (upgrade_of (view_expr e.entry.now)) f.env)) stack.old stack.new) }
     ensures keeps { IfOk result (Keeps stack.old stack.new) }
     ensures adds { IfOk result (Adds 1 stack.old stack.new) }
 {
@@ -269,13 +209,13 @@ fn begin_discard<'p, T: Copy>(
 }
 
 /// What is thrown is evaluated first.
-#[tactic(auto, using(crate::proofs::Behind::behind_more, crate::proofs::Behind::env_more))]
+#[tactic(auto, using(crate::proofs::Behind::behind_more, crate::proofs::Behind::setting_more))]
 fn begin_throw<'p, T: Copy>(
     stack: &mut Stack<'p, T>,
     value: &'p Expr,
 ) -> Result<Next<'p>, OutOfMemory>
     requires { length stack.old.loose ≡ 0 }
-    ensures goes_on { IfOk result (Begins (λ tables inputs functions env. (planned tables inputs functions).bind Value One ((asking tables inputs functions).expr (view_expr value.entry.now) env.place) (jump_with (planned tables inputs functions) (asking tables inputs functions) thrown env)) stack.old stack.new) }
+    ensures goes_on { IfOk result (Begins (λ tables inputs set functions f. (planned tables inputs set functions).bind Value One ((asking tables inputs set functions).expr (view_expr value.entry.now) f.env.place) (jump_with (planned tables inputs set functions) (entrance tables inputs set functions) (asking tables inputs set functions) thrown f.env)) stack.old stack.new) }
     ensures keeps { IfOk result (Keeps stack.old stack.new) }
     ensures adds { IfOk result (Adds 1 stack.old stack.new) }
 {
@@ -284,15 +224,15 @@ fn begin_throw<'p, T: Copy>(
 }
 
 /// What is returned is evaluated first, if anything.
-#[tactic(auto, using(crate::proofs::Behind::behind_more, crate::proofs::Behind::env_more))]
+#[tactic(auto, using(crate::proofs::Behind::behind_more, crate::proofs::Behind::setting_more))]
 fn begin_return<'p, T: Copy>(
     stack: &mut Stack<'p, T>,
     value: &'p Option<Expr>,
 ) -> Result<Next<'p>, OutOfMemory>
     requires { length stack.old.loose ≡ 0 }
-    ensures goes_on { IfOk result (Begins (λ tables inputs functions env. return_step (planned tables inputs functions) (asking tables inputs functions) (view_maybe_expr value.entry.now) env) stack.old stack.new) }
+    ensures goes_on { IfOk result (Begins (λ tables inputs set functions f. return_step (planned tables inputs set functions) (entrance tables inputs set functions) (asking tables inputs set functions) (view_maybe_expr value.entry.now) f.env) stack.old stack.new) }
     ensures keeps { IfOk result (Keeps stack.old stack.new) }
-    ensures adds { IfOk result (Adds 2 stack.old stack.new) }
+    ensures adds { IfOk result (Adds 5 stack.old stack.new) }
 {
     match value {
         None => Ok(Next::Return),
@@ -304,14 +244,14 @@ fn begin_return<'p, T: Copy>(
 }
 
 /// A condition is evaluated, and then a statement or nothing.
-#[tactic(auto, using(crate::proofs::Behind::behind_more, crate::proofs::Behind::env_more))]
+#[tactic(auto, using(crate::proofs::Behind::behind_more, crate::proofs::Behind::setting_more))]
 fn begin_if<'p, T: Copy>(
     stack: &mut Stack<'p, T>,
     test: &'p Expr,
     then: &'p Stmt,
 ) -> Result<Next<'p>, OutOfMemory>
     requires { length stack.old.loose ≡ 0 }
-    ensures goes_on { IfOk result (Begins (λ tables inputs functions env. (planned tables inputs functions).bind Value One ((asking tables inputs functions).expr (view_expr test.entry.now) env.place) (choose_stmt (planned tables inputs functions) (asking tables inputs functions) (view_stmt then.entry.now) env)) stack.old stack.new) }
+    ensures goes_on { IfOk result (Begins (λ tables inputs set functions f. (planned tables inputs set functions).bind Value One ((asking tables inputs set functions).expr (view_expr test.entry.now) f.env.place) (choose_stmt (planned tables inputs set functions) (entrance tables inputs set functions) (asking tables inputs set functions) (view_stmt then.entry.now) f.env)) stack.old stack.new) }
     ensures keeps { IfOk result (Keeps stack.old stack.new) }
     ensures adds { IfOk result (Adds 2 stack.old stack.new) }
 {
@@ -320,7 +260,7 @@ fn begin_if<'p, T: Copy>(
 }
 
 /// A condition is evaluated, and then one of two statements.
-#[tactic(auto, using(crate::proofs::Behind::behind_more, crate::proofs::Behind::env_more))]
+#[tactic(auto, using(crate::proofs::Behind::behind_more, crate::proofs::Behind::setting_more))]
 fn begin_if_else<'p, T: Copy>(
     stack: &mut Stack<'p, T>,
     test: &'p Expr,
@@ -328,7 +268,7 @@ fn begin_if_else<'p, T: Copy>(
     other: &'p Stmt,
 ) -> Result<Next<'p>, OutOfMemory>
     requires { length stack.old.loose ≡ 0 }
-    ensures goes_on { IfOk result (Begins (λ tables inputs functions env. (planned tables inputs functions).bind Value One ((asking tables inputs functions).expr (view_expr test.entry.now) env.place) (choose_stmts (planned tables inputs functions) (asking tables inputs functions) (view_stmt then.entry.now) (view_stmt other.entry.now) env)) stack.old stack.new) }
+    ensures goes_on { IfOk result (Begins (λ tables inputs set functions f. (planned tables inputs set functions).bind Value One ((asking tables inputs set functions).expr (view_expr test.entry.now) f.env.place) (choose_stmts (planned tables inputs set functions) (entrance tables inputs set functions) (asking tables inputs set functions) (view_stmt then.entry.now) (view_stmt other.entry.now) f.env)) stack.old stack.new) }
     ensures keeps { IfOk result (Keeps stack.old stack.new) }
     ensures adds { IfOk result (Adds 2 stack.old stack.new) }
 {
@@ -337,14 +277,14 @@ fn begin_if_else<'p, T: Copy>(
 }
 
 /// What `for in` takes the keys of is evaluated first.
-#[tactic(auto, using(crate::proofs::Behind::behind_more, crate::proofs::Behind::env_more))]
+#[tactic(auto, using(crate::proofs::Behind::behind_more, crate::proofs::Behind::setting_more))]
 fn begin_for_in<'p, T: Copy>(
     stack: &mut Stack<'p, T>,
     enumeration: Enumeration<'p>,
     object: &'p Expr,
 ) -> Result<Next<'p>, OutOfMemory>
     requires { length stack.old.loose ≡ 0 }
-    ensures goes_on { IfOk result (Begins (λ tables inputs functions env. (planned tables inputs functions).bind Value One ((asking tables inputs functions).expr (view_expr object.entry.now) env.place) (enumerated (planned tables inputs functions) (asking tables inputs functions) (labels_at (view_stmt enumeration.entry.of.now)) (view_target enumeration.entry.target.now) (view_stmt enumeration.entry.body.now) env)) stack.old stack.new) }
+    ensures goes_on { IfOk result (Begins (λ tables inputs set functions f. (planned tables inputs set functions).bind Value One ((asking tables inputs set functions).expr (view_expr object.entry.now) f.env.place) (enumerated (planned tables inputs set functions) (entrance tables inputs set functions) (asking tables inputs set functions) (labels_at (view_stmt enumeration.entry.of.now)) (view_target enumeration.entry.target.now) (view_stmt enumeration.entry.body.now) f.env)) stack.old stack.new) }
     ensures keeps { IfOk result (Keeps stack.old stack.new) }
     ensures adds { IfOk result (Adds 4 stack.old stack.new) }
 {
@@ -353,7 +293,7 @@ fn begin_for_in<'p, T: Copy>(
 }
 
 /// What a `switch` compares is evaluated first.
-#[tactic(auto, using(crate::proofs::Behind::behind_more, crate::proofs::Behind::env_more))]
+#[tactic(auto, using(crate::proofs::Behind::behind_more, crate::proofs::Behind::setting_more))]
 fn begin_switch<'p, T: Copy>(
     stack: &mut Stack<'p, T>,
     of: &'p Stmt,
@@ -361,7 +301,7 @@ fn begin_switch<'p, T: Copy>(
     clauses: &'p ClauseList,
 ) -> Result<Next<'p>, OutOfMemory>
     requires { length stack.old.loose ≡ 0 }
-    ensures goes_on { IfOk result (Begins (λ tables inputs functions env. (planned tables inputs functions).bind Value One ((asking tables inputs functions).expr (view_expr value.entry.now) env.place) (switched (planned tables inputs functions) (asking tables inputs functions) (all_labels [] (view_stmt of.entry.now)) (view_clauses (nodes_of clauses.entry.now)) env)) stack.old stack.new) }
+    ensures goes_on { IfOk result (Begins (λ tables inputs set functions f. (planned tables inputs set functions).bind Value One ((asking tables inputs set functions).expr (view_expr value.entry.now) f.env.place) (switched (planned tables inputs set functions) (entrance tables inputs set functions) (asking tables inputs set functions) (all_labels [] (view_stmt of.entry.now)) (view_clauses (nodes_of clauses.entry.now)) f.env)) stack.old stack.new) }
     ensures keeps { IfOk result (Keeps stack.old stack.new) }
     ensures adds { IfOk result (Adds 2 stack.old stack.new) }
 {
@@ -415,10 +355,10 @@ fn begin_labelled<'p>(
     label: &'p Text,
     body: &'p Stmt,
 ) -> Result<Next<'p>, OutOfMemory>
-    ensures plan { IfOk result (λ next. (tables : Tables) (inputs : Given) (functions : List FunctionCode) (vs : List Val) (e : Env ℕ) (s : State) (at : ℕ) → behind_labels passed (view_stmt of.entry.now) ≡ labelled at label.entry.now (view_stmt body.entry.now)
-        → next_plan tables inputs functions next vs e s ≡ label_step (planned tables inputs functions) (asking tables inputs functions) (carries_labels (view_stmt body.entry.now)) (passed_labels passed [] (view_stmt of.entry.now)) label.entry.now (view_stmt body.entry.now) e s) }
+    ensures plan { IfOk result (λ next. (tables : Tables) (inputs : Given) (set : BuiltIns) (functions : List FunctionCode) (vs : List Val) (e : Setting) (s : State) (at : ℕ) → behind_labels passed (view_stmt of.entry.now) ≡ labelled at label.entry.now (view_stmt body.entry.now)
+        → next_plan tables inputs set functions next vs e s ≡ label_step (planned tables inputs set functions) (entrance tables inputs set functions) (asking tables inputs set functions) (carries_labels (view_stmt body.entry.now)) (passed_labels passed [] (view_stmt of.entry.now)) label.entry.now (view_stmt body.entry.now) e.env s) }
     ensures values { IfOk result (λ next. values_of next ≡ 0) }
-    ensures lifts { IfOk result (λ next. lift next ≤ 2) }
+    ensures lifts { IfOk result (λ next. lift next ≤ 5) }
 {
     if carries_labels(body) {
         match passed.checked_add(1) {
@@ -438,9 +378,9 @@ pub fn begin_named<'p, T: Copy>(
     passed: u32,
 ) -> Result<Next<'p>, OutOfMemory>
     requires { length stack.old.loose ≡ 0 }
-    ensures goes_on { IfOk result (Begins (λ tables inputs functions env. named_step (planned tables inputs functions) (asking tables inputs functions) (passed_labels passed [] (view_stmt of.entry.now)) (behind_labels passed (view_stmt of.entry.now)) env) stack.old stack.new) }
+    ensures goes_on { IfOk result (Begins (λ tables inputs set functions f. named_step (planned tables inputs set functions) (entrance tables inputs set functions) (asking tables inputs set functions) (passed_labels passed [] (view_stmt of.entry.now)) (behind_labels passed (view_stmt of.entry.now)) f.env) stack.old stack.new) }
     ensures keeps { IfOk result (Keeps stack.old stack.new) }
-    ensures adds { IfOk result (Adds 5 stack.old stack.new) }
+    ensures adds { IfOk result (Adds 6 stack.old stack.new) }
 {
     let s = behind_labels(of, passed);
     match &*s.kind {
@@ -465,9 +405,9 @@ pub fn begin_statement<'p, T: Copy>(
     s: &'p Stmt,
 ) -> Result<Next<'p>, OutOfMemory>
     requires { length stack.old.loose ≡ 0 }
-    ensures goes_on { IfOk result (Begins (λ tables inputs functions env. stmt_step (planned tables inputs functions) (asking tables inputs functions) (view_stmt s.entry.now) env) stack.old stack.new) }
+    ensures goes_on { IfOk result (Begins (λ tables inputs set functions f. stmt_step (planned tables inputs set functions) (entrance tables inputs set functions) (asking tables inputs set functions) (view_stmt s.entry.now) f.env) stack.old stack.new) }
     ensures keeps { IfOk result (Keeps stack.old stack.new) }
-    ensures adds { IfOk result (Adds 6 stack.old stack.new) }
+    ensures adds { IfOk result (Adds 9 stack.old stack.new) }
 {
     match &*s.kind {
         StmtKind::Block(list) => begin_statements(stack, list.items()),

@@ -1,42 +1,62 @@
 //! Objects and their properties: what is evaluated of them, in which order (ECMA-262 11.1.5, 11.2.1).
 
-ghost use Rattle.std.specs.Prelude.{◌≡◌, ◌+◌, drop, length, IfOk};
-ghost use Rattle.js_ast.specs.Nodes.{nodes_of};
-ghost use Rattle.js_ast.specs.Views.{view_expr, view_properties};
-ghost use Rattle.es_meaning.specs.Operations.{Value, object_of};
-ghost use Rattle.es_meaning.specs.Evaluation.{index_base, keys_of, member_base, properties};
+ghost use Rattle.std.specs.Prelude.{◌≡◌, ◌+◌, length, IfOk};
+ghost use Rattle.js_ast.specs.Views.{view_expr};
+ghost use Rattle.es_meaning.specs.Operations.{Value};
+ghost use Rattle.es_meaning.specs.Evaluation.{index_base, member_base};
 ghost use Rattle.flow_meaning.specs.Planned.{planned, asking};
 ghost use Rattle.step_work.specs.declared.work.Work.TheVariants as work;
+ghost use Rattle.step_work.specs.Literals.{IsPart, literal_from};
 ghost use Rattle.step_work.specs.Loads.{Adds};
 ghost use Rattle.step_work.specs.Pending.{owns_use};
 ghost use Rattle.step_work.specs.Resuming.{BeginsBehind, Keeps, ResumesBehind};
 ghost use Rattle.step_work.specs.Shapes.{use_of};
+ghost use Rattle.step_work.specs.Settings.{entrance};
 
 use crate::stack::Stack;
 use crate::work::{Next, Use, Work};
 use flow_text::{OutOfMemory, Text};
-use js_ast::{Expr, PropertyKind, PropertyList};
+use js_ast::{Expr, Function, PropertyKind, PropertyList};
 
-/// The properties of an object from one on, behind the values of those before it.
+/// A part of an object literal (ECMA-262 11.1.5): none is left, it has a value that is evaluated, or it is a getter or a setter, whose function is made.
+#[derive(Clone, Copy)]
+pub enum Part<'p> {
+    None,
+    Value(&'p Expr),
+    Function(&'p Function),
+}
+
+/// The part of a literal that stands behind so many others.
+pub fn part_at<'p>(list: &'p PropertyList, count: u32) -> Part<'p>
+    ensures { IsPart result list.entry.now count }
+{
+    let Some(property) = list.items().get(count as usize) else {
+        return Part::None;
+    };
+    match &property.kind {
+        PropertyKind::Value(value) => Part::Value(value),
+        PropertyKind::Getter(function) => Part::Function(function),
+        PropertyKind::Setter(function) => Part::Function(function),
+    }
+}
+
+/// The parts of a literal from one on, behind the values of those before it. What isn't evaluated next is left to be done with the run's state.
 pub fn begin_properties<'p, T: Copy>(
     stack: &mut Stack<'p, T>,
     list: &'p PropertyList,
     count: u32,
 ) -> Result<Next<'p>, OutOfMemory>
     requires { length stack.old.loose ≡ count }
-    ensures goes_on { IfOk result (BeginsBehind (λ tables inputs functions vs e. properties (planned tables inputs functions) (asking tables inputs functions) (object_of (keys_of (view_properties (nodes_of list.entry.now)))) vs (view_properties (drop count (nodes_of list.entry.now))) e.place) stack.old stack.new) }
+    ensures goes_on { IfOk result (BeginsBehind (literal_from list.entry.now count) stack.old stack.new) }
     ensures keeps { IfOk result (Keeps stack.old stack.new) }
-    ensures adds { IfOk result (Adds 2 stack.old stack.new) }
+    ensures adds { IfOk result (Adds 5 stack.old stack.new) }
 {
-    let Some(property) = list.items().get(count as usize) else {
-        return Ok(Next::Object(list, count));
-    };
-    match &property.kind {
-        PropertyKind::Value(value) => {
+    match part_at(list, count) {
+        Part::Value(value) => {
             stack.push(Work::Property(list, count))?;
             Ok(Next::Expr(value))
         }
-        PropertyKind::Getter(_) | PropertyKind::Setter(_) => Ok(Next::Object(list, count)),
+        _ => Ok(Next::Object(list, count)),
     }
 }
 
@@ -50,7 +70,7 @@ pub fn more_properties<'p, T: Copy>(
     requires { length stack.old.loose ≡ count + 1 }
     ensures goes_on { IfOk result (ResumesBehind (work.Property list.entry count) stack.old stack.new) }
     ensures keeps { IfOk result (Keeps stack.old stack.new) }
-    ensures adds { IfOk result (Adds 2 stack.old stack.new) }
+    ensures adds { IfOk result (Adds 5 stack.old stack.new) }
 {
     match count.checked_add(1) {
         Some(count) => begin_properties(stack, list, count),
@@ -59,7 +79,7 @@ pub fn more_properties<'p, T: Copy>(
 }
 
 /// A property with a name: its base is evaluated first.
-#[tactic(auto, using(crate::proofs::Behind::behind_more, crate::proofs::Behind::env_more))]
+#[tactic(auto, using(crate::proofs::Behind::behind_more, crate::proofs::Behind::setting_more))]
 pub fn begin_member<'p, T: Copy>(
     stack: &mut Stack<'p, T>,
     how: Use<'p>,
@@ -67,16 +87,16 @@ pub fn begin_member<'p, T: Copy>(
     name: &'p Text,
 ) -> Result<Next<'p>, OutOfMemory>
     requires { length stack.old.loose ≡ owns_use how }
-    ensures goes_on { IfOk result (BeginsBehind (λ tables inputs functions vs e. (planned tables inputs functions).bind Value Value ((asking tables inputs functions).expr (view_expr base.entry.now) e.place) (member_base (planned tables inputs functions) (asking tables inputs functions) (use_of how.entry vs) name.entry.now e.place)) stack.old stack.new) }
+    ensures goes_on { IfOk result (BeginsBehind (λ tables inputs set functions vs e. (planned tables inputs set functions).bind Value Value ((asking tables inputs set functions).expr (view_expr base.entry.now) e.env.place) (member_base (planned tables inputs set functions) (entrance tables inputs set functions) (asking tables inputs set functions) (use_of how.entry vs) name.entry.now e.env.place)) stack.old stack.new) }
     ensures keeps { IfOk result (Keeps stack.old stack.new) }
-    ensures adds { IfOk result (Adds 3 stack.old stack.new) }
+    ensures adds { IfOk result (Adds 9 stack.old stack.new) }
 {
     stack.push(Work::MemberBase(how, name))?;
     Ok(Next::Expr(base))
 }
 
 /// A property with a key that is evaluated: its base is evaluated first.
-#[tactic(auto, using(crate::proofs::Behind::behind_more, crate::proofs::Behind::env_more))]
+#[tactic(auto, using(crate::proofs::Behind::behind_more, crate::proofs::Behind::setting_more))]
 pub fn begin_index<'p, T: Copy>(
     stack: &mut Stack<'p, T>,
     how: Use<'p>,
@@ -84,9 +104,9 @@ pub fn begin_index<'p, T: Copy>(
     index: &'p Expr,
 ) -> Result<Next<'p>, OutOfMemory>
     requires { length stack.old.loose ≡ owns_use how }
-    ensures goes_on { IfOk result (BeginsBehind (λ tables inputs functions vs e. (planned tables inputs functions).bind Value Value ((asking tables inputs functions).expr (view_expr base.entry.now) e.place) (index_base (planned tables inputs functions) (asking tables inputs functions) (use_of how.entry vs) (view_expr index.entry.now) e.place)) stack.old stack.new) }
+    ensures goes_on { IfOk result (BeginsBehind (λ tables inputs set functions vs e. (planned tables inputs set functions).bind Value Value ((asking tables inputs set functions).expr (view_expr base.entry.now) e.env.place) (index_base (planned tables inputs set functions) (entrance tables inputs set functions) (asking tables inputs set functions) (use_of how.entry vs) (view_expr index.entry.now) e.env.place)) stack.old stack.new) }
     ensures keeps { IfOk result (Keeps stack.old stack.new) }
-    ensures adds { IfOk result (Adds 3 stack.old stack.new) }
+    ensures adds { IfOk result (Adds 8 stack.old stack.new) }
 {
     stack.push(Work::IndexBase(how, index))?;
     Ok(Next::Expr(base))
@@ -101,7 +121,7 @@ pub fn index_base<'p, T: Copy>(
     requires { length stack.old.loose ≡ owns_use how + 1 }
     ensures goes_on { IfOk result (ResumesBehind (work.IndexBase how.entry index.entry) stack.old stack.new) }
     ensures keeps { IfOk result (Keeps stack.old stack.new) }
-    ensures adds { IfOk result (Adds 3 stack.old stack.new) }
+    ensures adds { IfOk result (Adds 11 stack.old stack.new) }
 {
     stack.push(Work::IndexKey(how))?;
     Ok(Next::Expr(index))

@@ -1,6 +1,6 @@
 //! Operators: what is evaluated first, and what is done with the values of operands (ECMA-262 11.3 to 11.14).
 
-ghost use Rattle.std.specs.Prelude.{◌≡◌, true, false, List, length, IfOk};
+ghost use Rattle.std.specs.Prelude.{◌≡◌, ◌+◌, true, false, List, length, IfOk};
 ghost use Rattle.js_ast.specs.Views.{view_expr};
 ghost use Rattle.es_meaning.specs.Operations.{Value};
 ghost use Rattle.es_meaning.specs.Evaluation.{unary_value, binary_step, unary_step, delete_step, typeof_step, is_name, is_reference, operator_of, assigned_by};
@@ -9,15 +9,15 @@ ghost use Rattle.flow_meaning.specs.Scopes.{Val};
 ghost use Rattle.step_work.specs.declared.work.Work.TheVariants as work;
 ghost use Rattle.step_work.specs.Kept.{without_top};
 ghost use Rattle.step_work.specs.Loads.{Adds};
-ghost use Rattle.step_work.specs.Pending.{owns_use};
-ghost use Rattle.step_work.specs.Resuming.{Begins, Keeps, Resumes};
+ghost use Rattle.step_work.specs.Pending.{owns_target, owns_use};
+ghost use Rattle.step_work.specs.Resuming.{Begins, Keeps, Resumes, ResumesBehind, ResumesBeside};
 ghost use Rattle.step_work.specs.Shapes.{use_of, evaluates_both};
+ghost use Rattle.step_work.specs.Settings.{entrance};
 
 use crate::stack::Stack;
-use crate::work::{Next, Use, Work};
+use crate::work::{Next, Reason, Target, Use, Work};
 use flow_text::OutOfMemory;
 use js_ast::{AssignOperator, BinaryOperator, Expr, ExprKind, UnaryOperator};
-use step_world::Leaving;
 
 /// An operator between two expressions: the left one is evaluated first.
 pub(crate) fn begin_binary<'p, T: Copy>(
@@ -27,7 +27,7 @@ pub(crate) fn begin_binary<'p, T: Copy>(
     right: &'p Expr,
 ) -> Result<Next<'p>, OutOfMemory>
     requires { length stack.old.loose ≡ 0 }
-    ensures goes_on { IfOk result (Begins (λ tables inputs functions e. binary_step (planned tables inputs functions) (asking tables inputs functions) (view_expr left.entry.now) operator (view_expr right.entry.now) e.place) stack.old stack.new) }
+    ensures goes_on { IfOk result (Begins (λ tables inputs set functions e. binary_step (planned tables inputs set functions) (entrance tables inputs set functions) (asking tables inputs set functions) (view_expr left.entry.now) operator (view_expr right.entry.now) e.env.place) stack.old stack.new) }
     ensures keeps { IfOk result (Keeps stack.old stack.new) }
     ensures adds { IfOk result (Adds 2 stack.old stack.new) }
 {
@@ -49,7 +49,7 @@ fn evaluates_both(operator: BinaryOperator) -> bool
 }
 
 /// An operator that evaluates both operands.
-#[tactic(auto, using(crate::proofs::Behind::behind_more, crate::proofs::Behind::env_more, crate::proofs::Steps::both_operands))]
+#[tactic(auto, using(crate::proofs::Behind::behind_more, crate::proofs::Behind::setting_more, crate::proofs::Steps::both_operands))]
 fn begin_both<'p, T: Copy>(
     stack: &mut Stack<'p, T>,
     left: &'p Expr,
@@ -58,7 +58,7 @@ fn begin_both<'p, T: Copy>(
 ) -> Result<Next<'p>, OutOfMemory>
     requires loose { length stack.old.loose ≡ 0 }
     requires both { evaluates_both operator ≡ true }
-    ensures goes_on { IfOk result (Begins (λ tables inputs functions e. binary_step (planned tables inputs functions) (asking tables inputs functions) (view_expr left.entry.now) operator (view_expr right.entry.now) e.place) stack.old stack.new) }
+    ensures goes_on { IfOk result (Begins (λ tables inputs set functions e. binary_step (planned tables inputs set functions) (entrance tables inputs set functions) (asking tables inputs set functions) (view_expr left.entry.now) operator (view_expr right.entry.now) e.env.place) stack.old stack.new) }
     ensures keeps { IfOk result (Keeps stack.old stack.new) }
     ensures adds { IfOk result (Adds 2 stack.old stack.new) }
 {
@@ -67,7 +67,7 @@ fn begin_both<'p, T: Copy>(
 }
 
 /// `&&`, `||` and `instanceof`.
-#[tactic(auto, using(crate::proofs::Behind::behind_more, crate::proofs::Behind::env_more), unfolding(es_meaning::specs::Evaluation::binary_step))]
+#[tactic(auto, using(crate::proofs::Behind::behind_more, crate::proofs::Behind::setting_more), unfolding(es_meaning::specs::Evaluation::binary_step))]
 fn begin_logical<'p, T: Copy>(
     stack: &mut Stack<'p, T>,
     left: &'p Expr,
@@ -76,7 +76,7 @@ fn begin_logical<'p, T: Copy>(
 ) -> Result<Next<'p>, OutOfMemory>
     requires loose { length stack.old.loose ≡ 0 }
     requires one { evaluates_both operator ≡ false }
-    ensures goes_on { IfOk result (Begins (λ tables inputs functions e. binary_step (planned tables inputs functions) (asking tables inputs functions) (view_expr left.entry.now) operator (view_expr right.entry.now) e.place) stack.old stack.new) }
+    ensures goes_on { IfOk result (Begins (λ tables inputs set functions e. binary_step (planned tables inputs set functions) (entrance tables inputs set functions) (asking tables inputs set functions) (view_expr left.entry.now) operator (view_expr right.entry.now) e.env.place) stack.old stack.new) }
     ensures keeps { IfOk result (Keeps stack.old stack.new) }
     ensures adds { IfOk result (Adds 2 stack.old stack.new) }
 {
@@ -94,21 +94,21 @@ fn begin_logical<'p, T: Copy>(
             Ok(Next::Expr(left))
         }
         // no other evaluates so
-        _ => Ok(Next::Leave(Leaving::Unbuilt)),
+        _ => Ok(Next::Leave(Reason::Unbuilt)),
     }
 }
 
 /// An operator in front of an expression.
-#[tactic(auto, using(crate::proofs::Behind::behind_more, crate::proofs::Behind::env_more), unfolding(es_meaning::specs::Evaluation::unary_step))]
+#[tactic(auto, using(crate::proofs::Behind::behind_more, crate::proofs::Behind::setting_more), unfolding(es_meaning::specs::Evaluation::unary_step))]
 pub(crate) fn begin_unary<'p, T: Copy>(
     stack: &mut Stack<'p, T>,
     operator: UnaryOperator,
     operand: &'p Expr,
 ) -> Result<Next<'p>, OutOfMemory>
     requires { length stack.old.loose ≡ 0 }
-    ensures goes_on { IfOk result (Begins (λ tables inputs functions e. unary_step (planned tables inputs functions) (asking tables inputs functions) operator (view_expr operand.entry.now) e.place) stack.old stack.new) }
+    ensures goes_on { IfOk result (Begins (λ tables inputs set functions e. unary_step (planned tables inputs set functions) (entrance tables inputs set functions) (asking tables inputs set functions) operator (view_expr operand.entry.now) e.env.place) stack.old stack.new) }
     ensures keeps { IfOk result (Keeps stack.old stack.new) }
-    ensures adds { IfOk result (Adds 2 stack.old stack.new) }
+    ensures adds { IfOk result (Adds 3 stack.old stack.new) }
 {
     match operator {
         UnaryOperator::Delete => begin_delete(stack, operand),
@@ -126,31 +126,31 @@ pub(crate) fn begin_unary<'p, T: Copy>(
 }
 
 /// An operator that takes the value of its operand.
-#[tactic(auto, using(crate::proofs::Behind::behind_more, crate::proofs::Behind::env_more))]
+#[tactic(auto, using(crate::proofs::Behind::behind_more, crate::proofs::Behind::setting_more))]
 fn begin_value<'p, T: Copy>(
     stack: &mut Stack<'p, T>,
     operator: UnaryOperator,
     operand: &'p Expr,
 ) -> Result<Next<'p>, OutOfMemory>
     requires { length stack.old.loose ≡ 0 }
-    ensures goes_on { IfOk result (Begins (λ tables inputs functions e. (planned tables inputs functions).bind Value Value ((asking tables inputs functions).expr (view_expr operand.entry.now) e.place) (unary_value (planned tables inputs functions) operator)) stack.old stack.new) }
+    ensures goes_on { IfOk result (Begins (λ tables inputs set functions e. (planned tables inputs set functions).bind Value Value ((asking tables inputs set functions).expr (view_expr operand.entry.now) e.env.place) (unary_value (planned tables inputs set functions) (entrance tables inputs set functions) operator)) stack.old stack.new) }
     ensures keeps { IfOk result (Keeps stack.old stack.new) }
-    ensures adds { IfOk result (Adds 2 stack.old stack.new) }
+    ensures adds { IfOk result (Adds 3 stack.old stack.new) }
 {
     stack.push(Work::Unary(operator))?;
     Ok(Next::Expr(operand))
 }
 
 /// A name that is asked for its type may have no binding, so it isn't evaluated.
-#[tactic(auto, using(crate::proofs::Behind::behind_more, crate::proofs::Behind::env_more))]
+#[tactic(auto, using(crate::proofs::Behind::behind_more, crate::proofs::Behind::setting_more))]
 fn begin_typeof<'p, T: Copy>(
     stack: &mut Stack<'p, T>,
     operand: &'p Expr,
 ) -> Result<Next<'p>, OutOfMemory>
     requires { length stack.old.loose ≡ 0 }
-    ensures goes_on { IfOk result (Begins (λ tables inputs functions e. typeof_step (planned tables inputs functions) (asking tables inputs functions) (is_name (view_expr operand.entry.now)) (view_expr operand.entry.now) e.place) stack.old stack.new) }
+    ensures goes_on { IfOk result (Begins (λ tables inputs set functions e. typeof_step (planned tables inputs set functions) (entrance tables inputs set functions) (asking tables inputs set functions) (is_name (view_expr operand.entry.now)) (view_expr operand.entry.now) e.env.place) stack.old stack.new) }
     ensures keeps { IfOk result (Keeps stack.old stack.new) }
-    ensures adds { IfOk result (Adds 2 stack.old stack.new) }
+    ensures adds { IfOk result (Adds 3 stack.old stack.new) }
 {
     if is_name(operand) {
         Ok(Next::Use(Use::Asked, operand))
@@ -161,15 +161,15 @@ fn begin_typeof<'p, T: Copy>(
 }
 
 /// A reference is deleted, and of what is none only the value is taken (ECMA-262 11.4.1).
-#[tactic(auto, using(crate::proofs::Behind::behind_more, crate::proofs::Behind::env_more))]
+#[tactic(auto, using(crate::proofs::Behind::behind_more, crate::proofs::Behind::setting_more))]
 fn begin_delete<'p, T: Copy>(
     stack: &mut Stack<'p, T>,
     operand: &'p Expr,
 ) -> Result<Next<'p>, OutOfMemory>
     requires { length stack.old.loose ≡ 0 }
-    ensures goes_on { IfOk result (Begins (λ tables inputs functions e. delete_step (planned tables inputs functions) (asking tables inputs functions) (is_reference (view_expr operand.entry.now)) (view_expr operand.entry.now) e.place) stack.old stack.new) }
+    ensures goes_on { IfOk result (Begins (λ tables inputs set functions e. delete_step (planned tables inputs set functions) (entrance tables inputs set functions) (asking tables inputs set functions) (is_reference (view_expr operand.entry.now)) (view_expr operand.entry.now) e.env.place) stack.old stack.new) }
     ensures keeps { IfOk result (Keeps stack.old stack.new) }
-    ensures adds { IfOk result (Adds 2 stack.old stack.new) }
+    ensures adds { IfOk result (Adds 3 stack.old stack.new) }
 {
     if is_reference(operand) {
         Ok(Next::Use(Use::Deleted, operand))
@@ -225,7 +225,7 @@ pub(crate) fn assigned_by<'p>(operator: AssignOperator, value: &'p Expr) -> Use<
 }
 
 /// Behind the left operand the right one is evaluated.
-#[tactic(auto, using(crate::proofs::Behind::behind_more, crate::proofs::Behind::env_more), unfolding(es_meaning::specs::Evaluation::binary_right))]
+#[tactic(auto, using(crate::proofs::Behind::behind_more, crate::proofs::Behind::setting_more), unfolding(es_meaning::specs::Evaluation::binary_right))]
 pub fn binary_right<'p, T: Copy>(
     stack: &mut Stack<'p, T>,
     operator: BinaryOperator,
@@ -234,14 +234,14 @@ pub fn binary_right<'p, T: Copy>(
     requires { length stack.old.loose ≡ 1 }
     ensures goes_on { IfOk result (Resumes (work.BinaryRight operator right.entry) stack.old stack.new) }
     ensures keeps { IfOk result (Keeps stack.old stack.new) }
-    ensures adds { IfOk result (Adds 1 stack.old stack.new) }
+    ensures adds { IfOk result (Adds 5 stack.old stack.new) }
 {
     stack.push(Work::BinaryDone(operator))?;
     Ok(Next::Expr(right))
 }
 
 /// Behind the left operand of `instanceof` the right one is evaluated.
-#[tactic(auto, using(crate::proofs::Behind::behind_more, crate::proofs::Behind::env_more), unfolding(es_meaning::specs::Evaluation::instance_right))]
+#[tactic(auto, using(crate::proofs::Behind::behind_more, crate::proofs::Behind::setting_more), unfolding(es_meaning::specs::Evaluation::instance_right))]
 pub fn instance_right<'p, T: Copy>(
     stack: &mut Stack<'p, T>,
     right: &'p Expr,
@@ -249,7 +249,7 @@ pub fn instance_right<'p, T: Copy>(
     requires { length stack.old.loose ≡ 1 }
     ensures goes_on { IfOk result (Resumes (work.InstanceRight right.entry) stack.old stack.new) }
     ensures keeps { IfOk result (Keeps stack.old stack.new) }
-    ensures adds { IfOk result (Adds 1 stack.old stack.new) }
+    ensures adds { IfOk result (Adds 4 stack.old stack.new) }
 {
     stack.push(Work::InstanceDone)?;
     Ok(Next::Expr(right))
@@ -261,8 +261,36 @@ pub fn comma_right<'p, T: Copy>(stack: &mut Stack<'p, T>, right: &'p Expr) -> Ne
     requires { length stack.old.loose ≡ 1 }
     ensures goes_on { Resumes (work.CommaRight right.entry) stack.old stack.new result }
     ensures keeps { Keeps (without_top stack.old) stack.new result }
-    ensures adds { Adds 1 stack.old stack.new result }
+    ensures adds { Adds 0 stack.old stack.new result }
 {
     stack.forget();
     Next::Expr(right)
+}
+
+/// Behind the old value, which a getter gave, the operand of a compound assignment is evaluated.
+pub fn compound_right<'p, T: Copy>(
+    stack: &mut Stack<'p, T>,
+    operator: BinaryOperator,
+    right: &'p Expr,
+    target: Target<'p>,
+) -> Result<Next<'p>, OutOfMemory>
+    requires { length stack.old.loose ≡ owns_target target + 1 }
+    ensures goes_on { IfOk result (ResumesBehind (work.CompoundRight operator right.entry target.entry) stack.old stack.new) }
+    ensures keeps { IfOk result (Keeps stack.old stack.new) }
+    ensures adds { IfOk result (Adds 9 stack.old stack.new) }
+{
+    stack.push(Work::CompoundDone(operator, target))?;
+    Ok(Next::Expr(right))
+}
+
+/// Behind a setter the value that its assignment gives, which lies below the setter's.
+#[tactic(auto, unfolding(es_meaning::specs::Evaluation::give, flow_meaning::specs::Planned::end_setter))]
+pub fn give_behind<'p, T: Copy>(stack: &mut Stack<'p, T>) -> Next<'p>
+    requires { length stack.old.loose ≡ 2 }
+    ensures goes_on { ResumesBeside work.GiveBehind stack.old stack.new result }
+    ensures keeps { Keeps (without_top stack.old) stack.new result }
+    ensures adds { Adds 4 stack.old stack.new result }
+{
+    stack.forget();
+    Next::Value
 }

@@ -11,6 +11,7 @@ ghost use Rattle.flow_meaning.specs.Planned.{planned, asking};
 ghost use Rattle.step_work.specs.Loads.{Adds};
 ghost use Rattle.step_work.specs.Resuming.{BeginsIn, Opened};
 ghost use Rattle.step_work.specs.Shapes.{round_of};
+ghost use Rattle.step_work.specs.Settings.{entrance};
 
 use crate::stack::Stack;
 use crate::statements::begin_test;
@@ -46,7 +47,7 @@ pub fn begin_loop<'p, L: Labels>(
 ) -> Result<Next<'p>, OutOfMemory>
     requires loose { length stack.old.loose ≡ 0 }
     requires belongs { Belong L.made L.meaning labels.old frames.old.frames }
-    ensures goes_on { IfOk result (BeginsIn L.made L.meaning labels.new (λ tables inputs functions e. loop (planned tables inputs functions) (asking tables inputs functions) (round_of round.entry) e) stack.old stack.new frames.old.frames frames.new.frames) }
+    ensures goes_on { IfOk result (BeginsIn L.made L.meaning labels.new (λ tables inputs set functions e. loop (planned tables inputs set functions) (entrance tables inputs set functions) (asking tables inputs set functions) (round_of round.entry) e.env) stack.old stack.new frames.old.frames frames.new.frames) }
     ensures opened { IfOk result (Opened stack.old stack.new frames.old.frames frames.new.frames) }
     ensures adds { IfOk result (Adds 2 stack.old stack.new) }
     ensures belongs { Belong L.made L.meaning labels.new frames.new.frames }
@@ -68,9 +69,9 @@ pub fn begin_do_loop<'p, L: Labels>(
 ) -> Result<Next<'p>, OutOfMemory>
     requires loose { length stack.old.loose ≡ 0 }
     requires belongs { Belong L.made L.meaning labels.old frames.old.frames }
-    ensures goes_on { IfOk result (BeginsIn L.made L.meaning labels.new (λ tables inputs functions e. (planned tables inputs functions).round false (round_of round.entry).labels e ((asking tables inputs functions).turn (round_of round.entry))) stack.old stack.new frames.old.frames frames.new.frames) }
+    ensures goes_on { IfOk result (BeginsIn L.made L.meaning labels.new (λ tables inputs set functions e. (planned tables inputs set functions).round false (round_of round.entry).labels e.env ((asking tables inputs set functions).turn (round_of round.entry))) stack.old stack.new frames.old.frames frames.new.frames) }
     ensures opened { IfOk result (Opened stack.old stack.new frames.old.frames frames.new.frames) }
-    ensures adds { IfOk result (Adds 2 stack.old stack.new) }
+    ensures adds { IfOk result (Adds 1 stack.old stack.new) }
     ensures belongs { Belong L.made L.meaning labels.new frames.new.frames }
     ensures kept { IsKept L.made L.meaning L.room L.firm labels.old labels.new }
 {
@@ -90,7 +91,7 @@ pub fn begin_turn<'p, L: Labels>(
 ) -> Result<Next<'p>, OutOfMemory>
     requires loose { length stack.old.loose ≡ 0 }
     requires belongs { Belong L.made L.meaning labels.old frames.old.frames }
-    ensures goes_on { IfOk result (BeginsIn L.made L.meaning labels.new (λ tables inputs functions e. turn_step (planned tables inputs functions) (asking tables inputs functions) (round_of round.entry) e) stack.old stack.new frames.old.frames frames.new.frames) }
+    ensures goes_on { IfOk result (BeginsIn L.made L.meaning labels.new (λ tables inputs set functions e. turn_step (planned tables inputs set functions) (entrance tables inputs set functions) (asking tables inputs set functions) (round_of round.entry) e.env) stack.old stack.new frames.old.frames frames.new.frames) }
     ensures opened { IfOk result (Opened stack.old stack.new frames.old.frames frames.new.frames) }
     ensures adds { IfOk result (Adds 2 stack.old stack.new) }
     ensures belongs { Belong L.made L.meaning labels.new frames.new.frames }
@@ -109,7 +110,7 @@ fn begin_body<'p, L: Labels>(
 ) -> Result<Next<'p>, OutOfMemory>
     requires loose { length stack.old.loose ≡ 0 }
     requires belongs { Belong L.made L.meaning labels.old frames.old.frames }
-    ensures goes_on { IfOk result (BeginsIn L.made L.meaning labels.new (λ tables inputs functions e. (planned tables inputs functions).round true (round_of round.entry).labels e ((asking tables inputs functions).stmt (round_of round.entry).body)) stack.old stack.new frames.old.frames frames.new.frames) }
+    ensures goes_on { IfOk result (BeginsIn L.made L.meaning labels.new (λ tables inputs set functions e. (planned tables inputs set functions).round true (round_of round.entry).labels e.env ((asking tables inputs set functions).stmt (round_of round.entry).body)) stack.old stack.new frames.old.frames frames.new.frames) }
     ensures opened { IfOk result (Opened stack.old stack.new frames.old.frames frames.new.frames) }
     ensures adds { IfOk result (Adds 1 stack.old stack.new) }
     ensures belongs { Belong L.made L.meaning labels.new frames.new.frames }

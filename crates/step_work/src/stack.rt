@@ -1,12 +1,12 @@
 //! Pending work, and the operands that it keeps.
 
-ghost use Rattle.std.specs.Prelude.{◌≡◌, ◌<◌, [], ◌∷◌, ◌++◌, ◌+◌, ◌-◌, length, take, OnOk, OnErr, IfNone, IfSome};
+ghost use Rattle.std.specs.Prelude.{◌≡◌, ◌<◌, [], ◌∷◌, ◌++◌, ◌+◌, ◌-◌, length, set, take, OnOk, OnErr, IfNone, IfSome};
 ghost use Rattle.std.specs.Option.{option_map};
 ghost use Rattle.es_meaning.specs.Environments.{find_around};
 ghost use Rattle.step_work.specs.Going.{here};
 ghost use Rattle.step_work.specs.Pending.{env_above, owns};
 ghost use Rattle.step_work.specs.Loads.{weight, load};
-ghost use Rattle.step_work.specs.Kept.{Taken, operands_of, scope_of, scopes_of};
+ghost use Rattle.step_work.specs.Kept.{Taken, operands_of, scope_of, scopes_of, waiting, waits};
 
 use crate::aims::{innermost_call, reached};
 use crate::work::Work;
@@ -67,11 +67,12 @@ impl<'p, T: Copy> Stack<'p, T> {
     }
 
     /// Adds work, which keeps the values that no work kept.
-    #[tactic(auto, using(crate::proofs::Keeping::pushed_scopes, crate::proofs::Keeping::pushed_operands, crate::proofs::Loads::pushed_load))]
+    #[tactic(auto, using(crate::proofs::Keeping::pushed_scopes, crate::proofs::Keeping::pushed_natives, crate::proofs::Keeping::pushed_operands, crate::proofs::Loads::pushed_load))]
     pub fn push(&mut self, work: Work<'p>) -> Result<(), OutOfMemory>
         requires { owns work ≡ length self.old.loose }
         ensures ok { OnOk result (self.new ≡ record { tasks = self.old.tasks ++ (work.entry, self.old.loose) ∷ []; loose = [] }) }
         ensures scopes { OnOk result (scopes_of self.new.tasks ≡ scopes_of self.old.tasks ++ scope_of work.entry) }
+        ensures natives { OnOk result (waiting self.new.tasks ≡ waiting self.old.tasks + waits work.entry) }
         ensures operands { OnOk result (operands_of self.new ≡ operands_of self.old) }
         ensures load { OnOk result (load self.new.tasks ≡ load self.old.tasks + weight work.entry) }
         ensures unchanged { OnErr result (self.new ≡ self.old) }
@@ -84,6 +85,31 @@ impl<'p, T: Copy> Stack<'p, T> {
     fn add(&mut self, work: Work<'p>) -> Result<(), OutOfMemory>
         requires { owns work ≡ length self.old.loose }
         ensures ok { OnOk result (self.new ≡ record { tasks = self.old.tasks ++ (work.entry, self.old.loose) ∷ []; loose = [] }) }
+        ensures unchanged { OnErr result (self.new ≡ self.old) }
+    {
+        self.works.push(work)?;
+        Ok(())
+    }
+
+    /// Adds work that keeps nothing, below the values that no work keeps.
+    #[tactic(auto, using(crate::proofs::Keeping::scopes_under, crate::proofs::Keeping::natives_under, crate::proofs::Keeping::operands_under, crate::proofs::Loads::load_under))]
+    pub fn push_under(&mut self, work: Work<'p>) -> Result<(), OutOfMemory>
+        requires { owns work ≡ 0 }
+        ensures ok { OnOk result (self.new ≡ record { tasks = self.old.tasks ++ (work.entry, []) ∷ []; loose = self.old.loose }) }
+        ensures scopes { OnOk result (scopes_of self.new.tasks ≡ scopes_of self.old.tasks ++ scope_of work.entry) }
+        ensures natives { OnOk result (waiting self.new.tasks ≡ waiting self.old.tasks + waits work.entry) }
+        ensures operands { OnOk result (operands_of self.new ≡ operands_of self.old) }
+        ensures load { OnOk result (load self.new.tasks ≡ load self.old.tasks + weight work.entry) }
+        ensures unchanged { OnErr result (self.new ≡ self.old) }
+    {
+        self.add_under(work)?;
+        Ok(())
+    }
+
+    #[tactic(auto, using(crate::proofs::KeptLaws::tasks_under, crate::proofs::KeptLaws::loose_under, crate::proofs::KeptLaws::enough_under))]
+    fn add_under(&mut self, work: Work<'p>) -> Result<(), OutOfMemory>
+        requires { owns work ≡ 0 }
+        ensures ok { OnOk result (self.new ≡ record { tasks = self.old.tasks ++ (work.entry, []) ∷ []; loose = self.old.loose }) }
         ensures unchanged { OnErr result (self.new ≡ self.old) }
     {
         self.works.push(work)?;
@@ -138,6 +164,18 @@ impl<'p, T: Copy> Stack<'p, T> {
         ensures rest { self.new.loose ≡ take (length self.old.loose - 1) self.old.loose }
     {
         self.operands.truncate(self.operands.len() - 1);
+    }
+
+    /// Gives another value to one of those that no work keeps.
+    #[tactic(auto, using(crate::proofs::KeptLaws::tasks_set, crate::proofs::KeptLaws::loose_set, crate::proofs::KeptLaws::enough_set, crate::proofs::KeptLaws::place_fits, crate::proofs::KeptLaws::loose_fit))]
+    pub(crate) fn set(&mut self, count: usize, at: usize, value: Labelled<T>)
+        requires count { count ≡ length self.old.loose }
+        requires at { at < count }
+        ensures tasks { self.new.tasks ≡ self.old.tasks }
+        ensures value { self.new.loose ≡ set self.old.loose at value }
+    {
+        let place = self.operands.len() - count + at;
+        self.operands[place] = value;
     }
 
     /// Takes all values away that no work keeps.

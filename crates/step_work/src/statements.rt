@@ -9,6 +9,7 @@ ghost use Rattle.step_work.specs.Kept.{without_top};
 ghost use Rattle.step_work.specs.Loads.{Adds};
 ghost use Rattle.step_work.specs.Resuming.{Begins, Keeps, Resumes, ResumesDone};
 ghost use Rattle.step_work.specs.Shapes.{round_of};
+ghost use Rattle.step_work.specs.Settings.{entrance};
 
 use crate::stack::Stack;
 use crate::work::{Next, Round, Work};
@@ -16,15 +17,15 @@ use flow_text::OutOfMemory;
 use js_ast::Stmt;
 
 /// Statements in their order.
-#[tactic(auto, using(crate::proofs::Behind::behind_more, crate::proofs::Behind::env_more, crate::proofs::Steps::statements_none, crate::proofs::Steps::statements_more))]
+#[tactic(auto, using(crate::proofs::Behind::behind_more, crate::proofs::Behind::setting_more, crate::proofs::Steps::statements_none, crate::proofs::Steps::statements_more))]
 pub fn begin_statements<'p, T: Copy>(
     stack: &mut Stack<'p, T>,
     list: &'p [Stmt],
 ) -> Result<Next<'p>, OutOfMemory>
     requires { length stack.old.loose ≡ 0 }
-    ensures goes_on { IfOk result (Begins (λ tables inputs functions e. statements (planned tables inputs functions) (asking tables inputs functions) (view_stmts list.entry.now) e) stack.old stack.new) }
+    ensures goes_on { IfOk result (Begins (λ tables inputs set functions e. statements (planned tables inputs set functions) (asking tables inputs set functions) (view_stmts list.entry.now) e.env) stack.old stack.new) }
     ensures keeps { IfOk result (Keeps stack.old stack.new) }
-    ensures adds { IfOk result (Adds 1 stack.old stack.new) }
+    ensures adds { IfOk result (Adds 4 stack.old stack.new) }
 {
     match list.split_first() {
         None => Ok(Next::Done),
@@ -44,7 +45,7 @@ pub fn more_statements<'p, T: Copy>(
     requires { length stack.old.loose ≡ 0 }
     ensures goes_on { IfOk result (ResumesDone (work.Statements rest.entry) stack.old stack.new) }
     ensures keeps { IfOk result (Keeps stack.old stack.new) }
-    ensures adds { IfOk result (Adds 1 stack.old stack.new) }
+    ensures adds { IfOk result (Adds 4 stack.old stack.new) }
 {
     begin_statements(stack, rest)
 }
@@ -55,20 +56,20 @@ pub fn discard<'p, T: Copy>(stack: &mut Stack<'p, T>) -> Next<'p>
     requires { length stack.old.loose ≡ 1 }
     ensures goes_on { Resumes work.Discard stack.old stack.new result }
     ensures keeps { Keeps (without_top stack.old) stack.new result }
-    ensures adds { Adds 1 stack.old stack.new result }
+    ensures adds { Adds 4 stack.old stack.new result }
 {
     stack.forget();
     Next::Done
 }
 
 /// A loop's condition, and then a further turn or the end.
-#[tactic(auto, using(crate::proofs::Behind::behind_more, crate::proofs::Behind::env_more), unfolding(es_meaning::specs::Evaluation::tested))]
+#[tactic(auto, using(crate::proofs::Behind::behind_more, crate::proofs::Behind::setting_more), unfolding(es_meaning::specs::Evaluation::tested))]
 pub fn begin_test<'p, T: Copy>(
     stack: &mut Stack<'p, T>,
     round: Round<'p>,
 ) -> Result<Next<'p>, OutOfMemory>
     requires { length stack.old.loose ≡ 0 }
-    ensures goes_on { IfOk result (Begins (λ tables inputs functions e. tested (planned tables inputs functions) (asking tables inputs functions) (round_of round.entry) e) stack.old stack.new) }
+    ensures goes_on { IfOk result (Begins (λ tables inputs set functions e. tested (planned tables inputs set functions) (entrance tables inputs set functions) (asking tables inputs set functions) (round_of round.entry) e.env) stack.old stack.new) }
     ensures keeps { IfOk result (Keeps stack.old stack.new) }
     ensures adds { IfOk result (Adds 1 stack.old stack.new) }
 {
@@ -97,7 +98,7 @@ pub fn updated<'p, T: Copy>(
 }
 
 /// Behind the body of a turn what the loop's header changes, and its condition.
-#[tactic(auto, using(crate::proofs::Behind::behind_more, crate::proofs::Behind::env_more), unfolding(es_meaning::specs::Evaluation::turned_round))]
+#[tactic(auto, using(crate::proofs::Behind::behind_more, crate::proofs::Behind::setting_more), unfolding(es_meaning::specs::Evaluation::turned_round))]
 pub fn turned<'p, T: Copy>(
     stack: &mut Stack<'p, T>,
     round: Round<'p>,

@@ -5,9 +5,10 @@ ghost use Rattle.origin_labels.specs.Stores.{IsKept};
 ghost use Rattle.flow_frames.specs.Held.{Belong};
 ghost use Rattle.flow_policy.specs.Inputs.{Given};
 ghost use Rattle.js_ast.specs.Functions.{FunctionCode};
+ghost use Rattle.es_meaning.specs.BuiltIns.{BuiltIns};
 ghost use Rattle.flow_policy.specs.Policies.{Tables};
 ghost use Rattle.js_ast.specs.Views.{view_target};
-ghost use Rattle.es_meaning.specs.Environments.{Env};
+ghost use Rattle.step_work.specs.Settings.{Setting, entrance};
 ghost use Rattle.es_meaning.specs.Evaluation.{target_step, visit_step};
 ghost use Rattle.es_meaning.specs.Plain.{key_text};
 ghost use Rattle.flow_meaning.specs.Planned.{planned, asking};
@@ -37,7 +38,7 @@ pub fn begin_enumeration<'p, L: Labels>(
     requires belongs { Belong L.made L.meaning labels.old frames.old.frames }
     ensures goes_on { IfOk result (ResumesIn L.made L.meaning labels.new (work.Enumerated enumeration.entry) stack.old stack.new frames.old.frames frames.new.frames) }
     ensures opened { IfOk result (Opened stack.old stack.new frames.old.frames frames.new.frames) }
-    ensures adds { IfOk result (Adds 4 stack.old stack.new) }
+    ensures adds { IfOk result (Adds 7 stack.old stack.new) }
     ensures belongs { Belong L.made L.meaning labels.new frames.new.frames }
     ensures kept { IsKept L.made L.meaning L.room L.firm labels.old labels.new }
 {
@@ -60,9 +61,9 @@ pub fn begin_visit<'p, L: Labels>(
 ) -> Result<Next<'p>, OutOfMemory>
     requires loose { length stack.old.loose ≡ count + 2 }
     requires belongs { Belong L.made L.meaning labels.old frames.old.frames }
-    ensures goes_on { IfOk result (BeginsBeside L.made L.meaning labels.new (λ tables inputs functions vs e. visit_step (planned tables inputs functions) (asking tables inputs functions) (visit_of enumeration.entry count vs) e) stack.old stack.new frames.old.frames frames.new.frames) }
+    ensures goes_on { IfOk result (BeginsBeside L.made L.meaning labels.new (λ tables inputs set functions vs e. visit_step (planned tables inputs set functions) (entrance tables inputs set functions) (asking tables inputs set functions) (visit_of enumeration.entry count vs) e.env) stack.old stack.new frames.old.frames frames.new.frames) }
     ensures opened { IfOk result (Opened stack.old stack.new frames.old.frames frames.new.frames) }
-    ensures adds { IfOk result (Adds 6 stack.old stack.new) }
+    ensures adds { IfOk result (Adds 12 stack.old stack.new) }
     ensures belongs { Belong L.made L.meaning labels.new frames.new.frames }
     ensures kept { IsKept L.made L.meaning L.room L.firm labels.old labels.new }
 {
@@ -79,9 +80,9 @@ pub fn begin_visit<'p, L: Labels>(
 
 // The target is given the text that no work keeps.
 fn given_key<'p>(target: &'p ForTarget) -> Next<'p>
-    ensures plan { (tables : Tables) (inputs : Given) (functions : List FunctionCode) (v : Val) (e : Env ℕ) (s : State) → next_plan tables inputs functions result (v ∷ []) e s ≡ target_step (planned tables inputs functions) (asking tables inputs functions) (view_target target.entry.now) (key_text v.value) e.place s }
+    ensures plan { (tables : Tables) (inputs : Given) (set : BuiltIns) (functions : List FunctionCode) (v : Val) (e : Setting) (s : State) → next_plan tables inputs set functions result (v ∷ []) e s ≡ target_step (planned tables inputs set functions) (entrance tables inputs set functions) (asking tables inputs set functions) (view_target target.entry.now) (key_text v.value) e.env.place s }
     ensures value { values_of result ≡ 1 }
-    ensures lifts { lift result ≤ 2 }
+    ensures lifts { lift result ≤ 8 }
 {
     match target {
         ForTarget::Expr(target) => Next::Use(Use::GivenText, target),
@@ -95,7 +96,7 @@ pub fn visit_body<'p, T: Copy>(stack: &mut Stack<'p, T>, body: &'p Stmt) -> Next
     requires { length stack.old.loose ≡ 1 }
     ensures goes_on { Resumes (work.VisitBody body.entry) stack.old stack.new result }
     ensures keeps { Keeps (without_top stack.old) stack.new result }
-    ensures adds { Adds 1 stack.old stack.new result }
+    ensures adds { Adds 0 stack.old stack.new result }
 {
     stack.forget();
     Next::Stmt(body)
@@ -111,7 +112,7 @@ pub fn visited<'p, T: Copy>(
     requires { length _stack.now.loose ≡ count + 1 }
     ensures goes_on { ResumesDoneBehind (work.Visited enumeration.entry count) _stack.now _stack.now result }
     ensures keeps { Keeps _stack.now _stack.now result }
-    ensures adds { Adds 2 _stack.now _stack.now result }
+    ensures adds { Adds 5 _stack.now _stack.now result }
 {
     Next::Visits(enumeration, count)
 }

@@ -13,7 +13,8 @@ use js_ast::{
 };
 use js_number::Int;
 use js_values::EnvId;
-use step_world::{Leaving, Place};
+use native_protocol::{Hint, Reg};
+use step_world::Place;
 
 /// What is done with a reference.
 #[derive(Clone, Copy)]
@@ -108,30 +109,39 @@ impl<'p> Round<'p> {
     }
 }
 
-/// The functions that this product adds to the language.
-#[derive(Clone, Copy, Debug, PartialEq, Eq)]
-pub enum Direct {
-    /// The next line of an input channel.
-    Read,
-    /// Prints a line on an output channel.
-    Print,
-    /// Joins origins to a value's label.
-    Lbl,
-    /// Joins origins to the structure label of an object.
-    Upgs,
-    /// Joins origins to the existence label of a property of an object.
-    Upge,
-}
-
 /// What is done with arguments.
 #[derive(Clone, Copy, Debug, PartialEq, Eq)]
 pub enum Calling {
-    /// A function of the product is asked.
-    Directly(Direct),
-    /// A value is called: it and its `this` lie below the arguments.
+    /// A value is called: its `this` and it lie below the arguments, as in the registers of a built-in.
     Calls,
     /// A value makes an object: it lies below the arguments.
     Constructs,
+}
+
+/// Which of both values `++` and `--` give: in front of their operand the new one, and behind it the old one.
+#[derive(Clone, Copy, Debug, PartialEq, Eq)]
+pub enum Counting {
+    Prefix,
+    Postfix,
+}
+
+/// Why a run leaves the language.
+#[derive(Clone, Copy, Debug, PartialEq, Eq)]
+pub enum Reason {
+    /// A number that the language doesn't have.
+    Number,
+    /// A text that is too long.
+    String,
+    /// A channel that the policy doesn't have.
+    Channel,
+    /// An origin that the policy doesn't have.
+    Origin,
+    /// A primitive value that would be wrapped in an object.
+    Wrapper,
+    /// A part of the language that isn't built yet.
+    Unbuilt,
+    /// What a built-in doesn't offer. Its name is the value that no work keeps.
+    Named,
 }
 
 /// A jump that was allowed, and left the frames inside the one that it reaches. Its value lies beside it.
@@ -237,6 +247,32 @@ pub enum Work<'p> {
     EndLast(Option<Jump>),
     /// The whole `try` statement is over.
     EndTry(usize),
+    /// The value is the left operand, converted. It keeps the right one.
+    ConvertedLeft(BinaryOperator),
+    /// The value is the right operand, and both are converted. It keeps the left one.
+    Operate(BinaryOperator),
+    /// The value is the operand, converted.
+    UnaryConverted(UnaryOperator),
+    /// The value is the key that `in` asks for, converted. It keeps the object.
+    KeyHas,
+    /// The value is the key of a property, converted. It keeps the base, behind the operand of the use.
+    KeyOf(Use<'p>),
+    /// The value is that of the reference, which `++` or `--` changes by this operator.
+    Counted(Counting, BinaryOperator, Target<'p>),
+    /// The same, converted to a primitive value.
+    CountedNumber(Counting, BinaryOperator, Target<'p>),
+    /// The value is that of the reference before a compound assignment, whose operand is evaluated next.
+    CompoundRight(BinaryOperator, &'p Expr, Target<'p>),
+    /// The value is called with arguments. It keeps what the call has as `this`.
+    CalledBy(&'p [Expr]),
+    /// The value is the `prototype` of what stands on the right of `instanceof`. It keeps the left operand, with the label of both.
+    InstanceTest,
+    /// A setter's value is of no use. It keeps the value that the assignment gives.
+    GiveBehind,
+    /// The same behind the assignment of a variable, and other variables stand behind.
+    VariablesBehind(&'p [Declaration]),
+    /// The value is what a built-in asked for, or a setter's, which is of no use where no register is named. It keeps the registers, so many.
+    Answered(u32, Option<Reg>),
 }
 
 impl Use<'_> {
@@ -257,7 +293,6 @@ impl Calling {
         ensures { result ≡ owns_calling self }
     {
         match self {
-            Calling::Directly(_) => 0,
             Calling::Calls => 2,
             Calling::Constructs => 1,
         }
@@ -293,6 +328,13 @@ impl<'p> Work<'p> {
             Work::MemberBase(how, _) | Work::IndexBase(how, _) => how.owns(),
             Work::IndexKey(how) => how.owns() + 1,
             Work::Visited(_, count) => count as usize + 1,
+            Work::ConvertedLeft(_) | Work::Operate(_) | Work::KeyHas => 1,
+            Work::KeyOf(how) => how.owns() + 1,
+            Work::Counted(_, _, target)
+            | Work::CountedNumber(_, _, target)
+            | Work::CompoundRight(_, _, target) => target.owns(),
+            Work::CalledBy(_) | Work::InstanceTest | Work::GiveBehind => 1,
+            Work::Answered(count, _) => count as usize,
             _ => 0,
         }
     }
@@ -327,8 +369,7 @@ pub enum Next<'p> {
     Name(&'p Text),
     /// The part comes to the value of `this`.
     This,
-    /// The part comes to an object with these properties, of the values that no work keeps, if that is all of them. Another kind of property isn't
-    /// built yet.
+    /// The part comes to an object with these properties, of which so many have their values, those that no work keeps.
     Object(&'p PropertyList, u32),
     /// The value that no work keeps, a text, is given to a variable.
     GiveVariable(&'p Ident),
@@ -336,12 +377,16 @@ pub enum Next<'p> {
     Keys(Enumeration<'p>),
     /// So many keys are left to be visited: they and the object lie loose.
     Visits(Enumeration<'p>, u32),
-    /// The part comes to what a function of the product makes of the values that no work keeps.
-    Direct(Direct, u32),
-    /// A value is called with so many arguments: it, its `this` and they are the values that no work keeps.
+    /// The built-in that runs is told what it is told, and asks for something. Its registers, so many, are the values that no work keeps.
+    Request(u32),
+    /// A value is called with so many arguments: its `this`, it and they are the values that no work keeps.
     Call(u32),
     /// A value makes an object with so many arguments: it and they are the values that no work keeps.
     Construct(u32),
+    /// The value that no work keeps is converted to a primitive value.
+    Convert(Hint),
+    /// The first of the two values that no work keeps is converted as `==` converts an operand beside the second.
+    Compare,
     /// The part comes to a function.
     Function(&'p Function),
     /// A loop or a statement is left, or a turn of it, by its label or none.
@@ -371,5 +416,5 @@ pub enum Next<'p> {
     /// A loop, which begins with a turn.
     DoLoop(Round<'p>),
     /// The run leaves the language.
-    Leave(Leaving),
+    Leave(Reason),
 }

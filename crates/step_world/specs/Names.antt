@@ -32,3 +32,4 @@ leaving_name leaving.Channel = plain.leaves_channels
 leaving_name leaving.Origin = plain.leaves_origins
 leaving_name leaving.Wrapper = plain.leaves_wrappers
 leaving_name leaving.Unbuilt = not_built
+leaving_name (leaving.Named name) = name

@@ -23,7 +23,7 @@ pub record Belongs {S T : Type 0} (made : S → T → Type 0) (meaning : S → T
   pub catch : CatchByTry w.frames.frames
   pub heap : HasHeap (made store) w.heap
   pub records : HasRecords (made store) w.records
-  pub started : 10 ≤ length w.heap
+  pub started : 16 ≤ length w.heap
 
 -- nothing that was there is gone
 pub record Grows {T : Type 0} (old new : World T) : Type 0 where

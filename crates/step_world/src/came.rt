@@ -1,7 +1,7 @@
 //! What an act comes to.
 
 use flow_text::Text;
-use js_values::{EnvId, Labelled};
+use js_values::{EnvId, Labelled, ObjId};
 
 /// What an act comes to, where no flow rule stops it and there is memory.
 #[derive(Drop)]
@@ -14,8 +14,30 @@ pub enum Came<X, T> {
     Leaves(Leaving),
 }
 
+/// What a read comes to (ECMA-262 8.12.3): a value; or a getter, which is called with this `this` in a frame that has the label.
+#[derive(Drop)]
+pub enum Access<T> {
+    Value(Labelled<T>),
+    Getter {
+        label: T,
+        function: ObjId,
+        this: Labelled<T>,
+    },
+}
+
+/// What a put comes to (ECMA-262 8.12.5): it is done; or a setter is called with this `this` in a frame that has the label.
+#[derive(Drop)]
+pub enum Putting<T> {
+    Put,
+    Setter {
+        label: T,
+        function: ObjId,
+        this: Labelled<T>,
+    },
+}
+
 /// Why a run leaves the language.
-#[derive(Clone, Copy, Debug, PartialEq, Eq)]
+#[derive(Debug, Drop)]
 pub enum Leaving {
     /// A number that the language doesn't have.
     Number,
@@ -29,6 +51,8 @@ pub enum Leaving {
     Wrapper,
     /// A part of the language that isn't built yet.
     Unbuilt,
+    /// What a built-in doesn't offer, by its name.
+    Named(Text),
 }
 
 /// Where a name stands (ECMA-262 10.2.2.1): in a record, on the global object or a prototype of it, or nowhere.

@@ -4,5 +4,5 @@
 mod came;
 mod world;
 
-pub use came::{Came, Leaving, Named, Place};
+pub use came::{Access, Came, Leaving, Named, Place, Putting};
 pub use world::World;

@@ -1,28 +1,36 @@
-use Rattle.std.proofs.Common.{ap, refl}
-use Rattle.js_values.specs.Readings.{HasValue}
-use Rattle.js_values.proofs.ReadingLaws.{IsReading-earlier}
-use Rattle.function_table.specs.Callees.{callee_of}
+use Rattle.std.proofs.Common.{arith, drop, refl, sym, ◌∙◌}
+use Rattle.es_meaning.specs.BuiltIns.{built_ins_of}
+use Rattle.es_meaning.specs.Functions.{not_callable}
+use Rattle.flow_meaning.specs.Planned.{call_by}
 use Rattle.function_table.specs.Tables.{table}
-use Rattle.step_work.specs.Kept.{kept_operands, scopes_of}
-use Rattle.step_calling.proofs.CallLaws.{call_begins}
-use Rattle.step_calling.proofs.StandingLaws.{call_as_value, leading_has, lower_call}
+use Rattle.js_values.specs.Readings.{HasValue}
+use Rattle.step_natives.specs.States.{waiting_steps}
+use Rattle.step_work.specs.Kept.{kept_operands}
+use Rattle.step_work.specs.Settings.{entrance}
+use Rattle.step_work.specs.Shapes.{nth}
+use Rattle.step_calling.specs.Calling.{lying}
+use Rattle.step_calling.proofs.CalleeLaws.{call_begins, refused_begins}
+use Rattle.step_calling.proofs.NativeLaws.{quiet_comes}
+use Rattle.step_converting.specs.Framed.{steps_behind}
+use Rattle.step_converting.proofs.ValueLists.{leading_has}
 use Rattle.step_calling.proofs.calls.call.Goals as goal
 
-pub enter_frame-requires-clause-label : goal.enter_frame-requires-clause-label
-enter_frame-requires-clause-label g c = leading_has (HasValue (g.L.Labels.made c.args.labels.now)) 0 (kept_operands c.args.stack.now.tasks) c.args.stack.now.loose c.leading-called.result.now c.leading-called.ensures c.requires.standing.operands
+pub call_function-requires-clause-label : goal.call_function-requires-clause-label
+call_function-requires-clause-label g c = leading_has (HasValue (g.L.Labels.made c.args.labels.now)) 1 (kept_operands c.args.stack.now.tasks) c.args.stack.now.loose c.second-called.result.now c.second-called.ensures c.requires.standing.operands
 
-pub enter_frame-requires-clause-standing : goal.enter_frame-requires-clause-standing
-enter_frame-requires-clause-standing g c = call_as_value g.L.Labels.made g.L.Labels.meaning c.args.labels.now c.args.stack.now c.args.world.now _ (scopes_of c.args.stack.now.tasks) c.args.count c.requires.standing
+pub call_object-requires-clause-label : goal.call_object-requires-clause-label
+call_object-requires-clause-label g c = leading_has (HasValue (g.L.Labels.made c.args.labels.now)) 1 (kept_operands c.args.stack.now.tasks) c.args.stack.now.loose c.second-called.result.now c.second-called.ensures c.requires.standing.operands
 
-pub go_in-requires-clause-this : goal.go_in-requires-clause-this
-go_in-requires-clause-this g c = (c.enter_frame.ensures.kept.labels c.in_ok-this.this.label (leading_has (HasValue (g.L.Labels.made c.args.labels.now)) 1 (kept_operands c.args.stack.now.tasks) c.args.stack.now.loose c.in_ok-this.this c.in_ok-this.ensures c.requires.standing.operands)).0
+pub returns-in-None-clause-begins : goal.returns-in-None-clause-begins
+returns-in-None-clause-begins g c tables inputs =
+    refused_begins g.L.Labels.made g.L.Labels.meaning c.call_function.new.labels tables inputs (built_ins_of (g.N.Natives.entries c.args.natives.now) (g.N.Natives.begin c.args.natives.now) (g.N.Natives.after c.args.natives.now) (g.N.Natives.asks c.args.natives.now)) (table c.args.functions.now) (waiting_steps (g.N.Natives.after c.args.natives.now) (g.N.Natives.asks c.args.natives.now) c.args.states.now) (steps_behind (g.N.Natives.after c.args.natives.now) (g.N.Natives.asks c.args.natives.now) c.args.states.now c.call_function.result) c.args.stack.now c.call_function.new.stack c.args.world.now c.call_function.new.world c.call_function.result c.args.count
+    c.second-called.result.now (omega (arith, c.requires.standing.values)) c.second-called.ensures (sym c.object_in.ensures ∙ c.in-None.is)
+    (quiet_comes g.L.Labels.made g.L.Labels.meaning c.call_function.new.labels tables inputs (built_ins_of (g.N.Natives.entries c.args.natives.now) (g.N.Natives.begin c.args.natives.now) (g.N.Natives.after c.args.natives.now) (g.N.Natives.asks c.args.natives.now)) (table c.args.functions.now) (g.N.Natives.after c.args.natives.now) (g.N.Natives.asks c.args.natives.now) c.args.states.now c.args.states.now
+    (λ reading s. call_by (table c.args.functions.now) not_callable (reading c.second-called.result.now.label) 0 (nth 0 (lying reading c.args.stack.now)) (drop 2 (lying reading c.args.stack.now)) (entrance tables inputs (built_ins_of (g.N.Natives.entries c.args.natives.now) (g.N.Natives.begin c.args.natives.now) (g.N.Natives.after c.args.natives.now) (g.N.Natives.asks c.args.natives.now)) (table c.args.functions.now)) s)
+    c.args.stack.now c.call_function.new.stack c.args.world.now c.call_function.new.world c.call_function.result refl c.call_function.ensures.quiet
+    (c.call_function.ensures.calls tables inputs (built_ins_of (g.N.Natives.entries c.args.natives.now) (g.N.Natives.begin c.args.natives.now) (g.N.Natives.after c.args.natives.now) (g.N.Natives.asks c.args.natives.now)) (waiting_steps (g.N.Natives.after c.args.natives.now) (g.N.Natives.asks c.args.natives.now) c.args.states.now)))
 
-pub returns-clause-begins : goal.returns-clause-begins
-returns-clause-begins g c tables inputs =
-    call_begins g.L.Labels.made g.L.Labels.meaning c.go_in.new.labels tables inputs (table c.args.functions.now) c.args.count (callee_of c.callee-what.result) c.args.stack.now c.go_in.new.stack c.args.world.now c.enter_frame.new.world c.go_in.new.world
-    c.leading-called.result.now c.in_ok-this.this c.in_ok-depth.depth c.go_in.result c.leading-called.ensures c.in_ok-this.ensures c.in_ok-depth.ensures.depth c.callee-what.ensures.is
-    (λ reading read told turns. c.in_ok-depth.ensures.entered reading (IsReading-earlier g.L.Labels.made g.L.Labels.meaning g.L.Labels.room g.L.Labels.firm c.enter_frame.new.labels c.go_in.new.labels reading c.go_in.ensures.kept read) told turns)
-    (c.go_in.ensures.calls tables inputs)
-
-pub returns-clause-lowers : goal.returns-clause-lowers
-returns-clause-lowers g c = lower_call c.args.stack.now c.go_in.new.stack c.args.count c.go_in.result c.go_in.ensures.adds
+pub returns-in-Some-clause-begins : goal.returns-in-Some-clause-begins
+returns-in-Some-clause-begins g c tables inputs =
+    call_begins g.L.Labels.made g.L.Labels.meaning c.call_object.new.labels tables inputs (built_ins_of (g.N.Natives.entries c.args.natives.now) (g.N.Natives.begin c.args.natives.now) (g.N.Natives.after c.args.natives.now) (g.N.Natives.asks c.args.natives.now)) (table c.args.functions.now) (waiting_steps (g.N.Natives.after c.args.natives.now) (g.N.Natives.asks c.args.natives.now) c.args.states.now) (steps_behind (g.N.Natives.after c.args.natives.now) (g.N.Natives.asks c.args.natives.now) c.call_object.new.states c.call_object.result) c.args.stack.now c.call_object.new.stack c.args.world.now c.call_object.new.world c.call_object.result c.args.count
+    c.second-called.result.now c.in-Some.f (omega (arith, c.requires.standing.values)) c.second-called.ensures (sym c.object_in.ensures ∙ c.in-Some.is) (c.call_object.ensures.calls tables inputs)

@@ -1,23 +1,25 @@
-use Rattle.std.proofs.Common.{arith}
+use Rattle.std.proofs.Common.{refl, arith}
 use Rattle.js_values.specs.Readings.{HasValue}
 use Rattle.step_work.specs.declared.work.Next.TheVariants as next
-use Rattle.step_work.specs.Kept.{kept_operands, scopes_of}
 use Rattle.step_work.specs.Going.{here}
-use Rattle.step_core.proofs.Begun.{lowers}
+use Rattle.step_work.specs.Kept.{kept_operands, scopes_of}
+use Rattle.step_work.specs.Settings.{setting_of}
+use Rattle.step_core.proofs.Continued.{place_present}
+use Rattle.step_core.proofs.Moves.{lowers_moved, standing_moved}
 use Rattle.step_core.proofs.Parts.{behind_all}
-use Rattle.step_core.proofs.Stood.{standing_acts, standing_whole}
+use Rattle.step_core.proofs.Stood.{standing_whole}
 use Rattle.step_core.proofs.entering.begin_object.Goals as goal
 
 pub object-requires-clause-made : goal.object-requires-clause-made
 object-requires-clause-made g c = behind_all (HasValue (g.L.Labels.made c.args.labels.now)) (kept_operands c.args.stack.now.tasks) c.args.stack.now.loose c.requires.standing.operands
 
 pub returns-clause-begins : goal.returns-clause-begins
-returns-clause-begins g c tables inputs functions reading told turns read = c.object.ensures.goes_on tables inputs functions reading here told turns read
+returns-clause-begins g c tables inputs set natives reading told turns read = c.object.ensures.goes_on.builds tables inputs set reading (setting_of natives here) told turns read (place_present c.args.stack.now.tasks natives c.in_ok-place.place.0 c.in_ok-place.ensures.place)
 
 pub returns-clause-standing : goal.returns-clause-standing
 returns-clause-standing g c =
-    standing_acts g.L.Labels.made g.L.Labels.meaning g.L.Labels.room g.L.Labels.firm c.args.labels.now c.object.new.labels c.object.ensures.kept c.args.stack.now c.object.new.stack c.args.world.now c.object.new.world c.object.result
-    (standing_whole g.L.Labels.made g.L.Labels.meaning c.args.labels.now c.args.stack.now c.args.world.now (scopes_of c.args.stack.now.tasks) (next.Object c.args.list c.args.count) (λ frames scopes whole. whole) c.requires.standing) c.object.ensures.rests c.object.ensures.stands c.object.ensures.belongs c.object.ensures.grows
+    standing_moved g.L.Labels.made g.L.Labels.meaning g.L.Labels.room g.L.Labels.firm c.args.labels.now c.object.new.labels c.object.ensures.kept 4 c.args.stack.now c.object.new.stack c.args.world.now c.object.new.world c.object.result
+    (standing_whole g.L.Labels.made g.L.Labels.meaning c.args.labels.now c.args.stack.now c.args.world.now (scopes_of c.args.stack.now.tasks) (next.Object c.args.list c.args.count) (λ frames scopes whole. whole) refl c.requires.standing) c.object.ensures.moved c.object.ensures.belongs c.object.ensures.grows
 
 pub returns-clause-lowers : goal.returns-clause-lowers
-returns-clause-lowers g c = lowers c.args.stack.now c.object.new.stack (next.Object c.args.list c.args.count) 1 c.object.result (omega arith) c.object.ensures.adds
+returns-clause-lowers g c = lowers_moved (g.L.Labels.made c.object.new.labels) 4 c.args.stack.now c.object.new.stack c.args.world.now c.object.new.world (next.Object c.args.list c.args.count) c.object.result (omega arith) c.object.ensures.moved

@@ -1,18 +1,20 @@
-use Rattle.std.proofs.Common.{arith}
+use Rattle.std.proofs.Common.{refl, arith}
 use Rattle.step_work.specs.declared.work.Next.TheVariants as next
 use Rattle.step_work.specs.Kept.{scopes_of}
 use Rattle.step_work.specs.Going.{here}
-use Rattle.step_core.proofs.Begun.{lowers}
-use Rattle.step_core.proofs.Stood.{standing_acts, standing_whole}
+use Rattle.step_work.specs.Settings.{setting_of}
+use Rattle.step_core.proofs.Continued.{place_present}
+use Rattle.step_core.proofs.Moves.{lowers_moved, standing_moved}
+use Rattle.step_core.proofs.Stood.{standing_whole}
 use Rattle.step_core.proofs.entering.begin_this.Goals as goal
 
 pub returns-clause-begins : goal.returns-clause-begins
-returns-clause-begins g c tables inputs functions reading told turns read = c.this.ensures.goes_on tables inputs functions reading here told turns read c.in_ok-place.ensures.place
+returns-clause-begins g c tables inputs set functions natives reading told turns read = c.this.ensures.goes_on.begins tables inputs set functions reading (setting_of natives here) told turns read (place_present c.args.stack.now.tasks natives c.in_ok-place.place.0 c.in_ok-place.ensures.place)
 
 pub returns-clause-standing : goal.returns-clause-standing
 returns-clause-standing g c =
-    standing_acts g.L.Labels.made g.L.Labels.meaning g.L.Labels.room g.L.Labels.firm c.args.labels.now c.this.new.labels c.this.ensures.kept c.args.stack.now c.this.new.stack c.args.world.now c.this.new.world c.this.result
-    (standing_whole g.L.Labels.made g.L.Labels.meaning c.args.labels.now c.args.stack.now c.args.world.now (scopes_of c.args.stack.now.tasks) next.This (λ frames scopes whole. whole) c.requires.standing) c.this.ensures.rests c.this.ensures.stands c.this.ensures.belongs c.this.ensures.grows
+    standing_moved g.L.Labels.made g.L.Labels.meaning g.L.Labels.room g.L.Labels.firm c.args.labels.now c.this.new.labels c.this.ensures.kept 6 c.args.stack.now c.this.new.stack c.args.world.now c.this.new.world c.this.result
+    (standing_whole g.L.Labels.made g.L.Labels.meaning c.args.labels.now c.args.stack.now c.args.world.now (scopes_of c.args.stack.now.tasks) next.This (λ frames scopes whole. whole) refl c.requires.standing) c.this.ensures.moved c.this.ensures.belongs c.this.ensures.grows
 
 pub returns-clause-lowers : goal.returns-clause-lowers
-returns-clause-lowers g c = lowers c.args.stack.now c.this.new.stack next.This 1 c.this.result (omega arith) c.this.ensures.adds
+returns-clause-lowers g c = lowers_moved (g.L.Labels.made c.this.new.labels) 6 c.args.stack.now c.this.new.stack c.args.world.now c.this.new.world next.This c.this.result (omega arith) c.this.ensures.moved

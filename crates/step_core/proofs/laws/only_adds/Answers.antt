@@ -1,13 +1,16 @@
 use Rattle.std.proofs.Common.{map}
 use Rattle.function_table.specs.Tables.{table}
 use Rattle.js_values.specs.Readings.{read_value}
+use Rattle.step_converting.specs.Framed.{steps_at}
 use Rattle.step_world.specs.Worlds.{state_of}
-use Rattle.step_work.specs.Pending.{env_above}
 use Rattle.step_work.specs.Going.{here}
+use Rattle.step_work.specs.Pending.{setting_above}
+use Rattle.step_work.specs.Settings.{setting_of}
 use Rattle.step_core.proofs.Adding.{adds_lines}
 use Rattle.step_core.proofs.laws.only_adds.Goals as goal
 
 pub returns : goal.returns
-returns g c = λ reading m told.
+returns g c = λ set tells asks reading m told.
     let stack = m.progress.stack in
-    adds_lines m.policy.now m.inputs.now (table m.functions) reading stack.tasks here (env_above stack.tasks here) m.next (map (read_value reading) stack.loose) (state_of reading m.progress.world told m.progress.turns)
+    let e = setting_of (steps_at tells asks m.progress.natives m.next) here in
+    adds_lines m.policy.now m.inputs.now set (table m.functions) reading stack.tasks e (setting_above stack.tasks e) m.next (map (read_value reading) stack.loose) (state_of reading m.progress.world told m.progress.turns)

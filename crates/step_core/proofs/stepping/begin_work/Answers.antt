@@ -1,13 +1,19 @@
-use Rattle.step_world.specs.Worlds.{state_of}
-use Rattle.step_work.specs.Resuming.{coming}
-use Rattle.step_core.specs.Outlook.{ahead}
-use Rattle.step_work.specs.Going.{here}
-use Rattle.step_core.proofs.StepLaws.{moved_steps, lowers_move}
+use Rattle.step_work.specs.Kept.{scopes_of}
+use Rattle.step_work.specs.Pending.{values_of}
+use Rattle.step_natives.specs.States.{waiting_steps}
+use Rattle.std.proofs.Common.{length}
+use Rattle.step_core.proofs.StepLaws.{all_wait, began_steps, begins_still, standing_waiting}
 use Rattle.step_core.proofs.stepping.begin_work.Goals as goal
 
-pub returns-clause-stepped : goal.returns-clause-stepped
-returns-clause-stepped g c tables inputs functions =
+pub begin_move-moved-requires : goal.begin_move-moved-requires
+begin_move-moved-requires g c =
     let old = c.args.progress.now in
-    moved_steps g.L.Labels.made g.L.Labels.meaning c.begin_move-moved.new.labels tables inputs functions (λ reading told turns. coming tables inputs functions reading old.stack c.args.next here (state_of reading old.world told turns))
-    (record { world = c.begin_move-moved.new.world; stack = c.begin_move-moved.new.stack; turns = old.turns }) (ahead old c.args.next) c.begin_move-moved.result c.step_of.result c.step_of.ensures
-    (c.begin_move-moved.ensures.begins tables inputs functions) c.begin_move-moved.ensures.standing (lowers_move old.stack c.begin_move-moved.new.stack c.args.next old.turns c.begin_move-moved.result (c.begin_move-moved.ensures.lowers c.requires.begins)) c.begin_move-moved.ensures.stopped
+    record { standing = standing_waiting g.L.Labels.made g.L.Labels.meaning c.args.labels.now old.stack old.world (values_of c.args.next) (length old.natives.states) (scopes_of old.stack.tasks) c.args.next (begins_still c.args.next c.requires.begins) c.requires.standing }
+
+pub returns-clause-stepped : goal.returns-clause-stepped
+returns-clause-stepped g c tables inputs set functions tells asks =
+    let old = c.args.progress.now in
+    let still = begins_still c.args.next c.requires.begins in
+    began_steps g.L.Labels.made g.L.Labels.meaning c.begin_move-moved.new.labels tables inputs set functions tells asks old c.args.next c.begin_move-moved.new.stack c.begin_move-moved.new.world c.begin_move-moved.result c.still_step.result c.still_step.ensures still
+    (all_wait g.L.Labels.made g.L.Labels.meaning c.args.labels.now old.stack old.world (values_of c.args.next) (length old.natives.states) (scopes_of old.stack.tasks) c.args.next still c.requires.standing)
+    (c.begin_move-moved.ensures.begins tables inputs set functions (waiting_steps tells asks old.natives)) c.begin_move-moved.ensures.standing (c.begin_move-moved.ensures.lowers c.requires.begins) c.begin_move-moved.ensures.stopped

@@ -1,11 +1,14 @@
 use Rattle.step_core.proofs.stepping.proceed.Goals as goal
 
 pub returns-in-Raise-clause-stepped : goal.returns-in-Raise-clause-stepped
-returns-in-Raise-clause-stepped g c inputs functions = rw c.in-Raise.is (c.raised.ensures.stepped inputs functions)
+returns-in-Raise-clause-stepped g c inputs set functions tells asks = rw c.in-Raise.is (c.raised.ensures.stepped inputs set functions tells asks)
+
+pub returns-in-Answered-clause-stepped : goal.returns-in-Answered-clause-stepped
+returns-in-Answered-clause-stepped g c inputs set functions tells asks = rw c.in-Answered.is (c.tell.ensures.stepped c.args.policy.now inputs set functions tells asks)
 
 pub returns-in_default : goal.returns-in_default
 returns-in_default g c = record {
-  stepped = λ inputs functions. c.resumed.ensures.stepped c.args.policy.now inputs functions;
+  stepped = λ inputs set functions tells asks. c.resumed.ensures.stepped c.args.policy.now inputs set functions tells asks;
   grows = c.resumed.ensures.grows;
   kept = c.resumed.ensures.kept;
 }

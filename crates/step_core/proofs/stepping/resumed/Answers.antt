@@ -1,20 +1,14 @@
-use Rattle.std.proofs.Common.{◌+◌, map, take}
-use Rattle.js_values.specs.Readings.{read_value}
-use Rattle.step_world.specs.Worlds.{state_of}
+use Rattle.std.proofs.Common.{refl}
+use Rattle.step_natives.specs.States.{waiting_steps}
 use Rattle.step_work.specs.declared.work.Next.TheVariants as next
-use Rattle.step_work.specs.Loads.{weight}
-use Rattle.step_work.specs.Pending.{after, behind, env_above, owns}
-use Rattle.step_core.specs.Outlook.{ahead}
-use Rattle.step_work.specs.Going.{here}
 use Rattle.step_core.specs.Stepping.{completion_above}
-use Rattle.step_core.proofs.StepLaws.{moved_steps, lowers_by}
+use Rattle.step_core.proofs.StepLaws.{after_steps}
 use Rattle.step_core.proofs.stepping.resumed.Goals as goal
 
 pub returns-clause-stepped : goal.returns-clause-stepped
-returns-clause-stepped g c tables inputs functions =
+returns-clause-stepped g c tables inputs set functions tells asks =
     let old = c.args.progress.now in
     let w = c.args.work in
-    moved_steps g.L.Labels.made g.L.Labels.meaning c.resume-moved.new.labels tables inputs functions
-    (λ reading told turns. behind tables inputs functions reading old.stack.tasks here (after tables inputs functions w (map (read_value reading) (take (owns w) old.stack.loose)) (env_above old.stack.tasks here) (completion_above tables inputs functions reading old w) (state_of reading old.world told turns)))
-    (record { world = c.resume-moved.new.world; stack = c.resume-moved.new.stack; turns = old.turns }) (ahead old next.Value + weight w) c.resume-moved.result c.step_of.result c.step_of.ensures
-    (c.resume-moved.ensures.resumes tables inputs functions) c.resume-moved.ensures.standing (lowers_by old.stack c.resume-moved.new.stack (weight w) old.turns c.resume-moved.result c.resume-moved.ensures.adds) c.resume-moved.ensures.stopped
+    after_steps g.L.Labels.made g.L.Labels.meaning c.resume-moved.new.labels tables inputs set functions tells asks old w (λ reading. completion_above tables inputs set functions tells asks reading old w) next.Value
+    c.resume-moved.new.stack c.resume-moved.new.world c.resume-moved.result c.still_step.result c.still_step.ensures refl c.requires.natives
+    (c.resume-moved.ensures.resumes tables inputs set functions (waiting_steps tells asks old.natives)) c.resume-moved.ensures.standing c.resume-moved.ensures.adds c.resume-moved.ensures.stopped

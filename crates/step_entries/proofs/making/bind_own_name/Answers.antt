@@ -1,9 +1,4 @@
-use Rattle.std.proofs.Common.{ap, sym, ◌∙◌, ◌++◌, Some, List, Option, subst, ◌≡◌, false}
-use Rattle.js_ast.specs.Views.{view_name}
-use Rattle.js_ast.specs.declared.trees.Ident.{Ident}
-use Rattle.js_values.specs.declared.value.Labelled.{Labelled}
-use Rattle.js_values.specs.Records.{Record}
-use Rattle.es_meaning.specs.Functions.{own_name}
+use Rattle.std.proofs.Common.{Some, false}
 use Rattle.step_entries.proofs.BindingLaws.{first_bound}
 use Rattle.step_entries.proofs.making.bind_own_name.Goals as goal
 

@@ -1,4 +1,4 @@
-use Rattle.std.proofs.Common.{ap, ◌∙◌}
+use Rattle.std.proofs.Common.{ap}
 use Rattle.js_ast.specs.declared.trees.Function.{out-Function}
 use Rattle.js_ast.specs.Trees.{name_of}
 use Rattle.js_ast.specs.Views.{view_function, view_name}

@@ -1,4 +1,4 @@
-use Rattle.std.proofs.Common.{◌≤◌, arith}
+use Rattle.std.proofs.Common.{arith}
 use Rattle.step_jumps.proofs.Reaching.{reached_inside, reached_there}
 use Rattle.step_jumps.proofs.again.reached.Goals as goal
 

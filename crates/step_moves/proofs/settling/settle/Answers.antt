@@ -1,20 +1,11 @@
 use Rattle.js_values.specs.Readings.{HasValue}
-use Rattle.step_work.proofs.Handed.{stop_passes}
-use Rattle.step_moves.proofs.Settled.{settled_passes}
+use Rattle.std.proofs.Common.{arith}
+use Rattle.step_moves.proofs.Begun.{handed_err}
+use Rattle.step_moves.proofs.Moved.{has_whatever, moved_off}
 use Rattle.step_moves.proofs.settling.settle.Goals as goal
 
-pub returns-in_err-came-clause-settles : goal.returns-in_err-came-clause-settles
-returns-in_err-came-clause-settles g c = rw c.in_err-came.was (settled_passes c.args.stack.now c.args.stack.now c.in_err-came.field-0.0 c.from_residual.result c.from_residual.ensures.1)
+pub returns-in_err-came-clause-hands : goal.returns-in_err-came-clause-hands
+returns-in_err-came-clause-hands g c = handed_err _ _ c.in_err-came.field-0.0 c.in_err-came.ensures.parts c.from_residual.ensures.1
 
-pub returns-in_err-came-clause-stopped : goal.returns-in_err-came-clause-stopped
-returns-in_err-came-clause-stopped g c =
-    stop_passes (HasValue (g.L.Labels.made c.args._labels.now)) (g.L.Labels.made c.args._labels.now) c.in_err-came.field-0.0 c.from_residual.result (rw c.in_err-came.was at c.requires.made) c.from_residual.ensures.1
-
-pub returns-in_ok-lay-in-Goes-clause-stands : goal.returns-in_ok-lay-in-Goes-clause-stands
-returns-in_ok-lay-in-Goes-clause-stands g c = λ old new stands. rw c.in-Goes.is at (rw c.in_ok-came.was at stands)
-
-pub returns-in_ok-lay-in-Throws-clause-stands : goal.returns-in_ok-lay-in-Throws-clause-stands
-returns-in_ok-lay-in-Throws-clause-stands g c = λ old new stands. rw c.in-Throws.is at (rw c.in_ok-came.was at stands)
-
-pub returns-in-Leaves-clause-stands : goal.returns-in-Leaves-clause-stands
-returns-in-Leaves-clause-stands g c = λ old new stands. rw c.in-Leaves.is at (rw c.in_ok-came.was at stands)
+pub returns-in-Off-clause-moved : goal.returns-in-Off-clause-moved
+returns-in-Off-clause-moved g c = λ world_old world_new stands. moved_off c.args.stack.now c.go_on.new.stack c.args.answer c.in-Off.next (omega arith) (has_whatever (HasValue (g.L.Labels.made c.args.labels.now)) (g.L.Labels.made c.args.labels.now) c.args.answer c.requires.made) stands (rw c.in-Off.is at c.in_ok-came.ensures.parts)

@@ -4,6 +4,7 @@ use Rattle.es_meaning.specs.Evaluation.{used}
 use Rattle.flow_meaning.specs.Planned.{asking, planned}
 use Rattle.js_values.specs.Readings.{read_value}
 use Rattle.step_world.proofs.ActLaws.{Belongs-later}
+use Rattle.step_work.specs.Settings.{entrance}
 use Rattle.step_work.specs.declared.work.Use.TheVariants as use_as
 use Rattle.step_work.specs.Shapes.{use_of}
 use Rattle.step_moves.proofs.Begun.{begun_at}
@@ -16,6 +17,4 @@ pub give_text-requires-clause-belongs : goal.give_text-requires-clause-belongs
 give_text-requires-clause-belongs g c = Belongs-later g.L.Labels.made g.L.Labels.meaning g.L.Labels.room g.L.Labels.firm c.args.labels.now c.resolve.new.labels c.in_ok-named.ensures.kept g.met.L.Labels.rising c.args.world.now c.requires.belongs
 
 pub returns-clause-goes_on : goal.returns-clause-goes_on
-returns-clause-goes_on g c =
-    begun_at g.L.Labels.made g.L.Labels.meaning c.resolve.new.labels Value (λ tables inputs functions reading i. used (planned tables inputs functions) (asking tables inputs functions) (use_of use_as.GivenText (map (read_value reading) c.args.stack.now.loose)) i) c.args.variable.now.text c.args.at.0 c.in_ok-named.named g.L.Labels.room g.L.Labels.firm c.give_text.new.labels c.give_text.ensures.kept
-    c.args.stack.now c.give_text.new.stack c.args.world.now c.give_text.new.world c.give_text.result c.in_ok-named.ensures.resolved c.give_text.ensures.goes_on
+returns-clause-goes_on g c = begun_at Value (λ tables inputs set functions reading i. used (planned tables inputs set functions) (entrance tables inputs set functions) (asking tables inputs set functions) (use_of use_as.GivenText (map (read_value reading) c.args.stack.now.loose)) i) c.args.variable.now.text c.args.at.0 c.in_ok-named.named c.give_text.ensures.kept c.in_ok-named.ensures.resolved c.give_text.ensures.goes_on

@@ -1,5 +1,9 @@
+use Rattle.std.proofs.Common.{[]}
+use Rattle.native_protocol.specs.declared.request.ErrorKind.TheVariants as kinds
 use Rattle.es_meaning.specs.Operations.{One}
-use Rattle.step_names.proofs.PutLaws.{Belongs-records, put_done, put_stopped, put_immutable}
+use Rattle.step_world.specs.Accesses.{read_putting}
+use Rattle.step_names.proofs.ThrowLaws.{error_recast}
+use Rattle.step_names.proofs.PutLaws.{with_records, Belongs-records, put_done, put_stopped, put_immutable}
 use Rattle.step_names.proofs.assigning.assign.Goals as goal
 
 pub throw_without_cause-requires : goal.throw_without_cause-requires
@@ -27,4 +31,4 @@ pub returns-in-Err-Immutable-clause-acts : goal.returns-in-Err-Immutable-clause-
 returns-in-Err-Immutable-clause-acts g c =
     λ walk.
     let refused = rw c.in-Err-Immutable.field-0-is at c.in-Err-Immutable.ensures.assigns.refused in
-    put_immutable g.L.Labels.made g.L.Labels.meaning g.L.Labels.room g.L.Labels.firm c.args.labels.now c.assign.new.labels c.assign.ensures.kept c.args.world.now c.requires.belongs c.context-context.result c.context-context.ensures.made c.context-context.ensures.meaning c.args.e.0 c.args.name.now walk c.args.value c.requires.bound c.throw_without_cause.new.labels c.throw_without_cause.ensures.kept c.assign.new.self c.throw_without_cause.new.world c.throw_without_cause.result c.in-Err-Immutable.ensures.assigns.unchanged refused (c.throw_without_cause.ensures.acts One (λ reading x. x))
+    put_immutable g.L.Labels.made g.L.Labels.meaning g.L.Labels.room g.L.Labels.firm c.args.labels.now c.assign.new.labels c.assign.ensures.kept c.args.world.now c.requires.belongs c.context-context.result c.context-context.ensures.made c.context-context.ensures.meaning c.args.e.0 c.args.name.now walk c.args.value c.requires.bound c.throw_without_cause.new.labels c.throw_without_cause.ensures.kept c.assign.new.self c.throw_without_cause.new.world c.throw_without_cause.result c.in-Err-Immutable.ensures.assigns.unchanged refused (error_recast g.L.Labels.made g.L.Labels.meaning c.throw_without_cause.new.labels (λ reading x. tt) (λ reading. read_putting reading) kinds.TypeError (λ reading. []) (with_records c.assign.new.self c.args.world.now) c.throw_without_cause.new.world c.throw_without_cause.result c.throw_without_cause.ensures.made (c.throw_without_cause.ensures.acts One (λ reading x. tt)))

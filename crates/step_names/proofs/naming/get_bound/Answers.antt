@@ -1,5 +1,8 @@
-use Rattle.es_meaning.specs.Operations.{Value}
-use Rattle.js_values.specs.Readings.{read_value}
+use Rattle.std.proofs.Common.{[]}
+use Rattle.native_protocol.specs.declared.request.ErrorKind.TheVariants as kinds
+use Rattle.es_meaning.specs.Operations.{One}
+use Rattle.step_world.specs.Accesses.{read_access}
+use Rattle.step_names.proofs.ThrowLaws.{error_recast}
 use Rattle.step_names.proofs.NameLaws.{name_has, name_read, name_unbound}
 use Rattle.step_names.proofs.naming.get_bound.Goals as goal
 
@@ -10,4 +13,4 @@ pub returns-in-Some-clause-made : goal.returns-in-Some-clause-made
 returns-in-Some-clause-made g c = name_has (g.L.Labels.made c.args.labels.now) c.args.world.now.records c.args.e.0 c.args.name.now c.in-Some.value c.requires.belongs.records (rw c.in-Some.is at c.in_ok-value.ensures)
 
 pub returns-in-None-clause-acts : goal.returns-in-None-clause-acts
-returns-in-None-clause-acts g c = name_unbound g.L.Labels.made g.L.Labels.meaning c.throw_without_cause.new.labels c.args.world.now c.args.e.0 c.args.name.now (λ reading. read_value reading) c.throw_without_cause.new.world c.throw_without_cause.result (rw c.in-None.is at c.in_ok-value.ensures) (c.throw_without_cause.ensures.acts Value (λ reading. read_value reading))
+returns-in-None-clause-acts g c = name_unbound g.L.Labels.made g.L.Labels.meaning c.throw_without_cause.new.labels c.args.world.now c.args.e.0 c.args.name.now c.throw_without_cause.new.world c.throw_without_cause.result (rw c.in-None.is at c.in_ok-value.ensures) (error_recast g.L.Labels.made g.L.Labels.meaning c.throw_without_cause.new.labels (λ reading x. tt) (λ reading. read_access reading) kinds.ReferenceError (λ reading. []) c.args.world.now c.throw_without_cause.new.world c.throw_without_cause.result c.throw_without_cause.ensures.made (c.throw_without_cause.ensures.acts One (λ reading x. tt)))

@@ -10,6 +10,7 @@ use Rattle.step_numbers.specs.Assigned.{given_by, name_in}
 use Rattle.step_numbers.specs.Evaluated.{combines}
 use Rattle.step_numbers.proofs.ChangeLaws.{changes_later}
 use Rattle.step_numbers.proofs.TriedLaws.{both_given, changed, never, no_arithmetic, no_change, no_number, no_old, no_operand}
+use Rattle.step_numbers.proofs.NumberLaws.{none_converts}
 use Rattle.step_numbers.proofs.assigning.updated_value.Goals as goal
 
 pub returns-clause-gives : goal.returns-clause-gives
@@ -17,9 +18,9 @@ returns-clause-gives g c place operator by =
     let old = c.in_ok-old.old in
     let operand = c.in_ok-operand.operand in
     let given = c.in_ok-given.given in
-    updated_gives g.L.Labels.made g.L.Labels.meaning g.L.Labels.room g.L.Labels.firm c.named.new.labels c.number.new.labels c.joined.new.labels c.put.new.labels c.number.ensures.kept c.joined.ensures.kept c.put.ensures.kept
+    updated_gives g.L.Labels.made g.L.Labels.meaning g.met.L.Labels.rising g.L.Labels.room g.L.Labels.firm c.named.new.labels c.number.new.labels c.joined.new.labels c.put.new.labels c.number.ensures.kept c.joined.ensures.kept c.put.ensures.kept
     place c.args.target.now.at c.args.at.0 c.args.world.now c.put.new.world c.args.turns (view_expr c.args.target.now) (view_expr c.args.value.now) operator c.args.by c.in_ok-name.name.now (labelled_number old.number old.label) (labelled_number operand.number operand.label) (Num given.number) given.label
-    operand.turns given.turns c.in_ok-name.ensures.name c.requires.turns by c.in_ok-old.ensures.named c.in_ok-operand.ensures.evaluates c.in_ok-given.ensures.gives c.in_ok-given.ensures.left c.in_ok-given.ensures.made c.in_ok-given.ensures.means
+    operand.turns given.turns c.in_ok-name.ensures.name c.requires.turns by (none_converts c.args.by old.number operand.number) c.in_ok-old.ensures.named c.in_ok-operand.ensures.evaluates c.in_ok-given.ensures.gives c.in_ok-given.ensures.left c.in_ok-given.ensures.made c.in_ok-given.ensures.means
     c.in_ok-put.ensures.puts
 
 pub returns-in_err-old-clause-rebinds : goal.returns-in_err-old-clause-rebinds

@@ -30,7 +30,7 @@ returns-in-Paren-clause-evaluates g t c =
 pub returns-in_ok-second-in-Binary-clause-evaluates : goal.returns-in_ok-second-in-Binary-clause-evaluates
 returns-in_ok-second-in-Binary-clause-evaluates g t c =
     let is : view_expr c.args.e.now ≡ trees.binary c.args.e.now.at (view_expr c.in-Binary.left) c.in-Binary.operator (view_expr c.in-Binary.right) = search (rules, the_lemmas, c.in-Binary.is) in
-    binary_counts g.L.Labels.made g.L.Labels.meaning g.L.Labels.room g.L.Labels.firm c.number-in-Binary.new.labels c.number-in-Binary-2.new.labels c.joined.new.labels c.number-in-Binary-2.ensures.kept c.joined.ensures.kept
+    binary_counts g.L.Labels.made g.L.Labels.meaning g.met.L.Labels.rising g.L.Labels.room g.L.Labels.firm c.number-in-Binary.new.labels c.number-in-Binary-2.new.labels c.joined.new.labels c.number-in-Binary-2.ensures.kept c.joined.ensures.kept
     (view_expr c.args.e.now) (view_expr c.in-Binary.left) (view_expr c.in-Binary.right) c.args.e.now.at c.args.at.0 c.args.world.now c.args.turns c.in-Binary.operator c.in_ok-first-in-Binary.first c.in_ok-second-in-Binary.second c.joined.result is c.if-turns-eq0.false
     c.in_ok-first-in-Binary.ensures.evaluates c.in_ok-second-in-Binary.ensures.evaluates c.joined.ensures.gives c.joined.ensures.both c.joined.ensures.made c.joined.ensures.means c.joined.ensures.left
 

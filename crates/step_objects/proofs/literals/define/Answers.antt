@@ -1,13 +1,21 @@
-use Rattle.std.proofs.Common.{ap, sym, ◌∙◌, is_some}
-use Rattle.step_objects.proofs.LiteralLaws.{is_some_mapped, defines_present, defines_absent}
+use Rattle.std.proofs.Common.{sym}
+use Rattle.step_names.proofs.HeldLaws.{own_has}
+use Rattle.step_names.proofs.MeansLaws.{means_later}
+use Rattle.step_objects.specs.Literals.{kind_of, label_over}
+use Rattle.step_objects.proofs.LiteralLaws.{defines_absent, defines_present}
 use Rattle.step_objects.proofs.literals.define.Goals as goal
 
-pub returns-then-is_some-clause-acts : goal.returns-then-is_some-clause-acts
-returns-then-is_some-clause-acts g c =
-    defines_present g.L.Labels.made g.L.Labels.meaning c.write.new.labels c.args.heap.now c.write.new.self c.args.o.0 c.args.key c.args.context c.args.value c.write.result
-    (sym (ap is_some c.own.ensures) ∙ is_some_mapped (λ s. s.now) c.own.result ∙ sym c.is_some.ensures ∙ c.if-is_some.true) c.write.ensures.acts
+pub returns-in_default-clause-does : goal.returns-in_default-clause-does
+returns-in_default-clause-does g c =
+    defines_absent g.L.Labels.made g.L.Labels.meaning c.add.new.labels c.args.heap.now c.add.new.self c.args.o.0 (kind_of c.args.part.part) c.args.part.key c.args.context c.args.part.value c.body_of-body.result c.marks_of-marks.result c.add.result
+    (sym c.in_default.ensures) c.body_of-body.ensures c.marks_of-marks.ensures c.add.ensures.acts
 
-pub returns-clause-acts : goal.returns-clause-acts
-returns-clause-acts g c =
-    defines_absent g.L.Labels.made g.L.Labels.meaning c.add.new.labels c.args.heap.now c.add.new.self c.args.o.0 c.args.key c.args.context c.args.value c.add.result
-    (sym (ap is_some c.own.ensures) ∙ is_some_mapped (λ s. s.now) c.own.result ∙ sym c.is_some.ensures ∙ c.if-is_some.false) c.add.ensures.acts
+pub label_over-requires-clause-old : goal.label_over-requires-clause-old
+label_over-requires-clause-old g c = (own_has c.args.heap.now c.args.o.0 (g.L.Labels.made c.args.labels.now) c.args.part.key c.in-Some.slot.now c.requires.belongs (sym c.in-Some.ensures)).0
+
+pub returns-clause-does : goal.returns-clause-does
+returns-clause-does g c =
+    defines_present g.L.Labels.made g.L.Labels.meaning c.redefine.new.labels c.args.heap.now c.redefine.new.heap c.args.o.0 (kind_of c.args.part.part) c.args.part.key c.args.context c.args.part.value c.in-Some.slot.now c.body_over-body.result c.marks_of-marks.result c.in_ok-label.label c.redefine.result
+    (sym c.in-Some.ensures) c.body_over-body.ensures c.marks_of-marks.ensures
+    (means_later g.L.Labels.made g.L.Labels.meaning g.L.Labels.room g.L.Labels.firm c.label_over.new.labels c.redefine.new.labels c.redefine.ensures.kept c.in_ok-label.label (λ reading. label_over (kind_of c.args.part.part) (reading c.args.part.value.label) (reading c.in-Some.slot.now.label)) c.in_ok-label.ensures.means)
+    c.redefine.ensures.does

@@ -7,12 +7,12 @@ use Rattle.js_values.specs.Readings.{HasHeap, HasValue}
 use Rattle.step_objects.specs.Literals.{IsLiteral}
 use Rattle.step_objects.proofs.literals.define_all.Given as goal
 
--- the object has the properties of the rows so far, and those that are left have labels of the store
-abbrev pub invariant-loop-key : goal.invariant-loop-key
-invariant-loop-key g l = record {
-  whole : l.yielded ++ into_iter_items l.key-iterator ≡ into_iter_items l.initial.key-iterator;
-  count : into_iter_len l.key-iterator ≡ length (into_iter_items l.key-iterator);
-  left : All (λ r. HasValue (g.L.Labels.made l.labels) r.1) (into_iter_items l.key-iterator);
+-- the object has the properties of the parts so far, and those that are left have labels of the store
+abbrev pub invariant-loop-part : goal.invariant-loop-part
+invariant-loop-part g l = record {
+  whole : l.yielded ++ into_iter_items l.part-iterator ≡ into_iter_items l.initial.part-iterator;
+  count : into_iter_len l.part-iterator ≡ length (into_iter_items l.part-iterator);
+  left : All (λ p. HasValue (g.L.Labels.made l.labels) p.value) (into_iter_items l.part-iterator);
   kept : IsKept g.L.Labels.made g.L.Labels.meaning g.L.Labels.room g.L.Labels.firm l.fn.labels l.labels;
   belongs : HasHeap (g.L.Labels.made l.labels) l.heap;
   as_many : length l.heap ≡ length l.fn.heap;

@@ -14,5 +14,5 @@ returns-clause-goes_on g c =
 pub returns-clause-opened : goal.returns-clause-opened
 returns-clause-opened g c =
     opened_keeping c.args.stack.now c.push.new.self c.push.new.self (work.EndLabel c.len-depth.result c.args.text) c.args.frames.now.frames c.enter.new.frames.frames (Ok (next.Stmt c.args.body))
-    (ap (λ d. d ∷ []) c.len-depth.ensures.length) c.in_ok-push.ensures.scopes c.in_ok-push.ensures.operands c.in_ok-enter.ensures.length
-    (record { values = ap (λ k. length k.loose) c.in_ok-push.ensures.ok; scopes = refl; operands = refl })
+    (ap (λ d. d ∷ []) c.len-depth.ensures.length) refl c.in_ok-push.ensures.scopes c.in_ok-push.ensures.natives c.in_ok-push.ensures.operands c.in_ok-enter.ensures.length
+    (record { values = ap (λ k. length k.loose) c.in_ok-push.ensures.ok; scopes = refl; natives = refl; operands = refl })

@@ -3,16 +3,16 @@ use Rattle.js_values.specs.Readings.{read_value}
 use Rattle.std.proofs.Common.{map}
 use Rattle.step_work.specs.declared.work.Next.TheVariants as next
 use Rattle.step_work.specs.declared.work.Work.TheVariants as work
-use Rattle.step_work.specs.Pending.{behind, env_above, first_or_undefined}
+use Rattle.step_work.specs.Pending.{behind, setting_above, first_or_undefined}
 use Rattle.step_switches.specs.Clauses.{found_test, testing}
 use Rattle.step_switches.proofs.Pushed.{pushed_plan}
 use Rattle.step_switches.proofs.testing.test_from.Goals as goal
 
 pub returns-clause-goes_on : goal.returns-clause-goes_on
-returns-clause-goes_on g c = λ tables inputs functions reading e s.
-    let f = env_above c.args.stack.now.tasks e in
+returns-clause-goes_on g c = λ tables inputs set functions reading e s.
+    let f = (setting_above c.args.stack.now.tasks e).env in
     let v = first_or_undefined (map (read_value reading) c.args.stack.now.loose) in
-    pushed_plan tables inputs functions reading (work.Compared c.args.all c.in-Some.test.number) (next.Expr c.in-Some.test.test) c.args.stack.now c.push.new.self e s c.in_ok-push.ensures.ok
-    ∙ ap (behind tables inputs functions reading c.args.stack.now.tasks e)
-    (subst (λ xs. found_test tables inputs functions xs (Some c.in-Some.test) v f s ≡ testing tables inputs functions xs c.args.from v f s) c.items.ensures
-    (subst (λ o. found_test tables inputs functions c.items.result.now o v f s ≡ testing tables inputs functions c.items.result.now c.args.from v f s) c.in-Some.is (c.in_ok-test.ensures tables inputs functions v f s)))
+    pushed_plan tables inputs set functions reading (work.Compared c.args.all c.in-Some.test.number) (next.Expr c.in-Some.test.test) c.args.stack.now c.push.new.self e s c.in_ok-push.ensures.ok
+    ∙ ap (behind tables inputs set functions reading c.args.stack.now.tasks e)
+    (subst (λ xs. found_test tables inputs set functions xs (Some c.in-Some.test) v f s ≡ testing tables inputs set functions xs c.args.from v f s) c.items.ensures
+    (subst (λ o. found_test tables inputs set functions c.items.result.now o v f s ≡ testing tables inputs set functions c.items.result.now c.args.from v f s) c.in-Some.is (c.in_ok-test.ensures tables inputs set functions v f s)))

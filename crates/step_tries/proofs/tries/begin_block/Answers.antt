@@ -12,7 +12,7 @@ pub returns-clause-goes_on : goal.returns-clause-goes_on
 returns-clause-goes_on g c =
     let s = view_stmt c.args.s.now in
     pushed_beside
-    (λ tables inputs functions vs e t. and_plan (statements (planned tables inputs functions) (asking tables inputs functions) (statements_in (view_block c.args.block.now)) e t) (end_block (handles s) (finishes s) (handler_of tables inputs functions s e) (last_of tables inputs functions s e) c.args.depth))
+    (λ tables inputs set functions vs e t. and_plan (statements (planned tables inputs set functions) (asking tables inputs set functions) (statements_in (view_block c.args.block.now)) e.env t) (end_block (handles s) (finishes s) (handler_of tables inputs set functions s e.env) (last_of tables inputs set functions s e.env) c.args.depth))
     (work.EndTry c.args.depth) c.args.stack.now c.push.new.self c.begin_statements.new.stack c.begin_statements.result c.in_ok-push.ensures.ok
     (block_begins (view_block c.args.block.now) (view_stmts c.statements.result.now) (work.EndBlock c.args.s c.args.depth) c.push.new.self c.push-2.new.self c.begin_statements.new.stack c.begin_statements.result
     c.statements.ensures c.in_ok-push-2.ensures.ok c.begin_statements.ensures.goes_on)

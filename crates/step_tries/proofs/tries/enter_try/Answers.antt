@@ -1,4 +1,4 @@
-use Rattle.std.proofs.Common.{ap, sym, ◌∙◌, ◌++◌, ◌∷◌, [], map}
+use Rattle.std.proofs.Common.{ap, ◌∙◌, ◌++◌, ◌∷◌, [], map}
 use Rattle.flow_frames.specs.Changes.{pushed}
 use Rattle.flow_frames.specs.Held.{seen_frame}
 use Rattle.flow_frames.specs.declared.kind.Kind.TheVariants as kind
@@ -21,4 +21,4 @@ returns-clause-begins g c =
 pub returns-clause-standing : goal.returns-clause-standing
 returns-clause-standing g c =
     standing_tried g.L.Labels.made g.L.Labels.meaning g.L.Labels.room g.L.Labels.firm c.args.labels.now c.push.new.labels c.push.ensures.kept c.args.s c.args.stack.now c.begin_block.new.stack c.args.world.now c.push.new.self c.len-depth.result c.begin_block.result
-    c.requires.standing c.len-depth.ensures.length c.push.ensures.belongs c.len-deeper.ensures.catch c.in_ok-push.ensures.length c.begin_block.ensures.values c.begin_block.ensures.scopes c.begin_block.ensures.operands
+    c.requires.standing c.len-depth.ensures.length c.push.ensures.belongs c.len-deeper.ensures.catch c.in_ok-push.ensures.length c.begin_block.ensures.values c.begin_block.ensures.scopes c.begin_block.ensures.natives c.begin_block.ensures.operands

@@ -1,4 +1,4 @@
-use Rattle.std.proofs.Common.{ap, sym, ◌∙◌, option_map, Some, None}
+use Rattle.std.proofs.Common.{ap, sym, ◌∙◌, option_map}
 use Rattle.js_ast.specs.Views.{view_block, view_stmt}
 use Rattle.step_tries.proofs.FinishLaws.{finishes_last, finishes_bare}
 use Rattle.step_tries.proofs.tries.finish.Goals as goal

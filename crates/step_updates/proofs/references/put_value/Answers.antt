@@ -1,7 +1,7 @@
 use Rattle.step_updates.proofs.references.put_value.Goals as goal
 
 pub returns-in-Name-clause-acts : goal.returns-in-Name-clause-acts
-returns-in-Name-clause-acts g c = rw c.in-Name.is (λ tables inputs functions. rw c.copied.ensures at c.put_name.ensures.acts)
+returns-in-Name-clause-acts g c = rw c.in-Name.is (rw c.copied.ensures at c.put_name.ensures.acts)
 
 pub returns-in-Property-clause-acts : goal.returns-in-Property-clause-acts
-returns-in-Property-clause-acts g c = rw c.in-Property.is (λ tables inputs functions. c.put_property.ensures.acts)
+returns-in-Property-clause-acts g c = rw c.in-Property.is c.put_property.ensures.acts

@@ -1,9 +1,9 @@
-use Rattle.flow_meaning.specs.Tracked.{typeof_value}
+use Rattle.flow_meaning.specs.Tracked.{accessed_for_typeof}
 use Rattle.step_updates.proofs.references.typeof_value.Goals as goal
 
 pub returns-in-Name-clause-acts : goal.returns-in-Name-clause-acts
-returns-in-Name-clause-acts g c = rw c.in-Name.is (λ tables inputs functions. rw c.copied.ensures at (c.typeof_name.ensures.acts tables inputs functions))
+returns-in-Name-clause-acts g c = rw c.in-Name.is (rw c.copied.ensures at c.typeof_name.ensures.acts)
 
 pub returns-in-Property-clause-acts : goal.returns-in-Property-clause-acts
-unfolding typeof_value
-returns-in-Property-clause-acts g c = rw c.in-Property.is (λ tables inputs functions. c.get_property.ensures.acts)
+unfolding accessed_for_typeof
+returns-in-Property-clause-acts g c = rw c.in-Property.is c.get_property.ensures.acts

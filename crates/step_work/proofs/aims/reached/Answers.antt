@@ -1,4 +1,4 @@
-use Rattle.std.proofs.Common.{◌≡◌, ◌∙◌, ap, sym, arith, ◌-◌, length, take, Some}
+use Rattle.std.proofs.Common.{◌∙◌, ap, sym, arith, ◌-◌, length, take, Some}
 use Rattle.es_meaning.specs.Environments.{find_around}
 use Rattle.std.specs.Option.{option_map}
 use Rattle.step_work.specs.Aims.{env_in}

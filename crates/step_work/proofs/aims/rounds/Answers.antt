@@ -1,4 +1,4 @@
-use Rattle.std.proofs.Common.{◌≡◌, ◌∙◌, ap, sym, arith, ◌-◌, length, take}
+use Rattle.std.proofs.Common.{◌∙◌, ap, arith, ◌-◌, length, take}
 use Rattle.step_work.specs.Aims.{env_in}
 use Rattle.step_work.specs.Going.{here}
 use Rattle.step_work.proofs.AimLaws.{split_last, none_left, front_fewer, env_none, rounds_ended, rounds_more, no_call, at_most_one}

@@ -8,9 +8,9 @@ use Rattle.step_work.proofs.branches.branch.Goals as goal
 pub returns-then-truth-clause-forks : goal.returns-then-truth-clause-forks
 returns-then-truth-clause-forks g c =
     forked g.L.Labels.made g.L.Labels.meaning c.open_branch.new.labels c.args.gives c.args.stack.now c.pop-value.new.self c.open_branch.new.stack c.pop-value.result c.args.frames.now.frames c.open_branch.new.frames.frames c.args.then
-    (λ tables inputs functions v f. next_plan tables inputs functions c.args.then [] f) (λ tables inputs functions v f. next_plan tables inputs functions c.args.other [] f)
+    (λ tables inputs set functions v f. next_plan tables inputs set functions c.args.then [] f) (λ tables inputs set functions v f. next_plan tables inputs set functions c.args.other [] f)
     c.requires.loose c.pop-value.ensures.top c.pop-value.ensures.tasks (ap (λ k. k.tasks) c.in_ok-open_branch.ensures.pushed) c.in_ok-open_branch.ensures.frames
-    (λ tables inputs functions reading f s. ap (λ k. next_plan tables inputs functions c.args.then (map (read_value reading) k.loose) f s) c.in_ok-open_branch.ensures.pushed ∙ ap (λ b. choose b (next_plan tables inputs functions c.args.then [] f) (next_plan tables inputs functions c.args.other [] f) s) c.if-truth.ensures)
+    (λ tables inputs set functions reading f s. ap (λ k. next_plan tables inputs set functions c.args.then (map (read_value reading) k.loose) f s) c.in_ok-open_branch.ensures.pushed ∙ ap (λ b. choose b (next_plan tables inputs set functions c.args.then [] f) (next_plan tables inputs set functions c.args.other [] f) s) c.if-truth.ensures)
 
 pub returns-then-truth-clause-opened : goal.returns-then-truth-clause-opened
 returns-then-truth-clause-opened g c =
@@ -20,9 +20,9 @@ returns-then-truth-clause-opened g c =
 pub returns-clause-forks : goal.returns-clause-forks
 returns-clause-forks g c =
     forked g.L.Labels.made g.L.Labels.meaning c.open_branch.new.labels c.args.gives c.args.stack.now c.pop-value.new.self c.open_branch.new.stack c.pop-value.result c.args.frames.now.frames c.open_branch.new.frames.frames c.args.other
-    (λ tables inputs functions v f. next_plan tables inputs functions c.args.then [] f) (λ tables inputs functions v f. next_plan tables inputs functions c.args.other [] f)
+    (λ tables inputs set functions v f. next_plan tables inputs set functions c.args.then [] f) (λ tables inputs set functions v f. next_plan tables inputs set functions c.args.other [] f)
     c.requires.loose c.pop-value.ensures.top c.pop-value.ensures.tasks (ap (λ k. k.tasks) c.in_ok-open_branch.ensures.pushed) c.in_ok-open_branch.ensures.frames
-    (λ tables inputs functions reading f s. ap (λ k. next_plan tables inputs functions c.args.other (map (read_value reading) k.loose) f s) c.in_ok-open_branch.ensures.pushed ∙ ap (λ b. choose b (next_plan tables inputs functions c.args.then [] f) (next_plan tables inputs functions c.args.other [] f) s) c.if-truth.ensures)
+    (λ tables inputs set functions reading f s. ap (λ k. next_plan tables inputs set functions c.args.other (map (read_value reading) k.loose) f s) c.in_ok-open_branch.ensures.pushed ∙ ap (λ b. choose b (next_plan tables inputs set functions c.args.then [] f) (next_plan tables inputs set functions c.args.other [] f) s) c.if-truth.ensures)
 
 pub returns-clause-opened : goal.returns-clause-opened
 returns-clause-opened g c =

@@ -16,12 +16,12 @@ unfolding or_right
 returns-then-truth-clause-goes_on g c =
     let lies : c.lay.new.self.loose ≡ c.pop-value.result ∷ [] = c.in_ok-lay.ensures.laid ∙ ap (λ k. k.loose ++ c.pop-value.result ∷ []) c.in_ok-open_branch.ensures.pushed in
     resumes_forked g.L.Labels.made g.L.Labels.meaning c.open_branch.new.labels (work.OrRight c.args.right) Bool.true
-    (λ tables inputs functions v f. (planned tables inputs functions).ret Value v) (λ tables inputs functions v f. (asking tables inputs functions).expr (view_expr c.args.right.now) f.place)
-    c.args.stack.now c.lay.new.self c.args.frames.now.frames c.open_branch.new.frames.frames (Ok next.Value) (λ tables inputs functions v f s. refl)
+    (λ tables inputs set functions v f. (planned tables inputs set functions).ret Value v) (λ tables inputs set functions v f. (asking tables inputs set functions).expr (view_expr c.args.right.now) f.env.place)
+    c.args.stack.now c.lay.new.self c.args.frames.now.frames c.open_branch.new.frames.frames (Ok next.Value) (λ tables inputs set functions v f s. refl)
     (forked g.L.Labels.made g.L.Labels.meaning c.open_branch.new.labels Bool.true c.args.stack.now c.pop-value.new.self c.lay.new.self c.pop-value.result c.args.frames.now.frames c.open_branch.new.frames.frames next.Value
-    (λ tables inputs functions v f. (planned tables inputs functions).ret Value v) (λ tables inputs functions v f. (asking tables inputs functions).expr (view_expr c.args.right.now) f.place)
+    (λ tables inputs set functions v f. (planned tables inputs set functions).ret Value v) (λ tables inputs set functions v f. (asking tables inputs set functions).expr (view_expr c.args.right.now) f.env.place)
     c.requires.loose c.pop-value.ensures.top c.pop-value.ensures.tasks (c.lay.ensures.tasks ∙ ap (λ k. k.tasks) c.in_ok-open_branch.ensures.pushed) c.in_ok-open_branch.ensures.frames
-    (λ tables inputs functions reading f s. ap (λ vs. next_plan tables inputs functions next.Value (map (read_value reading) vs) f s) lies ∙ ap (λ b. choose b ((planned tables inputs functions).ret Value (read_value reading c.pop-value.result)) ((asking tables inputs functions).expr (view_expr c.args.right.now) f.place) s) c.if-truth.ensures))
+    (λ tables inputs set functions reading f s. ap (λ vs. next_plan tables inputs set functions next.Value (map (read_value reading) vs) f s) lies ∙ ap (λ b. choose b ((planned tables inputs set functions).ret Value (read_value reading c.pop-value.result)) ((asking tables inputs set functions).expr (view_expr c.args.right.now) f.env.place) s) c.if-truth.ensures))
 
 pub returns-then-truth-clause-opened : goal.returns-then-truth-clause-opened
 returns-then-truth-clause-opened g c =
@@ -32,12 +32,12 @@ pub returns-clause-goes_on : goal.returns-clause-goes_on
 unfolding or_right
 returns-clause-goes_on g c =
     resumes_forked g.L.Labels.made g.L.Labels.meaning c.open_branch.new.labels (work.OrRight c.args.right) Bool.true
-    (λ tables inputs functions v f. (planned tables inputs functions).ret Value v) (λ tables inputs functions v f. (asking tables inputs functions).expr (view_expr c.args.right.now) f.place)
-    c.args.stack.now c.open_branch.new.stack c.args.frames.now.frames c.open_branch.new.frames.frames (Ok (next.Expr c.args.right)) (λ tables inputs functions v f s. refl)
+    (λ tables inputs set functions v f. (planned tables inputs set functions).ret Value v) (λ tables inputs set functions v f. (asking tables inputs set functions).expr (view_expr c.args.right.now) f.env.place)
+    c.args.stack.now c.open_branch.new.stack c.args.frames.now.frames c.open_branch.new.frames.frames (Ok (next.Expr c.args.right)) (λ tables inputs set functions v f s. refl)
     (forked g.L.Labels.made g.L.Labels.meaning c.open_branch.new.labels Bool.true c.args.stack.now c.pop-value.new.self c.open_branch.new.stack c.pop-value.result c.args.frames.now.frames c.open_branch.new.frames.frames (next.Expr c.args.right)
-    (λ tables inputs functions v f. (planned tables inputs functions).ret Value v) (λ tables inputs functions v f. (asking tables inputs functions).expr (view_expr c.args.right.now) f.place)
+    (λ tables inputs set functions v f. (planned tables inputs set functions).ret Value v) (λ tables inputs set functions v f. (asking tables inputs set functions).expr (view_expr c.args.right.now) f.env.place)
     c.requires.loose c.pop-value.ensures.top c.pop-value.ensures.tasks (ap (λ k. k.tasks) c.in_ok-open_branch.ensures.pushed) c.in_ok-open_branch.ensures.frames
-    (λ tables inputs functions reading f s. ap (λ b. choose b ((planned tables inputs functions).ret Value (read_value reading c.pop-value.result)) ((asking tables inputs functions).expr (view_expr c.args.right.now) f.place) s) c.if-truth.ensures))
+    (λ tables inputs set functions reading f s. ap (λ b. choose b ((planned tables inputs set functions).ret Value (read_value reading c.pop-value.result)) ((asking tables inputs set functions).expr (view_expr c.args.right.now) f.env.place) s) c.if-truth.ensures))
 
 pub returns-clause-opened : goal.returns-clause-opened
 returns-clause-opened g c =

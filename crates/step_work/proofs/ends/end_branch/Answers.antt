@@ -8,5 +8,5 @@ use Rattle.step_work.proofs.ends.end_branch.Goals as goal
 
 pub returns-clause-goes_on : goal.returns-clause-goes_on
 unfolding end_branch popped
-returns-clause-goes_on g c tables inputs functions reading e s read loose =
-    ap (λ fs. behind tables inputs functions reading c.args.stack.now.tasks e (Give (gave (unlabelled undefined)) (record s { frames = fs }))) (c.leave.ensures.outside reading)
+returns-clause-goes_on g c tables inputs set functions reading e s read loose =
+    ap (λ fs. behind tables inputs set functions reading c.args.stack.now.tasks e (Give (gave (unlabelled undefined)) (record s { frames = fs }))) (c.leave.ensures.outside reading)

@@ -1,7 +1,7 @@
-use Rattle.std.proofs.Common.{◌≡◌, ◌∙◌, sym, None}
+use Rattle.std.proofs.Common.{◌≡◌, sym, None}
 use Rattle.js_ast.specs.Views.{view_stmt}
 use Rattle.step_work.specs.Shapes.{body_behind}
-use Rattle.step_work.proofs.LabelLaws.{behind_bare, behind_body}
+use Rattle.step_work.proofs.LabelLaws.{behind_bare}
 use Rattle.step_work.proofs.enter.+behind_labels.Goals as goal
 
 pub returns-in-None : goal.returns-in-None

@@ -1,4 +1,4 @@
-use Rattle.std.proofs.Common.{refl, ap, length, ◌∙◌, [], ◌∷◌, true, None, Ok}
+use Rattle.std.proofs.Common.{refl, ap, length, ◌∙◌, [], ◌∷◌, true, Ok}
 use Rattle.std.proofs.lemmas.List.{nil_from_length}
 use Rattle.flow_frames.specs.declared.kind.Kind.TheVariants as kind
 use Rattle.origin_labels.specs.Label.{bottom}
@@ -15,14 +15,14 @@ pub returns-clause-goes_on : goal.returns-clause-goes_on
 returns-clause-goes_on g c =
     let body = (round_of c.args.round).body in
     scope_begins g.L.Labels.made g.L.Labels.meaning c.enter.new.labels
-    (λ tables inputs functions e. (asking tables inputs functions).stmt body e) (λ tables inputs functions e. (planned tables inputs functions).round true (round_of c.args.round).labels e ((asking tables inputs functions).stmt body)) (λ depth. work.EndRound true depth c.args.round.of) kind.Turn bottom
+    (λ tables inputs set functions e. (asking tables inputs set functions).stmt body e.env) (λ tables inputs set functions e. (planned tables inputs set functions).round true (round_of c.args.round).labels e.env ((asking tables inputs set functions).stmt body)) (λ depth. work.EndRound true depth c.args.round.of) kind.Turn bottom
     c.args.stack.now c.push.new.self c.push.new.self c.args.frames.now.frames c.enter.new.frames.frames c.len-depth.result c.bottom-none.result (Ok (next.Stmt c.body.result))
-    (λ tables inputs functions f s. refl) (nil_from_length c.args.stack.now.loose c.requires.loose) c.in_ok-push.ensures.ok c.len-depth.ensures.length c.in_ok-enter.ensures.entered
+    (λ tables inputs set functions f s. refl) (nil_from_length c.args.stack.now.loose c.requires.loose) c.in_ok-push.ensures.ok c.len-depth.ensures.length c.in_ok-enter.ensures.entered
     (λ reading read. (IsReading-earlier g.L.Labels.made g.L.Labels.meaning g.L.Labels.room g.L.Labels.firm c.args.labels.now c.enter.new.labels reading c.enter.ensures.kept read).agrees c.bottom-none.result c.bottom-none.ensures.made ∙ c.bottom-none.ensures.meaning)
-    (λ tables inputs functions reading e s loose. rw c.body.ensures refl)
+    (λ tables inputs set functions reading e s loose. rw c.body.ensures refl)
 
 pub returns-clause-opened : goal.returns-clause-opened
 returns-clause-opened g c =
     opened_keeping c.args.stack.now c.push.new.self c.push.new.self (work.EndRound true c.len-depth.result c.args.round.of) c.args.frames.now.frames c.enter.new.frames.frames (Ok (next.Stmt c.body.result))
-    (ap (λ d. d ∷ []) c.len-depth.ensures.length) c.in_ok-push.ensures.scopes c.in_ok-push.ensures.operands c.in_ok-enter.ensures.length
-    (record { values = ap (λ k. length k.loose) c.in_ok-push.ensures.ok; scopes = refl; operands = refl })
+    (ap (λ d. d ∷ []) c.len-depth.ensures.length) refl c.in_ok-push.ensures.scopes c.in_ok-push.ensures.natives c.in_ok-push.ensures.operands c.in_ok-enter.ensures.length
+    (record { values = ap (λ k. length k.loose) c.in_ok-push.ensures.ok; scopes = refl; natives = refl; operands = refl })

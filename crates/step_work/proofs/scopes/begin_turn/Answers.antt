@@ -1,4 +1,4 @@
-use Rattle.std.proofs.Common.{refl, [], ◌∷◌, true, None}
+use Rattle.std.proofs.Common.{refl, true}
 use Rattle.std.proofs.lemmas.List.{nil_from_length}
 use Rattle.es_meaning.specs.Evaluation.{turn_step}
 use Rattle.flow_meaning.specs.Planned.{planned, asking}
@@ -8,16 +8,17 @@ use Rattle.step_work.proofs.Steps.{turn_parts}
 use Rattle.step_work.proofs.ScopeLaws.{work_begins}
 use Rattle.step_work.proofs.Keeping.{opened_behind}
 use Rattle.step_work.proofs.scopes.begin_turn.Goals as goal
+use Rattle.step_work.specs.Settings.{entrance}
 
 pub returns-clause-goes_on : goal.returns-clause-goes_on
 returns-clause-goes_on g c =
     let round = round_of c.args.round in
     work_begins g.L.Labels.made g.L.Labels.meaning c.begin_body.new.labels
-    (λ tables inputs functions e. (planned tables inputs functions).round true round.labels e ((asking tables inputs functions).stmt round.body)) (λ tables inputs functions e. turn_step (planned tables inputs functions) (asking tables inputs functions) round e) (work.Turned c.args.round)
+    (λ tables inputs set functions e. (planned tables inputs set functions).round true round.labels e.env ((asking tables inputs set functions).stmt round.body)) (λ tables inputs set functions e. turn_step (planned tables inputs set functions) (entrance tables inputs set functions) (asking tables inputs set functions) round e.env) (work.Turned c.args.round)
     c.args.stack.now c.push.new.self c.begin_body.new.stack c.args.frames.now.frames c.begin_body.new.frames.frames c.begin_body.result
-    (λ tables inputs functions f s. turn_parts tables inputs functions round f s) (nil_from_length c.args.stack.now.loose c.requires.loose) c.in_ok-push.ensures.ok c.begin_body.ensures.goes_on
+    (λ tables inputs set functions f s. turn_parts tables inputs set functions round f.env s) (nil_from_length c.args.stack.now.loose c.requires.loose) c.in_ok-push.ensures.ok c.begin_body.ensures.goes_on
 
 pub returns-clause-opened : goal.returns-clause-opened
 returns-clause-opened g c =
     opened_behind c.args.stack.now c.push.new.self c.begin_body.new.stack (work.Turned c.args.round) c.args.frames.now.frames c.begin_body.new.frames.frames c.begin_body.result
-    refl c.in_ok-push.ensures.scopes c.in_ok-push.ensures.operands c.begin_body.ensures.opened
+    refl refl c.in_ok-push.ensures.scopes c.in_ok-push.ensures.natives c.in_ok-push.ensures.operands c.begin_body.ensures.opened

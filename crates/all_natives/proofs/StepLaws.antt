@@ -1,0 +1,40 @@
+-- A call of one of them takes the steps of its set.
+use Rattle.std.proofs.Common.{arith, ◌≡◌, ◌<◌, ℕ, suc, ap, Bool, List, [], ◌∷◌, length, refl, ◌∙◌}
+use Rattle.native_protocol.specs.declared.request.Answer.{Answer}
+use Rattle.native_protocol.specs.declared.request.Answer.TheVariants as answer
+use Rattle.native_protocol.specs.Running.{behind}
+use Rattle.channels.proofs.ClauseLaws.{clause_followed}
+use Rattle.channels.specs.declared.state.ChannelState.{ChannelState}
+use Rattle.channels.specs.Machine.{channel_begin, channel_after, channel_asks}
+use Rattle.es_meaning.specs.BuiltIns.{begins_in, built_ins_of, in_set}
+use Rattle.object_natives.proofs.CallLaws.{all_follow}
+use Rattle.object_natives.specs.declared.call.ObjectState.{ObjectState}
+use Rattle.object_natives.specs.Dispatch.{state_begin, state_after, state_asks}
+use Rattle.all_natives.proofs.TogetherLaws.{parts_stand}
+use Rattle.all_natives.specs.declared.natives.AllState.TheVariants as state
+use Rattle.all_natives.specs.declared.order.Part.{Part}
+use Rattle.all_natives.specs.declared.order.Part.TheVariants as part
+use Rattle.all_natives.specs.Together.{all_entries, part_at, IsPart, part_begin, all_begin, all_after, all_asks, part_steps, all_steps}
+
+channel_runs : (names : List (List ℕ)) (s : ChannelState) (answers : List Answer) → all_asks (behind (all_after names) (state.Channel s) answers) ≡ channel_asks (behind (channel_after names) s answers)
+channel_runs names s [] = refl
+channel_runs names s (a ∷ answers) = channel_runs names (channel_after names s a) answers
+
+object_runs : (names : List (List ℕ)) (s : ObjectState) (answers : List Answer) → all_asks (behind (all_after names) (state.Object s) answers) ≡ state_asks (behind state_after s answers)
+object_runs names s [] = refl
+object_runs names s (a ∷ answers) = object_runs names (state_after s a) answers
+
+part_follows : (names : List (List ℕ)) (p : Part) (argc : ℕ) (construct : Bool) (answers : List Answer) → IsPart p → all_asks (behind (all_after names) (part_begin p argc construct) (answer.Begin ∷ answers)) ≡ part_steps names p argc construct answers
+part_follows names (part.Channel n) argc construct answers is =
+    channel_runs names (channel_begin n argc construct) (answer.Begin ∷ answers) ∙ clause_followed names n argc construct answers
+part_follows names (part.Object n) argc construct answers is =
+    object_runs names (state_begin n argc construct) (answer.Begin ∷ answers) ∙ all_follow n argc construct answers is
+
+pub each_follows : (names : List (List ℕ)) (which argc : ℕ) (construct : Bool) (answers : List Answer) → which < length all_entries → all_asks (behind (all_after names) (all_begin which argc construct) (answer.Begin ∷ answers)) ≡ all_steps names which argc construct answers
+each_follows names which argc construct answers less = part_follows names (part_at which) argc construct answers (parts_stand which less)
+
+-- the numbers of the meanings: that of a built-in behind the three accessors
+pub each_begins : (names : List (List ℕ)) (which argc : ℕ) (construct : Bool) (answers : List Answer) → which < length all_entries → begins_in (built_ins_of all_entries all_begin (all_after names) all_asks) (in_set which) argc construct answers ≡ all_steps names which argc construct answers
+each_begins names which argc construct answers less =
+    ap (λ n. begins_in (built_ins_of all_entries all_begin (all_after names) all_asks) n argc construct answers) (let behind_three : in_set which ≡ suc (suc (suc which)) = omega arith in behind_three)
+    ∙ each_follows names which argc construct answers less

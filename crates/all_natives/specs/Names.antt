@@ -1,0 +1,66 @@
+-- The names that stand at the start, in their order: behind the properties that the standard gives every function and every prototype, those that are kept come
+-- before those that aren't offered.
+use Rattle.std.specs.Prelude.{ℕ, List, [], ◌∷◌, ◌++◌, map, Option, Some, None, codes, slice_get}
+use Rattle.js_values.specs.Objects.{PlainObject}
+use Rattle.es_meaning.specs.Holders.{holder_in}
+
+-- the names of the own properties of the object that a path leads to
+abbrev pub names_in : Option PlainObject → List (List ℕ)
+names_in None = []
+names_in (Some o) = map (λ row. row.0) o.rows
+
+abbrev pub names_at : List PlainObject → Option ℕ → List (List ℕ)
+names_at heap None = []
+names_at heap (Some o) = names_in (slice_get heap o)
+
+abbrev pub names_of : List ℕ → List PlainObject → List (List ℕ)
+names_of path heap = names_at heap (holder_in heap path)
+
+-- ---- the global object
+
+abbrev pub global_names : List (List ℕ)
+global_names =
+    codes "undefined" ∷ codes "Object" ∷ codes "Boolean" ∷ codes "Number" ∷ codes "Math"
+    ∷ codes "read" ∷ codes "print" ∷ codes "lbl" ∷ codes "upgs" ∷ codes "upge"
+    ∷ codes "eval" ∷ codes "parseFloat" ∷ codes "isNaN" ∷ codes "isFinite"
+    ∷ codes "decodeURI" ∷ codes "decodeURIComponent" ∷ codes "encodeURI" ∷ codes "encodeURIComponent"
+    ∷ codes "NaN" ∷ codes "Infinity" ∷ codes "Date" ∷ codes "RegExp" ∷ codes "JSON" ∷ []
+
+-- ---- constructors and prototypes
+
+abbrev pub constructor_names : List (List ℕ)
+constructor_names = codes "length" ∷ codes "prototype" ∷ codes "caller" ∷ codes "arguments" ∷ []
+
+abbrev pub object_names : List (List ℕ)
+object_names =
+    constructor_names
+    ++ codes "getPrototypeOf" ∷ codes "getOwnPropertyDescriptor" ∷ codes "getOwnPropertyNames" ∷ codes "create"
+    ∷ codes "defineProperty" ∷ codes "defineProperties" ∷ codes "seal" ∷ codes "freeze" ∷ codes "preventExtensions"
+    ∷ codes "isSealed" ∷ codes "isFrozen" ∷ codes "isExtensible" ∷ codes "keys" ∷ []
+
+abbrev pub object_prototype_names : List (List ℕ)
+object_prototype_names =
+    codes "constructor"
+    ∷ codes "toString" ∷ codes "valueOf" ∷ codes "hasOwnProperty" ∷ codes "isPrototypeOf" ∷ codes "propertyIsEnumerable"
+    ∷ codes "toLocaleString" ∷ []
+
+abbrev pub boolean_prototype_names : List (List ℕ)
+boolean_prototype_names = codes "constructor" ∷ codes "toString" ∷ codes "valueOf" ∷ []
+
+abbrev pub number_names : List (List ℕ)
+number_names =
+    constructor_names
+    ++ codes "MAX_VALUE" ∷ codes "MIN_VALUE" ∷ codes "NaN" ∷ codes "NEGATIVE_INFINITY" ∷ codes "POSITIVE_INFINITY" ∷ []
+
+abbrev pub number_prototype_names : List (List ℕ)
+number_prototype_names =
+    codes "constructor"
+    ∷ codes "toString" ∷ codes "valueOf"
+    ∷ codes "toLocaleString" ∷ codes "toFixed" ∷ codes "toExponential" ∷ codes "toPrecision" ∷ []
+
+abbrev pub math_names : List (List ℕ)
+math_names =
+    codes "abs" ∷ codes "max" ∷ codes "min"
+    ∷ codes "E" ∷ codes "LN10" ∷ codes "LN2" ∷ codes "LOG2E" ∷ codes "LOG10E" ∷ codes "PI" ∷ codes "SQRT1_2" ∷ codes "SQRT2"
+    ∷ codes "acos" ∷ codes "asin" ∷ codes "atan" ∷ codes "atan2" ∷ codes "ceil" ∷ codes "cos" ∷ codes "exp" ∷ codes "floor" ∷ codes "log"
+    ∷ codes "pow" ∷ codes "random" ∷ codes "round" ∷ codes "sin" ∷ codes "sqrt" ∷ codes "tan" ∷ []

@@ -1,0 +1,5 @@
+pub mod GiveLaws
+pub mod MoreLaws
+mod PlainLaws
+pub mod ReadLaws
+pub mod StartedLaws

@@ -1,0 +1,12 @@
+mod BindingLaws
+mod BuildingLaws
+mod ChangingLaws
+mod DefiningLaws
+mod DescriptorLaws
+mod ErasedLaws
+mod ExtendingLaws
+mod FindingLaws
+mod HeldLaws
+mod MakingLaws
+mod MeansLaws
+mod OwningLaws

@@ -1,0 +1,21 @@
+use Rattle.std.specs.List.{slice_get}
+use Rattle.js_values.specs.Readings.{read_value}
+use Rattle.object_heap.specs.Formed.{own_in}
+use Rattle.es_meaning.specs.Operations.{Value}
+use Rattle.step_world.proofs.ActLaws.{Belongs-later}
+use Rattle.step_names.proofs.MeansLaws.{means_later}
+use Rattle.property_requests.proofs.DefiningLaws.{refused_for}
+use Rattle.property_requests.proofs.defining.refuse.Goals as goal
+
+pub returns-in_err-cause-clause-belongs : goal.returns-in_err-cause-clause-belongs
+returns-in_err-cause-clause-belongs g c = Belongs-later g.L.Labels.made g.L.Labels.meaning g.L.Labels.room g.L.Labels.firm c.args.labels.now c.cause_of.new.labels c.cause_of.ensures.kept g.met.L.Labels.rising c.args.world.now c.requires.belongs
+
+pub throw_error-requires-clause-belongs : goal.throw_error-requires-clause-belongs
+throw_error-requires-clause-belongs g c = Belongs-later g.L.Labels.made g.L.Labels.meaning g.L.Labels.room g.L.Labels.firm c.args.labels.now c.cause_of.new.labels c.in_ok-cause.ensures.kept g.met.L.Labels.rising c.args.world.now c.requires.belongs
+
+pub returns-clause-acts : goal.returns-clause-acts
+returns-clause-acts g c =
+    let site = c.args.site.now in
+    refused_for g.L.Labels.made g.L.Labels.meaning c.throw_error.new.labels c.args.world.now c.throw_error.new.world c.throw_error.result site.object.0 site.key site.place site.given (own_in site.key (slice_get c.args.world.now.heap site.object.0)) c.in_ok-cause.cause
+    (means_later g.L.Labels.made g.L.Labels.meaning g.L.Labels.room g.L.Labels.firm c.cause_of.new.labels c.throw_error.new.labels c.throw_error.ensures.kept c.in_ok-cause.cause _ c.in_ok-cause.ensures.means)
+    (c.throw_error.ensures.acts Value (λ reading. read_value reading))

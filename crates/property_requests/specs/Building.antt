@@ -1,0 +1,30 @@
+-- Objects that are made with properties.
+use Rattle.std.specs.Prelude.{◌≡◌, ℕ, List, [], ◌∷◌, ◌++◌, Option, Some, None, Ok, slice_get}
+use Rattle.origin_labels.specs.Label.{Label, bottom}
+use Rattle.js_values.specs.declared.property.Body.{Body}
+use Rattle.js_values.specs.declared.property.Marks.{Marks}
+use Rattle.js_values.specs.Objects.{Object}
+use Rattle.js_values.specs.Readings.{IsReading, read_heap}
+use Rattle.object_heap.specs.Acts.{add}
+use Rattle.object_heap.specs.Arrays.{element_of}
+
+-- an object that is no array, and that has its structure by this label: no rule stops a property that is added in the context of the label
+abbrev pub Opens : Label → Option (Object Label) → Type 0
+Opens c None = ⊥
+Opens c (Some p) = (p.structure ≡ c) × ((key : List ℕ) → element_of p.class key ≡ None)
+
+module _ {S T : Type 0} (made : S → T → Type 0) (meaning : S → T → Label) (store : S) where
+  pub record IsOpen (heap : List (Object T)) (o : ℕ) (here : T) : Type 0 where
+    pub says : (reading : T → Label) → IsReading made meaning store reading → Opens (reading here) (slice_get (read_heap reading heap) o)
+
+  -- a property that is added in a context, with a label besides
+  pub record Adds (here : T) (o : ℕ) (key : List ℕ) (body : Body) (label : T) (marks : Marks) (old new : List (Object T)) : Type 0 where
+    pub says : (reading : T → Label) → IsReading made meaning store reading → add o key (reading here) body (reading label) marks (read_heap reading old) ≡ Ok (read_heap reading new)
+
+  -- one that depends on the context alone
+  pub record AddsAlone (here : T) (o : ℕ) (key : List ℕ) (body : Body) (marks : Marks) (old new : List (Object T)) : Type 0 where
+    pub says : (reading : T → Label) → IsReading made meaning store reading → add o key (reading here) body bottom marks (read_heap reading old) ≡ Ok (read_heap reading new)
+
+  -- behind the objects that there were stands this one
+  pub record IsLast (before heap : List (Object T)) (last : (T → Label) → Object Label) : Type 0 where
+    pub says : (reading : T → Label) → IsReading made meaning store reading → read_heap reading heap ≡ read_heap reading before ++ last reading ∷ []

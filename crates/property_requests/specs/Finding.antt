@@ -1,0 +1,41 @@
+-- What is found in a heap, in a reading of the labels.
+use Rattle.std.specs.Prelude.{◌≡◌, List, ℕ, Option, Some, None, Result, Ok, Err}
+use Rattle.origin_labels.specs.Label.{Label}
+use Rattle.flow_frames.specs.declared.faults.FlowFault.{FlowFault}
+use Rattle.js_values.specs.declared.property.Slot.{Slot}
+use Rattle.js_values.specs.declared.value.Labelled.{Labelled}
+use Rattle.js_values.specs.Objects.{Object, own}
+use Rattle.js_values.specs.Readings.{IsReading, read_value}
+use Rattle.es_meaning.specs.Outcomes.{Goes}
+use Rattle.es_meaning.specs.Plain.{undefined}
+use Rattle.flow_meaning.specs.Scopes.{Val, L, State}
+use Rattle.step_world.specs.declared.came.Came.{Came}
+use Rattle.step_world.specs.declared.came.Came.TheVariants as came
+
+-- undefined, with a label
+abbrev pub nothing : {T : Type 0} → T → Labelled T
+nothing label = record { value = undefined; label = label }
+
+-- on what it depends whether the object itself has the key
+abbrev pub tested : {T : Type 0} → Option (Slot T) → T → T
+tested None structure = structure
+tested (Some s) structure = s.existence
+
+abbrev pub IsTest : {T : Type 0} → List ℕ → Option (Object T) → T → Type 0
+IsTest key None label = ⊥
+IsTest key (Some p) label = label ≡ tested (own key p.rows) p.structure
+
+-- an act goes on with a value from each state, and changes none
+pub record Finds {S T : Type 0} (made : S → T → Type 0) (meaning : S → T → Label) (store : S) (act : (T → Label) → L Val) (v : Labelled T) : Type 0 where
+  pub says : (reading : T → Label) → IsReading made meaning store reading → (s : State) → act reading s ≡ Goes (read_value reading v) s
+
+-- a fact for what a call goes on with, if it does
+abbrev pub IfGoes : {X T : Type 0} → (X → Type 0) → Came X T → Type 0
+IfGoes P (came.Goes x) = P x
+IfGoes P (came.Throws v) = Unit {0}
+IfGoes P (came.Leaves why) = Unit {0}
+
+-- what a call without a value comes to
+abbrev pub went : {T : Type 0} → Result (Unit {0}) (FlowFault T) → Result (Came (Unit {0}) T) (FlowFault T)
+went (Ok u) = Ok (came.Goes u)
+went (Err fault) = Err fault

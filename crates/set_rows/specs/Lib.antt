@@ -1,0 +1,4 @@
+pub mod DocumentRows
+pub mod SetRuns
+pub mod StandardRows
+pub mod TurnRows

@@ -1,0 +1,5 @@
+mod EntryLaws
+mod FirstLaws
+mod HolderLaws
+mod NameLaws
+mod StartedLaws

@@ -1,0 +1,5 @@
+mod EnteredLaws
+mod EnterLaws
+mod FirstLaws
+mod Names
+mod VariableLaws

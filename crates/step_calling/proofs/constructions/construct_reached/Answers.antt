@@ -1,0 +1,24 @@
+use Rattle.std.proofs.Common.{drop, refl, subst, sym, ◌∙◌}
+use Rattle.es_meaning.specs.BuiltIns.{built_ins_of}
+use Rattle.es_meaning.specs.Functions.{Callee}
+use Rattle.flow_meaning.specs.Planned.{construct_by}
+use Rattle.function_table.specs.Callees.{callee_of}
+use Rattle.function_table.specs.Tables.{table}
+use Rattle.step_natives.specs.States.{waiting_steps}
+use Rattle.step_work.specs.Settings.{entrance}
+use Rattle.step_calling.specs.Calling.{ConstructsBy, lying}
+use Rattle.step_calling.proofs.NativeLaws.{native_so, quiet_comes}
+use Rattle.step_converting.specs.Framed.{steps_behind}
+use Rattle.step_calling.proofs.constructions.construct_reached.Goals as goal
+
+pub returns-in-Some-clause-constructs : goal.returns-in-Some-clause-constructs
+returns-in-Some-clause-constructs g c tables inputs =
+    subst (λ (w : Callee). ConstructsBy g.L.Labels.made g.L.Labels.meaning c.construct_native.new.labels tables inputs (built_ins_of (g.N.Natives.entries c.args.natives.now) (g.N.Natives.begin c.args.natives.now) (g.N.Natives.after c.args.natives.now) (g.N.Natives.asks c.args.natives.now)) (table c.args.functions.now) (waiting_steps (g.N.Natives.after c.args.natives.now) (g.N.Natives.asks c.args.natives.now) c.args.states.now) (steps_behind (g.N.Natives.after c.args.natives.now) (g.N.Natives.asks c.args.natives.now) c.construct_native.new.states c.construct_native.result) w c.args.label c.args.o.0 c.args.stack.now c.construct_native.new.stack c.args.world.now c.construct_native.new.world c.construct_native.result)
+    (sym (native_so (callee_of c.args.what) c.in-Some.which (sym c.native_in.ensures ∙ c.in-Some.is))) (c.construct_native.ensures.constructs tables inputs (table c.args.functions.now))
+
+pub returns-in-None-clause-constructs : goal.returns-in-None-clause-constructs
+returns-in-None-clause-constructs g c tables inputs =
+    quiet_comes g.L.Labels.made g.L.Labels.meaning c.construct_function.new.labels tables inputs (built_ins_of (g.N.Natives.entries c.args.natives.now) (g.N.Natives.begin c.args.natives.now) (g.N.Natives.after c.args.natives.now) (g.N.Natives.asks c.args.natives.now)) (table c.args.functions.now) (g.N.Natives.after c.args.natives.now) (g.N.Natives.asks c.args.natives.now) c.args.states.now c.args.states.now
+    (λ reading s. construct_by (built_ins_of (g.N.Natives.entries c.args.natives.now) (g.N.Natives.begin c.args.natives.now) (g.N.Natives.after c.args.natives.now) (g.N.Natives.asks c.args.natives.now)) (table c.args.functions.now) (callee_of c.args.what) (reading c.args.label) c.args.o.0 (drop 1 (lying reading c.args.stack.now)) (entrance tables inputs (built_ins_of (g.N.Natives.entries c.args.natives.now) (g.N.Natives.begin c.args.natives.now) (g.N.Natives.after c.args.natives.now) (g.N.Natives.asks c.args.natives.now)) (table c.args.functions.now)) s)
+    c.args.stack.now c.construct_function.new.stack c.args.world.now c.construct_function.new.world c.construct_function.result refl c.construct_function.ensures.quiet
+    (c.construct_function.ensures.constructs tables inputs (built_ins_of (g.N.Natives.entries c.args.natives.now) (g.N.Natives.begin c.args.natives.now) (g.N.Natives.after c.args.natives.now) (g.N.Natives.asks c.args.natives.now)) (waiting_steps (g.N.Natives.after c.args.natives.now) (g.N.Natives.asks c.args.natives.now) c.args.states.now))

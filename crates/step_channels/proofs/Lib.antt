@@ -1,9 +1,0 @@
-pub mod ArgumentLaws
-pub mod MeansLaws
-pub mod OriginLaws
-pub mod FrameLaws
-pub mod ActLaws
-pub mod AnswerLaws
-pub mod WorldLaws
-pub mod RaisingLaws
-pub mod ObjectRaises

@@ -1,0 +1,60 @@
+use Rattle.std.proofs.Common.{refl, sym, ap, ap₂, subst, ◌∙◌, [], ◌∷◌, ◌++◌, ◌+◌, ◌≡◌, map, length, arith, Ok}
+use Rattle.std.specs.List.{All}
+use Rattle.flow_policy.specs.Policies.{no_tables}
+use Rattle.js_values.specs.Readings.{HasValue, read_value}
+use Rattle.flow_meaning.specs.Tracked.{labelled}
+use Rattle.step_work.specs.declared.work.Next.TheVariants as next
+use Rattle.step_work.specs.declared.work.Work.TheVariants as work
+use Rattle.step_moves.proofs.Begun.{begun_as, begun_above, begun_comes, begun_handed, begun_pushed, begun_on, begun_off, begun_err, on_is, resumed}
+use Rattle.step_moves.proofs.Moved.{has_on, has_whatever, level_on, moved_behind, moved_lying, moved_off, moved_on, moved_popped, moved_pushed, moved_within, rests_lying, stack_is, stands_still, stood}
+use Rattle.step_moves.proofs.Loose.{front_has, lone, none_has, only, second_has, size_below, two_lie}
+use Rattle.step_work.proofs.EndLaws.{last_has}
+use Rattle.step_operators.proofs.OperatorLaws.{none_built}
+use Rattle.js_ast.specs.declared.operators.UnaryOperator.TheVariants as unary_operator
+use Rattle.native_protocol.specs.declared.hint.Hint.TheVariants as hint
+use Rattle.es_meaning.specs.Evaluation.{primitive_left}
+use Rattle.flow_meaning.specs.Planned.{planned}
+use Rattle.step_world.proofs.ActLaws.{Acts-computes}
+use Rattle.origin_labels.proofs.StoreLaws.{IsKept-refl}
+use Rattle.step_work.specs.Settings.{entrance}
+use Rattle.step_updates.proofs.Frames.{unary_stands}
+use Rattle.step_work.specs.Pending.{first_or_undefined}
+use Rattle.step_work.proofs.BranchLaws.{none_in_front}
+use Rattle.origin_labels.proofs.StoreLaws.{IsKept-refl, IsKept-trans}
+use Rattle.js_values.proofs.ReadingLaws.{IsReading-earlier}
+use Rattle.step_world.proofs.ActLaws.{Belongs-later}
+use Rattle.step_updates.specs.References.{refers}
+use Rattle.step_updates.proofs.Frames.{binary_stands}
+use Rattle.step_work.specs.Pending.{owns_target}
+use Rattle.step_work.specs.Shapes.{target_of}
+use Rattle.step_moves.proofs.Kept.{reference_later, target_below, value_above}
+use Rattle.step_operators.specs.Counting.{changed_by, given_by, numbered_by}
+use Rattle.step_operators.proofs.OperatorLaws.{number_as, unary_has}
+use Rattle.step_operators.proofs.counting.count.Goals as goal
+
+pub go_on-requires-clause-loose : goal.go_on-requires-clause-loose
+go_on-requires-clause-loose g c = sym c.requires.loose
+
+pub go_on-requires-clause-made : goal.go_on-requires-clause-made
+go_on-requires-clause-made g c = has_whatever (HasValue (g.L.Labels.made c.args.labels.now)) (g.L.Labels.made c.args.labels.now) c.unary-answer.result (unary_has (g.L.Labels.made c.args.labels.now) c.args.value.label c.unary-answer.result c.unary-answer.ensures.label c.requires.value)
+
+pub returns-in-On-clause-goes_on : goal.returns-in-On-clause-goes_on
+returns-in-On-clause-goes_on g c = begun_on (λ tables inputs set functions reading f. changed_by c.args.counting tables inputs set functions c.args.operator (refers reading c.args.reference.now)) (Acts-computes g.L.Labels.made g.L.Labels.meaning c.args.labels.now (λ reading. read_value reading) (λ reading. (labelled no_tables [] none_built []).unary unary_operator.Plus (read_value reading c.args.value)) c.args.world.now c.unary-answer.result (c.unary-answer.ensures.computes no_tables [] none_built [])) (λ tables inputs set functions reading f s is. number_as tables inputs set functions c.args.counting c.args.operator (refers reading c.args.reference.now) (read_value reading c.args.value) s) _ _ _ c.in-On.old c.change.ensures.kept (rw c.in-On.is at c.in_ok-came.ensures.parts) refl c.change.ensures.goes_on
+
+pub returns-in-On-clause-moved : goal.returns-in-On-clause-moved
+returns-in-On-clause-moved g c = moved_on _ _ _ _ _ _ _ _ _ (c.change.result) (omega arith) (ap (λ m. m.tasks) (on_is _ c.args.stack.now c.go_on.new.stack c.unary-answer.result c.in-On.old (rw c.in-On.is at c.in_ok-came.ensures.parts)).1) (level_on _ c.args.world.now c.args.world.now c.args.stack.now c.go_on.new.stack c.unary-answer.result c.in-On.old (stood (Acts-computes g.L.Labels.made g.L.Labels.meaning c.args.labels.now (λ reading. read_value reading) (λ reading. (labelled no_tables [] none_built []).unary unary_operator.Plus (read_value reading c.args.value)) c.args.world.now c.unary-answer.result (c.unary-answer.ensures.computes no_tables [] none_built [])) (λ s. unary_stands no_tables [] none_built [] unary_operator.Plus (read_value (g.L.Labels.meaning c.args.labels.now) c.args.value) s)) (rw c.in-On.is at c.in_ok-came.ensures.parts)) c.change.ensures.moved
+
+pub returns-clause-goes_on : goal.returns-clause-goes_on
+returns-clause-goes_on g c = begun_off (λ tables inputs set functions reading f. changed_by c.args.counting tables inputs set functions c.args.operator (refers reading c.args.reference.now)) (Acts-computes g.L.Labels.made g.L.Labels.meaning c.args.labels.now (λ reading. read_value reading) (λ reading. (labelled no_tables [] none_built []).unary unary_operator.Plus (read_value reading c.args.value)) c.args.world.now c.unary-answer.result (c.unary-answer.ensures.computes no_tables [] none_built [])) (λ tables inputs set functions reading f s is. number_as tables inputs set functions c.args.counting c.args.operator (refers reading c.args.reference.now) (read_value reading c.args.value) s) _ _ (rw c.in-Off.is at c.in_ok-came.ensures.parts) refl
+
+pub returns-clause-moved : goal.returns-clause-moved
+returns-clause-moved g c = moved_off c.args.stack.now c.go_on.new.stack c.unary-answer.result c.in-Off.next (omega arith) (has_whatever (HasValue (g.L.Labels.made c.args.labels.now)) (g.L.Labels.made c.args.labels.now) c.unary-answer.result (unary_has (g.L.Labels.made c.args.labels.now) c.args.value.label c.unary-answer.result c.unary-answer.ensures.label c.requires.value)) (stood (Acts-computes g.L.Labels.made g.L.Labels.meaning c.args.labels.now (λ reading. read_value reading) (λ reading. (labelled no_tables [] none_built []).unary unary_operator.Plus (read_value reading c.args.value)) c.args.world.now c.unary-answer.result (c.unary-answer.ensures.computes no_tables [] none_built [])) (λ s. unary_stands no_tables [] none_built [] unary_operator.Plus (read_value (g.L.Labels.meaning c.args.labels.now) c.args.value) s)) (rw c.in-Off.is at c.in_ok-came.ensures.parts)
+
+pub returns-in_err-came-clause-goes_on : goal.returns-in_err-came-clause-goes_on
+returns-in_err-came-clause-goes_on g c = begun_err (λ tables inputs set functions reading f. changed_by c.args.counting tables inputs set functions c.args.operator (refers reading c.args.reference.now)) (Acts-computes g.L.Labels.made g.L.Labels.meaning c.args.labels.now (λ reading. read_value reading) (λ reading. (labelled no_tables [] none_built []).unary unary_operator.Plus (read_value reading c.args.value)) c.args.world.now c.unary-answer.result (c.unary-answer.ensures.computes no_tables [] none_built [])) (λ tables inputs set functions reading f s is. number_as tables inputs set functions c.args.counting c.args.operator (refers reading c.args.reference.now) (read_value reading c.args.value) s) _ _ _ c.in_err-came.field-0.0 c.in_err-came.ensures.parts refl c.from_residual.ensures.1
+
+pub change-requires-clause-loose : goal.change-requires-clause-loose
+change-requires-clause-loose g c = ap (λ m. length m.loose) (on_is _ c.args.stack.now c.go_on.new.stack c.unary-answer.result c.in-On.old (rw c.in-On.is at c.in_ok-came.ensures.parts)).1 ∙ c.requires.loose
+
+pub change-requires-clause-old : goal.change-requires-clause-old
+change-requires-clause-old g c = has_on (g.L.Labels.made c.args.labels.now) (HasValue (g.L.Labels.made c.args.labels.now)) c.args.stack.now c.go_on.new.stack c.unary-answer.result c.in-On.old (unary_has (g.L.Labels.made c.args.labels.now) c.args.value.label c.unary-answer.result c.unary-answer.ensures.label c.requires.value) (rw c.in-On.is at c.in_ok-came.ensures.parts)

@@ -1,0 +1,37 @@
+use Rattle.std.proofs.Common.{refl, sym, ap, ap₂, subst, ◌∙◌, [], ◌∷◌, ◌++◌, ◌+◌, ◌≡◌, map, length, arith, Ok}
+use Rattle.std.specs.List.{All}
+use Rattle.flow_policy.specs.Policies.{no_tables}
+use Rattle.js_values.specs.Readings.{HasValue, read_value}
+use Rattle.flow_meaning.specs.Tracked.{labelled}
+use Rattle.step_work.specs.declared.work.Next.TheVariants as next
+use Rattle.step_work.specs.declared.work.Work.TheVariants as work
+use Rattle.step_moves.proofs.Begun.{begun_as, begun_above, begun_comes, begun_handed, begun_pushed, begun_on, begun_off, begun_err, on_is, resumed}
+use Rattle.step_moves.proofs.Moved.{has_on, has_whatever, level_on, moved_behind, moved_lying, moved_off, moved_on, moved_popped, moved_pushed, moved_within, rests_lying, stack_is, stands_still, stood}
+use Rattle.step_moves.proofs.Loose.{front_has, lone, none_has, only, second_has, size_below, two_lie}
+use Rattle.step_work.proofs.EndLaws.{last_has}
+use Rattle.step_operators.proofs.OperatorLaws.{none_built}
+use Rattle.step_work.specs.Pending.{first_or_undefined}
+use Rattle.step_work.proofs.BranchLaws.{none_in_front}
+use Rattle.step_objects.specs.Instances.{HasTest, read_test, tests_on}
+use Rattle.step_updates.proofs.Frames.{is_instance_stands, tested_stands}
+use Rattle.step_work.specs.Settings.{entrance}
+use Rattle.step_operators.proofs.OperatorLaws.{instance_is}
+use Rattle.step_operators.proofs.instances.instance_done.Goals as goal
+
+pub pop-left-requires : goal.pop-left-requires
+pop-left-requires g c = let size = size_below c.pop-right.new.self.loose c.args.stack.now.loose c.pop-right.result 1 c.pop-right.ensures.top c.requires.loose in omega (arith, size)
+
+pub test-requires-clause-loose : goal.test-requires-clause-loose
+test-requires-clause-loose g c = ap length (none_in_front c.pop-left.new.self.loose c.pop-right.new.self.loose c.pop-left.result c.pop-left.ensures.top (size_below c.pop-right.new.self.loose c.args.stack.now.loose c.pop-right.result 1 c.pop-right.ensures.top c.requires.loose))
+
+pub test-requires-clause-left : goal.test-requires-clause-left
+test-requires-clause-left g c = last_has (HasValue (g.L.Labels.made c.args.labels.now)) c.pop-left.new.self.loose c.pop-right.new.self.loose c.pop-left.result c.pop-left.ensures.top (front_has (HasValue (g.L.Labels.made c.args.labels.now)) c.pop-right.new.self.loose c.args.stack.now.loose c.pop-right.result c.pop-right.ensures.top c.requires.made)
+
+pub test-requires-clause-right : goal.test-requires-clause-right
+test-requires-clause-right g c = last_has (HasValue (g.L.Labels.made c.args.labels.now)) c.pop-right.new.self.loose c.args.stack.now.loose c.pop-right.result c.pop-right.ensures.top c.requires.made
+
+pub returns-clause-goes_on : goal.returns-clause-goes_on
+returns-clause-goes_on g c = resumed c.pop-right.new.self.loose c.pop-right.result c.pop-right.ensures.top (c.pop-left.ensures.tasks ∙ c.pop-right.ensures.tasks) (λ tables inputs set functions reading f s is. instance_is tables inputs set functions f (read_value reading c.pop-right.result) s (ap (λ vs. first_or_undefined (map (read_value reading) vs)) (sym (lone c.pop-left.new.self.loose c.pop-right.new.self.loose c.pop-left.result c.pop-left.ensures.top (size_below c.pop-right.new.self.loose c.args.stack.now.loose c.pop-right.result 1 c.pop-right.ensures.top c.requires.loose))))) c.test.ensures.goes_on
+
+pub returns-clause-moved : goal.returns-clause-moved
+returns-clause-moved g c = moved_popped _ _ _ _ _ _ _ c.test.result (c.pop-left.ensures.tasks ∙ c.pop-right.ensures.tasks) c.test.ensures.moved

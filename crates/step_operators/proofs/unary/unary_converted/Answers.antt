@@ -1,0 +1,36 @@
+use Rattle.std.proofs.Common.{refl, sym, ap, ap₂, subst, ◌∙◌, [], ◌∷◌, ◌++◌, ◌+◌, ◌≡◌, map, length, arith, Ok}
+use Rattle.std.specs.List.{All}
+use Rattle.flow_policy.specs.Policies.{no_tables}
+use Rattle.js_values.specs.Readings.{HasValue, read_value}
+use Rattle.flow_meaning.specs.Tracked.{labelled}
+use Rattle.step_work.specs.declared.work.Next.TheVariants as next
+use Rattle.step_work.specs.declared.work.Work.TheVariants as work
+use Rattle.step_moves.proofs.Begun.{begun_as, begun_above, begun_comes, begun_handed, begun_pushed, begun_on, begun_off, begun_err, on_is, resumed}
+use Rattle.step_moves.proofs.Moved.{has_on, has_whatever, level_on, moved_behind, moved_lying, moved_off, moved_on, moved_popped, moved_pushed, moved_within, rests_lying, stack_is, stands_still, stood}
+use Rattle.step_moves.proofs.Loose.{front_has, lone, none_has, only, second_has, size_below, two_lie}
+use Rattle.step_work.proofs.EndLaws.{last_has}
+use Rattle.step_operators.proofs.OperatorLaws.{none_built}
+use Rattle.js_ast.specs.declared.operators.UnaryOperator.TheVariants as unary_operator
+use Rattle.native_protocol.specs.declared.hint.Hint.TheVariants as hint
+use Rattle.es_meaning.specs.Evaluation.{primitive_left}
+use Rattle.flow_meaning.specs.Planned.{planned}
+use Rattle.step_world.proofs.ActLaws.{Acts-computes}
+use Rattle.origin_labels.proofs.StoreLaws.{IsKept-refl}
+use Rattle.step_work.specs.Settings.{entrance}
+use Rattle.step_updates.proofs.Frames.{unary_stands}
+use Rattle.step_work.specs.Pending.{first_or_undefined}
+use Rattle.step_work.proofs.BranchLaws.{none_in_front}
+use Rattle.step_operators.proofs.OperatorLaws.{unary_on}
+use Rattle.step_operators.proofs.unary.unary_converted.Goals as goal
+
+pub apply_unary-requires-clause-loose : goal.apply_unary-requires-clause-loose
+apply_unary-requires-clause-loose g c = ap length (none_in_front c.pop-value.new.self.loose c.args.stack.now.loose c.pop-value.result c.pop-value.ensures.top c.requires.loose)
+
+pub apply_unary-requires-clause-value : goal.apply_unary-requires-clause-value
+apply_unary-requires-clause-value g c = last_has (HasValue (g.L.Labels.made c.args.labels.now)) c.pop-value.new.self.loose c.args.stack.now.loose c.pop-value.result c.pop-value.ensures.top c.requires.made
+
+pub returns-clause-goes_on : goal.returns-clause-goes_on
+returns-clause-goes_on g c = resumed c.pop-value.new.self.loose c.pop-value.result c.pop-value.ensures.top c.pop-value.ensures.tasks (λ tables inputs set functions reading f s is. unary_on tables inputs set functions c.args.operator (read_value reading c.pop-value.result) s) c.apply_unary.ensures.goes_on
+
+pub returns-clause-moved : goal.returns-clause-moved
+returns-clause-moved g c = moved_popped _ _ _ _ _ _ _ c.apply_unary.result c.pop-value.ensures.tasks c.apply_unary.ensures.moved

@@ -1,0 +1,203 @@
+-- What comes behind requests: registers are written, functions are entered.
+use Rattle.std.proofs.Common.{refl, sym, ap, ap₂, subst, ◌∙◌, ◌≡◌, ◌≤◌, ◌+◌, ℕ, List, [], ◌∷◌, ◌++◌, map, length, Some, None, append-nil, arith}
+use Rattle.std.specs.List.{All}
+use Rattle.std.proofs.lemmas.List.Elements.{All-append}
+use Rattle.origin_labels.specs.Label.{Label}
+use Rattle.js_values.specs.declared.ids.ObjId.{ObjId}
+use Rattle.js_values.specs.declared.value.Labelled.{Labelled}
+use Rattle.js_values.specs.declared.value.Value.TheVariants as value
+use Rattle.js_values.specs.Readings.{HasValue, read_value}
+use Rattle.native_protocol.specs.declared.registers.Reg.{Reg}
+use Rattle.native_protocol.specs.declared.request.Answer.{Answer}
+use Rattle.native_protocol.specs.declared.request.Answer.TheVariants as answer
+use Rattle.es_meaning.specs.BuiltIns.{steps_behind}
+use Rattle.es_meaning.specs.Evaluation.{call_with}
+use Rattle.es_meaning.specs.Outcomes.{left}
+use Rattle.flow_meaning.specs.Planned.{End, Give, call_value, construct_value, enter_access, enter_putting, gave}
+use Rattle.flow_meaning.specs.Scopes.{Val, as_plain}
+use Rattle.flow_meaning.specs.Tracked.{has_getter, has_setter, has_value, is_put}
+use Rattle.property_requests.specs.declared.owning.OwnProperty.{OwnProperty}
+use Rattle.step_work.specs.declared.work.Next.{Next}
+use Rattle.step_work.specs.declared.work.Next.TheVariants as next
+use Rattle.step_work.specs.declared.work.Work.TheVariants as work
+use Rattle.step_work.specs.Answering.{Reads, Writes, held_in, written_in}
+use Rattle.step_work.specs.Kept.{Kept, kept_operands, operands_of, scopes_of, waiting}
+use Rattle.step_work.specs.Loads.{Adds, lift, load}
+use Rattle.step_work.specs.Moving as Moving
+use Rattle.step_work.specs.Resuming.{Begins}
+use Rattle.step_work.specs.Pending.{behind, next_plan, values_of}
+use Rattle.step_work.specs.Settings.{entrance}
+use Rattle.step_work.specs.Standing.{running}
+use Rattle.step_work.proofs.Handed.{gives_alone}
+use Rattle.step_requests.specs.declared.asked.Asked.TheVariants as asked
+use Rattle.step_requests.specs.declared.asked.OwnRegisters.{OwnRegisters}
+use Rattle.step_requests.specs.declared.moved.Moved.{Moved}
+use Rattle.step_requests.specs.declared.moved.Moved.TheVariants as moved
+use Rattle.step_requests.specs.Asked.{answered_to, asked_plan, entering_access, entering_putting, giving_parts, held_all}
+use Rattle.step_requests.specs.Doing.{Gives, HeldIn, Rests, read_parts}
+use Rattle.step_requests.proofs.Going.{asks_on, leaves_idle, over, waits_nothing, waits_value}
+
+-- ---- the built-in asks next
+
+module _ {S T : Type 0} (made : S → T → Type 0) (meaning : S → T → Label) (store : S) where
+  pub gives_nowhere : (v : Labelled T) (old : Kept T) (n : ℕ) → Gives made meaning store (λ tables inputs set functions reading steps vs. answered_to None steps vs (read_value reading v)) old old (moved.Asks n answer.Done)
+  gives_nowhere v old n = record {
+    quiet = tt;
+    says = λ tables inputs set functions reading e steps s is size. asks_on tables inputs set functions reading old old n e steps (steps_behind steps answer.Done) (map (read_value reading) old.loose) s refl refl size;
+  }
+
+  pub gives_written : (to : Reg) (v : Labelled T) (old new : Kept T) (n : ℕ) → new.tasks ≡ old.tasks → Writes made meaning store to v old.loose new.loose
+      → Gives made meaning store (λ tables inputs set functions reading steps vs. answered_to (Some to) steps vs (read_value reading v)) old new (moved.Asks n answer.Done)
+  gives_written to v old new n tasks writes = record {
+    quiet = tt;
+    says = λ tables inputs set functions reading e steps s is size. asks_on tables inputs set functions reading old new n e steps (steps_behind steps answer.Done) (written_in to (read_value reading v) (map (read_value reading) old.loose)) s tasks (writes reading is) size;
+  }
+
+  -- the four parts of an own property, one after the other
+  pub gives_parts : (to : OwnRegisters) (p : OwnProperty T) (old one two three new : Kept T) (n : ℕ) → one.tasks ≡ old.tasks → two.tasks ≡ one.tasks → three.tasks ≡ two.tasks → new.tasks ≡ three.tasks
+      → Writes made meaning store to.marks p.marks old.loose one.loose → Writes made meaning store to.value p.value one.loose two.loose → Writes made meaning store to.get p.get two.loose three.loose → Writes made meaning store to.set p.set three.loose new.loose
+      → Gives made meaning store (λ tables inputs set functions reading steps vs. giving_parts to steps vs (read_parts reading p)) old new (moved.Asks n answer.Done)
+  gives_parts to p old one two three new n t1 t2 t3 t4 w1 w2 w3 w4 = record {
+    quiet = tt;
+    says = λ tables inputs set functions reading e steps s is size.
+        asks_on tables inputs set functions reading old new n e steps (steps_behind steps answer.Done) _ s (t4 ∙ t3 ∙ t2 ∙ t1)
+        (w4 reading is ∙ ap (written_in to.set (read_value reading p.set)) (w3 reading is ∙ ap (written_in to.get (read_value reading p.get)) (w2 reading is ∙ ap (written_in to.value (read_value reading p.value)) (w1 reading is)))) size;
+  }
+
+  pub gives_put : (v : Labelled T) (old : Kept T) (n : ℕ) → Gives made meaning store (λ tables inputs set functions reading steps vs. entering_putting tables inputs set functions (read_value reading v) steps vs is_put) old old (moved.Asks n answer.Done)
+  unfolding enter_putting
+  gives_put v old n = record {
+    quiet = tt;
+    says = λ tables inputs set functions reading e steps s is size. asks_on tables inputs set functions reading old old n e steps (steps_behind steps answer.Done) (map (read_value reading) old.loose) s refl refl size;
+  }
+
+  pub gives_read : (to : Reg) (v : Labelled T) (old new : Kept T) (m : Moved T) → Gives made meaning store (λ tables inputs set functions reading steps vs. answered_to (Some to) steps vs (read_value reading v)) old new m
+      → Gives made meaning store (λ tables inputs set functions reading steps vs. entering_access tables inputs set functions to steps vs (has_value (read_value reading v))) old new m
+  unfolding enter_access
+  gives_read to v old new m gives = record { quiet = gives.quiet; says = gives.says }
+
+pub asks_rests : {T : Type 0} (made : T → Type 0) (old new : Kept T) (n : ℕ) (a : Answer) → new.tasks ≡ old.tasks → length new.loose ≡ n → All (HasValue made) new.loose → Rests made old new (moved.Asks n a)
+asks_rests made old new n a tasks size all = record {
+  values = size;
+  scopes = ap scopes_of tasks;
+  natives = let same = ap waiting tasks in omega (arith, same);
+  operands = λ kept. All-append (HasValue made) (kept_operands new.tasks) new.loose (subst (λ ts. All (HasValue made) (kept_operands ts)) (sym tasks) kept) all;
+  adds = let same = ap load tasks in omega (arith, same);
+  idle = tt;
+}
+
+-- ---- functions are entered
+
+module _ {S T : Type 0} (made : S → T → Type 0) (meaning : S → T → Label) (store : S) (old new : Kept T) (count : ℕ) where
+  pub gives_getter : (to : Reg) (label : T) (function : ObjId) (this : Labelled T) → new.tasks ≡ old.tasks ++ (work.Answered count (Some to), old.loose) ∷ []
+      → new.loose ≡ this ∷ record { value = value.Object function; label = label } ∷ []
+      → Gives made meaning store (λ tables inputs set functions reading steps vs. entering_access tables inputs set functions to steps vs (has_getter (reading label) function (read_value reading this))) old new (moved.Waits (next.Call 0))
+  unfolding enter_access call_with
+  gives_getter to label function this tasks loose = record {
+    quiet = tt;
+    says = λ tables inputs set functions reading e steps s is size.
+        waits_value tables inputs set functions reading old new count e steps s size to (next.Call 0)
+        (call_value functions (reading label) (value.Object function) (read_value reading this) [] (entrance tables inputs set functions) s) tasks
+        (λ f. ap (λ vs. next_plan tables inputs set functions (next.Call 0) (map (read_value reading) vs) f s) loose);
+  }
+
+  pub gives_setter : (label : T) (function : ObjId) (this v : Labelled T) → new.tasks ≡ old.tasks ++ (work.Answered count None, old.loose) ∷ []
+      → new.loose ≡ this ∷ record { value = value.Object function; label = label } ∷ v ∷ []
+      → Gives made meaning store (λ tables inputs set functions reading steps vs. entering_putting tables inputs set functions (read_value reading v) steps vs (has_setter (reading label) function (read_value reading this))) old new (moved.Waits (next.Call 1))
+  unfolding enter_putting call_with
+  gives_setter label function this v tasks loose = record {
+    quiet = tt;
+    says = λ tables inputs set functions reading e steps s is size.
+        waits_nothing tables inputs set functions reading old new count e steps s size (read_value reading v) (next.Call 1)
+        (call_value functions (reading label) (value.Object function) (read_value reading this) (read_value reading v ∷ []) (entrance tables inputs set functions) s) tasks
+        (λ f. ap (λ vs. next_plan tables inputs set functions (next.Call 1) (map (read_value reading) vs) f s) loose);
+  }
+
+  pub gives_call : (callee own to : Reg) (list : List Reg) (f this : Labelled T) (args : List (Labelled T)) (n : ℕ) → new.tasks ≡ old.tasks ++ (work.Answered count (Some to), old.loose) ∷ []
+      → new.loose ≡ this ∷ f ∷ args → Reads made meaning store callee old.loose f → Reads made meaning store own old.loose this → HeldIn made meaning store list old.loose args
+      → Gives made meaning store (λ tables inputs set functions reading. asked_plan tables inputs set functions (asked.Call callee own list to)) old new (moved.Waits (next.Call n))
+  unfolding asked_plan call_with
+  gives_call callee own to list f this args n tasks loose called owned given = record {
+    quiet = tt;
+    says = λ tables inputs set functions reading e steps s is size.
+        let registers = map (read_value reading) old.loose in
+        let plan = λ (u v : Val) (us : List Val). call_value functions u.label u.value v us (entrance tables inputs set functions) s in
+        waits_value tables inputs set functions reading old new count e steps s size to (next.Call n) (plan (held_in callee registers) (held_in own registers) (held_all list registers)) tasks
+        (λ g. ap (λ vs. next_plan tables inputs set functions (next.Call n) (map (read_value reading) vs) g s) loose
+        ∙ ap₂ (λ u v. plan u v (map (read_value reading) args)) (called reading is) (owned reading is) ∙ ap (plan (held_in callee registers) (held_in own registers)) (given reading is));
+  }
+
+  pub gives_construction : (callee to : Reg) (list : List Reg) (f : Labelled T) (args : List (Labelled T)) (n : ℕ) → new.tasks ≡ old.tasks ++ (work.Answered count (Some to), old.loose) ∷ []
+      → new.loose ≡ f ∷ args → Reads made meaning store callee old.loose f → HeldIn made meaning store list old.loose args
+      → Gives made meaning store (λ tables inputs set functions reading. asked_plan tables inputs set functions (asked.Construct callee list to)) old new (moved.Waits (next.Construct n))
+  unfolding asked_plan call_with
+  gives_construction callee to list f args n tasks loose called given = record {
+    quiet = tt;
+    says = λ tables inputs set functions reading e steps s is size.
+        let registers = map (read_value reading) old.loose in
+        let plan = λ (u : Val) (us : List Val). construct_value set functions u.label u.value us (entrance tables inputs set functions) s in
+        waits_value tables inputs set functions reading old new count e steps s size to (next.Construct n) (plan (held_in callee registers) (held_all list registers)) tasks
+        (λ g. ap (λ vs. next_plan tables inputs set functions (next.Construct n) (map (read_value reading) vs) g s) loose ∙ ap₂ plan (called reading is) (given reading is));
+  }
+
+-- what is left of the pending work where a built-in waits
+pub waits_rests : {T : Type 0} (made : T → Type 0) (old middle new : Kept T) (move : Next) → middle.loose ≡ [] → new.tasks ≡ middle.tasks
+    → scopes_of middle.tasks ≡ scopes_of old.tasks ++ [] → waiting middle.tasks ≡ waiting old.tasks + 1 → operands_of middle ≡ operands_of old → load middle.tasks ≡ load old.tasks + 1
+    → All (HasValue made) old.loose → All (HasValue made) new.loose → length new.loose ≡ values_of move → lift move ≤ 6 → running move ≡ 0 → Rests made old new (moved.Waits move)
+waits_rests made old middle new move none tasks scopes natives operands loads all more values low idle = record {
+  values = values;
+  scopes = ap scopes_of tasks ∙ scopes ∙ append-nil (scopes_of old.tasks);
+  natives = let same = ap waiting tasks in omega (arith, same, natives);
+  operands = λ kept.
+      let whole : kept_operands middle.tasks ≡ kept_operands old.tasks ++ old.loose = sym (append-nil (kept_operands middle.tasks)) ∙ ap (λ vs. kept_operands middle.tasks ++ vs) (sym none) ∙ operands in
+      let before = All-append (HasValue made) (kept_operands old.tasks) old.loose kept all in
+      All-append (HasValue made) (kept_operands new.tasks) new.loose (subst (All (HasValue made)) (sym (ap kept_operands tasks ∙ whole)) before) more;
+  adds = let same = ap load tasks in omega (arith, same, loads, low);
+  idle = idle;
+}
+
+-- ---- the built-in is over
+
+module _ {S T : Type 0} (made : S → T → Type 0) (meaning : S → T → Label) (store : S) where
+  pub gives_back : (from : Reg) (old new : Kept T) (v : Labelled T) → new.tasks ≡ old.tasks → new.loose ≡ v ∷ [] → Reads made meaning store from old.loose v
+      → Gives made meaning store (λ tables inputs set functions reading. asked_plan tables inputs set functions (asked.Return from)) old new (moved.Ends next.Value)
+  unfolding asked_plan
+  gives_back from old new v tasks lies reads = record {
+    quiet = tt;
+    says = λ tables inputs set functions reading e steps s is size.
+        gives_alone tables inputs set functions reading old new v e s tasks lies
+        ∙ ap (λ u. behind tables inputs set functions reading old.tasks e (Give (gave u) s)) (reads reading is)
+        ∙ over tables inputs set functions reading old e steps (Give (gave (held_in from (map (read_value reading) old.loose))) s) size;
+  }
+
+-- the run leaves by a name
+module _ {T : Type 0} where
+  abbrev Leaving_by : List ℕ → Kept T → Kept T → Next → Type 0
+  Leaving_by name empty new move = Begins (λ tables inputs set functions e s. End (as_plain (left name)) s) empty new move
+
+  pub gives_leave : {S : Type 0} (made : S → T → Type 0) (meaning : S → T → Label) (store : S) (name : List ℕ) (old empty new : Kept T) (move : Next) → empty ≡ record { tasks = old.tasks; loose = [] } → Leaving_by name empty new move → Moving.Rests (made store) empty new move → Adds 0 empty new move
+      → Gives made meaning store (λ tables inputs set functions reading. asked_plan tables inputs set functions (asked.Leave name)) old new (moved.Ends move)
+  unfolding asked_plan
+  gives_leave made meaning store name old empty new move is begins rests adds =
+      let goes = subst (λ k. Leaving_by name k new move) is begins in
+      record {
+        quiet = tt;
+        says = λ tables inputs set functions reading e steps s read size.
+            goes tables inputs set functions reading e s refl
+            ∙ over tables inputs set functions reading old e steps (End (as_plain (left name)) s) size;
+      }
+
+  pub leave_rests : (made : T → Type 0) (name : List ℕ) (old empty new : Kept T) (move : Next) → empty ≡ record { tasks = old.tasks; loose = [] } → Leaving_by name empty new move → Moving.Rests made empty new move → Adds 0 empty new move → Rests made old new (moved.Ends move)
+  leave_rests made name old empty new move is begins leaves adds =
+      let cleared : Kept T = record { tasks = old.tasks; loose = [] } in
+      let goes = subst (λ k. Leaving_by name k new move) is begins in
+      let rests = subst (λ k. Moving.Rests made k new move) is leaves in
+      let added = subst (λ k. Adds 0 k new move) is adds in
+      record {
+        values = rests.values;
+        scopes = rests.scopes;
+        natives = let same = rests.natives in omega (arith, same);
+        operands = rests.operands;
+        adds = omega (arith, added);
+        idle = leaves_idle cleared new move _ (λ tables inputs set functions reading e s. goes tables inputs set functions reading e s refl);
+      }

@@ -1,0 +1,12 @@
+mod Based
+mod Does
+mod Done
+mod Going
+mod Held
+mod Plans
+mod Printing
+mod Requested
+mod Seen
+mod Settled
+mod Standing
+mod Throwing

@@ -1,0 +1,9 @@
+use Rattle.std.proofs.Common.{[], ◌∷◌}
+use Rattle.js_values.specs.Readings.{read_value}
+use Rattle.flow_meaning.specs.Tracked.{act}
+use Rattle.es_meaning.specs.Operations as operations
+use Rattle.step_requests.proofs.Held.{acts_one}
+use Rattle.step_requests.proofs.objects.extensible.Goals as goal
+
+pub returns-clause-acts : goal.returns-clause-acts
+returns-clause-acts g c = λ tables inputs. acts_one g.L.Labels.made g.L.Labels.meaning g.L.Labels.room g.L.Labels.firm c.args.labels.now c.is_extensible.new.labels c.is_extensible.ensures.kept (λ reading. read_value reading) c.args.stack.now.loose c.args.world.now c.is_extensible.new.world c.is_extensible.result (λ reading u. act tables inputs operations.is_extensible (u ∷ [])) c.args.base c.in_ok-base.base c.in_ok-base.ensures.reads (c.is_extensible.ensures.acts tables inputs)

@@ -1,0 +1,9 @@
+use Rattle.std.proofs.Common.{[], ◌∷◌}
+use Rattle.js_values.specs.Readings.{read_value}
+use Rattle.flow_meaning.specs.Tracked.{act}
+use Rattle.es_meaning.specs.Operations as operations
+use Rattle.step_requests.proofs.Held.{acts_one}
+use Rattle.step_requests.proofs.objects.proto.Goals as goal
+
+pub returns-clause-acts : goal.returns-clause-acts
+returns-clause-acts g c = λ tables inputs. acts_one g.L.Labels.made g.L.Labels.meaning g.L.Labels.room g.L.Labels.firm c.args.labels.now c.prototype_of_object.new.labels c.prototype_of_object.ensures.kept (λ reading. read_value reading) c.args.stack.now.loose c.args.world.now c.prototype_of_object.new.world c.prototype_of_object.result (λ reading u. act tables inputs operations.prototype_of_object (u ∷ [])) c.args.base c.in_ok-base.base c.in_ok-base.ensures.reads (c.prototype_of_object.ensures.acts tables inputs)

@@ -1,0 +1,2 @@
+pub mod LabelledComputing
+pub mod PlainComputing
