@@ -101,6 +101,6 @@ clause_of names built_in.Lbl argc = lbl names argc
 clause_of names built_in.Upgs argc = upgs names argc
 clause_of names built_in.Upge argc = upge names argc
 
--- what is asked for next after these answers; a construction does the same as a call
+-- what is asked for next after these answers. None of the five is a constructor, so the mark for a construction makes no difference
 abbrev pub clause : List (List ℕ) → ℕ → ℕ → Bool → Steps
 clause names which argc construct = clause_of names (built_in_at which) argc

@@ -59,7 +59,7 @@ leaves_channels = codes "channel"
 abbrev pub leaves_origins : List ℕ
 leaves_origins = codes "origin"
 
--- and by which it leaves where `for in` is asked for the keys of a primitive value, which would be wrapped in an object
+-- and by which it leaves where a primitive value would be wrapped in an object: here by `for in`, which asks for its keys, and in built-ins by ToObject
 abbrev pub leaves_wrappers : List ℕ
 leaves_wrappers = codes "wrapper"
 

@@ -4,6 +4,8 @@
 #[cfg(test)]
 mod all;
 #[cfg(test)]
+mod lists;
+#[cfg(test)]
 mod objects;
 #[cfg(test)]
 mod scenes;
