@@ -14,6 +14,3 @@ pub use memory_store::MemoryStore;
 pub use real::{RealSink, RealStore};
 pub use sink::Sink;
 pub use store::{Failed, Store};
-
-#[cfg(test)]
-mod tests;

@@ -11,6 +11,3 @@ mod written;
 pub use memory::OutOfMemory;
 pub use places::Place;
 pub use text::{Text, TextFault};
-
-#[cfg(test)]
-mod tests;

@@ -10,6 +10,3 @@ pub use labels::{Labels, join_all, lattice};
 pub use masks::{Mask, Masks};
 pub use origin_list::OriginList;
 pub use origins::Origins;
-
-#[cfg(test)]
-mod tests;

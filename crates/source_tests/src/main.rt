@@ -1,4 +1,5 @@
 //! Scripts and trees through the parser and the program, with the answers worked out by hand. They stand here so that those crates are proved once.
+//! A program to the kit, so that no library is made of it: its `main` does nothing.
 #![tactic(auto)]
 
 #[cfg(test)]
@@ -23,3 +24,5 @@ mod trees;
 mod unbuilt;
 #[cfg(test)]
 mod whole_trees;
+
+fn main(_rt: HostRuntime) {}
