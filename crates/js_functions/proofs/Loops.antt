@@ -1,6 +1,7 @@
 -- Loops over the nodes of a list that mark them in turn.
 use Rattle.std.proofs.Common.{refl, sym, ap, ◌∙◌, ◌≡◌, ◌+◌, ◌<◌, ◌≤◌, ℕ, zero, suc, Bool, List, [], ◌∷◌, ◌++◌, length, take, drop, get_or, set, append_assoc, append-nil, arith}
 use Rattle.std.proofs.lemmas.List.{drop_more, at_drop_all, take_all, drop-set-lt, get_or-set_other, take_more_set}
+use Rattle.std.proofs.Math.Seq.{take-append_seam}
 use Rattle.js_ast.specs.Functions.{FunctionCode, numbered, after}
 use Rattle.js_functions.proofs.Numbered.{numbered_append, after_append, after_none}
 
@@ -68,3 +69,7 @@ module _ {X V : Type 0} (seen : List X → V) (marks : List X → List (ℕ × F
           sym (ap (after next) none ∙ after_none next) ∙ so_far.counted,
         ),
       )
+
+-- a list whose nodes are lent and put back is these nodes
+pub put_back : {X : Type 0} (xs items : List X) (n : ℕ) → length xs ≡ n → take n (xs ++ drop (length xs) items) ≡ xs
+put_back xs items n size = ap (λ k. take k (xs ++ drop (length xs) items)) (sym size) ∙ take-append_seam xs (drop (length xs) items)

@@ -2,12 +2,9 @@
 //! whether the code round the tree is strict, and the number of the next function. It answers the number behind those
 //! that it gave.
 
-ghost use Rattle.std.specs.Prelude.{◌≡◌, Ok, OnOk};
+ghost use Rattle.std.specs.Prelude.{IfOk};
 ghost use Rattle.js_ast.specs.Nodes.{nodes_of};
-ghost use Rattle.js_ast.specs.Trees.{no_items, no_clauses};
-ghost use Rattle.js_ast.specs.Views.{view_expr, view_maybe_expr, view_exprs, view_item, view_items, view_property, view_properties, view_function, view_declaration, view_other_declarations, view_declarations, view_first, view_target, view_clause, view_clauses, view_block, view_stmt, view_stmts};
-ghost use Rattle.js_ast.specs.Functions.{functions_of_expr, functions_of_exprs, functions_of_maybe, functions_of_items, functions_of_property, functions_of_properties, functions_of_function, functions_of_others, functions_of_declarations, functions_of_first, functions_of_target, functions_of_clauses, functions_of_block, functions_of_statement, functions_of_statements, numbered, after};
-ghost use Rattle.js_ast.specs.Held.{held_in_expr, held_in_maybe_expr, held_in_exprs, held_in_item, held_in_items, held_in_property, held_in_properties, held_in_function, held_in_declaration, held_in_other_declarations, held_in_declarations, held_in_first, held_in_target, held_in_clause, held_in_clauses, held_in_block, held_in_stmt, held_in_stmts};
+ghost use Rattle.js_functions.specs.Marks.{MarkedExpr, MarkedExprs, MarkedItems, MarkedItem, MarkedMaybe, MarkedProperties, MarkedProperty, MarkedFunction, MarkedDeclaration, MarkedOthers, MarkedDeclarations, MarkedFirst, MarkedTarget, MarkedClauses, MarkedClause, MarkedBlock, MarkedStatement, MarkedStatements};
 
 use crate::prologue::body_strict;
 use flow_text::OutOfMemory;
@@ -18,11 +15,8 @@ use js_ast::{
 };
 
 #[cycle(marking)]
-#[tactic(auto, using(crate::proofs::Numbered::parts, js_ast::proofs::HeldLaws::held_functions, js_ast::proofs::ViewLaws::held, js_ast::specs::declared::trees::ExprKind::TheViews::the_lemmas))]
 fn mark_expr(e: &mut Expr, strict: bool, next: u32) -> Result<u32, OutOfMemory>
-    ensures kept { OnOk result (view_expr e.new ≡ view_expr e.old) }
-    ensures marks { OnOk result (held_in_expr e.new ≡ numbered next (functions_of_expr strict (view_expr e.old))) }
-    ensures count { OnOk result (result ≡ Ok (after next (functions_of_expr strict (view_expr e.old)))) }
+    ensures { IfOk result (MarkedExpr strict next e.old e.new) }
 {
     match &mut *e.kind {
         ExprKind::Name(_)
@@ -76,9 +70,7 @@ fn mark_expr(e: &mut Expr, strict: bool, next: u32) -> Result<u32, OutOfMemory>
 #[cycle(marking)]
 #[tactic(auto, using(crate::proofs::Numbered::parts))]
 fn mark_exprs(list: &mut ExprList, strict: bool, next: u32) -> Result<u32, OutOfMemory>
-    ensures kept { OnOk result (view_exprs (nodes_of list.new) ≡ view_exprs (nodes_of list.old)) }
-    ensures marks { OnOk result (held_in_exprs (nodes_of list.new) ≡ numbered next (functions_of_exprs strict (view_exprs (nodes_of list.old)))) }
-    ensures count { OnOk result (result ≡ Ok (after next (functions_of_exprs strict (view_exprs (nodes_of list.old))))) }
+    ensures { IfOk result (MarkedExprs strict next (nodes_of list.old) (nodes_of list.new)) }
 {
     let mut next = next;
     'exprs: for e in list.items_mut() {
@@ -90,9 +82,7 @@ fn mark_exprs(list: &mut ExprList, strict: bool, next: u32) -> Result<u32, OutOf
 #[cycle(marking)]
 #[tactic(auto, using(crate::proofs::Numbered::parts))]
 fn mark_items(list: &mut ItemList, strict: bool, next: u32) -> Result<u32, OutOfMemory>
-    ensures kept { OnOk result (view_items (nodes_of list.new) ≡ view_items (nodes_of list.old)) }
-    ensures marks { OnOk result (held_in_items (nodes_of list.new) ≡ numbered next (functions_of_items strict (view_items (nodes_of list.old)))) }
-    ensures count { OnOk result (result ≡ Ok (after next (functions_of_items strict (view_items (nodes_of list.old))))) }
+    ensures { IfOk result (MarkedItems strict next (nodes_of list.old) (nodes_of list.new)) }
 {
     let mut next = next;
     'items: for item in list.items_mut() {
@@ -104,9 +94,7 @@ fn mark_items(list: &mut ItemList, strict: bool, next: u32) -> Result<u32, OutOf
 #[cycle(marking)]
 #[tactic(auto, using(crate::proofs::Numbered::parts))]
 fn mark_item(item: &mut Item, strict: bool, next: u32) -> Result<u32, OutOfMemory>
-    ensures kept { OnOk result (view_item item.new no_items ≡ view_item item.old no_items) }
-    ensures marks { OnOk result (held_in_item item.new ≡ numbered next (functions_of_items strict (view_item item.old no_items))) }
-    ensures count { OnOk result (result ≡ Ok (after next (functions_of_items strict (view_item item.old no_items)))) }
+    ensures { IfOk result (MarkedItem strict next item.old item.new) }
 {
     match item {
         Item::Hole => Ok(next),
@@ -117,9 +105,7 @@ fn mark_item(item: &mut Item, strict: bool, next: u32) -> Result<u32, OutOfMemor
 #[cycle(marking)]
 #[tactic(auto, using(crate::proofs::Numbered::parts))]
 fn mark_maybe(e: &mut Option<Expr>, strict: bool, next: u32) -> Result<u32, OutOfMemory>
-    ensures kept { OnOk result (view_maybe_expr e.new ≡ view_maybe_expr e.old) }
-    ensures marks { OnOk result (held_in_maybe_expr e.new ≡ numbered next (functions_of_maybe strict (view_maybe_expr e.old))) }
-    ensures count { OnOk result (result ≡ Ok (after next (functions_of_maybe strict (view_maybe_expr e.old)))) }
+    ensures { IfOk result (MarkedMaybe strict next e.old e.new) }
 {
     match e {
         Some(e) => mark_expr(e, strict, next),
@@ -130,9 +116,7 @@ fn mark_maybe(e: &mut Option<Expr>, strict: bool, next: u32) -> Result<u32, OutO
 #[cycle(marking)]
 #[tactic(auto, using(crate::proofs::Numbered::parts))]
 fn mark_properties(list: &mut PropertyList, strict: bool, next: u32) -> Result<u32, OutOfMemory>
-    ensures kept { OnOk result (view_properties (nodes_of list.new) ≡ view_properties (nodes_of list.old)) }
-    ensures marks { OnOk result (held_in_properties (nodes_of list.new) ≡ numbered next (functions_of_properties strict (view_properties (nodes_of list.old)))) }
-    ensures count { OnOk result (result ≡ Ok (after next (functions_of_properties strict (view_properties (nodes_of list.old))))) }
+    ensures { IfOk result (MarkedProperties strict next (nodes_of list.old) (nodes_of list.new)) }
 {
     let mut next = next;
     'properties: for property in list.items_mut() {
@@ -143,9 +127,7 @@ fn mark_properties(list: &mut PropertyList, strict: bool, next: u32) -> Result<u
 
 #[cycle(marking)]
 fn mark_property(property: &mut Property, strict: bool, next: u32) -> Result<u32, OutOfMemory>
-    ensures kept { OnOk result (view_property property.new ≡ view_property property.old) }
-    ensures marks { OnOk result (held_in_property property.new ≡ numbered next (functions_of_property strict (view_property property.old))) }
-    ensures count { OnOk result (result ≡ Ok (after next (functions_of_property strict (view_property property.old)))) }
+    ensures { IfOk result (MarkedProperty strict next property.old property.new) }
 {
     match &mut property.kind {
         PropertyKind::Value(e) => mark_expr(e, strict, next),
@@ -157,9 +139,7 @@ fn mark_property(property: &mut Property, strict: bool, next: u32) -> Result<u32
 #[cycle(marking)]
 #[tactic(auto, using(crate::proofs::Numbered::parts, crate::proofs::Parts::function))]
 fn mark_function(f: &mut Function, strict: bool, next: u32) -> Result<u32, OutOfMemory>
-    ensures kept { OnOk result (view_function f.new ≡ view_function f.old) }
-    ensures marks { OnOk result (held_in_function f.new ≡ numbered next (functions_of_function strict (view_function f.old))) }
-    ensures count { OnOk result (result ≡ Ok (after next (functions_of_function strict (view_function f.old)))) }
+    ensures { IfOk result (MarkedFunction strict next f.old f.new) }
 {
     let strict = body_strict(strict, &f.body);
     let after = next.checked_add(1).ok_or(OutOfMemory)?;
@@ -175,9 +155,7 @@ fn mark_declaration(
     strict: bool,
     next: u32,
 ) -> Result<u32, OutOfMemory>
-    ensures kept { OnOk result (view_declaration declaration.new ≡ view_declaration declaration.old) }
-    ensures marks { OnOk result (held_in_declaration declaration.new ≡ numbered next (functions_of_maybe strict (view_declaration declaration.old).1)) }
-    ensures count { OnOk result (result ≡ Ok (after next (functions_of_maybe strict (view_declaration declaration.old).1))) }
+    ensures { IfOk result (MarkedDeclaration strict next declaration.old declaration.new) }
 {
     mark_maybe(&mut declaration.value, strict, next)
 }
@@ -185,9 +163,7 @@ fn mark_declaration(
 #[cycle(marking)]
 #[tactic(auto, using(crate::proofs::Numbered::parts))]
 fn mark_others(list: &mut DeclarationList, strict: bool, next: u32) -> Result<u32, OutOfMemory>
-    ensures kept { OnOk result (view_other_declarations (nodes_of list.new) ≡ view_other_declarations (nodes_of list.old)) }
-    ensures marks { OnOk result (held_in_other_declarations (nodes_of list.new) ≡ numbered next (functions_of_others strict (view_other_declarations (nodes_of list.old)))) }
-    ensures count { OnOk result (result ≡ Ok (after next (functions_of_others strict (view_other_declarations (nodes_of list.old))))) }
+    ensures { IfOk result (MarkedOthers strict next (nodes_of list.old) (nodes_of list.new)) }
 {
     let mut next = next;
     'others: for declaration in list.items_mut() {
@@ -203,9 +179,7 @@ fn mark_declarations(
     strict: bool,
     next: u32,
 ) -> Result<u32, OutOfMemory>
-    ensures kept { OnOk result (view_declarations declarations.new ≡ view_declarations declarations.old) }
-    ensures marks { OnOk result (held_in_declarations declarations.new ≡ numbered next (functions_of_declarations strict (view_declarations declarations.old))) }
-    ensures count { OnOk result (result ≡ Ok (after next (functions_of_declarations strict (view_declarations declarations.old)))) }
+    ensures { IfOk result (MarkedDeclarations strict next declarations.old declarations.new) }
 {
     let next = mark_declaration(&mut declarations.first, strict, next)?;
     mark_others(&mut declarations.others, strict, next)
@@ -213,9 +187,7 @@ fn mark_declarations(
 
 #[cycle(marking)]
 fn mark_first(first: &mut ForFirst, strict: bool, next: u32) -> Result<u32, OutOfMemory>
-    ensures kept { OnOk result (view_first first.new ≡ view_first first.old) }
-    ensures marks { OnOk result (held_in_first first.new ≡ numbered next (functions_of_first strict (view_first first.old))) }
-    ensures count { OnOk result (result ≡ Ok (after next (functions_of_first strict (view_first first.old)))) }
+    ensures { IfOk result (MarkedFirst strict next first.old first.new) }
 {
     match first {
         ForFirst::Expr(e) => mark_maybe(e, strict, next),
@@ -226,9 +198,7 @@ fn mark_first(first: &mut ForFirst, strict: bool, next: u32) -> Result<u32, OutO
 #[cycle(marking)]
 #[tactic(auto, using(crate::proofs::Numbered::parts))]
 fn mark_target(target: &mut ForTarget, strict: bool, next: u32) -> Result<u32, OutOfMemory>
-    ensures kept { OnOk result (view_target target.new ≡ view_target target.old) }
-    ensures marks { OnOk result (held_in_target target.new ≡ numbered next (functions_of_target strict (view_target target.old))) }
-    ensures count { OnOk result (result ≡ Ok (after next (functions_of_target strict (view_target target.old)))) }
+    ensures { IfOk result (MarkedTarget strict next target.old target.new) }
 {
     match target {
         ForTarget::Expr(e) => mark_expr(e, strict, next),
@@ -239,9 +209,7 @@ fn mark_target(target: &mut ForTarget, strict: bool, next: u32) -> Result<u32, O
 #[cycle(marking)]
 #[tactic(auto, using(crate::proofs::Numbered::parts))]
 fn mark_clauses(list: &mut ClauseList, strict: bool, next: u32) -> Result<u32, OutOfMemory>
-    ensures kept { OnOk result (view_clauses (nodes_of list.new) ≡ view_clauses (nodes_of list.old)) }
-    ensures marks { OnOk result (held_in_clauses (nodes_of list.new) ≡ numbered next (functions_of_clauses strict (view_clauses (nodes_of list.old)))) }
-    ensures count { OnOk result (result ≡ Ok (after next (functions_of_clauses strict (view_clauses (nodes_of list.old))))) }
+    ensures { IfOk result (MarkedClauses strict next (nodes_of list.old) (nodes_of list.new)) }
 {
     let mut next = next;
     'clauses: for clause in list.items_mut() {
@@ -253,9 +221,7 @@ fn mark_clauses(list: &mut ClauseList, strict: bool, next: u32) -> Result<u32, O
 #[cycle(marking)]
 #[tactic(auto, using(crate::proofs::Numbered::parts, crate::proofs::Parts::clause))]
 fn mark_clause(clause: &mut Clause, strict: bool, next: u32) -> Result<u32, OutOfMemory>
-    ensures kept { OnOk result (view_clause clause.new no_clauses ≡ view_clause clause.old no_clauses) }
-    ensures marks { OnOk result (held_in_clause clause.new ≡ numbered next (functions_of_clauses strict (view_clause clause.old no_clauses))) }
-    ensures count { OnOk result (result ≡ Ok (after next (functions_of_clauses strict (view_clause clause.old no_clauses)))) }
+    ensures { IfOk result (MarkedClause strict next clause.old clause.new) }
 {
     let next = mark_maybe(&mut clause.test, strict, next)?;
     mark_list(&mut clause.body, strict, next)
@@ -264,19 +230,14 @@ fn mark_clause(clause: &mut Clause, strict: bool, next: u32) -> Result<u32, OutO
 #[cycle(marking)]
 #[tactic(auto, using(crate::proofs::Numbered::parts, crate::proofs::Parts::block))]
 fn mark_block(block: &mut Block, strict: bool, next: u32) -> Result<u32, OutOfMemory>
-    ensures kept { OnOk result (view_block block.new ≡ view_block block.old) }
-    ensures marks { OnOk result (held_in_block block.new ≡ numbered next (functions_of_block strict (view_block block.old))) }
-    ensures count { OnOk result (result ≡ Ok (after next (functions_of_block strict (view_block block.old)))) }
+    ensures { IfOk result (MarkedBlock strict next block.old block.new) }
 {
     mark_list(&mut block.body, strict, next)
 }
 
 #[cycle(marking)]
-#[tactic(auto, using(crate::proofs::Numbered::parts, js_ast::proofs::HeldLaws::held_functions, js_ast::proofs::ViewLaws::held, js_ast::specs::declared::trees::ExprKind::TheViews::the_lemmas))]
 fn mark_statement(s: &mut Stmt, strict: bool, next: u32) -> Result<u32, OutOfMemory>
-    ensures kept { OnOk result (view_stmt s.new ≡ view_stmt s.old) }
-    ensures marks { OnOk result (held_in_stmt s.new ≡ numbered next (functions_of_statement strict (view_stmt s.old))) }
-    ensures count { OnOk result (result ≡ Ok (after next (functions_of_statement strict (view_stmt s.old)))) }
+    ensures { IfOk result (MarkedStatement strict next s.old s.new) }
 {
     match &mut *s.kind {
         StmtKind::Empty
@@ -354,9 +315,7 @@ fn mark_statement(s: &mut Stmt, strict: bool, next: u32) -> Result<u32, OutOfMem
 #[cycle(marking)]
 #[tactic(auto, using(crate::proofs::Numbered::parts))]
 pub(crate) fn mark_list(list: &mut StmtList, strict: bool, next: u32) -> Result<u32, OutOfMemory>
-    ensures kept { OnOk result (view_stmts (nodes_of list.new) ≡ view_stmts (nodes_of list.old)) }
-    ensures marks { OnOk result (held_in_stmts (nodes_of list.new) ≡ numbered next (functions_of_statements strict (view_stmts (nodes_of list.old)))) }
-    ensures count { OnOk result (result ≡ Ok (after next (functions_of_statements strict (view_stmts (nodes_of list.old))))) }
+    ensures { IfOk result (MarkedStatements strict next (nodes_of list.old) (nodes_of list.new)) }
 {
     let mut next = next;
     'statements: for s in list.items_mut() {

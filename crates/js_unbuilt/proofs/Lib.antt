@@ -1,3 +1,4 @@
 pub mod InOrder
 pub mod Looked
 pub mod Loops
+pub mod Nodes
