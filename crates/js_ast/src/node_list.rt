@@ -16,8 +16,6 @@ pub struct NodeList<T> {
 }
 
 impl<T: Drop> NodeList<T> {
-    ghost use Rattle.js_ast.specs.NodesLent.{LendsNodes};
-
     /// The empty list, with no order. It takes no memory.
     pub fn new(alloc: Global) -> NodeList<T>
         ensures nodes { nodes_of result ≡ [] }
@@ -39,6 +37,19 @@ impl<T: Drop> NodeList<T> {
         Ok(())
     }
 
+    /// Sets the order. Whoever reads it checks it.
+    pub fn set_order(&mut self, order: Vec<usize>)
+        ensures nodes { nodes_of self.new ≡ nodes_of self.old }
+        ensures order { order_of self.new ≡ order.items }
+    {
+        self.order = order;
+    }
+}
+
+// What only lends asks nothing of the nodes, so that a crate that calls it doesn't prove how they are dropped.
+impl<T> NodeList<T> {
+    ghost use Rattle.js_ast.specs.NodesLent.{LendsNodes};
+
     /// Its nodes.
     pub fn items(&self) -> &[T]
         ensures { result.now ≡ nodes_of self.now }
@@ -59,13 +70,5 @@ impl<T: Drop> NodeList<T> {
         ensures { result.now ≡ order_of self.now }
     {
         &self.order
-    }
-
-    /// Sets the order. Whoever reads it checks it.
-    pub fn set_order(&mut self, order: Vec<usize>)
-        ensures nodes { nodes_of self.new ≡ nodes_of self.old }
-        ensures order { order_of self.new ≡ order.items }
-    {
-        self.order = order;
     }
 }

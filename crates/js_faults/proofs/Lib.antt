@@ -4,6 +4,7 @@ pub mod Counts
 pub mod Entries
 pub mod Loops
 pub mod Neighbours
+pub mod Nodes
 pub mod Parts
 pub mod Placed
 pub mod Repeated

@@ -1,5 +1,5 @@
 -- Orders that are checked place by place, and the nodes that they name.
-use Rattle.std.proofs.Common.{refl, sym, ap, ◌∙◌, ◌≡◌, ◌<◌, ◌≤◌, ◌+◌, ◌-◌, ℕ, Bool, true, false, ◌==◌, ◌&&◌, nat_lt, List, [], length, map, get_or, Option, inl, inr, ◌⊎◌, arith, add-one}
+use Rattle.std.proofs.Common.{refl, sym, ap, ◌∙◌, ◌≡◌, ◌<◌, ◌≤◌, ◌+◌, ◌-◌, ℕ, Bool, true, ◌==◌, ◌&&◌, nat_lt, List, [], length, map, get_or, Option, inl, inr, ◌⊎◌, arith, add-one}
 use Rattle.std.specs.Cmp.Lexicographic.{slice_cmp}
 use Rattle.std.specs.Ordering.{is_lt, is_eq, nat_cmp}
 use Rattle.std.specs.declared.cmp.Ordering.{Ordering}

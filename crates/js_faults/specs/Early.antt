@@ -5,7 +5,7 @@ use Rattle.std.specs.Str.{bytes_eq}
 use Rattle.js_ast.specs.declared.operators.UnaryOperator.{UnaryOperator}
 use Rattle.js_ast.specs.declared.operators.UnaryOperator.TheVariants as unary_operator
 use Rattle.js_ast.specs.Keys.{key_text}
-use Rattle.js_ast.specs.Trees.{Ident, Key, Expr, name, paren, object, function, postfix, unary, assign, Properties, no_properties, more_properties, Property, value, getter, setter, Declarations, one_declaration, more_declarations, First, first_expr, first_var, Target, target_expr, target_var, Statement, var, expression, for, for_in, continue, break, return, labelled, try_catch, try_both, function_declaration, Function, function_of}
+use Rattle.js_ast.specs.Trees.{Ident, Key, Expr, name, paren, object, postfix, unary, assign, Properties, no_properties, more_properties, Property, value, getter, setter, Declarations, one_declaration, more_declarations, First, first_expr, first_var, Target, target_expr, target_var, Statement, var, expression, for, for_in, continue, break, return, labelled, try_catch, try_both, Function, function_of}
 use Rattle.js_faults.specs.declared.fault.EarlyError.{EarlyError}
 use Rattle.js_faults.specs.declared.fault.EarlyErrorKind.{EarlyErrorKind}
 use Rattle.js_faults.specs.declared.fault.EarlyErrorKind.TheVariants as kind

@@ -36,14 +36,10 @@ pub(crate) fn first_of_two(f: Option<BadDirective>, g: Option<BadDirective>) -> 
 }
 
 /// A statement that is a directive without its form.
-#[tactic(auto, unfolding(crate::specs::Directives::without_form))]
 pub(crate) fn without_form(s: &Stmt) -> Option<BadDirective>
     ensures { result ≡ first_by by_place (without_form (view_stmt s.now)) }
 {
-    match &*s.kind {
-        StmtKind::Expr { expr, .. } => of_directive(s.at, directive_in(expr)),
-        _ => None,
-    }
+    of_directive(s.at, directive_of(s))
 }
 
 fn of_directive(at: usize, value: Option<&[u16]>) -> Option<BadDirective>

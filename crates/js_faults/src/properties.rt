@@ -63,14 +63,18 @@ fn count(property: &Property, all: &[Property]) -> usize
         .count()
 }
 
+/// Whether an object can't have both. A getter and a setter it can, if no further property has their key.
+fn clashes(all: &[Property], property: &Property, other: &Property) -> bool
+    ensures { result ≡ clashes (property_list (view_properties all.now)) (view_property property.now) (view_property other.now) }
+{
+    same_name(&property.key, &other.key) && (!is_pair(property, other) || count(property, all) != 2)
+}
+
 /// A property behind others.
 fn is_repeated(all: &[Property], others: &[Property], property: &Property) -> bool
     ensures { result ≡ list_any (λ other. clashes (property_list (view_properties all.now)) (view_property property.now) (view_property other)) others.now }
 {
-    others.iter().any(|other| {
-        same_name(&property.key, &other.key)
-            && (!is_pair(property, other) || count(property, all) != 2)
-    })
+    others.iter().any(|other| clashes(all, property, other))
 }
 
 // Properties, each against all earlier ones.

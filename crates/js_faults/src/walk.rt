@@ -54,10 +54,10 @@ fn in_parts<T: Told>(e: &Expr) -> Option<T>
             }
         }
         ExprKind::Call { callee, args } => T::earlier(in_expr(callee), in_exprs(args)),
-        ExprKind::Postfix { operand, .. } | ExprKind::Unary { operand, .. } => in_expr(operand),
-        ExprKind::Binary { left, right, .. } | ExprKind::Comma { left, right } => {
-            T::earlier(in_expr(left), in_expr(right))
-        }
+        ExprKind::Postfix { operand, .. } => in_expr(operand),
+        ExprKind::Unary { operand, .. } => in_expr(operand),
+        ExprKind::Binary { left, right, .. } => T::earlier(in_expr(left), in_expr(right)),
+        ExprKind::Comma { left, right } => T::earlier(in_expr(left), in_expr(right)),
         ExprKind::Assign { target, value, .. } => T::earlier(in_expr(target), in_expr(value)),
         ExprKind::Conditional { test, then, other } => T::earlier(
             in_expr(test),

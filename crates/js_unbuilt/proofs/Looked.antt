@@ -17,10 +17,6 @@ pub first_append : (xs ys : List ℕ) → first_in (xs ++ ys) ≡ or_next (first
 first_append [] ys = refl
 first_append (at ∷ xs) ys = refl
 
--- what is found in two parts is found in what is listed of both
-pub found_in_both : (whole xs ys : List ℕ) (result found next : Option ℕ) → whole ≡ xs ++ ys → result ≡ or_next found next → found ≡ first_in xs → next ≡ first_in ys → result ≡ first_in whole
-found_in_both whole xs ys result found next parts is here behind = rw (is, here, behind, parts) (sym (first_append xs ys))
-
 -- ---- properties
 
 -- one property, and those behind it

@@ -10,7 +10,7 @@ use Rattle.js_ast.specs.Views.{view_expr, view_maybe_expr, view_exprs, view_prop
 use Rattle.js_ast.proofs.ViewLaws.{held_expr, held_exprs, held_properties, held_clauses, held_stmts}
 use Rattle.js_unbuilt.specs.Unbuilt.{takes_operand, takes_keys, unbuilt_expr, unbuilt_exprs, unbuilt_properties, unbuilt_function, unbuilt_maybe, unbuilt_declarations, unbuilt_first, unbuilt_target, unbuilt_clauses, unbuilt_block, unbuilt_statement, unbuilt_statements}
 use Rattle.js_unbuilt.specs.Looking.{first_in, unbuilt_property, unbuilt_clause}
-use Rattle.js_unbuilt.proofs.Looked.{first_append, found_in_both, first_property, first_clause}
+use Rattle.js_unbuilt.proofs.Looked.{first_append, first_property, first_clause}
 use Rattle.js_unbuilt.proofs.Loops.{in_variable, in_variables, goes_on, found_first, found_next, found_here, ends, whole_variables}
 use Rattle.js_unbuilt.proofs.Nodes.{both, three, built, expr_as, statement_as}
 use Rattle.es_meaning.specs.Evaluation.{is_reference}
@@ -20,7 +20,7 @@ pub in_expr-returns-in-Some : goal.in_expr-returns-in-Some
 unfolding unbuilt_expr
 in_expr-returns-in-Some t c =
     let is : view_expr c.args.e.now ≡ new_with c.args.e.now.at (view_expr c.in-New.callee) (view_exprs (nodes_of c.in-Some.args)) = search (rules, held_exprs, the_lemmas, c.in-New.is, c.in-Some.is) in
-    found_in_both _ _ _ _ _ _ (ap unbuilt_expr is) c.first_of-in-Some.ensures c.in_expr-found.ensures c.in_exprs.ensures
+    both (unbuilt_expr (view_expr c.in-New.callee)) (unbuilt_exprs (view_exprs (nodes_of c.in-Some.args))) c.first_of-in-Some.ensures c.in_expr-found.ensures c.in_exprs.ensures ∙ sym (ap (λ e. first_in (unbuilt_expr e)) is)
 
 pub in_expr-returns-in-None : goal.in_expr-returns-in-None
 unfolding unbuilt_expr
