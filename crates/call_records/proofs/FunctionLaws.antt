@@ -2,37 +2,13 @@
 use Rattle.std.proofs.Common.{refl, sym, ap, ap₂, ◌∙◌, ◌≡◌, ◌+◌, ◌<◌, ◌≤◌, ℕ, List, [], ◌∷◌, ◌++◌, length, take, drop, get_or, zero, suc, ◌-◌, arith}
 use Rattle.std.proofs.lemmas.List.{drop_more, at_drop_all}
 use Rattle.js_ast.specs.declared.trees.Stmt.{Stmt}
-use Rattle.js_ast.specs.Trees as trees
-use Rattle.js_ast.specs.Trees.{Function, name_of, Statement, Statements, more_statements}
+use Rattle.js_ast.specs.Trees.{Function, name_of}
 use Rattle.js_ast.specs.Views.{view_stmt, view_stmts}
 use Rattle.js_values.specs.Records.{Bindings, found}
 use Rattle.es_meaning.specs.Declared.{declared_functions}
 use Rattle.es_meaning.specs.Functions.{name_text, with_functions, bound_by}
-use Rattle.call_records.specs.Collected.{declared_by}
-
--- what a statement declares stands in front of what those behind it do
-declared_step : (s : Statement) (ss : Statements) → declared_functions (more_statements s ss) ≡ declared_by s ++ declared_functions ss
-declared_step (trees.function_declaration at f) ss = refl
-declared_step (trees.block b) ss = refl
-declared_step (trees.var at ds semi) ss = refl
-declared_step (trees.empty at) ss = refl
-declared_step (trees.expression at e semi) ss = refl
-declared_step (trees.if_then at e s) ss = refl
-declared_step (trees.if_else at e s t) ss = refl
-declared_step (trees.do_while at s e semi) ss = refl
-declared_step (trees.while at e s) ss = refl
-declared_step (trees.for at first test update s) ss = refl
-declared_step (trees.for_in at target e s) ss = refl
-declared_step (trees.continue at label semi) ss = refl
-declared_step (trees.break at label semi) ss = refl
-declared_step (trees.return at e semi) ss = refl
-declared_step (trees.throw at e semi) ss = refl
-declared_step (trees.switch at e cs) ss = refl
-declared_step (trees.labelled at text s) ss = refl
-declared_step (trees.try_catch at b ident handler) ss = refl
-declared_step (trees.try_finally at b final) ss = refl
-declared_step (trees.try_both at b ident handler final) ss = refl
-declared_step (trees.debugger at semi) ss = refl
+use Rattle.function_table.specs.Declarations.{declared_by}
+use Rattle.function_table.proofs.DeclarationLaws.{declared_front}
 
 module _ {V : Type 0} where
   -- where no value is left, nothing is bound
@@ -44,7 +20,7 @@ module _ {V : Type 0} where
       → ((fs : List Function) → with_functions (declared_by (view_stmt s) ++ fs) values old ≡ with_functions fs rest new) → with_functions (declared_functions (view_stmts (drop (k + 1) ss))) rest new ≡ whole
   goes_on ss k s values rest old new whole lt is so_far one =
       sym (one (declared_functions (view_stmts (drop (k + 1) ss))))
-      ∙ ap (λ fs. with_functions fs values old) (sym (declared_step (view_stmt s) (view_stmts (drop (k + 1) ss))) ∙ ap (λ us. declared_functions (view_stmts us)) (ap (λ u. u ∷ drop (k + 1) ss) is ∙ sym (drop_more ss k s lt)))
+      ∙ ap (λ fs. with_functions fs values old) (sym (declared_front (view_stmt s) (view_stmts (drop (k + 1) ss))) ∙ ap (λ us. declared_functions (view_stmts us)) (ap (λ u. u ∷ drop (k + 1) ss) is ∙ sym (drop_more ss k s lt)))
       ∙ so_far
 
   pub ends : (ss : List Stmt) (k : ℕ) (values : List V) (now whole : Bindings V) → length ss ≤ k → with_functions (declared_functions (view_stmts (drop k ss))) values now ≡ whole → now ≡ whole

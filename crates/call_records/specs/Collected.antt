@@ -2,7 +2,6 @@
 use Rattle.std.specs.Prelude.{◌≡◌, ℕ, Bool, true, false, List, [], ◌∷◌, ◌++◌, None, slice_get, if◌then◌else◌}
 use Rattle.origin_labels.specs.Names.{same_name}
 use Rattle.js_values.specs.Records.{Bindings, Record, bound_in}
-use Rattle.js_ast.specs.Trees.{Statement, function_declaration, Function}
 use Rattle.env_records.specs.Acts.{bind}
 
 -- the names that are bound, in their order
@@ -28,8 +27,3 @@ bound_all i (b ∷ bindings) records = bound_all i bindings (bind i b records)
 abbrev pub Fits : {V : Type 0} → ℕ → Bindings V → List (Record V) → Type 0
 Fits i [] records = Unit {0}
 Fits i (b ∷ bindings) records = (bound_in b.name (slice_get records i) ≡ None) × Fits i bindings (bind i b records)
-
--- the function that a statement declares itself
-abbrev pub declared_by : Statement → List Function
-declared_by (function_declaration at f) = f ∷ []
-declared_by _ = []

@@ -1,20 +1,21 @@
 //! The record of a call: its `this`, its function, its parameters, the functions and the variables that it declares, and
 //! its `arguments` object (ECMA-262 10.4.3, 10.5).
 
-ghost use Rattle.std.specs.Prelude.{◌≡◌, ◌<◌, ◌≤◌, ◌+◌, true, [], ◌∷◌, ◌++◌, List, IfOk, IfSome, OnOk, IsNone, length, get_or};
+ghost use Rattle.std.specs.Prelude.{◌≡◌, ◌<◌, ◌≤◌, ◌+◌, true, [], ◌∷◌, ◌++◌, List, IfOk, OnOk, length, get_or};
 ghost use Rattle.js_ast.specs.Nodes.{nodes_of};
-ghost use Rattle.js_ast.specs.Trees.{Function as Functions, params_of, body_of};
-ghost use Rattle.js_ast.specs.Views.{view_function, view_ident, view_idents, view_name, view_stmt, view_stmts};
+ghost use Rattle.js_ast.specs.Trees.{Function as Functions, body_of};
+ghost use Rattle.js_ast.specs.Views.{view_function, view_idents, view_name, view_stmt, view_stmts};
 ghost use Rattle.es_meaning.specs.Declared.{declared_functions};
 ghost use Rattle.es_meaning.specs.Functions.{name_text, with_parameters, with_functions, with_arguments, entry_bindings, entry_record};
 ghost use Rattle.es_meaning.specs.Naming.{names_in_statements};
-ghost use Rattle.call_records.specs.Collected.{declared_by};
+ghost use Rattle.function_table.specs.Declarations.{declared_by};
 
 use crate::bindings::{Collected, text_of};
 use crate::variables::in_list;
 use env_records::Envs;
 use flow_text::{OutOfMemory, Text};
-use js_ast::{Function, Ident, Stmt, StmtKind, StmtList};
+use function_table::declared;
+use js_ast::{Function, Ident, Stmt, StmtList};
 use js_values::{EnvId, Labelled};
 use std::alloc::Global;
 
@@ -61,36 +62,6 @@ fn bind_parameters<T: Copy>(
         bindings.bind(param.text.copy(alloc)?, value)?;
     }
     Ok(())
-}
-
-// The function that a statement declares itself, if it is a declaration.
-#[tactic(auto, using(js_ast::specs::declared::trees::ExprKind::TheViews::the_lemmas))]
-fn declared(s: &Stmt) -> Option<&Function>
-    ensures is { IfSome result (λ f. declared_by (view_stmt s.now) ≡ view_function f.now ∷ []) }
-    ensures none { IsNone result → declared_by (view_stmt s.now) ≡ [] }
-{
-    match &*s.kind {
-        StmtKind::Function(f) => Some(f),
-        StmtKind::Empty
-        | StmtKind::Expr { .. }
-        | StmtKind::Continue { .. }
-        | StmtKind::Break { .. }
-        | StmtKind::Return { .. }
-        | StmtKind::Throw { .. }
-        | StmtKind::Debugger(_)
-        | StmtKind::Block(_)
-        | StmtKind::Var { .. }
-        | StmtKind::If { .. }
-        | StmtKind::DoWhile { .. }
-        | StmtKind::While { .. }
-        | StmtKind::Labelled { .. }
-        | StmtKind::For { .. }
-        | StmtKind::ForIn { .. }
-        | StmtKind::Switch { .. }
-        | StmtKind::TryCatch { .. }
-        | StmtKind::TryFinally { .. }
-        | StmtKind::TryBoth { .. } => None,
-    }
 }
 
 // The name of a function, and none as the empty one.

@@ -1,1 +1,2 @@
+pub mod DeclarationLaws
 pub mod TableLaws

@@ -3,7 +3,7 @@ use Rattle.std.proofs.Common.{refl, sym, ap, ap₂, ◌∙◌, ◌≡◌, ◌<�
 use Rattle.std.proofs.lemmas.List.{drop_more, at_drop_all}
 use Rattle.js_ast.specs.declared.trees.Stmt.{Stmt}
 use Rattle.js_ast.specs.Functions.{FunctionCode}
-use Rattle.js_ast.specs.Trees.{Function, Statement, block, var, empty, expression, if_then, if_else, do_while, while, for, for_in, continue, break, return, throw, switch, labelled, try_catch, try_finally, try_both, debugger, function_declaration, Statements, more_statements, name_of, params_of}
+use Rattle.js_ast.specs.Trees.{Function, name_of, params_of}
 use Rattle.js_ast.specs.Views.{view_stmt, view_stmts}
 use Rattle.js_values.specs.declared.ids.ObjId.{ObjId}
 use Rattle.js_values.specs.declared.value.Value.TheVariants as value
@@ -15,7 +15,9 @@ use Rattle.es_meaning.specs.Start.{id, global_object}
 use Rattle.es_meaning.specs.Plain.{declared_over, declared_function, and_functions, with_functions}
 use Rattle.plain_heap.specs.PlainObjects.{PlainObjects, with_more}
 use Rattle.plain_heap.specs.Started.{IsStarted}
-use Rattle.start_script.specs.Entered.{Comes, declared_by, Enters}
+use Rattle.function_table.specs.Declarations.{declared_by}
+use Rattle.function_table.proofs.DeclarationLaws.{declared_front}
+use Rattle.start_script.specs.Entered.{Comes, Enters}
 
 -- ---- functions, and then others
 
@@ -95,29 +97,6 @@ module _ {T : Type 0} (f : Function) (number count : ℕ) (o : ObjId) (name : Li
   }
 
 -- ---- statements
-
-declared_front : (s : Statement) (ss : Statements) → declared_functions (more_statements s ss) ≡ declared_by s ++ declared_functions ss
-declared_front (block b) ss = refl
-declared_front (var at ds semi) ss = refl
-declared_front (empty at) ss = refl
-declared_front (expression at e semi) ss = refl
-declared_front (if_then at e s) ss = refl
-declared_front (if_else at e s u) ss = refl
-declared_front (do_while at s e semi) ss = refl
-declared_front (while at e s) ss = refl
-declared_front (for at first test update s) ss = refl
-declared_front (for_in at target e s) ss = refl
-declared_front (continue at label semi) ss = refl
-declared_front (break at label semi) ss = refl
-declared_front (return at e semi) ss = refl
-declared_front (throw at e semi) ss = refl
-declared_front (switch at e cs) ss = refl
-declared_front (labelled at text s) ss = refl
-declared_front (try_catch at b ident handler) ss = refl
-declared_front (try_finally at b final) ss = refl
-declared_front (try_both at b ident handler final) ss = refl
-declared_front (debugger at semi) ss = refl
-declared_front (function_declaration at f) ss = refl
 
 -- in a loop over statements: where those that are left declare their functions, all of them do
 pub record Entering {T : Type 0} (functions : List FunctionCode) (initial : PlainObjects T) (items left : List Stmt) (heap : PlainObjects T) : Type 0 where

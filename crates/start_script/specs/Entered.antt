@@ -1,9 +1,8 @@
 -- The functions of the outermost code, as they are declared.
 use Rattle.std.specs.Prelude.{◌≡◌, ℕ, Bool, true, false, ◌||◌, List, Option, Some, None, slice_get}
-use Rattle.js_ast.specs.Trees.{Function, Statement, more_statements, no_statements}
+use Rattle.js_ast.specs.Trees.{Function}
 use Rattle.js_ast.specs.Functions.{FunctionCode}
 use Rattle.js_values.specs.Objects.{Property, PlainObject}
-use Rattle.es_meaning.specs.Declared.{declared_functions}
 use Rattle.es_meaning.specs.Objects.{own_in}
 use Rattle.es_meaning.specs.Start.{global_object, object_prototype}
 use Rattle.es_meaning.specs.Plain.{may_hold, with_functions}
@@ -28,10 +27,6 @@ may_take_any None None = true
 
 abbrev pub may_take : List ℕ → List PlainObject → Bool
 may_take name objects = may_take_any (own_in name (slice_get objects global_object.0)) (own_in name (slice_get objects object_prototype.0))
-
--- the functions that a statement declares itself
-abbrev pub declared_by : Statement → List Function
-declared_by s = declared_functions (more_statements s no_statements)
 
 -- functions are made and declared in turn, until one is refused
 pub record Enters {T : Type 0} (functions : List FunctionCode) (declared : List Function) (old new : PlainObjects T) (goes : Bool) : Type 0 where

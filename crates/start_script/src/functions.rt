@@ -10,14 +10,15 @@ ghost use Rattle.es_meaning.specs.Declared.{declared_functions};
 ghost use Rattle.es_meaning.specs.Functions.{function_object, constructed_prototype, name_text};
 ghost use Rattle.es_meaning.specs.Plain.{declared_over};
 ghost use Rattle.es_meaning.specs.Start.{global_object};
+ghost use Rattle.function_table.specs.Declarations.{declared_by};
 ghost use Rattle.function_table.specs.Tables.{table};
 ghost use Rattle.plain_heap.specs.PlainObjects.{seen_slot, with_more};
 ghost use Rattle.plain_heap.specs.Started.{IsStarted};
-ghost use Rattle.start_script.specs.Entered.{declared_by, may_take, may_take_over, Comes, Enters};
+ghost use Rattle.start_script.specs.Entered.{may_take, may_take_over, Comes, Enters};
 
 use flow_text::{OutOfMemory, Text};
-use function_table::Functions;
-use js_ast::{Function, Ident, Stmt, StmtKind, StmtList};
+use function_table::{Functions, declared};
+use js_ast::{Function, Ident, Stmt, StmtList};
 use js_values::{Body, Class, EnvId, Inner, Key, Marks, ObjId, Slot, Value};
 use plain_heap::{BUILT_IN, FUNCTION_PROTOTYPE, GLOBAL_OBJECT, OBJECT_PROTOTYPE, PlainHeap};
 use std::alloc::Global;
@@ -169,36 +170,6 @@ fn declare_function<T: Copy>(
     let number = functions.number_of(f);
     let o = make_function(alloc, heap, number, count)?;
     bind(heap, key, o)
-}
-
-// The function that a statement declares itself, if it is a declaration.
-#[tactic(auto, using(js_ast::specs::declared::trees::ExprKind::TheViews::the_lemmas))]
-fn declared(s: &Stmt) -> Option<&Function>
-    ensures is { IfSome result (λ f. declared_by (view_stmt s.now) ≡ view_function f.now ∷ []) }
-    ensures none { IsNone result → declared_by (view_stmt s.now) ≡ [] }
-{
-    match &*s.kind {
-        StmtKind::Function(f) => Some(f),
-        StmtKind::Empty
-        | StmtKind::Expr { .. }
-        | StmtKind::Continue { .. }
-        | StmtKind::Break { .. }
-        | StmtKind::Return { .. }
-        | StmtKind::Throw { .. }
-        | StmtKind::Debugger(_)
-        | StmtKind::Block(_)
-        | StmtKind::Var { .. }
-        | StmtKind::If { .. }
-        | StmtKind::DoWhile { .. }
-        | StmtKind::While { .. }
-        | StmtKind::Labelled { .. }
-        | StmtKind::For { .. }
-        | StmtKind::ForIn { .. }
-        | StmtKind::Switch { .. }
-        | StmtKind::TryCatch { .. }
-        | StmtKind::TryFinally { .. }
-        | StmtKind::TryBoth { .. } => None,
-    }
 }
 
 // Declares the function that a statement is, if it is one.

@@ -5,8 +5,7 @@ use Rattle.origin_labels.specs.Label.{Label}
 use Rattle.origin_labels.specs.Stores.{IsKept}
 use Rattle.origin_labels.proofs.StoreLaws.{IsKept-refl, IsKept-trans}
 use Rattle.js_ast.specs.declared.trees.Stmt.{Stmt}
-use Rattle.js_ast.specs.Trees as trees
-use Rattle.js_ast.specs.Trees.{Function, Statement, Statements, more_statements, params_of}
+use Rattle.js_ast.specs.Trees.{Function, params_of}
 use Rattle.js_ast.specs.Functions.{FunctionCode}
 use Rattle.js_ast.specs.Views.{view_stmt, view_stmts}
 use Rattle.js_values.specs.declared.ids.ObjId.{ObjId}
@@ -18,7 +17,8 @@ use Rattle.js_values.specs.Readings.{HasHeap, read_heap}
 use Rattle.es_meaning.specs.Declared.{declared_functions}
 use Rattle.es_meaning.specs.Functions.{number_in, function_object, constructed_prototype, function_objects, objects_of, references_of, behind_functions}
 use Rattle.es_meaning.specs.Start.{id}
-use Rattle.call_records.specs.Collected.{declared_by}
+use Rattle.function_table.specs.Declarations.{declared_by}
+use Rattle.function_table.proofs.DeclarationLaws.{declared_front}
 use Rattle.step_entries.specs.Declaring.{labelled_with}
 use Rattle.step_entries.specs.Making.{Makes}
 use Rattle.step_entries.proofs.MakingLaws.{Makes-then}
@@ -80,29 +80,6 @@ unfolding behind_functions
 none_behind o fs none = ap (behind_functions o) (sym none)
 
 -- ---- statements
-
-declared_front : (s : Statement) (ss : Statements) → declared_functions (more_statements s ss) ≡ declared_by s ++ declared_functions ss
-declared_front (trees.function_declaration at f) ss = refl
-declared_front (trees.block b) ss = refl
-declared_front (trees.var at ds semi) ss = refl
-declared_front (trees.empty at) ss = refl
-declared_front (trees.expression at e semi) ss = refl
-declared_front (trees.if_then at e s) ss = refl
-declared_front (trees.if_else at e s t) ss = refl
-declared_front (trees.do_while at s e semi) ss = refl
-declared_front (trees.while at e s) ss = refl
-declared_front (trees.for at first test update s) ss = refl
-declared_front (trees.for_in at target e s) ss = refl
-declared_front (trees.continue at label semi) ss = refl
-declared_front (trees.break at label semi) ss = refl
-declared_front (trees.return at e semi) ss = refl
-declared_front (trees.throw at e semi) ss = refl
-declared_front (trees.switch at e cs) ss = refl
-declared_front (trees.labelled at text s) ss = refl
-declared_front (trees.try_catch at b ident handler) ss = refl
-declared_front (trees.try_finally at b final) ss = refl
-declared_front (trees.try_both at b ident handler final) ss = refl
-declared_front (trees.debugger at semi) ss = refl
 
 -- in a loop over statements, from a store and a heap: where those that are left declare their functions, all of them do
 pub record Declaring {S T : Type 0} (made : S → T → Type 0) (meaning : S → T → Label) (room : S → ℕ) (firm : S → Bool) (functions : List FunctionCode) (here : T) (place : ℕ) (first : S) (initial : List (Object T)) (items left : List Stmt) (store : S) (heap : List (Object T)) (references : List (Labelled T)) : Type 0 where

@@ -6,50 +6,20 @@ ghost use Rattle.js_ast.specs.Nodes.{nodes_of};
 ghost use Rattle.js_ast.specs.Views.{view_function, view_stmt, view_stmts};
 ghost use Rattle.js_values.specs.Readings.{HasHeap};
 ghost use Rattle.es_meaning.specs.Declared.{declared_functions};
-ghost use Rattle.es_meaning.specs.Functions.{function_objects, objects_of, references_of, behind_functions};
-ghost use Rattle.call_records.specs.Collected.{declared_by};
+ghost use Rattle.es_meaning.specs.Functions.{objects_of, references_of, behind_functions};
+ghost use Rattle.function_table.specs.Declarations.{declared_by};
 ghost use Rattle.function_table.specs.Tables.{table};
 ghost use Rattle.step_entries.specs.Declaring.{labelled_with};
 ghost use Rattle.step_entries.specs.Making.{Makes};
 
 use crate::objects::{count, make_objects};
 use flow_text::OutOfMemory;
-use function_table::Functions;
-use js_ast::{Function, Stmt, StmtKind, StmtList};
+use function_table::{Functions, declared};
+use js_ast::{Function, Stmt, StmtList};
 use js_values::{EnvId, Labelled, Value};
 use object_heap::Heap;
 use origin_labels::Labels;
 use std::alloc::Global;
-
-// The function that a statement declares itself, if it is a declaration.
-#[tactic(auto, using(js_ast::specs::declared::trees::ExprKind::TheViews::the_lemmas))]
-fn declared(s: &Stmt) -> Option<&Function>
-    ensures is { IfSome result (λ f. declared_by (view_stmt s.now) ≡ view_function f.now ∷ []) }
-    ensures none { IsNone result → declared_by (view_stmt s.now) ≡ [] }
-{
-    match &*s.kind {
-        StmtKind::Function(f) => Some(f),
-        StmtKind::Empty
-        | StmtKind::Expr { .. }
-        | StmtKind::Continue { .. }
-        | StmtKind::Break { .. }
-        | StmtKind::Return { .. }
-        | StmtKind::Throw { .. }
-        | StmtKind::Debugger(_)
-        | StmtKind::Block(_)
-        | StmtKind::Var { .. }
-        | StmtKind::If { .. }
-        | StmtKind::DoWhile { .. }
-        | StmtKind::While { .. }
-        | StmtKind::Labelled { .. }
-        | StmtKind::For { .. }
-        | StmtKind::ForIn { .. }
-        | StmtKind::Switch { .. }
-        | StmtKind::TryCatch { .. }
-        | StmtKind::TryFinally { .. }
-        | StmtKind::TryBoth { .. } => None,
-    }
-}
 
 // Makes the objects of a function that closes over this record, and gives its reference.
 fn make_one<T: Copy, L: Labels<Label = T>>(

@@ -1,7 +1,8 @@
 use Rattle.std.proofs.Common.{subst}
 use Rattle.js_ast.specs.Views.{view_stmt}
+use Rattle.function_table.specs.Declarations.{declared_by}
 use Rattle.function_table.specs.Tables.{table}
-use Rattle.start_script.specs.Entered.{declared_by, Enters}
+use Rattle.start_script.specs.Entered.{Enters}
 use Rattle.start_script.proofs.EnterLaws.{goes_on, refused, ends}
 use Rattle.start_script.proofs.functions.declare_functions.Goals as goal
 

@@ -1,7 +1,7 @@
 use Rattle.std.proofs.Common.{refl, length}
 use Rattle.js_ast.specs.Views.{view_stmt}
+use Rattle.function_table.specs.Declarations.{declared_by}
 use Rattle.function_table.specs.Tables.{table}
-use Rattle.call_records.specs.Collected.{declared_by}
 use Rattle.step_entries.proofs.DeclaringLaws.{none_makes, none_refers, none_behind}
 use Rattle.step_entries.proofs.declaring.make_by_statement.Goals as goal
 
