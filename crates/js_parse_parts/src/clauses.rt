@@ -13,7 +13,6 @@ use flow_text::OutOfMemory;
 use js_ast::{Block, Clause, ClauseList, Expr, Stmt, StmtList};
 
 /// A further statement.
-#[tactic(auto, using(js_ast::proofs::ViewLaws::appended, crate::proofs::DepthLaws::joined_statements_depth))]
 pub fn further_statement(
     list: (StmtList, u32),
     statement: (Stmt, u32),
@@ -40,7 +39,6 @@ pub fn block_of(at: usize, body: (StmtList, u32)) -> (Block, u32)
 }
 
 /// A further clause with a test.
-#[tactic(auto, using(js_ast::proofs::ViewLaws::held, js_ast::proofs::ViewLaws::appended, crate::proofs::DepthLaws::joined_case_depth, js_ast::specs::declared::trees::ExprKind::TheViews::the_lemmas))]
 pub fn further_case(
     list: (ClauseList, u32),
     test: (Expr, u32),
@@ -62,7 +60,6 @@ pub fn further_case(
 }
 
 /// The clause with no test behind others.
-#[tactic(auto, using(crate::proofs::Parts::default_behind, crate::proofs::Parts::default_deepens))]
 pub fn further_default(
     list: (ClauseList, u32),
     body: (StmtList, u32),

@@ -17,7 +17,6 @@ use js_ast::{
 use std::alloc::Global;
 
 /// A further argument.
-#[tactic(auto, using(crate::proofs::DepthLaws::joined_exprs_depth, js_ast::proofs::ViewLaws::appended))]
 pub fn with_argument(
     args: (ExprList, u32),
     arg: (Expr, u32),
@@ -34,7 +33,6 @@ pub fn with_argument(
 }
 
 /// A further expression of an array.
-#[tactic(auto, using(crate::proofs::DepthLaws::joined_item_depth, js_ast::proofs::ViewLaws::appended))]
 pub fn with_item(items: (ItemList, u32), expr: (Expr, u32)) -> Result<(ItemList, u32), OutOfMemory>
     requires items { items.1 ≡ depth_items (view_items (nodes_of items.0)) }
     requires expr { expr.1 ≡ depth (view_expr expr.0) }
@@ -48,7 +46,6 @@ pub fn with_item(items: (ItemList, u32), expr: (Expr, u32)) -> Result<(ItemList,
 }
 
 /// A further hole of an array.
-#[tactic(auto, using(crate::proofs::DepthLaws::joined_hole_depth, js_ast::proofs::ViewLaws::appended))]
 pub fn with_hole(items: (ItemList, u32)) -> Result<(ItemList, u32), OutOfMemory>
     requires { items.1 ≡ depth_items (view_items (nodes_of items.0)) }
     ensures node { IfOk result (λ x. view_items (nodes_of x.0) ≡ joined_items (view_items (nodes_of items.0)) (hole no_items)) }
@@ -78,7 +75,6 @@ pub fn ends_with_item(items: &ItemList) -> bool
 }
 
 /// A further property.
-#[tactic(auto, using(crate::proofs::DepthLaws::joined_properties_depth, js_ast::proofs::ViewLaws::appended))]
 pub fn with_property(
     properties: (PropertyList, u32),
     property: (Property, u32),

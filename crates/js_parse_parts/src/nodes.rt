@@ -30,7 +30,6 @@ pub fn paren(alloc: Global, at: usize, inner: (Expr, u32)) -> Result<(Expr, u32)
 }
 
 /// An array, with a comma behind its last expression or none.
-#[tactic(auto, using(js_ast::proofs::ViewLaws::held))]
 pub fn array(
     alloc: Global,
     at: usize,
@@ -50,7 +49,6 @@ pub fn array(
 }
 
 /// An object, with a comma behind its last property or none.
-#[tactic(auto, using(js_ast::proofs::ViewLaws::held))]
 pub fn object(
     alloc: Global,
     at: usize,
@@ -89,7 +87,6 @@ pub fn function(
 }
 
 /// A member.
-#[tactic(auto, using(crate::proofs::NodeLaws::place_is))]
 pub fn member(alloc: Global, base: (Expr, u32), name: &Text) -> Result<(Expr, u32), OutOfMemory>
     requires { Deep u32.MAX (depth (view_expr base.0)) base.1 }
     ensures node { IfOk result (λ x. view_expr x.0 ≡ trees.member (at_of (view_expr base.0)) (view_expr base.0) name.now) }
@@ -103,7 +100,6 @@ pub fn member(alloc: Global, base: (Expr, u32), name: &Text) -> Result<(Expr, u3
 }
 
 /// An element.
-#[tactic(auto, using(crate::proofs::NodeLaws::place_is))]
 pub fn index(
     alloc: Global,
     base: (Expr, u32),
@@ -125,7 +121,6 @@ pub fn index(
 }
 
 /// `new` without arguments.
-#[tactic(auto, using(js_ast::specs::declared::trees::ExprKind::TheViews::the_lemmas))]
 pub fn new_bare(alloc: Global, at: usize, callee: (Expr, u32)) -> Result<(Expr, u32), OutOfMemory>
     requires { Deep u32.MAX (depth (view_expr callee.0)) callee.1 }
     ensures node { IfOk result (λ x. view_expr x.0 ≡ trees.new_bare at (view_expr callee.0)) }
@@ -140,7 +135,6 @@ pub fn new_bare(alloc: Global, at: usize, callee: (Expr, u32)) -> Result<(Expr, 
 }
 
 /// `new` with arguments.
-#[tactic(auto, using(js_ast::proofs::ViewLaws::held, js_ast::specs::declared::trees::ExprKind::TheViews::the_lemmas))]
 pub fn new_with(
     alloc: Global,
     at: usize,
@@ -162,7 +156,6 @@ pub fn new_with(
 }
 
 /// A call.
-#[tactic(auto, using(crate::proofs::NodeLaws::place_is, js_ast::proofs::ViewLaws::held))]
 pub fn call(
     alloc: Global,
     callee: (Expr, u32),
@@ -184,7 +177,6 @@ pub fn call(
 }
 
 /// An operator behind its operand.
-#[tactic(auto, using(crate::proofs::NodeLaws::place_is))]
 pub fn postfix(
     alloc: Global,
     operand: (Expr, u32),
@@ -223,7 +215,6 @@ pub fn unary(
 }
 
 /// An operator between its operands.
-#[tactic(auto, using(crate::proofs::NodeLaws::place_is))]
 pub fn binary(
     alloc: Global,
     left: (Expr, u32),
@@ -247,7 +238,6 @@ pub fn binary(
 }
 
 /// A conditional.
-#[tactic(auto, using(crate::proofs::NodeLaws::place_is))]
 pub fn conditional(
     alloc: Global,
     test: (Expr, u32),
@@ -272,7 +262,6 @@ pub fn conditional(
 }
 
 /// An assignment.
-#[tactic(auto, using(crate::proofs::NodeLaws::place_is))]
 pub fn assign(
     alloc: Global,
     target: (Expr, u32),
@@ -296,7 +285,6 @@ pub fn assign(
 }
 
 /// A comma between expressions.
-#[tactic(auto, using(crate::proofs::NodeLaws::place_is))]
 pub fn comma(
     alloc: Global,
     left: (Expr, u32),

@@ -272,7 +272,6 @@ pub fn throw_statement(
 }
 
 /// A `switch`.
-#[tactic(auto, using(js_ast::proofs::ViewLaws::held, js_ast::specs::declared::trees::ExprKind::TheViews::the_lemmas))]
 pub fn switch(
     alloc: Global,
     at: usize,
@@ -416,7 +415,6 @@ pub fn expression_statement(
 }
 
 /// A block as a statement, of its own depth.
-#[tactic(auto, using(js_ast::proofs::ViewLaws::held, js_ast::proofs::ViewLaws::parts_block, js_ast::specs::declared::trees::ExprKind::TheViews::the_lemmas))]
 pub fn block_statement(alloc: Global, block: (Block, u32)) -> Result<(Stmt, u32), OutOfMemory>
     ensures view { IfOk result (λ x. view_stmt x.0 ≡ trees.block (view_block block.0)) }
     ensures depth { IfOk result (λ x. x.1 ≡ block.1) }

@@ -1,0 +1,18 @@
+use Rattle.std.proofs.Common.{arith}
+use Rattle.js_ast.specs.Nodes.{nodes_of}
+use Rattle.js_ast.specs.Trees as trees
+use Rattle.js_ast.specs.Trees.{at_of}
+use Rattle.js_ast.specs.Views.{view_expr, view_exprs}
+use Rattle.js_ast.proofs.ViewLaws.{held_exprs}
+use Rattle.js_parse_parts.proofs.Made.{made_deep, made_size}
+use Rattle.js_parse_parts.proofs.NodeLaws.{place_is}
+use Rattle.js_parse_parts.proofs.nodes.call.Goals as goal
+
+pub returns-clause-node : goal.returns-clause-node
+returns-clause-node c = rw (place_is c.args.callee.0) (rw (held_exprs c.args.args.0) at c.node.ensures.node)
+
+pub returns-clause-deep : goal.returns-clause-deep
+returns-clause-deep c = made_deep c.node.result (trees.call (at_of (view_expr c.args.callee.0)) (view_expr c.args.callee.0) (view_exprs (nodes_of c.args.args.0))) _ (returns-clause-node c) c.node.ensures.depth (omega arith)
+
+pub returns-clause-size : goal.returns-clause-size
+returns-clause-size c = made_size c.node.result _ _ c.node.ensures.depth (omega arith)

@@ -1,0 +1,5 @@
+use Rattle.std.proofs.Common.{refl}
+use Rattle.js_parse_parts.proofs.statements.if_then.Goals as goal
+
+pub returns-clause-view : goal.returns-clause-view
+returns-clause-view c = rw (c.in_ok-stmt.ensures.at, c.in_ok-stmt.ensures.kind) refl
