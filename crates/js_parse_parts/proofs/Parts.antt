@@ -2,7 +2,9 @@
 use Rattle.std.proofs.Common.{◌≡◌, suc, ◌-◌, leb, List, [], ◌∷◌, ◌++◌, max, length, get_or, Option, Some, None, option_map, refl, sym, ap, ◌∙◌, arith, Bor}
 use Rattle.std.proofs.lemmas.Option.{slice_get-get_or}
 use Rattle.js_ast.specs.declared.trees.Expr.{Expr}
-use Rattle.js_ast.specs.declared.trees.Declaration.{Declaration, out-Declaration}
+use Rattle.js_ast.specs.declared.trees.Ident.{Ident}
+use Rattle.js_ast.specs.declared.trees.Declaration.{Declaration, out-Declaration, roll-Declaration}
+use Rattle.js_ast.specs.declared.trees.Declarations.{Declarations, out-Declarations, roll-Declarations}
 use Rattle.js_ast.specs.Trees as trees
 use Rattle.std.specs.Option.{option_copied}
 use Rattle.js_ast.specs.Depth.{depth_clauses, depth_statements}
@@ -14,13 +16,13 @@ use Rattle.js_ast.specs.declared.trees.Stmt.{Stmt}
 use Rattle.js_ast.specs.declared.trees.Clause.{Clause, Clause', roll-Clause}
 use Rattle.js_ast.specs.declared.trees.ExprKind.TheBlock.{ForFirst-Expr-0-None', ForFirst-Expr-0-Some'}
 use Rattle.js_ast.specs.Nodes.{nodes_of}
-use Rattle.js_ast.specs.Joined.{joined_clauses}
-use Rattle.js_ast.specs.Trees.{no_clauses, default}
+use Rattle.js_ast.specs.Joined.{joined_clauses, joined_declarations}
+use Rattle.js_ast.specs.Trees.{no_clauses, default, one_declaration}
 use Rattle.js_ast.specs.Validity.{defaults}
-use Rattle.js_ast.specs.Views.{view_expr, view_maybe_expr, declarations_from, view_declaration, view_other_declarations, view_clauses, view_stmts}
+use Rattle.js_ast.specs.Views.{view_ident, view_expr, view_maybe_expr, declarations_from, view_declaration, view_other_declarations, view_declarations, view_clauses, view_stmts}
 use Rattle.js_parse_parts.specs.Clauses.{is_default}
 use Rattle.js_parse_parts.proofs.DepthLaws.{joined_default_depth}
-use Rattle.js_ast.proofs.ViewLaws.{clauses_append, parts_declaration, seen_default}
+use Rattle.js_ast.proofs.ViewLaws.{clauses_append, declarations_append, parts_declaration, parts_declarations, seen_declaration, seen_declarations, seen_default}
 
 -- a clause with no test behind others
 pub default_behind : (cs ds : List Clause) (body : NodeList Stmt) → ds ≡ cs ++ roll-Clause (record { test = None; body = body }) ∷ [] → view_clauses ds ≡ joined_clauses (view_clauses cs) (default (view_stmts (nodes_of body)) no_clauses)
@@ -61,3 +63,11 @@ borrowed_seen (Some e) = refl
 -- the initialiser of a variable
 pub value_seen : (d : Declaration) (r : Option (Bor Expr)) → option_copied r ≡ (out-Declaration d).value → option_map (λ e. view_expr e.now) r ≡ as_option (view_declaration d).1
 value_seen d r h = borrowed_seen r ∙ ap (option_map view_expr) h ∙ option_seen (out-Declaration d).value ∙ sym (ap (λ (v : trees.Ident × trees.MaybeExpr). as_option v.1) (parts_declaration d))
+
+-- a variable behind others
+pub declared_behind : (l : Declarations) (others : NodeList Declaration) (name : Ident) (init : Option Expr) → nodes_of others ≡ nodes_of (out-Declarations l).others ++ roll-Declaration (record { name = name; value = init }) ∷ []
+    → view_declarations (roll-Declarations (record { first = (out-Declarations l).first; others = others })) ≡ joined_declarations (view_declarations l) (one_declaration (view_ident name) (view_maybe_expr init))
+declared_behind l others name init e =
+    let first = (out-Declarations l).first in
+    let one = roll-Declaration (record { name = name; value = init }) in
+    seen_declarations first others ∙ ap (λ ds. declarations_from (view_declaration first) (view_other_declarations ds)) e ∙ declarations_append first (nodes_of (out-Declarations l).others) one [] ∙ rw (parts_declarations l, seen_declaration name init) refl

@@ -30,7 +30,6 @@ pub fn first_declaration(
 }
 
 /// A further variable.
-#[tactic(auto, using(js_ast::proofs::ViewLaws::held, js_ast::proofs::ViewLaws::appended, crate::proofs::DepthLaws::joined_declarations_depth, js_ast::specs::declared::trees::ExprKind::TheViews::the_lemmas))]
 pub fn further_declaration(
     list: (Declarations, u32),
     name: Ident,
@@ -57,7 +56,6 @@ fn last<'a>(first: &'a Declaration, others: &'a [Declaration]) -> &'a Declaratio
     others.last().unwrap_or(first)
 }
 
-#[tactic(auto, using(crate::proofs::Parts::value_seen))]
 fn value_of(declaration: &Declaration) -> Option<&Expr>
     ensures { option_map (λ e. view_expr e.now) result ≡ as_option (view_declaration declaration.now).1 }
 {
