@@ -1,10 +1,11 @@
 #!/bin/sh
-# raw.sh CRATE [flags]: checks a crate over the sources of the crates below it
-export CRATE=$1; shift
-cd /work/tmp/base42/crates/$CRATE
+# raw.sh CRATE [flags]: checks a crate of this repository over the sources of the crates below it, as `raw.sh object_heap --only table`. So one module can be proved before the libraries below are built. It is no verdict: the gate still has to run.
+TOP=$(dirname -- "$(dirname -- "$(readlink -f -- "$0")")")
+export TOP CRATE=$1; shift
+cd "$TOP/crates/$CRATE" || exit 2
 exec nice -n 5 python3 - "$@" <<'P'
 import sys,os
-K='/opt/rattle'; T='/work/tmp/base42'; C=os.environ['CRATE']
+K='/opt/rattle'; T=os.environ['TOP']; C=os.environ['CRATE']
 d={}
 for l in open(T+'/crates.txt'):
     if ':' in l:
@@ -20,10 +21,12 @@ w=[K+'/bin/rattle','check','--crate-name',C,'src/lib.rt','--extern','std=%s/rlib
 for x in kit: w+=['--extern','%s=%s/rlibs/%s.rlib'%(x,K,x)]
 w+=['-L','dependency=%s/rlibs'%K]
 for x in seen:
-    used=','.join(y for y in d[x])
+    # std is listed among what a library uses
+    used=','.join(d[x])
     w+=['--lib','%s:std,%s=%s/crates/%s/src/lib.rt'%(x,used,T,x)] if used else ['--lib','%s:std=%s/crates/%s/src/lib.rt'%(x,T,x)]
-w+=['--antt-project',K+'/rattle/logic/antt-project.json','--logic-built',K+'/logic_built','--links',C+'=','--jobs','1','--progress','--incremental',T+'.inc/'+C]
+kept=T+'/out/raw/'+C
+w+=['--antt-project',K+'/rattle/logic/antt-project.json','--logic-built',K+'/logic_built','--links',C+'=','--jobs','1','--progress','--incremental',kept]
 w+=sys.argv[1:]
-os.makedirs(T+'.inc/'+C,exist_ok=True)
+os.makedirs(kept,exist_ok=True)
 os.execv(w[0],w)
 P

@@ -4,6 +4,7 @@ use crate::told::holds;
 use flow_io::*;
 use flow_text::OutOfMemory;
 use std::alloc::Global;
+use std::fs;
 use std::io::{self, Cursor};
 use std::process::Abort;
 use std::rt::Files;
@@ -31,8 +32,11 @@ const LOADS: &[Loading] = &[
 
 const LOADS_OF_THE_SYSTEM: &[Loading] = &[
     ("no such file", 9, Err(LoadFault::ReadFault)),
-    ("/dev/null", 0, Ok(b"")),
-    ("/dev/zero", 5_000, Err(LoadFault::TooLong { most: 5_000 })),
+    (".", 9, Err(LoadFault::ReadFault)),
+    ("/dev/null", 0, Err(LoadFault::ReadFault)),
+    ("/dev/zero", 5_000, Err(LoadFault::ReadFault)),
+    ("a file", 11, Ok(b"a long text")),
+    ("a file", 10, Err(LoadFault::TooLong { most: 10 })),
 ];
 
 // Which put is to fail, how many bytes it keeps, and those that are taken then.
@@ -171,17 +175,22 @@ fn takes_in_memory(rt: HostRuntime) {
     }
 }
 
-fn reads_zeros(files: &impl Files) -> bool {
+// Reads from two places of the file, from its end, and again.
+fn reads_in_places(files: &(impl Files + AllocGlobal)) -> bool {
     let mut store = RealStore::new(files);
-    let mut piece = [7; 3];
+    let mut piece = [7; 4];
+    let first = matches!(store.read("a file", 2, &mut piece), Ok(4)) && piece == *b"long";
+    let last = matches!(store.read("a file", 9, &mut piece), Ok(2)) && piece == *b"xtng";
+    let end = matches!(store.read("a file", 11, &mut piece), Ok(0));
+    let again = matches!(store.read("a file", 7, &mut piece), Ok(4)) && piece == *b"text";
     let absent = store.read("no such file", 0, &mut piece).is_err();
-    let read = matches!(store.read("/dev/zero", 5, &mut piece), Ok(3));
-    absent && read && piece == [0; 3]
+    first && last && end && again && absent
 }
 
 #[test]
-fn reads_the_system(rt: HostRuntime) {
-    assert!(rt; reads_zeros(&rt));
+fn reads_the_system(rt: HostRuntime) -> Result<(), Fail> {
+    fs::write(&rt, "a file", b"a long text")?;
+    assert!(rt; reads_in_places(&rt));
     let mut store = RealStore::new(&rt);
     for (path, most, wanted) in LOADS_OF_THE_SYSTEM {
         assert!(rt;
@@ -189,6 +198,7 @@ fn reads_the_system(rt: HostRuntime) {
             "{path}"
         );
     }
+    Ok(())
 }
 
 fn writes_what_fits() -> bool {

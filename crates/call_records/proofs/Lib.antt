@@ -1,7 +1,7 @@
-pub mod CollectedLaws
+pub mod DeclarationLaws
 pub mod EntryLaws
-pub mod FunctionLaws
+pub mod FilledLaws
 pub mod Loops
-pub mod ParameterLaws
-pub mod PlaceLaws
+pub mod NameLaws
+pub mod PlannedLaws
 pub mod VariableLaws

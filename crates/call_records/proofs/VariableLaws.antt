@@ -1,36 +1,20 @@
--- Variables that are bound in turn.
-use Rattle.std.proofs.Common.{refl, sym, ap, ap₂, ◌∙◌, ◌≡◌, ◌+◌, ◌<◌, ◌≤◌, ℕ, List, [], ◌∷◌, ◌++◌, length, drop, get_or, Ok, OnOk}
-use Rattle.std.proofs.lemmas.List.{drop_more, at_drop_all}
+-- The variables and the functions that statements declare.
+use Rattle.std.proofs.Common.{refl, ap, ◌∙◌, ◌≡◌, ℕ, List, [], ◌∷◌, ◌++◌}
+use Rattle.std.proofs.lemmas.List.{map-append}
 use Rattle.js_ast.specs.declared.trees.Clause.{Clause, out-Clause}
 use Rattle.js_ast.specs.declared.trees.Declaration.{Declaration, out-Declaration}
 use Rattle.js_ast.specs.declared.trees.Declarations.{Declarations, out-Declarations}
+use Rattle.js_ast.specs.declared.trees.Stmt.{Stmt}
 use Rattle.js_ast.specs.Nodes.{nodes_of}
 use Rattle.js_ast.specs.Trees as trees
-use Rattle.js_ast.specs.Views.{view_maybe_expr, view_declaration, view_other_declarations, view_declarations, declarations_from, clause_by, view_clauses, view_stmts}
+use Rattle.js_ast.specs.Trees.{name_of}
+use Rattle.js_ast.specs.Views.{view_maybe_expr, view_declaration, view_other_declarations, view_declarations, declarations_from, clause_by, view_clauses, view_stmt, view_stmts}
 use Rattle.js_ast.proofs.ViewLaws.{parts_declaration, parts_declarations, parts_clause}
-use Rattle.js_values.specs.Records.{Bindings, found}
-use Rattle.es_meaning.specs.Declared.{declared_in, declared_clauses, declared_statements}
-use Rattle.es_meaning.specs.Functions.{with_variables, kept_by}
-
-module _ {V : Type 0} (missing : V) where
-  -- variables, and then others
-  pub variables_append : (names others : List (List ℕ)) (bindings : Bindings V) → with_variables missing (names ++ others) bindings ≡ with_variables missing others (with_variables missing names bindings)
-  variables_append [] others bindings = refl
-  variables_append (name ∷ names) others bindings = variables_append names others (kept_by (found name bindings) name missing bindings)
-
-  pub variables_then : (names others : List (List ℕ)) (old middle new : Bindings V) → middle ≡ with_variables missing names old → new ≡ with_variables missing others middle → new ≡ with_variables missing (names ++ others) old
-  variables_then names others old middle new one more = more ∙ ap (with_variables missing others) one ∙ sym (variables_append names others old)
-
-  module _ {X : Type 0} (F : List X → List (List ℕ)) (f : X → List (List ℕ)) (step : (x : X) (rest : List X) → F (x ∷ rest) ≡ f x ++ F rest) (xs : List X) (k : ℕ) where
-    -- a loop over nodes goes on by one
-    pub goes_on : (x : X) (old new whole : Bindings V) → k < length xs → x ≡ get_or xs k x → with_variables missing (F (drop k xs)) old ≡ whole → new ≡ with_variables missing (f x) old → with_variables missing (F (drop (k + 1) xs)) new ≡ whole
-    goes_on x old new whole lt is so_far one =
-        ap (with_variables missing (F (drop (k + 1) xs))) one ∙ sym (variables_append (f x) (F (drop (k + 1) xs)) old)
-        ∙ ap (λ ns. with_variables missing ns old) (sym (step x (drop (k + 1) xs)) ∙ ap F (ap (λ y. y ∷ drop (k + 1) xs) is ∙ sym (drop_more xs k x lt))) ∙ so_far
-
-  -- it ends
-  pub ends : {X : Type 0} (F : List X → List (List ℕ)) (xs : List X) (k : ℕ) (now whole : Bindings V) → F [] ≡ [] → length xs ≤ k → with_variables missing (F (drop k xs)) now ≡ whole → now ≡ whole
-  ends F xs k now whole none le so_far = sym (ap (λ ns. with_variables missing ns now) (at_drop_all F xs k le ∙ none)) ∙ so_far
+use Rattle.es_meaning.specs.Declared.{declared_in, declared_clauses, declared_functions, declared_statements}
+use Rattle.es_meaning.specs.Functions.{name_text}
+use Rattle.call_records.specs.Declarations.{declared_by}
+use Rattle.call_records.specs.Planned.{function_names}
+use Rattle.call_records.proofs.DeclarationLaws.{declared_front}
 
 -- ---- variables of a `var`
 
@@ -70,3 +54,12 @@ by_test (trees.present e) body rest = refl
 
 pub step_clauses : (c : Clause) (rest : List Clause) → declared_clauses (view_clauses (c ∷ rest)) ≡ declared_statements (view_stmts (nodes_of (out-Clause c).body)) ++ declared_clauses (view_clauses rest)
 step_clauses c rest = ap declared_clauses (parts_clause c (view_clauses rest)) ∙ by_test (view_maybe_expr (out-Clause c).test) (view_stmts (nodes_of (out-Clause c).body)) (view_clauses rest)
+
+-- ---- functions
+
+names_of_both : (fs gs : List trees.Function) → function_names (fs ++ gs) ≡ function_names fs ++ function_names gs
+names_of_both fs gs = map-append (λ f. name_text (name_of f)) fs gs
+
+-- what a statement declares, and then what the others do
+pub step_functions : (s : Stmt) (rest : List Stmt) → function_names (declared_functions (view_stmts (s ∷ rest))) ≡ function_names (declared_by (view_stmt s)) ++ function_names (declared_functions (view_stmts rest))
+step_functions s rest = ap function_names (declared_front (view_stmt s) (view_stmts rest)) ∙ names_of_both (declared_by (view_stmt s)) (declared_functions (view_stmts rest))

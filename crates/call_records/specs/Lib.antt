@@ -1,2 +1,4 @@
-pub mod Collected
+pub mod Declarations
 pub mod Named
+pub mod Placed
+pub mod Planned

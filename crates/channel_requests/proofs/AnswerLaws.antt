@@ -26,13 +26,13 @@ use Rattle.es_meaning.specs.Plain.{undefined, channel_of, channel_name, value_re
 use Rattle.es_meaning.specs.Requested.{are_origins}
 use Rattle.flow_meaning.specs.Scopes.{Val, L, Halt, Jump, State, LabelledLine, stopped}
 use Rattle.flow_meaning.specs.Tracked.{act, label_at, channel_label, if_origins, on_object, on_object_in, throw_error}
-use Rattle.step_world.specs.declared.came.Came.{Came}
-use Rattle.step_world.specs.declared.came.Came.TheVariants as came
-use Rattle.step_world.specs.declared.came.Leaving.TheVariants as leaving
-use Rattle.step_world.specs.declared.world.World.{World}
-use Rattle.step_world.specs.Worlds.{state_of}
-use Rattle.step_world.specs.Acts.{Acts, Says}
-use Rattle.step_world.proofs.ActLaws.{Acts-as}
+use Rattle.run_state.specs.declared.outcome.Outcome as machine
+use Rattle.run_state.specs.declared.outcome.Outcome.TheVariants as outcomes
+use Rattle.run_state.specs.declared.outcome.Leaving.TheVariants as leaving
+use Rattle.run_state.specs.declared.world.World.{World}
+use Rattle.run_state.specs.Worlds.{state_of}
+use Rattle.run_state.specs.Acts.{Acts, Says}
+use Rattle.run_state.proofs.ActLaws.{Acts-as}
 use Rattle.channel_requests.specs.declared.printing.Printed.{Printed}
 use Rattle.channel_requests.specs.Answers.{Means, Asks, Stops, Prints, text_in, read_printed}
 use Rattle.channel_requests.proofs.ActLaws.{origins_declared, origins_unknown, read_unknown, read_allowed, read_stopped, print_unknown, print_without, print_allowed, print_stopped, label_unknown, label_known}
@@ -58,7 +58,7 @@ module _ {S T : Type 0} (made : S → T → Type 0) (meaning : S → T → Label
   -- the call fails with the fault of another one
   pub acts_stopped : {X Y : Type 0} (f : (T → Label) → X → Y) (act : (T → Label) → L Y) (w : World T)
       → ((reading : T → Label) → IsReading made meaning store reading → (told : List LabelledLine) (turns : ℕ) → within (needed reading) (had reading) ≡ false → act reading (state_of reading w told turns) ≡ Ends (stopped rule (needed reading) (had reading)) (state_of reading w told turns))
-      → (e : FlowFault T) → IfStop (Stops made meaning store rule needed had) e → (result : Result (Came X T) (FlowFault T)) → IsErrAnd result (λ other. other ≡ e) → Acts made meaning store f act w w result
+      → (e : FlowFault T) → IfStop (Stops made meaning store rule needed had) e → (result : Result (machine.Outcome X T) (FlowFault T)) → IsErrAnd result (λ other. other ≡ e) → Acts made meaning store f act w w result
   acts_stopped f act w law e stops (Ok x) is = absurd is
   acts_stopped f act w law e stops (Err other) is = record {
     says = λ reading read told turns.
@@ -68,7 +68,7 @@ module _ {S T : Type 0} (made : S → T → Type 0) (meaning : S → T → Label
 
   pub prints_stopped : (tables : Tables) (act : (T → Label) → L Val) (w : World T)
       → ((reading : T → Label) → IsReading made meaning store reading → (told : List LabelledLine) (turns : ℕ) → within (needed reading) (had reading) ≡ false → act reading (state_of reading w told turns) ≡ Ends (stopped rule (needed reading) (had reading)) (state_of reading w told turns))
-      → (e : FlowFault T) → IfStop (Stops made meaning store rule needed had) e → (result : Result (Came (Printed T) T) (FlowFault T)) → IsErrAnd result (λ other. other ≡ e) → Prints made meaning store tables act w result
+      → (e : FlowFault T) → IfStop (Stops made meaning store rule needed had) e → (result : Result (machine.Outcome (Printed T) T) (FlowFault T)) → IsErrAnd result (λ other. other ≡ e) → Prints made meaning store tables act w result
   prints_stopped tables act w law e stops (Ok x) is = absurd is
   prints_stopped tables act w law e stops (Err other) is = record {
     says = λ reading read told turns.
@@ -89,11 +89,11 @@ module _ {S T : Type 0} (made : S → T → Type 0) (meaning : S → T → Label
   abbrev reading_line : Given → (T → Label) → L Val
   reading_line inputs reading = act tables inputs operations.read_line (read_value reading name ∷ [])
 
-  pub read_leaves : (store : S) (inputs : Given) → FoundIn tables.inputs None → Acts made meaning store (λ reading. read_value reading) (reading_line inputs) w w (Ok (came.Leaves leaving.Channel))
+  pub read_leaves : (store : S) (inputs : Given) → FoundIn tables.inputs None → Acts made meaning store (λ reading. read_value reading) (reading_line inputs) w w (Ok (outcomes.Leaves leaving.Channel))
   read_leaves store inputs found = record { says = λ reading read told turns. read_unknown tables inputs (read_value reading name) (state_of reading w told turns) found }
 
   module _ (store : S) (inputs : Given) (i : ℕ) (channel : Channel) (found : FoundIn tables.inputs (Some i)) (here : channel_label tables.inputs i ≡ channel.label) where
-    pub read_stops : (e : FlowFault T) → IfStop (Stops made meaning store W11 (needs name.label) (λ reading. channel.label)) e → (result : Result (Came (Labelled T) T) (FlowFault T)) → IsErrAnd result (λ other. other ≡ e)
+    pub read_stops : (e : FlowFault T) → IfStop (Stops made meaning store W11 (needs name.label) (λ reading. channel.label)) e → (result : Result (machine.Outcome (Labelled T) T) (FlowFault T)) → IsErrAnd result (λ other. other ≡ e)
         → Acts made meaning store (λ reading. read_value reading) (reading_line inputs) w w result
     read_stops e stops result is =
         acts_stopped made meaning store W11 (needs name.label) (λ reading. channel.label) (λ reading. read_value reading) (reading_line inputs) w
@@ -103,7 +103,7 @@ module _ {S T : Type 0} (made : S → T → Type 0) (meaning : S → T → Label
     -- `v` is the world after it
     pub read_goes : (need have : T) (value : Value) (v : World T) → Asks made meaning store (needs name.label) (λ reading. channel.label) true need have → value ≡ value_read (line_at inputs i w.positions.items)
         → ((reading : T → Label) (told : List LabelledLine) (turns : ℕ) → record (state_of reading w told turns) { positions = positions_behind i (line_at inputs i w.positions.items) w.positions.items } ≡ state_of reading v told turns)
-        → Acts made meaning store (λ reading. read_value reading) (reading_line inputs) w v (Ok (came.Goes (record { value = value; label = have })))
+        → Acts made meaning store (λ reading. read_value reading) (reading_line inputs) w v (Ok (outcomes.Goes (record { value = value; label = have })))
     read_goes need have value v asks is behind = record {
       says = λ reading read told turns.
           let s = state_of reading w told turns in
@@ -119,10 +119,10 @@ module _ {S T : Type 0} (made : S → T → Type 0) (meaning : S → T → Label
     abbrev printing_line : Given → (T → Label) → L Val
     printing_line inputs reading = act tables inputs operations.print_line (read_value reading name ∷ read_value reading value ∷ [])
 
-    pub print_leaves : (store : S) → FoundIn tables.outputs None → (inputs : Given) → Prints made meaning store tables (printing_line inputs) w (Ok (came.Leaves leaving.Channel))
+    pub print_leaves : (store : S) → FoundIn tables.outputs None → (inputs : Given) → Prints made meaning store tables (printing_line inputs) w (Ok (outcomes.Leaves leaving.Channel))
     print_leaves store found inputs = record { says = λ reading read told turns. print_unknown tables inputs (read_value reading name) (state_of reading w told turns) (read_value reading value) found }
 
-    pub print_lacks : (store : S) (i : ℕ) → FoundIn tables.outputs (Some i) → text_in value.value ≡ None → (inputs : Given) → Prints made meaning store tables (printing_line inputs) w (Ok (came.Leaves leaving.Channel))
+    pub print_lacks : (store : S) (i : ℕ) → FoundIn tables.outputs (Some i) → text_in value.value ≡ None → (inputs : Given) → Prints made meaning store tables (printing_line inputs) w (Ok (outcomes.Leaves leaving.Channel))
     print_lacks store i found lacks inputs = record { says = λ reading read told turns. print_without tables inputs (read_value reading name) (state_of reading w told turns) (read_value reading value) i found lacks }
 
     -- the label of a line
@@ -130,7 +130,7 @@ module _ {S T : Type 0} (made : S → T → Type 0) (meaning : S → T → Label
     LineLabel store label = Means made meaning store label (λ reading. union (reading name.label) (reading value.label))
 
     module _ (store : S) (i : ℕ) (channel : Channel) (text : List ℕ) (label : T) (found : FoundIn tables.outputs (Some i)) (means : LineLabel store label) (text_is : text_in value.value ≡ Some text) (here : channel_label tables.outputs i ≡ channel.label) where
-      pub print_stops : (e : FlowFault T) → IfStop (Stops made meaning store W12 (needs label) (λ reading. channel.label)) e → (result : Result (Came (Printed T) T) (FlowFault T)) → IsErrAnd result (λ other. other ≡ e)
+      pub print_stops : (e : FlowFault T) → IfStop (Stops made meaning store W12 (needs label) (λ reading. channel.label)) e → (result : Result (machine.Outcome (Printed T) T) (FlowFault T)) → IsErrAnd result (λ other. other ≡ e)
           → (inputs : Given) → Prints made meaning store tables (printing_line inputs) w result
       print_stops e stops result is inputs =
           prints_stopped made meaning store W12 (needs label) (λ reading. channel.label) tables (printing_line inputs) w
@@ -138,7 +138,7 @@ module _ {S T : Type 0} (made : S → T → Type 0) (meaning : S → T → Label
           e stops result is
 
       pub print_goes : (need have : T) → Asks made meaning store (needs label) (λ reading. channel.label) true need have
-          → (inputs : Given) → Prints made meaning store tables (printing_line inputs) w (Ok (came.Goes (record { channel = i; text = text; need = need; label = label })))
+          → (inputs : Given) → Prints made meaning store tables (printing_line inputs) w (Ok (outcomes.Goes (record { channel = i; text = text; need = need; label = label })))
       print_goes need have asks inputs = record {
         says = λ reading read told turns.
             let s = state_of reading w told turns in
@@ -152,11 +152,11 @@ module _ {S T : Type 0} (made : S → T → Type 0) (meaning : S → T → Label
   abbrev declared : Bool
   declared = are_origins (length tables.origins) origins
 
-  pub label_leaves : declared ≡ false → Acts made meaning store (λ reading. read_value reading) (λ reading. act tables inputs (operations.join_label origins) (read_value reading v ∷ [])) w w (Ok (came.Leaves leaving.Origin))
+  pub label_leaves : declared ≡ false → Acts made meaning store (λ reading. read_value reading) (λ reading. act tables inputs (operations.join_label origins) (read_value reading v ∷ [])) w w (Ok (outcomes.Leaves leaving.Origin))
   label_leaves unknown = record { says = λ reading read told turns. label_unknown tables inputs (read_value reading v) (state_of reading w told turns) origins unknown }
 
   pub label_goes : declared ≡ true → (added label : T) (value : Value) → value ≡ v.value → Means made meaning store added (λ reading. label_of origins) → Means made meaning store label (λ reading. union (reading v.label) (reading added))
-      → Acts made meaning store (λ reading. read_value reading) (λ reading. act tables inputs (operations.join_label origins) (read_value reading v ∷ [])) w w (Ok (came.Goes (record { value = value; label = label })))
+      → Acts made meaning store (λ reading. read_value reading) (λ reading. act tables inputs (operations.join_label origins) (read_value reading v ∷ [])) w w (Ok (outcomes.Goes (record { value = value; label = label })))
   label_goes known added label value is means joined = record {
     says = λ reading read told turns.
         let s = state_of reading w told turns in
@@ -166,10 +166,10 @@ module _ {S T : Type 0} (made : S → T → Type 0) (meaning : S → T → Label
 
   -- origins that join a label of an object
   module _ (next : (T → Label) → ℕ → L Val) (asked : (T → Label) → L Val) (same : (reading : T → Label) (s : State) → asked reading s ≡ if_origins declared (on_object (read_value reading v) (next reading)) s) where
-    pub raise_leaves : declared ≡ false → Acts made meaning store (λ reading. read_value reading) asked w w (Ok (came.Leaves leaving.Origin))
+    pub raise_leaves : declared ≡ false → Acts made meaning store (λ reading. read_value reading) asked w w (Ok (outcomes.Leaves leaving.Origin))
     raise_leaves unknown = record { says = λ reading read told turns. let s = state_of reading w told turns in same reading s ∙ origins_unknown declared (on_object (read_value reading v) (next reading)) s unknown }
 
-    module _ (known : declared ≡ true) (after : World T) (result : Result (Came (Labelled T) T) (FlowFault T)) where
+    module _ (known : declared ≡ true) (after : World T) (result : Result (machine.Outcome (Labelled T) T) (FlowFault T)) where
       pub raise_throws : (p : Primitive) → v.value ≡ value.Primitive p → Acts made meaning store (λ reading. read_value reading) (λ reading. throw_error {X = Val} kinds.TypeError (reading v.label)) w after result → Acts made meaning store (λ reading. read_value reading) asked w after result
       unfolding on_object_in
       raise_throws p is acts =

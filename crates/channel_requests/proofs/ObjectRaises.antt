@@ -22,13 +22,13 @@ use Rattle.flow_meaning.specs.Requested.{own_test, own_walk}
 use Rattle.flow_meaning.specs.Scopes.{State}
 use Rattle.flow_meaning.specs.Tracked as tracked
 use Rattle.flow_meaning.specs.Tracked.{acted}
-use Rattle.step_world.specs.declared.came.Came.{Came}
-use Rattle.step_world.specs.declared.came.Came.TheVariants as came
-use Rattle.step_world.specs.declared.world.World.{World}
-use Rattle.step_world.specs.Acts.{Acts}
-use Rattle.step_world.specs.Worlds.{state_of}
-use Rattle.step_world.proofs.ActLaws.{Acts-as}
-use Rattle.step_names.proofs.HeldLaws.{own_has}
+use Rattle.run_state.specs.declared.outcome.Outcome.{Outcome}
+use Rattle.run_state.specs.declared.outcome.Outcome.TheVariants as outcome
+use Rattle.run_state.specs.declared.world.World.{World}
+use Rattle.run_state.specs.Acts.{Acts}
+use Rattle.run_state.specs.Worlds.{state_of}
+use Rattle.run_state.proofs.ActLaws.{Acts-as}
+use Rattle.property_access.proofs.HeldLaws.{own_has}
 use Rattle.channel_requests.specs.Answers.{Means}
 use Rattle.channel_requests.specs.Raising.{nothing, raises_structure, raises_existence}
 
@@ -114,7 +114,7 @@ existence_as origins label key o added is s = ap (λ l. raises_existence o key l
 
 module _ {S T : Type 0} (made : S → T → Type 0) (meaning : S → T → Label) (store : S) (w : World T) (o : ℕ) (label origins : T) where
   module _ (v : Labelled T) (is : v ≡ nothing label) where
-    pub raises_nowhere : length w.heap ≤ o → Acts made meaning store (λ reading. read_value reading) (λ reading. raises_structure o (reading label) (reading origins)) w w (Ok (came.Goes v))
+    pub raises_nowhere : length w.heap ≤ o → Acts made meaning store (λ reading. read_value reading) (λ reading. raises_structure o (reading label) (reading origins)) w w (Ok (outcome.Goes v))
     unfolding acted
     raises_nowhere past = record {
       says = λ reading read told turns.
@@ -123,7 +123,7 @@ module _ {S T : Type 0} (made : S → T → Type 0) (meaning : S → T → Label
           ∙ ap (λ (x : Labelled T). Goes (read_value reading x) s) (sym is);
     }
 
-    pub raises_nothing : (key : List ℕ) → None ≡ existence_in w.heap o key → Acts made meaning store (λ reading. read_value reading) (λ reading. raises_existence o key (reading label) (reading origins)) w w (Ok (came.Goes v))
+    pub raises_nothing : (key : List ℕ) → None ≡ existence_in w.heap o key → Acts made meaning store (λ reading. read_value reading) (λ reading. raises_existence o key (reading label) (reading origins)) w w (Ok (outcome.Goes v))
     unfolding acted
     raises_nothing key none = record {
       says = λ reading read told turns.
@@ -133,7 +133,7 @@ module _ {S T : Type 0} (made : S → T → Type 0) (meaning : S → T → Label
           ∙ ap (λ (x : Labelled T). Goes (read_value reading x) s) (sym is);
     }
 
-  module _ (need : T) (v : Labelled T) (is : v ≡ nothing label) (after : World T) (result : Result (Came (Labelled T) T) (FlowFault T)) where
+  module _ (need : T) (v : Labelled T) (is : v ≡ nothing label) (after : World T) (result : Result (Outcome (Labelled T) T) (FlowFault T)) where
     pub structure_raised : Means made meaning store need (λ reading. union (context (map (seen_frame reading) w.frames.frames)) (reading label))
         → Acts made meaning store (λ reading. read_value reading) (λ reading s. acted (read_value reading v) (heap_acts.raise_structure o (reading need) (reading origins) s.heap) s) w after result
         → Acts made meaning store (λ reading. read_value reading) (λ reading. raises_structure o (reading label) (reading origins)) w after result

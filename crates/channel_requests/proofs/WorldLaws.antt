@@ -4,8 +4,8 @@ use Rattle.origin_labels.specs.Label.{Label, IsLabel}
 use Rattle.origin_labels.specs.Stores.{IsKept}
 use Rattle.flow_frames.proofs.StandingLaws.{Belong-kept}
 use Rattle.js_values.proofs.ReadingLaws.{HasHeap-kept, HasRecords-kept}
-use Rattle.step_world.specs.declared.world.World.{World}
-use Rattle.step_world.specs.Worlds.{Belongs}
+use Rattle.run_state.specs.declared.world.World.{World}
+use Rattle.run_state.specs.Worlds.{Belongs}
 
 -- what belongs to a store belongs to each later one
 pub belongs_later : {S T : Type 0} (made : S → T → Type 0) (meaning : S → T → Label) → ((store : S) (label : T) → made store label → IsLabel (meaning store label)) → (room : S → ℕ) (firm : S → Bool) (old new : S) (w : World T)

@@ -11,11 +11,11 @@ use Rattle.js_values.specs.declared.value.Value.TheVariants as value
 use Rattle.js_values.specs.Readings.{IsReading}
 use Rattle.es_meaning.specs.Plain.{undefined, channel_name}
 use Rattle.flow_meaning.specs.Scopes.{Val, LabelledLine, L}
-use Rattle.step_world.specs.declared.came.Came.{Came}
-use Rattle.step_world.specs.declared.came.Came.TheVariants as came
-use Rattle.step_world.specs.declared.world.World.{World}
-use Rattle.step_world.specs.Worlds.{state_of}
-use Rattle.step_world.specs.Acts.{Says}
+use Rattle.run_state.specs.declared.outcome.Outcome.{Outcome}
+use Rattle.run_state.specs.declared.outcome.Outcome.TheVariants as outcome
+use Rattle.run_state.specs.declared.world.World.{World}
+use Rattle.run_state.specs.Worlds.{state_of}
+use Rattle.run_state.specs.Acts.{Says}
 use Rattle.channel_requests.specs.declared.printing.Printed.{Printed}
 
 -- ---- labels
@@ -52,14 +52,14 @@ abbrev pub line_of : {T : Type 0} → Tables → (T → Label) → Printed T →
 line_of tables reading p = record { line = record { channel = channel_name tables.outputs p.channel; text = p.text }; label = reading p.need }
 
 -- the lines behind the call, where these were printed before
-abbrev pub lines_behind : {T : Type 0} → Tables → (T → Label) → List LabelledLine → Result (Came (Printed T) T) (FlowFault T) → List LabelledLine
-lines_behind tables reading told (Ok (came.Goes p)) = told ++ line_of tables reading p ∷ []
-lines_behind tables reading told (Ok (came.Throws v)) = told
-lines_behind tables reading told (Ok (came.Leaves why)) = told
+abbrev pub lines_behind : {T : Type 0} → Tables → (T → Label) → List LabelledLine → Result (Outcome (Printed T) T) (FlowFault T) → List LabelledLine
+lines_behind tables reading told (Ok (outcome.Goes p)) = told ++ line_of tables reading p ∷ []
+lines_behind tables reading told (Ok (outcome.Throws v)) = told
+lines_behind tables reading told (Ok (outcome.Leaves why)) = told
 lines_behind tables reading told (Err fault) = told
 
 -- a call does an act that prints, in each reading that agrees with the store, whatever was printed before and however many turns are left
-pub record Prints {S T : Type 0} (made : S → T → Type 0) (meaning : S → T → Label) (store : S) (tables : Tables) (act : (T → Label) → L Val) (w : World T) (result : Result (Came (Printed T) T) (FlowFault T)) : Type 0 where
+pub record Prints {S T : Type 0} (made : S → T → Type 0) (meaning : S → T → Label) (store : S) (tables : Tables) (act : (T → Label) → L Val) (w : World T) (result : Result (Outcome (Printed T) T) (FlowFault T)) : Type 0 where
   pub says : (reading : T → Label) → IsReading made meaning store reading → (told : List LabelledLine) (turns : ℕ) → Says (read_printed reading) reading (act reading (state_of reading w told turns)) (state_of reading w (lines_behind tables reading told result) turns) result
 
 -- the labels of a printed line are of the store
@@ -68,7 +68,7 @@ pub record HasPrinted {T : Type 0} (made : T → Type 0) (p : Printed T) : Type 
   pub label : made p.label
 
 -- a fact for the line that is printed, if one is
-abbrev pub IfPrinted : {T : Type 0} → (Printed T → Type 0) → Came (Printed T) T → Type 0
-IfPrinted P (came.Goes p) = P p
-IfPrinted P (came.Throws v) = Unit {0}
-IfPrinted P (came.Leaves why) = Unit {0}
+abbrev pub IfPrinted : {T : Type 0} → (Printed T → Type 0) → Outcome (Printed T) T → Type 0
+IfPrinted P (outcome.Goes p) = P p
+IfPrinted P (outcome.Throws v) = Unit {0}
+IfPrinted P (outcome.Leaves why) = Unit {0}

@@ -6,16 +6,16 @@ ghost use Rattle.flow_policy.specs.Inputs.{Given};
 ghost use Rattle.js_values.specs.Readings.{HasValue, read_value};
 ghost use Rattle.es_meaning.specs.Operations as operations;
 ghost use Rattle.flow_meaning.specs.Tracked.{act};
-ghost use Rattle.step_world.specs.Worlds.{Belongs};
-ghost use Rattle.step_world.specs.Acts.{Acts, HasAnswer};
+ghost use Rattle.run_state.specs.Worlds.{Belongs};
+ghost use Rattle.run_state.specs.Acts.{Acts, HasAnswer};
 
 use crate::origins::{are_declared, label_of};
 use flow_frames::FlowFault;
 use flow_policy::Policy;
 use js_values::Labelled;
 use origin_labels::{Labels, OriginList};
+use run_state::{Leaving, Outcome, World};
 use std::alloc::Global;
-use step_world::{Came, Leaving, World};
 
 /// A value with origins joined to its label. Where one of them isn't declared the run leaves.
 pub fn join_label<L: Labels>(
@@ -25,7 +25,7 @@ pub fn join_label<L: Labels>(
     policy: &Policy,
     value: &Labelled<L::Label>,
     origins: &OriginList,
-) -> Result<Came<Labelled<L::Label>, L::Label>, FlowFault<L::Label>>
+) -> Result<Outcome<Labelled<L::Label>, L::Label>, FlowFault<L::Label>>
     requires belongs { Belongs L.made L.meaning labels.old world.now }
     requires value { L.made labels.old value.now.label }
     requires room { length policy.now.origins ≤ L.room labels.old }
@@ -35,10 +35,10 @@ pub fn join_label<L: Labels>(
     ensures kept { IsKept L.made L.meaning L.room L.firm labels.old labels.new }
 {
     if !are_declared(policy, origins) {
-        return Ok(Came::Leaves(Leaving::Origin));
+        return Ok(Outcome::Leaves(Leaving::Origin));
     }
     let added = label_of(labels, origins)?;
     let label = labels.join(value.label, added)?;
     let value = value.value.copy(alloc)?;
-    Ok(Came::Goes(Labelled { value, label }))
+    Ok(Outcome::Goes(Labelled { value, label }))
 }

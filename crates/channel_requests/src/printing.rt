@@ -6,8 +6,8 @@ ghost use Rattle.flow_policy.specs.Inputs.{Given};
 ghost use Rattle.js_values.specs.Readings.{HasValue, read_value};
 ghost use Rattle.es_meaning.specs.Operations as operations;
 ghost use Rattle.flow_meaning.specs.Tracked.{act};
-ghost use Rattle.step_world.specs.Worlds.{Belongs};
-ghost use Rattle.step_world.specs.Acts.{HasAnswer};
+ghost use Rattle.run_state.specs.Worlds.{Belongs};
+ghost use Rattle.run_state.specs.Acts.{HasAnswer};
 ghost use Rattle.channel_requests.specs.Answers.{Prints, HasPrinted, IfPrinted, text_in};
 
 use crate::channels::channel_of;
@@ -18,11 +18,11 @@ use flow_text::{OutOfMemory, Text};
 use js_number::Primitive;
 use js_values::{Labelled, Value};
 use origin_labels::Labels;
+use run_state::{Leaving, Outcome, World};
 use std::alloc::Global;
-use step_world::{Came, Leaving, World};
 
 /// A line as it is printed.
-#[derive(Debug, Drop)]
+#[derive(Drop)]
 pub struct Printed<T> {
     /// The number of its output channel.
     pub channel: usize,
@@ -41,7 +41,7 @@ pub fn print_line<L: Labels>(
     policy: &Policy,
     name: &Labelled<L::Label>,
     value: &Labelled<L::Label>,
-) -> Result<Came<Printed<L::Label>, L::Label>, FlowFault<L::Label>>
+) -> Result<Outcome<Printed<L::Label>, L::Label>, FlowFault<L::Label>>
     requires belongs { Belongs L.made L.meaning labels.old world.now }
     requires name { L.made labels.old name.now.label }
     requires value { L.made labels.old value.now.label }
@@ -53,10 +53,10 @@ pub fn print_line<L: Labels>(
     ensures kept { IsKept L.made L.meaning L.room L.firm labels.old labels.new }
 {
     let Some(i) = channel_of(policy.outputs(), &name.value) else {
-        return Ok(Came::Leaves(Leaving::Channel));
+        return Ok(Outcome::Leaves(Leaving::Channel));
     };
     let Some(text) = text_in(alloc, &value.value)? else {
-        return Ok(Came::Leaves(Leaving::Channel));
+        return Ok(Outcome::Leaves(Leaving::Channel));
     };
     let label = labels.join(name.label, value.label)?;
     let asked = ask(
@@ -66,7 +66,7 @@ pub fn print_line<L: Labels>(
         &policy.outputs()[i],
         label,
     )?;
-    Ok(Came::Goes(Printed {
+    Ok(Outcome::Goes(Printed {
         channel: i,
         text,
         need: asked.need,

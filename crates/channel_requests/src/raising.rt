@@ -8,8 +8,8 @@ ghost use Rattle.js_values.specs.Readings.{HasValue, read_value};
 ghost use Rattle.object_heap.specs.Formed.{own_in};
 ghost use Rattle.es_meaning.specs.Operations as operations;
 ghost use Rattle.flow_meaning.specs.Tracked.{act};
-ghost use Rattle.step_world.specs.Worlds.{Belongs, Grows};
-ghost use Rattle.step_world.specs.Acts.{Acts, HasAnswer};
+ghost use Rattle.run_state.specs.Worlds.{Belongs, Grows};
+ghost use Rattle.run_state.specs.Acts.{Acts, HasAnswer};
 ghost use Rattle.channel_requests.specs.Raising.{nothing, raises_existence, raises_structure};
 
 use crate::origins::{are_declared, label_of};
@@ -20,8 +20,8 @@ use js_number::Primitive;
 use js_values::{Key, Labelled, ObjId, Value};
 use native_protocol::ErrorKind;
 use origin_labels::{Labels, OriginList};
-use step_names::throw_error;
-use step_world::{Came, Leaving, World};
+use property_access::throw_error;
+use run_state::{Leaving, Outcome, World};
 
 /// Undefined, once origins are joined to the structure label of an object, by rule W7. Where one of them isn't declared the run leaves, and a primitive value
 /// throws a TypeError.
@@ -31,7 +31,7 @@ pub fn raise_structure<L: Labels>(
     policy: &Policy,
     base: &Labelled<L::Label>,
     origins: &OriginList,
-) -> Result<Came<Labelled<L::Label>, L::Label>, FlowFault<L::Label>>
+) -> Result<Outcome<Labelled<L::Label>, L::Label>, FlowFault<L::Label>>
     requires belongs { Belongs L.made L.meaning labels.old world.old }
     requires base { L.made labels.old base.now.label }
     requires room { length policy.now.origins ≤ L.room labels.old }
@@ -42,7 +42,7 @@ pub fn raise_structure<L: Labels>(
     ensures kept { IsKept L.made L.meaning L.room L.firm labels.old labels.new }
 {
     if !are_declared(policy, origins) {
-        return Ok(Came::Leaves(Leaving::Origin));
+        return Ok(Outcome::Leaves(Leaving::Origin));
     }
     let Value::Object(o) = base.value else {
         return throw_error(labels, world, ErrorKind::TypeError, base.label);
@@ -60,7 +60,7 @@ pub fn raise_existence<L: Labels>(
     base: &Labelled<L::Label>,
     key: &Key,
     origins: &OriginList,
-) -> Result<Came<Labelled<L::Label>, L::Label>, FlowFault<L::Label>>
+) -> Result<Outcome<Labelled<L::Label>, L::Label>, FlowFault<L::Label>>
     requires belongs { Belongs L.made L.meaning labels.old world.old }
     requires base { L.made labels.old base.now.label }
     requires room { length policy.now.origins ≤ L.room labels.old }
@@ -71,7 +71,7 @@ pub fn raise_existence<L: Labels>(
     ensures kept { IsKept L.made L.meaning L.room L.firm labels.old labels.new }
 {
     if !are_declared(policy, origins) {
-        return Ok(Came::Leaves(Leaving::Origin));
+        return Ok(Outcome::Leaves(Leaving::Origin));
     }
     let Value::Object(o) = base.value else {
         return throw_error(labels, world, ErrorKind::TypeError, base.label);
@@ -87,7 +87,7 @@ fn raise_structure_by<L: Labels>(
     o: ObjId,
     label: L::Label,
     origins: L::Label,
-) -> Result<Came<Labelled<L::Label>, L::Label>, FlowFault<L::Label>>
+) -> Result<Outcome<Labelled<L::Label>, L::Label>, FlowFault<L::Label>>
     requires belongs { Belongs L.made L.meaning labels.old world.old }
     requires label { L.made labels.old label }
     requires origins { L.made labels.old origins }
@@ -98,11 +98,11 @@ fn raise_structure_by<L: Labels>(
     ensures kept { IsKept L.made L.meaning L.room L.firm labels.old labels.new }
 {
     if o.0 >= world.heap.len() {
-        return Ok(Came::Goes(undefined(label)));
+        return Ok(Outcome::Goes(undefined(label)));
     }
     let need = need_of(labels, &world.frames, label)?;
     world.heap.raise_structure(labels, o, need, origins)?;
-    Ok(Came::Goes(undefined(label)))
+    Ok(Outcome::Goes(undefined(label)))
 }
 
 /// Joins origins to the existence label of a property, where what is done depends on the label, and on that the property is there. Nothing is done to one that
@@ -114,7 +114,7 @@ fn raise_existence_by<L: Labels>(
     key: &Key,
     label: L::Label,
     origins: L::Label,
-) -> Result<Came<Labelled<L::Label>, L::Label>, FlowFault<L::Label>>
+) -> Result<Outcome<Labelled<L::Label>, L::Label>, FlowFault<L::Label>>
     requires belongs { Belongs L.made L.meaning labels.old world.old }
     requires label { L.made labels.old label }
     requires origins { L.made labels.old origins }
@@ -125,12 +125,12 @@ fn raise_existence_by<L: Labels>(
     ensures kept { IsKept L.made L.meaning L.room L.firm labels.old labels.new }
 {
     let Some(existence) = existence_of(world, o, key) else {
-        return Ok(Came::Goes(undefined(label)));
+        return Ok(Outcome::Goes(undefined(label)));
     };
     let place = labels.join(label, existence)?;
     let need = need_of(labels, &world.frames, place)?;
     world.heap.raise_existence(labels, o, key, need, origins)?;
-    Ok(Came::Goes(undefined(label)))
+    Ok(Outcome::Goes(undefined(label)))
 }
 
 /// The existence label of an object's own property, if it has that one.

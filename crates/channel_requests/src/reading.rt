@@ -7,8 +7,8 @@ ghost use Rattle.js_values.specs.Readings.{HasValue, read_value};
 ghost use Rattle.es_meaning.specs.Operations as operations;
 ghost use Rattle.es_meaning.specs.Plain.{value_read, positions_behind, line_at};
 ghost use Rattle.flow_meaning.specs.Tracked.{act};
-ghost use Rattle.step_world.specs.Worlds.{Belongs, Grows};
-ghost use Rattle.step_world.specs.Acts.{Acts, HasAnswer};
+ghost use Rattle.run_state.specs.Worlds.{Belongs, Grows};
+ghost use Rattle.run_state.specs.Acts.{Acts, HasAnswer};
 
 use crate::channels::channel_of;
 use crate::rules::ask;
@@ -18,8 +18,8 @@ use flow_text::OutOfMemory;
 use js_number::Primitive;
 use js_values::{Labelled, Value};
 use origin_labels::Labels;
+use run_state::{Leaving, Outcome, World};
 use std::alloc::Global;
-use step_world::{Came, Leaving, World};
 
 /// The next line of the input channel that a value names, by rule W11, with the channel's label, or undefined past the end. Without such a channel the run
 /// leaves.
@@ -30,7 +30,7 @@ pub fn read_line<L: Labels>(
     policy: &Policy,
     inputs: &Inputs,
     name: &Labelled<L::Label>,
-) -> Result<Came<Labelled<L::Label>, L::Label>, FlowFault<L::Label>>
+) -> Result<Outcome<Labelled<L::Label>, L::Label>, FlowFault<L::Label>>
     requires belongs { Belongs L.made L.meaning labels.old world.old }
     requires name { L.made labels.old name.now.label }
     requires room { length policy.now.origins ≤ L.room labels.old }
@@ -43,7 +43,7 @@ pub fn read_line<L: Labels>(
     ensures kept { IsKept L.made L.meaning L.room L.firm labels.old labels.new }
 {
     let Some(i) = channel_of(policy.inputs(), &name.value) else {
-        return Ok(Came::Leaves(Leaving::Channel));
+        return Ok(Outcome::Leaves(Leaving::Channel));
     };
     let asked = ask(
         labels,
@@ -53,7 +53,7 @@ pub fn read_line<L: Labels>(
         name.label,
     )?;
     let value = next_value(alloc, inputs, &mut world.positions, i)?;
-    Ok(Came::Goes(Labelled {
+    Ok(Outcome::Goes(Labelled {
         value,
         label: asked.have,
     }))

@@ -20,7 +20,7 @@ pub enum BuiltIn {
 
 /// The registers behind the arguments: two for what is made on the way, and one that nothing writes. `end` is the number of the register behind the
 /// arguments that were given.
-#[derive(Clone, Copy, Debug)]
+#[derive(Clone, Copy)]
 pub struct Registers {
     pub method: Reg,
     pub value: Reg,
@@ -29,7 +29,7 @@ pub struct Registers {
 }
 
 /// What origins join.
-#[derive(Debug, Drop)]
+#[derive(Drop)]
 pub enum Joining {
     Label,
     Structure,

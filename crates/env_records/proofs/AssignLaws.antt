@@ -18,7 +18,7 @@ use Rattle.js_values.proofs.ReadingLaws.{IsReading-earlier}
 use Rattle.env_records.specs.declared.faults.AssignFault.{AssignFault}
 use Rattle.env_records.specs.declared.faults.AssignFault.TheVariants.{Immutable, Stop, OutOfMemory}
 use Rattle.env_records.specs.Answers.{Comes, Refuses, Forbids}
-use Rattle.env_records.specs.Acts.{Assigned, done, immutable, stopped, under_assignment, joined, assigned, assign, put, put_in_record, new_record, bound_in_record, bind}
+use Rattle.env_records.specs.Acts.{done, immutable, stopped, under_assignment, joined, assigned, assign, put, put_in_record, new_record, bound_in_record, bind}
 
 abbrev outside : {V : Type 0} → Record V → Option ℕ
 outside r = option_map (λ e. e.0) r.outer

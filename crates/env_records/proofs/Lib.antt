@@ -1,4 +1,5 @@
 mod AssignLaws
+pub mod LayoutLaws
 mod LookupLaws
 mod PlaceLaws
 mod RecordLaws

@@ -1,11 +1,11 @@
 -- Names are looked up record by record.
-use Rattle.std.proofs.Common.{◌≡◌, ℕ, ◌<◌, true, false, List, [], ◌∷◌, length, Option, Some, None, is_some, IsSome, refl, sym, ap, ◌∙◌, arith}
+use Rattle.std.proofs.Common.{◌≡◌, ℕ, ◌<◌, List, length, Option, Some, None, is_some, IsSome, refl, sym, ap, ◌∙◌, arith}
 use Rattle.std.specs.List.{slice_get}
 use Rattle.std.specs.Option.{option_map}
 use Rattle.std.proofs.lemmas.Bool.{false≢true}
 use Rattle.std.proofs.lemmas.Option.{slice_get_within}
 use Rattle.js_values.specs.declared.ids.EnvId.{EnvId}
-use Rattle.js_values.specs.Chains.{onwards, chain}
+use Rattle.js_values.specs.Chains.{onwards}
 use Rattle.js_values.specs.Records.{Binding, Record, found, if_has, first_with, records_round, lookup, bound_in}
 use Rattle.js_values.proofs.ChainLaws.{chain_step}
 use Rattle.env_records.specs.Formed.{LeadOutwards}

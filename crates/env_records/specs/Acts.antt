@@ -1,5 +1,5 @@
 -- What is done with records of variables, and the flow rule of an assignment. The labels are sets of origins here.
-use Rattle.std.specs.Prelude.{ℕ, Bool, true, false, List, [], ◌∷◌, ◌++◌, Option, Some, None, slice_get, set, if◌then◌else◌}
+use Rattle.std.specs.Prelude.{ℕ, List, [], ◌∷◌, ◌++◌, Option, Some, None, slice_get, set, if◌then◌else◌}
 use Rattle.origin_labels.specs.Label.{Label, union, within}
 use Rattle.flow_frames.specs.declared.faults.Rule.TheVariants.{W1}
 use Rattle.flow_frames.specs.declared.faults.FlowStop.{FlowStop}

@@ -7,16 +7,20 @@ ghost use Rattle.js_values.specs.Records.{Record as RecordOf, lookup, bound_in};
 ghost use Rattle.js_values.specs.Readings.{HasRecords, read_value};
 ghost use Rattle.env_records.specs.Acts.{new_record, bind, assign};
 ghost use Rattle.env_records.specs.Answers.{Assigns, IsCause};
-ghost use Rattle.env_records.specs.Places.{StandsAt};
+ghost use Rattle.env_records.specs.Layouts.{laid};
+ghost use Rattle.env_records.specs.Places.{StandsAt, IsThere, IsFoundAt, binding_at};
 ghost use Rattle.env_records.specs.Formed.{LeadOutwards};
 
+use crate::binding_place::BindingPlace;
 use crate::faults::AssignFault;
-use crate::record::{Binding, Record};
+use crate::layout::Layout;
+use crate::record::Record;
 use flow_text::{OutOfMemory, Text};
 use js_values::{EnvId, Labelled};
 use origin_labels::Labels;
 use std::alloc::Global;
 use std::marker::Model;
+use std::rc::Rc;
 
 /// Records of variables. Each has a number, and the record outside has a smaller one.
 #[derive(Drop)]
@@ -66,7 +70,28 @@ impl<T: Copy> Envs<T> {
         ensures unchanged { OnErr result (self.new ≡ self.old) }
     {
         let number = self.records.len() as u64;
-        self.records.push(Record::new(self.alloc, outer))?;
+        let record = Record::new(self.alloc, outer)?;
+        self.records.push(record)?;
+        Ok(EnvId(number))
+    }
+
+    /// Makes a record of these values inside another one. Their names are shared, and not copied.
+    pub fn begin(
+        &mut self,
+        outer: Option<EnvId>,
+        layout: &Rc<Layout>,
+        values: Vec<Labelled<T>>,
+    ) -> Result<EnvId, OutOfMemory>
+        requires there { IfSome outer (λ o. o.0 < length self.old) }
+        requires named { length values.items ≡ length layout.now.value }
+        ensures number { IfOk result (λ e. e.0 ≡ length self.old) }
+        ensures ok { OnOk result (self.new ≡ self.old ++ record { outer = outer; bindings = laid layout.now.value values.items } ∷ []) }
+        ensures length { OnOk result (length self.new ≡ length self.old + 1) }
+        ensures unchanged { OnErr result (self.new ≡ self.old) }
+    {
+        let number = self.records.len() as u64;
+        let record = Record::sharing(outer, layout, values)?;
+        self.records.push(record)?;
         Ok(EnvId(number))
     }
 
@@ -84,7 +109,7 @@ impl<T: Copy> Envs<T> {
         ensures length { length self.new ≡ length self.old }
         ensures unchanged { OnErr result (self.new ≡ self.old) }
     {
-        self.records[e.0 as usize].push(Binding::new(name, mutable, value))?;
+        self.records[e.0 as usize].push(self.alloc, name, mutable, value)?;
         Ok(())
     }
 
@@ -95,14 +120,35 @@ impl<T: Copy> Envs<T> {
         ensures bound { IfSome result (λ found. IsSome (bound_in name.now (slice_get self.now found.0))) }
         ensures outwards { LeadOutwards self.now }
     {
+        let place = self.find(e, name)?;
+        Some(place.record)
+    }
+
+    /// The innermost record, from this one on outwards, that has the name, with the place of the name there.
+    pub fn find(&self, e: EnvId, name: &Text) -> Option<BindingPlace>
+        requires { e.0 < length self.now }
+        ensures innermost { option_map (λ p. p.record.0) result ≡ lookup name.now self.now e.0 }
+        ensures bound { IfSome result (λ p. IsSome (bound_in name.now (slice_get self.now p.record.0))) }
+        ensures there { IfSome result (IsThere self.now) }
+        ensures found { IfSome result (IsFoundAt name.now self.now) }
+        ensures outwards { LeadOutwards self.now }
+    {
         let mut at = e;
         'outwards: loop {
             let record = &self.records[at.0 as usize];
-            if record.place(name).is_some() {
-                return Some(at);
+            if let Some(place) = record.place(name) {
+                return Some(BindingPlace { record: at, place });
             }
             at = record.outer()?;
         }
+    }
+
+    /// The value at a place.
+    pub fn read_at(&self, p: BindingPlace) -> &Labelled<T>
+        requires { IsThere self.now p }
+        ensures { option_map (λ b. b.value) (binding_at self.now p) ≡ Some result.now }
+    {
+        self.record(p.record).value(p.place)
     }
 
     /// The value of a name in the record, which has it.
@@ -111,7 +157,7 @@ impl<T: Copy> Envs<T> {
         ensures { option_map (λ b. b.value) (bound_in name.now (slice_get self.now e.0)) ≡ Some result.now }
     {
         let place = self.place(e, name);
-        self.record(e).binding(place).value()
+        self.record(e).value(place)
     }
 
     /// The value of a name in the record alone, if the record has it.
@@ -121,7 +167,7 @@ impl<T: Copy> Envs<T> {
     {
         let record = self.record(e);
         let place = record.place(name)?;
-        Some(record.binding(place).value())
+        Some(record.value(place))
     }
 
     /// Assigns to a name of the record, which has it, if that can be changed and its label includes the context (rule W1).
@@ -144,7 +190,7 @@ impl<T: Copy> Envs<T> {
         ensures firm { L.firm labels.old ≡ true → IfErr result IsCause }
     {
         let place = self.place(e, name);
-        self.record(e).binding(place).check(labels, context)?;
+        self.record(e).check(place, labels, context)?;
         let label = labels.join(value.label, context)?;
         let value = Labelled {
             value: value.value,

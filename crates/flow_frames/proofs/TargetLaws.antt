@@ -1,9 +1,9 @@
 -- The frame that a throw goes to.
-use Rattle.std.proofs.Common.{arith, refl, ap, ap₂, sym, ◌∙◌, ◌≡◌, ◌<◌, ◌≤◌, ◌&&◌, ℕ, suc, zero, true, false, List, [], ◌∷◌, length, map, get_or, ◌-◌}
+use Rattle.std.proofs.Common.{arith, refl, ap, ap₂, sym, ◌∙◌, ◌≡◌, ◌<◌, ◌≤◌, ◌&&◌, ◌+◌, ℕ, suc, zero, true, false, List, [], ◌∷◌, length, map, get_or, ◌-◌}
 use Rattle.std.proofs.lemmas.Bool.{and_parts, false≢true}
 use Rattle.std.proofs.lemmas.Option.{none-some, same_Some}
 use Rattle.origin_labels.specs.Label.{Label}
-use Rattle.flow_frames.specs.Frames.{Frame as SeenFrame, Catches, IsTarget, catching, root}
+use Rattle.flow_frames.specs.Frames.{Frame as SeenFrame, Catches, IsTarget, catching, root, IsTargetAbove, caught_above, none_above}
 use Rattle.flow_frames.specs.Held.{seen_frame}
 use Rattle.flow_frames.specs.Kinds.{is_try}
 use Rattle.flow_frames.specs.Views.{held}
@@ -49,3 +49,17 @@ module _ {L : Type 0} (meaning : L → Label) where
   -- the Root is the target where no frame passes the test
   pub target-root : (frames : List (Frame L)) (n : ℕ) → n ≤ 0 → ((deeper : ℕ) (y : Frame L) → n ≤ deeper → deeper < length frames → (is_try (get_or frames deeper y).kind && (get_or frames deeper y).active) ≡ false) → IsTarget (map (seen_frame meaning) (map held frames)) 0
   target-root frames n none_left none = root refl (λ deeper c. none_catches frames n none deeper (omega arith) c)
+
+  -- no frame from a depth on passes the test
+  abbrev pub NonePasses : List (Frame L) → ℕ → Type 0
+  NonePasses frames n = (deeper : ℕ) (y : Frame L) → n ≤ deeper → deeper < length frames → (is_try (get_or frames deeper y).kind && (get_or frames deeper y).active) ≡ false
+
+  -- the innermost frame inside another one that passes the test is reached first
+  pub above-caught : (frames : List (Frame L)) (to n : ℕ) (x : Frame L) → to + 1 < n → n ≤ length frames → x ≡ get_or frames (n - 1) x → (is_try x.kind && x.active) ≡ true → NonePasses frames n → IsTargetAbove (map (seen_frame meaning) (map held frames)) to (n - 1)
+  above-caught frames to n x some le read e none =
+      caught_above (omega (arith, some)) (test-Catches frames (n - 1) x (omega (arith, some)) (ap (λ (f : Frame L). is_try f.kind && f.active) (sym read) ∙ e))
+      (λ deeper lt c. none_catches frames n none deeper (omega (arith, lt)) c)
+
+  -- where none passes the test, the other one itself is
+  pub above-none : (frames : List (Frame L)) (to n : ℕ) → n ≤ to + 1 → NonePasses frames n → IsTargetAbove (map (seen_frame meaning) (map held frames)) to to
+  above-none frames to n le none = none_above refl (λ deeper lt c. none_catches frames n none deeper (omega (arith, le, lt)) c)

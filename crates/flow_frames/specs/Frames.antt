@@ -28,3 +28,8 @@ Catches frames depth = (f : Frame) × (slice_get frames depth ≡ Some f) × (f.
 pub data IsTarget (frames : List Frame) (depth : ℕ) : Type 0 where
   catching : Catches frames depth → ((deeper : ℕ) → depth < deeper → Catches frames deeper → ⊥) → IsTarget frames depth
   root : depth ≡ 0 → ((any : ℕ) → Catches frames any → ⊥) → IsTarget frames depth
+
+-- the frame that a jump to the frame at a depth reaches first: the innermost active Try frame inside that frame, or else the frame itself
+pub data IsTargetAbove (frames : List Frame) (to depth : ℕ) : Type 0 where
+  caught_above : to < depth → Catches frames depth → ((deeper : ℕ) → depth < deeper → Catches frames deeper → ⊥) → IsTargetAbove frames to depth
+  none_above : depth ≡ to → ((deeper : ℕ) → to < deeper → Catches frames deeper → ⊥) → IsTargetAbove frames to depth

@@ -3,7 +3,7 @@
 ghost use Rattle.std.specs.Prelude.{◌≡◌, ◌<◌, ◌≤◌, ◌+◌, ◌-◌, [], ◌∷◌, ◌++◌, length, map, take, Some, IfOk, OnOk, OnErr, IfErr, IsOk, true, false};
 ghost use Rattle.origin_labels.specs.Label.{Label, bottom};
 ghost use Rattle.origin_labels.specs.Stores.{IsKept};
-ghost use Rattle.flow_frames.specs.Frames.{context, inside, IsTarget};
+ghost use Rattle.flow_frames.specs.Frames.{context, inside, IsTarget, IsTargetAbove};
 ghost use Rattle.flow_frames.specs.Rules.{jump_need, raise_need, is_broken};
 ghost use Rattle.flow_frames.specs.Held.{BeginsWithRoot, CatchByTry, Belong, kind_at, label_at, meant_at, seen, seen_frame};
 ghost use Rattle.flow_frames.specs.Changes.{pushed, raised, quieted};
@@ -243,6 +243,21 @@ impl<T: Copy> Frames<T> {
             }
         }
         0
+    }
+
+    /// The depth of the frame that a jump to the frame at a depth reaches first. It looks at no frame below.
+    pub fn target_above(&self, to: usize) -> usize
+        ensures { (meaning : T → Label) → IsTargetAbove (map (seen_frame meaning) self.now.frames) to result }
+    {
+        if to >= self.frames.len() {
+            return to;
+        }
+        for depth in (to + 1..self.frames.len()).rev() {
+            if self.frames[depth].catches() {
+                return depth;
+            }
+        }
+        to
     }
 
     /// Joins a label to that of the frame at a depth, and to the totals from there on.

@@ -9,17 +9,18 @@ use crate::sink::Sink;
 use crate::store::{Failed, Store};
 use std::io::{Read, Seek, SeekFrom, Write};
 use std::rt::Files;
-use std::{fs, io};
+use std::{fs, io, mem};
 
-/// The system's files.
+/// The system's files. One is kept open while it is read.
 #[derive(Drop)]
-pub struct RealStore<'a, R> {
+pub struct RealStore<'a, R: Files> {
     files: &'a R,
+    open: Option<OpenFile<R::File>>,
     faults: u64,
     given: u64,
 }
 
-impl<'a, R: Files> RealStore<'a, R> {
+impl<'a, R: Files + AllocGlobal> RealStore<'a, R> {
     /// The files that a runtime opens.
     pub fn new(files: &'a R) -> RealStore<'a, R>
         ensures faults { result.faults ≡ 0 }
@@ -27,13 +28,32 @@ impl<'a, R: Files> RealStore<'a, R> {
     {
         RealStore {
             files,
+            open: None,
             faults: 0,
             given: 0,
         }
     }
+
+    /// Reads once, from a place of a file on.
+    fn read_at(&mut self, path: &str, at: usize, piece: &mut [u8]) -> io::Result<usize>
+        ensures read { IfOk result (λ n. n ≤ length piece.old) }
+        ensures faults { self.new.faults ≡ self.old.faults }
+        ensures given { self.new.given ≡ self.old.given }
+    {
+        let mut open = match mem::take(&mut self.open) {
+            Some(open) if open.path.as_str() == path => open,
+            _ => OpenFile::open(self.files, path)?,
+        };
+        let n = open.read_at(at, piece)?;
+        // at its end it is closed
+        if n != 0 {
+            self.open = Some(open);
+        }
+        Ok(n)
+    }
 }
 
-impl<'a, R: Files> Store for RealStore<'a, R> {
+impl<'a, R: Files + AllocGlobal> Store for RealStore<'a, R> {
     ghost may_ask = { λ _ _. true };
 
     ghost contents = { λ _. None };
@@ -43,7 +63,7 @@ impl<'a, R: Files> Store for RealStore<'a, R> {
     ghost given = { λ s. s.given };
 
     fn read(&mut self, path: &str, at: usize, piece: &mut [u8]) -> Result<usize, Failed> {
-        match read_at(self.files, path, at, piece) {
+        match self.read_at(path, at, piece) {
             Ok(n) => {
                 self.given = self.given.saturating_add(n as u64);
                 Ok(n)
@@ -56,15 +76,34 @@ impl<'a, R: Files> Store for RealStore<'a, R> {
     }
 }
 
-/// Reads once, from a place of a file on.
-fn read_at<R: Files>(files: &R, path: &str, at: usize, piece: &mut [u8]) -> io::Result<usize>
-    ensures { IfOk result (λ n. n ≤ length piece.old) }
-{
-    let mut file = fs::open(files, path)?;
-    if at != 0 {
-        file.seek(SeekFrom::Start(at as u64))?;
+/// An open file with its path.
+#[derive(Drop)]
+struct OpenFile<F> {
+    path: String,
+    file: F,
+}
+
+impl<F: Read + Seek> OpenFile<F> {
+    /// Opens a regular file. Anything else is refused: to open a named pipe would wait for its writer.
+    fn open<R: Files<File = F> + AllocGlobal>(files: &R, path: &str) -> io::Result<OpenFile<F>> {
+        if !fs::metadata(files, path)?.is_file() {
+            return Err(io::Error::from(io::ErrorKind::InvalidInput));
+        }
+        let path_kept = String::from_str(files.alloc(), path)?;
+        let file = fs::open(files, path)?;
+        Ok(OpenFile {
+            path: path_kept,
+            file,
+        })
     }
-    file.read(piece)
+
+    /// Reads once, from a place on.
+    fn read_at(&mut self, at: usize, piece: &mut [u8]) -> io::Result<usize>
+        ensures { IfOk result (λ n. n ≤ length piece.old) }
+    {
+        self.file.seek(SeekFrom::Start(at as u64))?;
+        self.file.read(piece)
+    }
 }
 
 /// A sink over a writer, such as the standard output as `io::writer` gives it.

@@ -1,3 +1,4 @@
+mod HashLaws
 pub mod Laws
 mod Lines
 pub mod Paired

@@ -1,3 +1,4 @@
+pub mod Hashes
 pub mod Memory
 pub mod Places
 pub mod Text

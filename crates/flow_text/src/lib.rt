@@ -4,6 +4,7 @@
 mod compared;
 mod memory;
 mod places;
+mod shared;
 mod text;
 mod utf8;
 mod written;

@@ -2,27 +2,46 @@
 
 ghost use Rattle.std.specs.Prelude.{◌≡◌, ◌-◌, ◌+◌, ◌<◌, ◌≤◌, ℕ, [], ◌∷◌, ◌++◌, length, slice_range, slice_index, OnOk, OnErr, IfOk};
 ghost use Rattle.flow_text.specs.Text.{AreUnits};
+ghost use Rattle.flow_text.specs.Hashes.{hash_of};
 ghost use Rattle.flow_text.specs.declared.text.TextFault.TheVariants as faults;
 
 use crate::memory::OutOfMemory;
+use crate::shared::{HASH_OF_NONE, Shared, hash_on};
 use std::alloc::{AllocError, AllocFailed, Global};
+use std::fmt;
 use std::marker::Model;
+use std::rc::Rc;
 
-/// A list of UTF-16 units, as a string value has them (ECMA-262 8.4).
-#[derive(Debug, Drop)]
+/// A list of UTF-16 units, as a string value has them (ECMA-262 8.4). A copy shares the units of its source.
 pub struct Text {
-    pub(crate) units: Vec<u16>,
+    alloc: Global,
+    shared: Option<Rc<Shared>>,
 }
 
 impl Model for Text {
     ghost use Rattle.std.specs.Prelude.{List, ℕ};
-    ghost use Rattle.flow_text.specs.Text.{AreUnits};
+    ghost use Rattle.flow_text.specs.Text.{AreUnits, units_in};
 
     ghost Value = { List ℕ };
 
-    ghost view = { λ t. t.units.items };
+    ghost view = { λ t. units_in t.shared };
 
-    ghost invariant = { λ t. AreUnits t.units.items };
+    ghost invariant = { λ t. AreUnits (units_in t.shared) };
+}
+
+impl Drop for Text {
+    fn drop(self) {
+        let Text {
+            alloc: _,
+            shared: _,
+        } = self;
+    }
+}
+
+impl fmt::Debug for Text {
+    fn fmt<W: fmt::Write>(&self, f: &mut fmt::Formatter<W>) -> fmt::Result {
+        write!(f, "{:?}", self.units())
+    }
 }
 
 impl Text {
@@ -31,8 +50,30 @@ impl Text {
         ensures { result ≡ [] }
     {
         Text {
-            units: Vec::new(alloc),
+            alloc,
+            shared: None,
         }
+    }
+
+    /// The text of these units.
+    pub fn of_units(alloc: Global, units: Vec<u16>) -> Result<Text, OutOfMemory>
+        ensures { IfOk result (λ t. t ≡ units.items) }
+    {
+        if units.is_empty() {
+            return Ok(Text::new(alloc));
+        }
+        Text::sharing(alloc, Shared::new(units))
+    }
+
+    fn sharing(alloc: Global, shared: Shared) -> Result<Text, OutOfMemory>
+        requires { AreUnits shared }
+        ensures { IfOk result (λ t. t ≡ shared) }
+    {
+        let shared = Rc::new(alloc, shared)?;
+        Ok(Text {
+            alloc,
+            shared: Some(shared),
+        })
     }
 
     /// How many units it has.
@@ -40,7 +81,7 @@ impl Text {
         ensures length { result ≡ length self.now }
         ensures units { AreUnits self.now }
     {
-        self.units.len()
+        self.known_units().len()
     }
 
     /// The unit at a place.
@@ -48,14 +89,38 @@ impl Text {
         requires { i < length self.now }
         ensures { result ≡ slice_index self.now i }
     {
-        self.units[i]
+        self.units()[i]
     }
 
     /// All its units.
+    #[inline(always)]
     pub fn units(&self) -> &[u16]
         ensures { result.now ≡ self.now }
     {
-        &self.units
+        self.known_units()
+    }
+
+    // The same, with what is known of each.
+    #[inline(always)]
+    pub(crate) fn known_units(&self) -> &[u16]
+        ensures same { result.now ≡ self.now }
+        ensures units { AreUnits self.now }
+    {
+        match &self.shared {
+            Some(shared) => shared.units(),
+            None => &[],
+        }
+    }
+
+    /// The hash of its units. It is kept with them.
+    #[inline(always)]
+    pub fn hash_code(&self) -> u32
+        ensures { result ≡ hash_of self.now }
+    {
+        match &self.shared {
+            Some(shared) => shared.hash(),
+            None => HASH_OF_NONE,
+        }
     }
 
     /// Adds a unit at the end.
@@ -63,8 +128,7 @@ impl Text {
         ensures ok { OnOk result (self.new ≡ self.old ++ unit ∷ []) }
         ensures unchanged { OnErr result (self.new ≡ self.old) }
     {
-        self.units.push(unit)?;
-        Ok(())
+        self.push_units(&[unit])
     }
 
     /// Adds units at the end.
@@ -72,7 +136,12 @@ impl Text {
         ensures ok { OnOk result (self.new ≡ self.old ++ units.now) }
         ensures unchanged { OnErr result (self.new ≡ self.old) }
     {
-        self.units.extend_from_slice(units)?;
+        if let Some(shared) = &mut self.shared {
+            if let Some(own) = Rc::get_mut(shared) {
+                return own.push_units(units);
+            }
+        }
+        *self = self.joined(units)?;
         Ok(())
     }
 
@@ -82,27 +151,50 @@ impl Text {
         requires within { to ≤ length self.now }
         ensures { IfOk result (λ t. t ≡ slice_range self.now from to) }
     {
-        Ok(Text {
-            units: Vec::from_slice(alloc, &self.units[from..to])?,
-        })
+        let units = Vec::from_slice(alloc, &self.units()[from..to])?;
+        Text::of_units(alloc, units)
     }
 
-    /// A text of the same units.
+    /// A text of the same units, which are not copied.
     pub fn copy(&self, alloc: Global) -> Result<Text, OutOfMemory>
         ensures { IfOk result (λ t. t ≡ self.now) }
     {
-        Ok(Text {
-            units: Vec::from_slice(alloc, &self.units)?,
-        })
+        match &self.shared {
+            Some(shared) => {
+                let shared = shared.clone()?;
+                Ok(Text {
+                    alloc,
+                    shared: Some(shared),
+                })
+            }
+            None => Ok(Text::new(alloc)),
+        }
     }
 
     /// Its units, and then those of `other`.
     pub fn concat(&self, alloc: Global, other: &Text) -> Result<Text, OutOfMemory>
         ensures { IfOk result (λ t. t ≡ self.now ++ other.now) }
     {
-        let mut joined = self.copy(alloc)?;
-        joined.push_units(&other.units)?;
-        Ok(joined)
+        if self.units().is_empty() {
+            return other.copy(alloc);
+        }
+        if other.units().is_empty() {
+            return self.copy(alloc);
+        }
+        self.joined(other.units())
+    }
+
+    // Its units, and then these.
+    #[tactic(auto, using(crate::proofs::HashLaws::hash_more))]
+    fn joined(&self, units: &[u16]) -> Result<Text, OutOfMemory>
+        ensures { IfOk result (λ t. t ≡ self.now ++ units.now) }
+    {
+        let first = self.units();
+        let mut all = Vec::with_capacity(self.alloc, first.len() + units.len())?;
+        all.extend_from_slice(first)?;
+        all.extend_from_slice(units)?;
+        let hash = hash_on(self.hash_code(), units);
+        Text::sharing(self.alloc, Shared::with_hash(hash, all))
     }
 }
 

@@ -33,11 +33,11 @@ impl Text {
     pub fn spelled(alloc: Global, spelling: &str) -> Result<Text, OutOfMemory>
         ensures { IfOk result (λ t. t ≡ units_of spelling.now) }
     {
-        let mut text = Text::new(alloc);
+        let mut units = Vec::new(alloc);
         for character in spelling.chars() {
-            text.push_char(character)?;
+            push_character(&mut units, character)?;
         }
-        Ok(text)
+        Text::of_units(alloc, units)
     }
 
     /// Adds the one or two units of a character.
@@ -55,7 +55,16 @@ impl Text {
         ensures spelling { IfOk result (λ v. v.items ≡ utf8_of self.now) }
         ensures again { are_paired self.now ≡ true → IfOk result (λ v. text_of_utf8 v.items ≡ Ok self.now) }
     {
-        let spelling = String::from_utf16_lossy(alloc, &self.units)?;
+        let spelling = String::from_utf16_lossy(alloc, self.known_units())?;
         Ok(spelling.into_bytes())
     }
+}
+
+// Adds the one or two units of a character.
+fn push_character(units: &mut Vec<u16>, character: char) -> Result<(), OutOfMemory>
+    ensures { OnOk result (units.new.items ≡ units.old.items ++ encode_utf16 character) }
+{
+    let mut room = [0; 2];
+    units.extend_from_slice(character.encode_utf16(&mut room))?;
+    Ok(())
 }

@@ -17,23 +17,11 @@ impl Text {
     pub fn escaped(&self, alloc: Global) -> Result<Text, OutOfMemory>
         ensures { IfOk result (λ t. t ≡ escaped self.now) }
     {
-        let mut written = Text::new(alloc);
+        let mut written = Vec::new(alloc);
         for unit in self.units() {
-            written.push_escaped(*unit)?;
+            push_escaped(&mut written, *unit)?;
         }
-        Ok(written)
-    }
-
-    #[tactic(auto, unfolding(crate::specs::Written::escaped_unit))]
-    fn push_escaped(&mut self, unit: u16) -> Result<(), OutOfMemory>
-        ensures { OnOk result (self.new ≡ self.old ++ escaped_unit unit) }
-    {
-        match unit {
-            0x5C => self.push_units(&[BACKSLASH, BACKSLASH]),
-            0x0A => self.push_units(&[BACKSLASH, b'n' as u16]),
-            0x0D => self.push_units(&[BACKSLASH, b'r' as u16]),
-            _ => self.push(unit),
-        }
+        Text::of_units(alloc, written)
     }
 
     /// Adds a number's decimal digits, behind a minus where it is below zero.
@@ -45,6 +33,20 @@ impl Text {
         let digits = buffer.format(n).as_bytes();
         self.push_units(&widened(digits)[..digits.len()])
     }
+}
+
+// Adds what stands for a unit in one line.
+#[tactic(auto, unfolding(crate::specs::Written::escaped_unit))]
+fn push_escaped(written: &mut Vec<u16>, unit: u16) -> Result<(), OutOfMemory>
+    ensures { OnOk result (written.new.items ≡ written.old.items ++ escaped_unit unit) }
+{
+    match unit {
+        0x5C => written.extend_from_slice(&[BACKSLASH, BACKSLASH])?,
+        0x0A => written.extend_from_slice(&[BACKSLASH, b'n' as u16])?,
+        0x0D => written.extend_from_slice(&[BACKSLASH, b'r' as u16])?,
+        _ => written.push(unit)?,
+    }
+    Ok(())
 }
 
 // The bytes as units, at the front.

@@ -1,2 +1,1 @@
-pub mod DeclarationLaws
 pub mod TableLaws

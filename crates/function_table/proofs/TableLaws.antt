@@ -1,10 +1,10 @@
 -- Functions in the order of their first tokens, and their numbers.
-use Rattle.std.proofs.Common.{arith, refl, sym, ap, subst, ◌∙◌, ◌≡◌, ◌<◌, ◌≤◌, ◌+◌, ℕ, zero, suc, Bool, true, false, List, [], ◌∷◌, map, length, drop, get_or, leb, nat_eq, Option, Some, None, if◌then◌else◌}
+use Rattle.std.proofs.Common.{arith, refl, sym, ap, ap₂, subst, ◌∙◌, ◌≡◌, ◌<◌, ◌≤◌, ◌+◌, ℕ, zero, suc, Bool, true, false, List, [], ◌∷◌, ◌++◌, map, length, take, drop, get_or, leb, nat_eq, Option, Some, None, if◌then◌else◌}
 use Rattle.std.specs.List.{slice_get, position_or_len}
 use Rattle.std.specs.Option.{option_map}
 use Rattle.std.proofs.lemmas.Bool.{leb-false, eqb-true, eq-eqb, ne_eqb, false≢true}
 use Rattle.std.proofs.lemmas.Option.{none-some, same_Some}
-use Rattle.std.proofs.lemmas.List.{length-map, drop_more, at_drop_all}
+use Rattle.std.proofs.lemmas.List.{length-map, map-append, take_more, take_all, drop_more, at_drop_all}
 use Rattle.std.proofs.lemmas.List.Recursion.{is_position_or_len}
 use Rattle.js_ast.specs.declared.trees.Function as tree
 use Rattle.js_ast.specs.Trees.{Function}
@@ -75,6 +75,15 @@ number_is codes n f here rise = number_by codes n f (slice_get codes n) refl her
 module _ {X : Type 0} (node : X → tree.Function) where
   abbrev pub codes : List X → List FunctionCode
   codes xs = table (map node xs)
+
+  -- in a loop, what so many lead to
+  pub one_listed : (xs : List X) (k : ℕ) (x : X) (old new : List tree.Function) (f : tree.Function) → k < length xs → x ≡ get_or xs k x → old ≡ map node (take k xs) → new ≡ old ++ f ∷ [] → f ≡ node x → new ≡ map node (take (k + 1) xs)
+  one_listed xs k x old new f lt is so_far more same =
+      more ∙ ap₂ (λ fs g. fs ++ g ∷ []) so_far same ∙ sym (map-append node (take k xs) (x ∷ []))
+      ∙ ap (λ ys. map node ys) (ap (λ y. take k xs ++ y ∷ []) is ∙ sym (take_more xs k x lt))
+
+  pub all_listed : (xs : List X) (k : ℕ) (fs : List tree.Function) → length xs ≤ k → fs ≡ map node (take k xs) → fs ≡ map node xs
+  all_listed xs k fs le so_far = so_far ∙ ap (λ ys. map node ys) (take_all k xs le)
 
   codes_are : (xs : List X) → codes xs ≡ map (λ h. h.1) (map (λ x. held (node x)) xs)
   codes_are [] = refl

@@ -1,10 +1,10 @@
-//! The functions of a program by their numbers, which one a statement declares, and what a value is for a call.
+//! The functions of a program by their numbers, what a call of each begins with, and what a value is for a call.
 #![tactic(auto)]
 
 mod callee;
-mod declaring;
+mod known_keys;
 mod table;
 
 pub use callee::Callee;
-pub use declaring::declared;
+pub use known_keys::KnownKeys;
 pub use table::Functions;

@@ -9,6 +9,8 @@ ghost use Rattle.js_ast.specs.Views.{view_function, view_program};
 ghost use Rattle.es_meaning.specs.Functions.{begins_at, number_in};
 ghost use Rattle.function_table.specs.Tables.{table, rises, rises_after, begins_there};
 
+use crate::known_keys::KnownKeys;
+use call_records::CallLayout;
 use flow_text::OutOfMemory;
 use js_ast::{Function, Program};
 use std::alloc::Global;
@@ -18,12 +20,15 @@ use std::marker::Model;
 #[derive(Drop)]
 pub struct Functions<'p> {
     list: Vec<&'p Function>,
+    /// What a call of each begins with.
+    layouts: Vec<CallLayout<'p>>,
+    keys: KnownKeys,
     /// Each begins at a higher place than the one before. So it is in a program that tokens spell.
     in_order: bool,
 }
 
 impl<'p> Model for Functions<'p> {
-    ghost use Rattle.std.specs.Prelude.{List, map};
+    ghost use Rattle.std.specs.Prelude.{◌≡◌, List, map};
     ghost use Rattle.std.specs.Coded.{codes};
     ghost use Rattle.js_ast.specs.declared.trees.Function.{Function as Node};
     ghost use Rattle.js_ast.specs.contracts.trees.Function as node;
@@ -35,7 +40,7 @@ impl<'p> Model for Functions<'p> {
 
     ghost view = { λ t. map (λ f. f.now) t.list.items };
 
-    ghost invariant = { λ t. AreTabled (table (map (λ f. f.now) t.list.items)) t.in_order };
+    ghost invariant = { λ t. AreTabled (table (map (λ f. f.now) t.list.items)) t.in_order × (t.layouts.items ≡ map (λ f. f.now) t.list.items) };
 }
 
 impl<'p> Functions<'p> {
@@ -49,7 +54,14 @@ impl<'p> Functions<'p> {
             return Err(OutOfMemory);
         }
         let in_order = is_in_order(&list);
-        Ok(Functions { list, in_order })
+        let layouts = layouts_of(alloc, &list)?;
+        let keys = KnownKeys::new(alloc)?;
+        Ok(Functions {
+            list,
+            layouts,
+            keys,
+            in_order,
+        })
     }
 
     /// The one with a number.
@@ -62,6 +74,21 @@ impl<'p> Functions<'p> {
         }
     }
 
+    /// What a call of the one with a number begins with.
+    pub fn layout(&self, number: u32) -> Option<&CallLayout<'p>>
+        ensures { option_map (λ l. code_of l.now) result ≡ slice_get (table self.now) number }
+    {
+        match self.layouts.get(number as usize) {
+            Some(layout) => Some(layout),
+            None => None,
+        }
+    }
+
+    /// The keys of properties that functions and calls make.
+    pub fn keys(&self) -> &KnownKeys {
+        &self.keys
+    }
+
     /// The number of a function: that of the first one that begins where it does, and how many there are where none does.
     pub fn number_of(&self, f: &Function) -> u32
         ensures { result ≡ number_in (table self.now) (view_function f.now) }
@@ -71,6 +98,18 @@ impl<'p> Functions<'p> {
         }
         place_of(&self.list, f) as u32
     }
+}
+
+/// What a call of each begins with.
+fn layouts_of<'p>(alloc: Global, list: &[&'p Function]) -> Result<Vec<CallLayout<'p>>, OutOfMemory>
+    ensures { IfOk result (λ ls. ls.items ≡ map (λ f. f.now) list.now) }
+{
+    let mut layouts = Vec::with_capacity(alloc, list.len())?;
+    for f in list {
+        let layout = CallLayout::of(alloc, f)?;
+        layouts.push(layout)?;
+    }
+    Ok(layouts)
 }
 
 /// Where a function begins.

@@ -3,3 +3,4 @@ pub mod HeldLaws
 pub mod KeyLaws
 pub mod SlotLaws
 pub mod ViewLaws
+pub mod SortLaws

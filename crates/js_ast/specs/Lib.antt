@@ -13,3 +13,5 @@ pub mod Trees
 pub mod Validity
 pub mod Views
 pub mod Words
+pub mod Named
+pub mod Orders

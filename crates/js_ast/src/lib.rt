@@ -1,10 +1,11 @@
-//! What a script is made of: its tokens and its trees.
+//! What a script is made of: its tokens and its trees, and orders of nodes by their keys.
 #![tactic(auto)]
 
 mod keys;
 mod lending;
 mod node_list;
 mod operators;
+mod orders;
 mod program;
 mod token;
 mod trees;
@@ -12,6 +13,7 @@ mod words;
 
 pub use node_list::NodeList;
 pub use operators::{AssignOperator, BinaryOperator, PostfixOperator, UnaryOperator};
+pub use orders::{ordered_names, ordered_properties};
 pub use token::{Token, TokenKind};
 pub use trees::{
     Block, Clause, ClauseList, Declaration, DeclarationList, Declarations, Expr, ExprKind,

@@ -8,7 +8,7 @@ use Rattle.std.proofs.lemmas.List.Folds.{list_any_at}
 use Rattle.std.proofs.lemmas.Slice.Eq.{bytes_eq-Decides}
 use Rattle.js_faults.specs.declared.fault.EarlyError.{EarlyError}
 use Rattle.js_faults.specs.declared.fault.EarlyErrorKind.{EarlyErrorKind}
-use Rattle.js_orders.specs.Orders.{IsOrder}
+use Rattle.js_ast.specs.Orders.{IsOrder}
 use Rattle.js_faults.specs.Early.{fault_if}
 use Rattle.js_faults.specs.Faults.{first_of}
 use Rattle.js_faults.specs.Ordered.{Entry, no_entry, nth, one_key, are_parts, conflicts, of_repeats, keys_of, same_at, has_third, clashes_at, told_in_order}

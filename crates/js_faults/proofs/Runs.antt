@@ -14,7 +14,7 @@ use Rattle.std.proofs.lemmas.List.Elements.{recursion_from_All}
 use Rattle.std.proofs.lemmas.Map.Keys.{IsDistinct-from_apart, IsDistinct-cons}
 use Rattle.std.proofs.lemmas.Map.Lookups.{exact_bytes}
 use Rattle.std.proofs.lemmas.Map.Steps.{length-le_from_distinct_below}
-use Rattle.js_orders.specs.Orders.{rank, IsOrder}
+use Rattle.js_ast.specs.Orders.{rank, IsOrder}
 use Rattle.js_faults.specs.Ordered.{Entry, nth, keys_of}
 
 -- ---- the order

@@ -10,7 +10,7 @@ use Rattle.std.proofs.lemmas.Map.Text.{is_eq-slice_cmp}
 use Rattle.js_faults.specs.declared.fault.EarlyErrorKind.{EarlyErrorKind}
 use Rattle.js_faults.specs.Faults.{earlier, first_of}
 use Rattle.js_faults.specs.declared.fault.EarlyError.{EarlyError}
-use Rattle.js_orders.specs.Orders.{rank, IsOrder}
+use Rattle.js_ast.specs.Orders.{rank, IsOrder}
 use Rattle.js_faults.specs.Ordered.{Entry, no_entry, nth, keys_of, one_key, of_repeats, rises_at, told_in_order}
 use Rattle.js_faults.proofs.Alike.{told}
 use Rattle.js_faults.proofs.Neighbours.{order_tells}

@@ -6,7 +6,7 @@ use Rattle.std.specs.Ordering.{is_lt}
 use Rattle.js_faults.specs.declared.fault.EarlyError.{EarlyError}
 use Rattle.js_faults.specs.declared.fault.EarlyErrorKind.{EarlyErrorKind}
 use Rattle.js_ast.specs.Keys.{key_text}
-use Rattle.js_orders.specs.Orders.{rank}
+use Rattle.js_ast.specs.Orders.{rank}
 use Rattle.js_ast.specs.Trees.{Ident, Property}
 use Rattle.js_faults.specs.Early.{fault_if, of_bound, key_of, place_of_property, is_getter, is_setter}
 

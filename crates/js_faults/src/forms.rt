@@ -10,7 +10,7 @@ use flow_lists::are_names;
 use js_scan::{is_identifier, spells};
 
 /// The words of a directive behind `flow`.
-#[derive(Clone, Copy, Debug)]
+#[derive(Clone, Copy)]
 pub(crate) struct Words<'a> {
     /// What is raised.
     pub(crate) what: &'a [u16],

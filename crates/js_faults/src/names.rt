@@ -5,7 +5,7 @@ ghost use Rattle.std.specs.List.{list_any};
 ghost use Rattle.std.specs.Str.{bytes_eq};
 ghost use Rattle.js_ast.specs.Nodes.{nodes_of};
 ghost use Rattle.js_ast.specs.Views.{view_ident, view_name, view_idents, view_expr};
-ghost use Rattle.js_orders.specs.Orders.{IsOrder};
+ghost use Rattle.js_ast.specs.Orders.{IsOrder};
 ghost use Rattle.js_faults.specs.Early.{is_eval_or_arguments, is_strict_word, of_name, of_bound, of_bound_maybe, of_parameters, fault_if, has_text, of_assigned, of_deleted};
 ghost use Rattle.js_faults.specs.declared.fault.EarlyErrorKind.TheVariants as kind;
 ghost use Rattle.js_faults.specs.Faults.{first_of};

@@ -3,7 +3,7 @@
 ghost use Rattle.std.specs.Prelude.{◌≡◌, ◌<◌, ◌-◌, ◌&&◌, [], map, length, nat_lt, slice_index, true};
 ghost use Rattle.std.specs.Ordering.{nat_cmp, is_lt};
 ghost use Rattle.std.specs.Cmp.Lexicographic.{slice_cmp};
-ghost use Rattle.js_orders.specs.Orders.{rank, IsOrder};
+ghost use Rattle.js_ast.specs.Orders.{rank, IsOrder};
 ghost use Rattle.js_faults.specs.Faults.{first_of};
 ghost use Rattle.js_faults.specs.Ordered.{Entry, nth, keys_of, are_parts, of_repeats, rises_at, same_at, has_third, clashes_at, told_in_order};
 

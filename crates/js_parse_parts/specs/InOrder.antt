@@ -5,8 +5,8 @@ use Rattle.js_ast.specs.declared.trees.Expr.{Expr}
 use Rattle.js_ast.specs.declared.trees.ExprKind.TheVariants as expr
 use Rattle.js_ast.specs.declared.trees.Property.{Property}
 use Rattle.js_ast.specs.Nodes.{nodes_of}
-use Rattle.js_orders.specs.Named.{name_of}
-use Rattle.js_orders.specs.Orders.{KeepsOrder}
+use Rattle.js_ast.specs.Named.{name_of}
+use Rattle.js_ast.specs.Orders.{KeepsOrder}
 
 -- an object, and where it has eight properties or more, the list of them keeps their order
 pub record IsOrderedObject (e : Expr) : Type 0 where

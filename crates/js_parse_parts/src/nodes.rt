@@ -14,9 +14,8 @@ use crate::literals::node;
 use flow_text::{OutOfMemory, Text};
 use js_ast::{
     AssignOperator, BinaryOperator, Expr, ExprKind, ExprList, Ident, IdentList, ItemList,
-    PostfixOperator, PropertyList, StmtList, UnaryOperator,
+    PostfixOperator, PropertyList, StmtList, UnaryOperator, ordered_properties,
 };
-use js_orders::ordered_properties;
 use std::alloc::Global;
 
 /// An expression in parentheses.

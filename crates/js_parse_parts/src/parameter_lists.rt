@@ -5,15 +5,14 @@ ghost use Rattle.js_ast.specs.Nodes.{nodes_of};
 ghost use Rattle.js_list_parser.specs.Reading.{loop};
 ghost use Rattle.js_list_parser.specs.ExpressionParsing.{parameter, parameters};
 ghost use Rattle.js_ast.specs.Views.{view_idents};
-ghost use Rattle.js_orders.specs.Named.{text_of};
-ghost use Rattle.js_orders.specs.Orders.{KeepsOrder};
+ghost use Rattle.js_ast.specs.Named.{text_of};
+ghost use Rattle.js_ast.specs.Orders.{KeepsOrder};
 ghost use Rattle.js_parse_parts.specs.Answers.{Gives, turn_of};
 
 use crate::expected::bound_name;
 use crate::reading::{Fault, ReadFault, Turn};
 use crate::words::{Word, behind, word_at};
-use js_ast::{IdentList, Sign, Token};
-use js_orders::ordered_names;
+use js_ast::{IdentList, Sign, Token, ordered_names};
 use std::alloc::Global;
 
 // A further parameter, or the end of the parameters.

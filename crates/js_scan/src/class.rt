@@ -6,7 +6,7 @@ ghost use Rattle.js_scan.specs.Found.{class_at};
 use crate::units::{is_line_terminator, is_white_space};
 
 /// What the first units of an element tell of it.
-#[derive(Clone, Copy, Debug, PartialEq, Eq)]
+#[derive(Clone, Copy, PartialEq, Eq)]
 pub(crate) enum Class {
     /// White space or a line terminator.
     Blank,

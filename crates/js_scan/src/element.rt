@@ -20,7 +20,7 @@ use js_number::text_to_number;
 use std::alloc::Global;
 
 /// What stands next.
-#[derive(Debug, Drop)]
+#[derive(Drop)]
 pub(crate) enum Found {
     /// White space, a line terminator or a comment, of so many units.
     Separator { length: usize, breaks_line: bool },
@@ -185,9 +185,8 @@ fn lexeme(state: State, kind: TokenKind, text: Text, length: usize) -> Found
 fn copied(alloc: Global, units: &[u16]) -> Result<Text, OutOfMemory>
     ensures { IfOk result (λ text. text ≡ units.now) }
 {
-    let mut text = Text::new(alloc);
-    text.push_units(units)?;
-    Ok(text)
+    let copy = Vec::from_slice(alloc, units)?;
+    Text::of_units(alloc, copy)
 }
 
 #[tactic(auto, unfolding(crate::specs::Units::begins_with))]

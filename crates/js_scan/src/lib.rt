@@ -11,6 +11,7 @@ mod names;
 mod numbers;
 mod punctuators;
 mod scanning;
+mod spellings;
 mod state;
 mod strings;
 mod units;

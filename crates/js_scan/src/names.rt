@@ -54,7 +54,7 @@ const RESERVED_WORDS: [&[u8]; 36] = [
 ];
 
 /// A name.
-#[derive(Debug, Drop)]
+#[derive(Drop)]
 pub(crate) struct Word {
     /// What it stands for.
     pub(crate) text: Text,
@@ -71,15 +71,16 @@ pub(crate) fn read_word(alloc: Global, units: &[u16]) -> Result<Option<Word>, Ou
     let Some((first, taken)) = start_at(units) else {
         return Ok(None);
     };
-    let mut text = Text::new(alloc);
-    text.push(first)?;
+    let mut name = Vec::new(alloc);
+    name.push(first)?;
     let mut length = taken;
     let mut escaped = 1 < taken;
     while let Some((unit, taken)) = part_at(&units[length..]) {
-        text.push(unit)?;
+        name.push(unit)?;
         length += taken;
         escaped |= 1 < taken;
     }
+    let text = Text::of_units(alloc, name)?;
     Ok(Some(Word {
         text,
         length,

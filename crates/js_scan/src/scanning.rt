@@ -9,6 +9,7 @@ ghost use Rattle.js_scan.specs.Tokens.{IsTokens, IsFault, IsFaultOf, fault_at};
 
 use crate::element::{Found, next_element};
 use crate::fault::ScanFault;
+use crate::spellings::Spellings;
 use crate::state::State;
 use flow_text::Text;
 use js_ast::Token;
@@ -31,6 +32,7 @@ fn tokens_of(alloc: Global, units: &[u16]) -> Result<Vec<Token>, ScanFault>
     ensures fault { IfErr result (λ f. IsFaultOf units.now f) }
 {
     let mut tokens = Vec::new(alloc);
+    let mut spellings = Spellings::new(alloc);
     let mut state = State::start();
     'elements: while state.at < units.len() {
         match next_element(alloc, state, &units[state.at..])? {
@@ -40,6 +42,7 @@ fn tokens_of(alloc: Global, units: &[u16]) -> Result<Vec<Token>, ScanFault>
             } => state = state.past(length, breaks_line),
             Found::Lexeme { token } => {
                 state = state.after(&token);
+                let token = spellings.shared(token)?;
                 tokens.push(token)?;
             }
         }

@@ -8,7 +8,7 @@ use flow_text::Text;
 use js_ast::{Token, TokenKind};
 
 /// How far a source is read.
-#[derive(Clone, Copy, Debug, PartialEq, Eq)]
+#[derive(Clone, Copy, PartialEq, Eq)]
 pub(crate) struct State {
     /// How many units are behind.
     pub(crate) at: usize,

@@ -13,7 +13,7 @@ use flow_text::{OutOfMemory, Text};
 use std::alloc::Global;
 
 /// What was found of a string.
-#[derive(Debug, Drop)]
+#[derive(Drop)]
 pub(crate) enum Quoted {
     /// It is whole, with this value and so many units.
     Closed { value: Text, length: usize },
@@ -42,7 +42,7 @@ pub(crate) fn read_quoted(alloc: Global, units: &[u16]) -> Result<Quoted, OutOfM
     ensures { IfOk result (λ found. FindsQuoted units.now found) }
 {
     let quote = units[0];
-    let mut value = Text::new(alloc);
+    let mut value = Vec::new(alloc);
     let mut at = 1;
     'parts: loop {
         match look_ahead(quote, &units[at..]) {
@@ -52,6 +52,7 @@ pub(crate) fn read_quoted(alloc: Global, units: &[u16]) -> Result<Quoted, OutOfM
             }
             Ahead::Nothing { length } => at += length,
             Ahead::Quote => {
+                let value = Text::of_units(alloc, value)?;
                 return Ok(Quoted::Closed {
                     value,
                     length: at + 1,

@@ -11,7 +11,7 @@ use Rattle.es_meaning.specs.Outcomes.{Ending, done, threw, halted, left, out_of_
 use Rattle.flow_meaning.specs.Scopes.{Halt, as_plain, stopped}
 use Rattle.flow_meaning.specs.Tracked.{Run, tracked_run}
 use Rattle.flow_meaning.specs.Written.{lines_bytes, report, written}
-use Rattle.step_world.specs.Names.{leaving_name}
+use Rattle.run_state.specs.Names.{leaving_name}
 use Rattle.step_run.specs.declared.ending.Ending as code
 use Rattle.step_run.specs.declared.ending.Ending.TheVariants as ending
 use Rattle.step_run.specs.declared.ending.Show.TheVariants as show

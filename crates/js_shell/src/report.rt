@@ -5,16 +5,16 @@ ghost use Rattle.std.specs.List.{All, join_with_byte, list_all, slice_index_or};
 ghost use Rattle.flow_text.specs.Utf8.{utf8_of};
 ghost use Rattle.flow_meaning.specs.Scopes.{stopped};
 ghost use Rattle.flow_meaning.specs.Written.{rule_name, list_bytes, halt_bytes, ending_bytes, report};
-ghost use Rattle.step_world.specs.Names.{leaving_name};
+ghost use Rattle.run_state.specs.Names.{leaving_name};
 ghost use Rattle.step_run.specs.Ran.{HasDeclared, told_by};
 
 use flow_frames::Rule;
 use flow_policy::Policy;
 use flow_text::{OutOfMemory, Text};
 use origin_labels::{OriginList, Origins};
+use run_state::Leaving;
 use std::alloc::Global;
 use step_run::Ending;
-use step_world::Leaving;
 
 /// The report of how a run ended. There is none of a write fault or of want of memory.
 #[tactic(auto, unfolding(flow_meaning::specs::Written::report))]

@@ -2,13 +2,19 @@
 
 ghost use Rattle.std.specs.Prelude.{◌≡◌, ℕ, List, [], ◌∷◌, ◌++◌, Some, IfSome, IfOk, OnOk, OnErr};
 ghost use Rattle.std.specs.Cmp as Cmp;
-ghost use Rattle.std.specs.Cmp.Lexicographic.{nat_list_eq_equiv};
+ghost use Rattle.std.specs.Ordering.{nat_cmp};
+ghost use Rattle.std.specs.Cmp.Lexicographic.{bytes_decides, slice_cmp, nat_list_eq_equiv, nat_list_cmp_total, texts_po, texts_ties};
+ghost use Rattle.std.specs.Hash as fed;
+ghost use Rattle.std.proofs.Common.{ap, refl};
+ghost use Rattle.flow_text.specs.Hashes.{hash_of};
 ghost use Rattle.origin_labels.specs.Names.{same_name};
 ghost use Rattle.js_values.specs.Indices.{IsArrayIndex};
 ghost use Rattle.js_values.specs.Numerals.{digit, value_after, index_of};
 
 use flow_text::{OutOfMemory, Text};
 use std::alloc::Global;
+use std::cmp::Ordering;
+use std::hash::{Hash, Hasher};
 use std::marker::Model;
 
 /// The name of a property, a text.
@@ -35,6 +41,40 @@ impl PartialEq for Key {
 
 impl Eq for Key {
     ghost laws = { nat_list_eq_equiv };
+}
+
+impl PartialOrd for Key {
+    ghost partial_cmp = { λ x y. Some (slice_cmp nat_cmp x y) };
+
+    ghost laws = { texts_po };
+
+    fn partial_cmp(&self, other: &Key) -> Option<Ordering> {
+        Some(self.cmp(other))
+    }
+}
+
+impl Ord for Key {
+    ghost cmp = { slice_cmp nat_cmp };
+
+    ghost total = { nat_list_cmp_total };
+
+    ghost matches_partial_cmp = { λ x y. refl };
+
+    ghost matches_eq = { texts_ties };
+
+    fn cmp(&self, other: &Key) -> Ordering {
+        self.text.cmp(&other.text)
+    }
+}
+
+impl Hash for Key {
+    ghost hash_input = { λ k. fed.u32 (hash_of k) };
+
+    ghost respects_eq = { λ x y same. ap (λ k. fed.u32 (hash_of k)) ((bytes_decides x y).0 same) };
+
+    fn hash<H: Hasher>(&self, state: &mut H) {
+        self.text.hash(state);
+    }
 }
 
 impl Key {

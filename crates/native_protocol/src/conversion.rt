@@ -23,7 +23,7 @@ pub enum Method {
 
 /// What a conversion asks for: a look at the register, and for each method of the object that it holds the method, a look at it, its call,
 /// and a look at what it gave. Behind both methods it fails.
-#[derive(Clone, Copy, Debug, PartialEq, Eq)]
+#[derive(Clone, Copy, PartialEq, Eq)]
 pub enum Stage {
     Look,
     Get(Method),
@@ -34,7 +34,7 @@ pub enum Stage {
 }
 
 /// A register's value on its way to a primitive one. Two more registers are for an object's methods and for what they give.
-#[derive(Clone, Copy, Debug)]
+#[derive(Clone, Copy)]
 pub struct Conversion {
     hint: Hint,
     object: Reg,
@@ -44,7 +44,7 @@ pub struct Conversion {
 }
 
 /// A primitive value, and the register that holds it.
-#[derive(Debug, Drop)]
+#[derive(Drop)]
 pub struct Held {
     pub value: Primitive,
     pub at: Reg,

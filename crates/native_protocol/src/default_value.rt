@@ -12,7 +12,7 @@ use flow_text::OutOfMemory;
 use std::alloc::Global;
 
 /// The conversion of the object in register 0, which gives its primitive value back.
-#[derive(Clone, Copy, Debug)]
+#[derive(Clone, Copy)]
 pub enum DefaultValue {
     Begun(Hint),
     Converting(Conversion),

@@ -13,7 +13,7 @@ use js_number::{Int, to_number};
 use std::alloc::Global;
 
 /// A register's value on its way to a number: the primitive value of it, or the run is left where that has no number of the profile.
-#[derive(Clone, Copy, Debug)]
+#[derive(Clone, Copy)]
 pub enum NumberOf {
     Primitive(Conversion),
     Left,

@@ -11,7 +11,7 @@ use std::marker::Model;
 pub struct Reg(pub u64);
 
 /// Registers in order.
-#[derive(Debug, Drop)]
+#[derive(Drop)]
 pub struct RegList {
     registers: Vec<Reg>,
 }

@@ -187,14 +187,14 @@ pub enum Request {
 }
 
 /// What a look tells: a primitive value whole, and of an object its class.
-#[derive(Debug, Drop)]
+#[derive(Drop)]
 pub enum Seen {
     Prim(Primitive),
     Object(Class),
 }
 
 /// What a built-in is told: that it begins, that what it asked for is done, or what a look saw.
-#[derive(Debug, Drop)]
+#[derive(Drop)]
 pub enum Answer {
     Begin,
     Done,

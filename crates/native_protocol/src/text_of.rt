@@ -13,14 +13,14 @@ use js_number::{Primitive, to_text};
 use std::alloc::Global;
 
 /// A register's value on its way to a text: the primitive value of it, and the text of that where it is none.
-#[derive(Debug, Drop)]
+#[derive(Drop)]
 pub enum TextOf {
     Primitive(Conversion),
     Make { text: Text, to: Reg },
 }
 
 /// A text, and the register that holds it.
-#[derive(Debug, Drop)]
+#[derive(Drop)]
 pub struct HeldText {
     pub text: Text,
     pub at: Reg,

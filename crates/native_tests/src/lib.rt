@@ -1,4 +1,4 @@
-//! Calls of built-ins with the requests that they come to, worked out by hand. They stand here so that the crates of built-ins are proved once.
+//! Calls of built-ins with the requests that they come to, and the objects that a run starts with, worked out by hand. They stand here so that the crates of built-ins are proved once.
 #![tactic(auto)]
 
 #[cfg(test)]
@@ -9,3 +9,5 @@ mod lists;
 mod objects;
 #[cfg(test)]
 mod scenes;
+#[cfg(test)]
+mod start_objects;

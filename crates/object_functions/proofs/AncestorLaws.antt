@@ -12,7 +12,7 @@ use Rattle.object_functions.specs.Repeating.{times, repeats}
 use Rattle.object_functions.specs.declared.ancestor.AncestorStage.TheVariants as stage
 use Rattle.object_functions.specs.declared.ancestor.AncestorStage.{AncestorStage}
 use Rattle.primitive_natives.specs.Machines.{until_end, IsMachine}
-use Rattle.property_steps.specs.Looks.{is_true}
+use Rattle.descriptor_pieces.specs.Looks.{is_true}
 
 -- ---- one turn of the loop asks for something
 

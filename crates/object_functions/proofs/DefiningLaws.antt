@@ -19,10 +19,10 @@ use Rattle.object_functions.specs.declared.defining.DefiningStage.{DefiningStage
 use Rattle.object_functions.specs.declared.registers.Registers.{Registers}
 use Rattle.primitive_natives.specs.declared.ending.Ending.TheVariants as ending
 use Rattle.primitive_natives.specs.Machines.{until_end, IsMachine}
-use Rattle.property_steps.proofs.DefiningLaws.{defining_is}
-use Rattle.property_steps.specs.DefiningPieces.{defining_after, defining_rest}
-use Rattle.property_steps.specs.Looks.{is_undefined}
-use Rattle.property_steps.specs.declared.define_properties.DefineProperties.{DefineProperties}
+use Rattle.descriptor_pieces.proofs.DefiningLaws.{defining_is}
+use Rattle.descriptor_pieces.specs.DefiningPieces.{defining_after, defining_rest}
+use Rattle.descriptor_pieces.specs.Looks.{is_undefined}
+use Rattle.descriptor_pieces.specs.declared.define_properties.DefineProperties.{DefineProperties}
 
 first_asked : (object : Reg) (r : Registers) (s : DefiningStage) → defining_rest_in object r s [] ≡ defining_asks_in object s
 first_asked object r stage.LookObject = refl

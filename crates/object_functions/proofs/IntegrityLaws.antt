@@ -16,11 +16,11 @@ use Rattle.object_functions.specs.declared.integrity.IntegrityStage.{IntegritySt
 use Rattle.object_functions.specs.declared.registers.Registers.{Registers}
 use Rattle.primitive_natives.specs.Endings.{gives}
 use Rattle.primitive_natives.specs.Machines.{until_end, IsMachine}
-use Rattle.property_steps.proofs.FixingLaws.{fixing_is, testing_is}
-use Rattle.property_steps.specs.FixingPieces.{fixing_after, fixing_rest, testing_after, testing_rest}
-use Rattle.property_steps.specs.declared.property.Integrity.TheVariants.{Sealed, Frozen}
-use Rattle.property_steps.specs.declared.set_integrity.SetIntegrity.{SetIntegrity}
-use Rattle.property_steps.specs.declared.test_integrity.TestIntegrity.{TestIntegrity}
+use Rattle.descriptor_pieces.proofs.FixingLaws.{fixing_is, testing_is}
+use Rattle.descriptor_pieces.specs.FixingPieces.{fixing_after, fixing_rest, testing_after, testing_rest}
+use Rattle.descriptor_pieces.specs.declared.property.Integrity.TheVariants.{Sealed, Frozen}
+use Rattle.descriptor_pieces.specs.declared.set_integrity.SetIntegrity.{SetIntegrity}
+use Rattle.descriptor_pieces.specs.declared.test_integrity.TestIntegrity.{TestIntegrity}
 
 first_asked : (r : Registers) (s : IntegrityStage) → integrity_rest_in r s [] ≡ integrity_asks_in s
 first_asked r (stage.LookObject f) = refl

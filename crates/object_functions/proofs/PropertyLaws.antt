@@ -19,13 +19,13 @@ use Rattle.object_functions.specs.declared.property.PropertyStage.TheVariants as
 use Rattle.object_functions.specs.declared.property.PropertyStage.{PropertyStage}
 use Rattle.object_functions.specs.declared.registers.Registers.{Registers}
 use Rattle.primitive_natives.specs.Machines.{until_end, IsMachine}
-use Rattle.property_steps.proofs.DescriptorLaws.{descriptor_is}
-use Rattle.property_steps.proofs.TellingLaws.{telling_is}
-use Rattle.property_steps.specs.DescriptorPieces.{descriptor_after, descriptor_rest}
-use Rattle.property_steps.specs.TellingPieces.{telling_after, telling_rest}
-use Rattle.property_steps.specs.declared.from_descriptor.FromDescriptor.{FromDescriptor}
-use Rattle.property_steps.specs.declared.property.Description.{Description}
-use Rattle.property_steps.specs.declared.to_descriptor.ToDescriptor.{ToDescriptor}
+use Rattle.descriptor_pieces.proofs.DescriptorLaws.{descriptor_is}
+use Rattle.descriptor_pieces.proofs.TellingLaws.{telling_is}
+use Rattle.descriptor_pieces.specs.DescriptorPieces.{descriptor_after, descriptor_rest}
+use Rattle.descriptor_pieces.specs.TellingPieces.{telling_after, telling_rest}
+use Rattle.descriptor_pieces.specs.declared.from_descriptor.FromDescriptor.{FromDescriptor}
+use Rattle.descriptor_pieces.specs.declared.property.Description.{Description}
+use Rattle.descriptor_pieces.specs.declared.to_descriptor.ToDescriptor.{ToDescriptor}
 
 first_asked : (r : Registers) (s : PropertyStage) → property_rest_in r s [] ≡ property_asks_in r s
 first_asked r (stage.LookObject f) = refl

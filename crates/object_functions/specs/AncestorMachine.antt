@@ -18,7 +18,7 @@ use Rattle.object_functions.specs.declared.ancestor.AncestorStage.TheVariants as
 use Rattle.object_functions.specs.declared.ancestor.AncestorStage.{AncestorStage}
 use Rattle.primitive_natives.specs.declared.ending.Ending.TheVariants as ending
 use Rattle.primitive_natives.specs.declared.ending.Ending.{Ending}
-use Rattle.property_steps.specs.Looks.{is_true}
+use Rattle.descriptor_pieces.specs.Looks.{is_true}
 
 abbrev pub ancestor : Reg → AncestorStage → AncestorCall
 ancestor to s = record { to = to; stage = s }

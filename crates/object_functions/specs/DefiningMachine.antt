@@ -22,9 +22,9 @@ use Rattle.object_functions.specs.declared.defining.DefiningStage.{DefiningStage
 use Rattle.object_functions.specs.declared.registers.Registers.{Registers}
 use Rattle.primitive_natives.specs.declared.ending.Ending.TheVariants as ending
 use Rattle.primitive_natives.specs.declared.ending.Ending.{Ending}
-use Rattle.property_steps.specs.DefiningPieces.{defining_begin, defining_asks, defining_after, defining_rest}
-use Rattle.property_steps.specs.Looks.{is_undefined}
-use Rattle.property_steps.specs.declared.define_properties.DefineProperties.{DefineProperties}
+use Rattle.descriptor_pieces.specs.DefiningPieces.{defining_begin, defining_asks, defining_after, defining_rest}
+use Rattle.descriptor_pieces.specs.Looks.{is_undefined}
+use Rattle.descriptor_pieces.specs.declared.define_properties.DefineProperties.{DefineProperties}
 
 abbrev pub defining_at : Reg → Registers → DefiningStage → DefiningCall
 defining_at object r s = record { object = object; registers = r; stage = s }

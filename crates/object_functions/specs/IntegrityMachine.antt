@@ -20,10 +20,10 @@ use Rattle.object_functions.specs.declared.registers.Registers.{Registers}
 use Rattle.primitive_natives.specs.Endings.{gives}
 use Rattle.primitive_natives.specs.declared.ending.Ending.TheVariants as ending
 use Rattle.primitive_natives.specs.declared.ending.Ending.{Ending}
-use Rattle.property_steps.specs.FixingPieces.{fixing_begin, fixing_asks, fixing_after, fixing_rest, testing_begin, testing_asks, testing_after, testing_rest}
-use Rattle.property_steps.specs.declared.property.Integrity.TheVariants.{Sealed, Frozen}
-use Rattle.property_steps.specs.declared.set_integrity.SetIntegrity.{SetIntegrity}
-use Rattle.property_steps.specs.declared.test_integrity.TestIntegrity.{TestIntegrity}
+use Rattle.descriptor_pieces.specs.FixingPieces.{fixing_begin, fixing_asks, fixing_after, fixing_rest, testing_begin, testing_asks, testing_after, testing_rest}
+use Rattle.descriptor_pieces.specs.declared.property.Integrity.TheVariants.{Sealed, Frozen}
+use Rattle.descriptor_pieces.specs.declared.set_integrity.SetIntegrity.{SetIntegrity}
+use Rattle.descriptor_pieces.specs.declared.test_integrity.TestIntegrity.{TestIntegrity}
 
 abbrev pub integrity_at : Registers → IntegrityStage → IntegrityCall
 integrity_at r s = record { registers = r; stage = s }

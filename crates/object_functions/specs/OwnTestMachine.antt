@@ -22,9 +22,9 @@ use Rattle.object_functions.specs.declared.own_test.OwnTestStage.{OwnTestStage}
 use Rattle.object_functions.specs.declared.registers.Registers.{Registers}
 use Rattle.primitive_natives.specs.declared.ending.Ending.TheVariants as ending
 use Rattle.primitive_natives.specs.declared.ending.Ending.{Ending}
-use Rattle.property_steps.specs.Fixing.{own_asked, marks_seen}
-use Rattle.property_steps.specs.Properties.{marks_in}
-use Rattle.property_steps.specs.declared.property.OwnMarks.{OwnMarks}
+use Rattle.descriptor_pieces.specs.Fixing.{own_asked, marks_seen}
+use Rattle.descriptor_pieces.specs.Properties.{marks_in}
+use Rattle.descriptor_pieces.specs.declared.property.OwnMarks.{OwnMarks}
 
 abbrev pub tested : OwnTest → Option OwnMarks → Bool
 tested test.There found = is_some found

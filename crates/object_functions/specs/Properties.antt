@@ -11,14 +11,14 @@ use Rattle.object_functions.specs.declared.registers.Registers.{Registers}
 use Rattle.object_functions.specs.Kinds.{object_argument, to_object}
 use Rattle.object_functions.specs.Registers.{registers}
 use Rattle.primitive_natives.specs.Endings.{gives}
-use Rattle.property_steps.specs.declared.property.Description.{Description}
-use Rattle.property_steps.specs.declared.property.Integrity.{Integrity}
-use Rattle.property_steps.specs.declared.property.Integrity.TheVariants.{Sealed, Frozen}
-use Rattle.property_steps.specs.Defining.{define_properties}
-use Rattle.property_steps.specs.Descriptors.{to_descriptor, from_descriptor}
-use Rattle.property_steps.specs.Fixing.{own_asked, set_integrity, test_integrity}
-use Rattle.property_steps.specs.Looks.{is_undefined}
-use Rattle.property_steps.specs.Properties.{define}
+use Rattle.descriptor_pieces.specs.declared.property.Description.{Description}
+use Rattle.descriptor_pieces.specs.declared.property.Integrity.{Integrity}
+use Rattle.descriptor_pieces.specs.declared.property.Integrity.TheVariants.{Sealed, Frozen}
+use Rattle.descriptor_pieces.specs.Defining.{define_properties}
+use Rattle.descriptor_pieces.specs.Descriptors.{to_descriptor, from_descriptor}
+use Rattle.descriptor_pieces.specs.Fixing.{own_asked, set_integrity, test_integrity}
+use Rattle.descriptor_pieces.specs.Looks.{is_undefined}
+use Rattle.descriptor_pieces.specs.Properties.{define}
 
 abbrev pub returns : Reg → Steps
 returns from = ends (Return from)

@@ -22,13 +22,13 @@ use Rattle.object_functions.specs.declared.property.PropertyStage.{PropertyStage
 use Rattle.object_functions.specs.declared.registers.Registers.{Registers}
 use Rattle.primitive_natives.specs.declared.ending.Ending.TheVariants as ending
 use Rattle.primitive_natives.specs.declared.ending.Ending.{Ending}
-use Rattle.property_steps.specs.DescriptorPieces.{descriptor_begin, descriptor_asks, descriptor_after, descriptor_rest}
-use Rattle.property_steps.specs.Fixing.{own_asked}
-use Rattle.property_steps.specs.Properties.{define}
-use Rattle.property_steps.specs.TellingPieces.{telling_begin, telling_asks, telling_after, telling_rest}
-use Rattle.property_steps.specs.declared.from_descriptor.FromDescriptor.{FromDescriptor}
-use Rattle.property_steps.specs.declared.property.Description.{Description}
-use Rattle.property_steps.specs.declared.to_descriptor.ToDescriptor.{ToDescriptor}
+use Rattle.descriptor_pieces.specs.DescriptorPieces.{descriptor_begin, descriptor_asks, descriptor_after, descriptor_rest}
+use Rattle.descriptor_pieces.specs.Fixing.{own_asked}
+use Rattle.descriptor_pieces.specs.Properties.{define}
+use Rattle.descriptor_pieces.specs.TellingPieces.{telling_begin, telling_asks, telling_after, telling_rest}
+use Rattle.descriptor_pieces.specs.declared.from_descriptor.FromDescriptor.{FromDescriptor}
+use Rattle.descriptor_pieces.specs.declared.property.Description.{Description}
+use Rattle.descriptor_pieces.specs.declared.to_descriptor.ToDescriptor.{ToDescriptor}
 
 abbrev pub property_at : Registers → PropertyStage → PropertyCall
 property_at r s = record { registers = r; stage = s }

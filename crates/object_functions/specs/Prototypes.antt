@@ -13,9 +13,9 @@ use Rattle.object_functions.specs.Kinds.{this_object}
 use Rattle.object_functions.specs.Registers.{registers}
 use Rattle.object_functions.specs.Repeating.{repeats}
 use Rattle.primitive_natives.specs.Endings.{gives, leaves_by_wrapper}
-use Rattle.property_steps.specs.declared.property.OwnMarks.{OwnMarks}
-use Rattle.property_steps.specs.Fixing.{own_marks}
-use Rattle.property_steps.specs.Looks.{is_true}
+use Rattle.descriptor_pieces.specs.declared.property.OwnMarks.{OwnMarks}
+use Rattle.descriptor_pieces.specs.Fixing.{own_marks}
+use Rattle.descriptor_pieces.specs.Looks.{is_true}
 
 -- ---- Object.prototype.toString (15.2.4.2)
 

@@ -2,7 +2,7 @@
 use Rattle.std.specs.Prelude.{ℕ, ◌+◌}
 use Rattle.native_protocol.specs.Steps.{reg, first_free}
 use Rattle.object_functions.specs.declared.registers.Registers.{Registers}
-use Rattle.property_steps.specs.Properties.{registers_from}
+use Rattle.descriptor_pieces.specs.Properties.{registers_from}
 
 -- those from a number on: four for a property, four more, and all behind them
 abbrev pub registers_at : ℕ → Registers

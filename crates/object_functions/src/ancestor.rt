@@ -5,15 +5,15 @@ ghost use Rattle.object_functions.specs.AncestorMachine.{ancestor_begin, ancesto
 
 use crate::needs::{ready_or, unless_converted};
 use crate::registers::Registers;
+use descriptor_pieces::is_true;
 use flow_text::OutOfMemory;
 use js_number::Primitive;
 use native_protocol::{Answer, Progress, Reg, Request};
 use primitive_natives::Ending;
-use property_steps::is_true;
 
 /// What a call asks for: a look at the argument and one at `this`; and for one prototype after the other the prototype itself, a look at it,
 /// whether it is the same, and a look at that.
-#[derive(Clone, Copy, Debug, PartialEq, Eq)]
+#[derive(Clone, Copy, PartialEq, Eq)]
 pub enum AncestorStage {
     LookValue,
     LookThis,
@@ -24,7 +24,7 @@ pub enum AncestorStage {
 }
 
 /// A call of it. The prototypes are put where the argument was.
-#[derive(Clone, Copy, Debug)]
+#[derive(Clone, Copy)]
 pub struct AncestorCall {
     to: Reg,
     stage: AncestorStage,

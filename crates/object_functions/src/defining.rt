@@ -6,12 +6,12 @@ ghost use Rattle.object_functions.specs.DefiningMachine.{defining_at, defining_c
 
 use crate::needs::{ready_or, unless_converted, unless_object};
 use crate::registers::Registers;
+use descriptor_pieces::{DefineProperties, is_undefined};
 use flow_text::OutOfMemory;
 use js_number::Primitive;
 use js_values::Class;
 use native_protocol::{Answer, ErrorKind, Progress, Reg, Request, Seen};
 use primitive_natives::Ending;
-use property_steps::{DefineProperties, is_undefined};
 use std::alloc::Global;
 
 /// One of the two.
@@ -23,7 +23,7 @@ pub enum DefiningFunction {
 
 /// What a call asks for: a look at the object, or one at the prototype and a new object, where the second argument was passed or not; a look
 /// at the second argument, which may be undefined where an object is created; and the definitions.
-#[derive(Debug, Drop)]
+#[derive(Drop)]
 pub enum DefiningStage {
     LookObject,
     LookPrototype { passed: bool },
@@ -34,7 +34,7 @@ pub enum DefiningStage {
 }
 
 /// A call of one of the two, with the register of the object whose properties are defined.
-#[derive(Debug, Drop)]
+#[derive(Drop)]
 pub struct DefiningCall {
     object: Reg,
     registers: Registers,

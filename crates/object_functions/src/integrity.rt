@@ -5,11 +5,11 @@ ghost use Rattle.object_functions.specs.IntegrityMachine.{integrity_begin, integ
 
 use crate::needs::{ready_or, unless_object};
 use crate::registers::Registers;
+use descriptor_pieces::{Integrity, SetIntegrity, TestIntegrity};
 use flow_text::OutOfMemory;
 use js_number::Primitive;
 use native_protocol::{Answer, Progress, Reg, Request};
 use primitive_natives::Ending;
-use property_steps::{Integrity, SetIntegrity, TestIntegrity};
 use std::alloc::Global;
 
 /// One of the four: an object is fixed so far, or it is asked whether it is.
@@ -20,7 +20,7 @@ pub enum IntegrityFunction {
 }
 
 /// What a call asks for: a look at the object, and what is done with its properties.
-#[derive(Debug, Drop)]
+#[derive(Drop)]
 pub enum IntegrityStage {
     LookObject(IntegrityFunction),
     Fix(SetIntegrity),
@@ -28,7 +28,7 @@ pub enum IntegrityStage {
 }
 
 /// A call of one of the four.
-#[derive(Debug, Drop)]
+#[derive(Drop)]
 pub struct IntegrityCall {
     registers: Registers,
     stage: IntegrityStage,

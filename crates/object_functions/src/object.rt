@@ -11,7 +11,7 @@ use native_protocol::{Answer, Progress, Reg, Request, Seen};
 use primitive_natives::{Ending, Left};
 
 /// A call of it: a look at the argument, and a new object.
-#[derive(Clone, Copy, Debug)]
+#[derive(Clone, Copy)]
 pub enum ObjectCall {
     Look { to: Reg },
     New { to: Reg },

@@ -5,12 +5,12 @@ ghost use Rattle.object_functions.specs.OwnTestMachine.{own_test_begin, own_test
 
 use crate::needs::{ready_or, unless_converted};
 use crate::registers::Registers;
+use descriptor_pieces::OwnMarks;
 use flow_text::OutOfMemory;
 use js_number::Primitive;
 use js_values::Key;
 use native_protocol::{Answer, HeldText, Progress, Reg, Request, TextOf};
 use primitive_natives::Ending;
-use property_steps::OwnMarks;
 use std::alloc::Global;
 
 /// What is asked of an own property: whether it is there, or whether it is enumerable.
@@ -21,7 +21,7 @@ pub enum OwnTest {
 }
 
 /// What a call asks for: the text of the argument, a look at `this`, the own property, and a look at its marks.
-#[derive(Debug, Drop)]
+#[derive(Drop)]
 pub enum OwnTestStage {
     Name(TextOf),
     This(Key),
@@ -30,7 +30,7 @@ pub enum OwnTestStage {
 }
 
 /// A call of one of the two.
-#[derive(Debug, Drop)]
+#[derive(Drop)]
 pub struct OwnTestCall {
     test: OwnTest,
     registers: Registers,

@@ -5,11 +5,11 @@ ghost use Rattle.object_functions.specs.PropertyMachine.{property_begin, propert
 
 use crate::needs::{ready_or, unless_object};
 use crate::registers::Registers;
+use descriptor_pieces::{Description, FromDescriptor, ToDescriptor};
 use flow_text::OutOfMemory;
 use js_values::Key;
 use native_protocol::{Answer, HeldText, Progress, Reg, Request, TextOf};
 use primitive_natives::Ending;
-use property_steps::{Description, FromDescriptor, ToDescriptor};
 use std::alloc::Global;
 
 /// One of the two.
@@ -21,7 +21,7 @@ pub enum PropertyFunction {
 
 /// What a call asks for: a look at the object, and the text of the second argument. Then the own property and the object that describes it,
 /// or the parts of the description, and the definition.
-#[derive(Debug, Drop)]
+#[derive(Drop)]
 pub enum PropertyStage {
     LookObject(PropertyFunction),
     Name(PropertyFunction, TextOf),
@@ -32,7 +32,7 @@ pub enum PropertyStage {
 }
 
 /// A call of one of the two.
-#[derive(Debug, Drop)]
+#[derive(Drop)]
 pub struct PropertyCall {
     registers: Registers,
     stage: PropertyStage,

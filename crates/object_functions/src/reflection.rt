@@ -20,7 +20,7 @@ pub enum ReflectionFunction {
 }
 
 /// A call of one: a look at the argument, and what is asked of it.
-#[derive(Clone, Copy, Debug)]
+#[derive(Clone, Copy)]
 pub enum ReflectionCall {
     Look {
         function: ReflectionFunction,

@@ -3,12 +3,12 @@
 ghost use Rattle.std.specs.Prelude.{◌≡◌, IfOk};
 ghost use Rattle.object_functions.specs.Registers.{registers};
 
+use descriptor_pieces::PropertyRegisters;
 use flow_text::OutOfMemory;
 use native_protocol::Reg;
-use property_steps::PropertyRegisters;
 
 /// The registers behind the arguments of a call: four for a property, four more, and the number of the first one behind all of these.
-#[derive(Clone, Copy, Debug)]
+#[derive(Clone, Copy)]
 pub struct Registers {
     pub own: PropertyRegisters,
     pub first: Reg,

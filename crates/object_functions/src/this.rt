@@ -20,7 +20,7 @@ pub enum ThisFunction {
 }
 
 /// A call of one, which looks at `this`.
-#[derive(Clone, Copy, Debug)]
+#[derive(Clone, Copy)]
 pub struct ThisCall {
     function: ThisFunction,
     to: Reg,

@@ -1,5 +1,5 @@
 -- Acts on an object, in the labels of a store and in a reading.
-use Rattle.std.proofs.Common.{ℕ, suc, ◌<◌, length, inl, inr, true, false, List, [], ◌∷◌, if◌then◌else◌, arith, Option, Some, None, Bool, ◌≡◌, Result, Ok, Err, get_or, set, refl, sym, ap, ap₂, subst, ◌∙◌}
+use Rattle.std.proofs.Common.{ℕ, suc, ◌<◌, length, inl, inr, true, false, List, [], ◌∷◌, if◌then◌else◌, arith, Option, Some, None, Bool, ◌≡◌, Result, Ok, Err, refl, sym, ap, ap₂, subst, ◌∙◌}
 use Rattle.std.specs.List.{slice_get, All}
 use Rattle.std.specs.Option.{option_map}
 use Rattle.std.specs.Result.{IsErrAnd}
@@ -20,8 +20,7 @@ use Rattle.js_values.specs.Readings.{IsReading, read_slot, read_rows, read_objec
 use Rattle.object_heap.specs.Acts.{Acted, under, change, on_slot, with_rows, remove_own}
 use Rattle.js_values.proofs.ReadingLaws.{IsReading-earlier}
 use Rattle.object_heap.specs.Answers.{Acts, MeansValue, read_stop}
-use Rattle.object_heap.specs.Places.{StandsAt}
-use Rattle.object_heap.proofs.PlaceLaws.{place_set}
+use Rattle.object_heap.specs.Places.{StandsAt, changed_at_place}
 use Rattle.object_heap.proofs.ReadLaws.{read_own, read_changed, read_without}
 
 -- a rule that holds, and one that is broken
@@ -97,11 +96,12 @@ module _ {S T : Type 0} (made : S → T → Type 0) (meaning : S → T → Label
 
 -- ---- rows as the code reads and writes them
 
-module _ {T : Type 0} (q p : Object T) (same : q ≡ p) (key : List ℕ) (place : ℕ) (stands : StandsAt key p.rows place) (r : List ℕ × Slot T) (read : r ≡ get_or q.rows place r) where
-  pub row_written : (to : Slot T → Slot T) (x : List ℕ × Slot T) → x ≡ (r.0, to r.1) → with_rows q (set q.rows place x) ≡ with_rows p (changed key to p.rows)
-  row_written to x is =
-      ap (λ (y : Object T). with_rows y (set y.rows place x)) same
-      ∙ ap (with_rows p) (ap (set p.rows place) is ∙ place_set p.rows place r to stands.within (read ∙ ap (λ (y : Object T). get_or y.rows place r) same) ∙ stands.changes to)
+module _ {T : Type 0} (q p : Object T) (same : q ≡ p) (key : List ℕ) (place : ℕ) (stands : StandsAt key p.rows place) where
+  pub row_written : (to : Slot T → Slot T) (rows : Rows (Slot T)) → rows ≡ changed_at_place place to q.rows → with_rows q rows ≡ with_rows p (changed key to p.rows)
+  row_written to rows is =
+      ap (with_rows q) is
+      ∙ ap (λ (y : Object T). with_rows y (changed_at_place place to y.rows)) same
+      ∙ ap (with_rows p) (stands.changes to)
 
 -- the labels of a property that the key names have what the object's labels have
 pub HasObject-at : {T : Type 0} (made : T → Type 0) (p : Object T) (key : List ℕ) (s : Slot T) → own key p.rows ≡ Some s → HasObject made p → made s.label × made s.existence

@@ -27,7 +27,7 @@ use Rattle.object_heap.specs.Answers.{Acts, read_stop}
 use Rattle.object_heap.specs.Arrays.{length_key, length_body, element_of, is_past}
 use Rattle.object_heap.specs.Lengths.{StandsPast, IsBelow, append_own, ask_length, lengthen_own, add_past, length_set}
 use Rattle.object_heap.proofs.ActLaws.{under_holds, under_broken, on_own, joined_is}
-use Rattle.object_heap.proofs.ReadLaws.{read_own, read_changed}
+use Rattle.object_heap.proofs.ReadLaws.{read_own, read_changed, read_with_row}
 
 -- ---- the element that a key names
 
@@ -105,6 +105,17 @@ module _ (need : Label) (p q : Object Label) where
 
 pub past_stops : (i : ℕ) (key : List ℕ) (need : Label) (body : Body) (label : Label) (marks : Marks) (p : Object Label) (stop : FlowStop Label) → ask_length need p ≡ Err stop → add_past i key need body label marks p ≡ Err stop
 past_stops i key need body label marks p stop e = past_stops_at need p (lengthen_own i key need body label marks p) (own length_key p.rows) stop e
+
+-- ---- a property more
+
+-- the rows as the code writes them, in the reading
+pub appended_is : {T : Type 0} (reading : T → Label) (q p : Object T) → q ≡ p → (key : List ℕ) (need label joined : T) (body : Body) (marks : Marks) → reading joined ≡ union (reading label) (reading need)
+    → (rows : Rows (Slot T)) → rows ≡ q.rows ++ (key, record { body = body; label = joined; existence = q.structure; marks = marks }) ∷ [] → append_own key (reading need) body (reading label) marks (read_object reading p) ≡ read_object reading (with_rows q rows)
+appended_is reading q p same key need label joined body marks means rows is =
+    ap (λ x. append_own key (reading need) body (reading label) marks (read_object reading x)) (sym same)
+    ∙ ap (λ (l : Label). with_rows (read_object reading q) (with_row key (record { body = body; label = l; existence = reading q.structure; marks = marks }) (read_rows reading q.rows))) (sym means)
+    ∙ ap (λ (rs : Rows (Slot Label)). with_rows (read_object reading q) rs) (read_with_row reading key (record { body = body; label = joined; existence = q.structure; marks = marks }) q.rows)
+    ∙ ap (λ (rs : Rows (Slot _)). read_object reading (with_rows q rs)) (sym is)
 
 -- ---- an element at or above the `length`
 

@@ -1,19 +1,19 @@
 -- Properties that are given before a run begins.
-use Rattle.std.proofs.Common.{◌≡◌, ℕ, List, get_or, set, Option, Some, Result, Ok, Err, sym, ap, ◌∙◌}
+use Rattle.std.proofs.Common.{◌≡◌, ℕ, List, set, Option, Some, Result, Ok, Err, sym, ap, ◌∙◌}
 use Rattle.std.specs.List.{slice_get}
 use Rattle.std.specs.Result.{OnErr}
 use Rattle.js_values.specs.declared.property.Slot.{Slot}
-use Rattle.js_values.specs.Objects.{Object}
+use Rattle.js_values.specs.Objects.{Object, Rows}
 use Rattle.object_heap.specs.Acts.{with_rows, given_over, given, given_to, give}
-use Rattle.object_heap.specs.Places.{StandsAt}
+use Rattle.object_heap.specs.Places.{StandsAt, changed_at_place}
 use Rattle.object_heap.proofs.ActLaws.{placed, row_written}
 use Rattle.object_heap.proofs.HeapLaws.{set_same}
 
 -- in the place of another
-pub row_given : {T : Type 0} (q p : Object T) → q ≡ p → (key : List ℕ) (slot : Slot T) (place : ℕ) → StandsAt key p.rows place → (r : List ℕ × Slot T) → r ≡ get_or q.rows place r → (x : List ℕ × Slot T) → x ≡ (r.0, slot) → with_rows q (set q.rows place x) ≡ with_rows p (given key slot p.rows)
-row_given q p same key slot place stands r read x is =
+pub row_given : {T : Type 0} (q p : Object T) → q ≡ p → (key : List ℕ) (slot : Slot T) (place : ℕ) → StandsAt key p.rows place → (rows : Rows (Slot T)) → rows ≡ changed_at_place place (λ s. slot) q.rows → with_rows q rows ≡ with_rows p (given key slot p.rows)
+row_given q p same key slot place stands rows is =
     let there = placed p key place stands in
-    row_written q p same key place stands r read (λ s. slot) x is
+    row_written q p same key place stands (λ s. slot) rows is
     ∙ ap (λ s. with_rows p (given_over s key slot p.rows)) (sym there.2)
 
 module _ {T : Type 0} (items heap : List (Object T)) (same : items ≡ heap) (i : ℕ) (x : Object T) (here : slice_get heap i ≡ Some x) (y : Object T) where

@@ -133,3 +133,12 @@ module _ {T : Type 0} (items : List (Object T)) where
 pub HasHeap-set : {S T : Type 0} (made : S → T → Type 0) (meaning : S → T → Label) (room : S → ℕ) (firm : S → _) (old new : S) (items heap : List (Object T)) (i : ℕ) (y : Object T) → items ≡ heap → IsKept made meaning room firm old new → HasHeap (made old) heap → HasObject (made new) y → HasHeap (made new) (set items i y)
 HasHeap-set made meaning room firm old new items heap i y same kept has this =
     subst (λ (h : List (Object _)). HasHeap (made new) (set h i y)) (sym same) (All-set (HasObject (made new)) heap i y this (HasHeap-kept made meaning room firm old new kept heap has))
+
+-- no objects
+pub IsFormed-none : {T : Type 0} → IsFormed {T = T} []
+IsFormed-none = record { protos = λ i j a here leads. absurd (none-some a here); targets = λ i j a here leads. absurd (none-some a here) }
+
+-- the last of a list
+pub there_last : {X : Type 0} (xs : List X) (x : X) → slice_get (xs ++ x ∷ []) (length xs) ≡ Some x
+there_last [] x = refl
+there_last (y ∷ xs) x = there_last xs x

@@ -1,7 +1,9 @@
 mod ActLaws
+mod BelongLaws
 mod AddLaws
 mod GivenLaws
 mod HeapLaws
 mod HeapReadings
 mod PlaceLaws
 pub mod ReadLaws
+mod TableLaws

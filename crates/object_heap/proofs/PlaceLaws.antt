@@ -1,6 +1,7 @@
 -- Places of keys among properties.
-use Rattle.std.proofs.Common.{◌≡◌, ℕ, zero, suc, ◌<◌, true, false, List, [], ◌∷◌, length, get_or, set, Some, None, refl, sym, ap, ◌∙◌, arith}
-use Rattle.std.proofs.lemmas.Bool.{cond-true, cond-false}
+use Rattle.std.proofs.Common.{◌≡◌, ℕ, zero, suc, ◌<◌, ◌+◌, inl, inr, true, false, List, [], ◌∷◌, length, get_or, set, Some, None, refl, sym, ap, ◌∙◌, arith}
+use Rattle.std.proofs.lemmas.Bool.{cond-true, cond-false, cases_lt}
+use Rattle.std.proofs.lemmas.List.{get_or_default}
 use Rattle.origin_labels.specs.Names.{same_name}
 use Rattle.js_values.specs.Objects.{Rows, own, changed, without}
 use Rattle.object_heap.specs.Places.{StandsAt, changed_at_place}
@@ -38,3 +39,10 @@ module _ {S : Type 0} where
   place_set [] i r new lt read = absurd (omega arith)
   place_set (x ∷ rows) zero r new lt read = ap (λ (y : List ℕ × S). (y.0, new y.1) ∷ rows) read
   place_set (x ∷ rows) (suc i) r new lt read = ap (λ rs. x ∷ rs) (place_set rows i r new (omega arith) read)
+
+  -- one property more has another key
+  pub before_next : (key : List ℕ) (rows : Rows S) (i : ℕ) (r : List ℕ × S) → i < length rows → r ≡ get_or rows i r → same_name r.0 key ≡ false → ((k : ℕ) (d : List ℕ × S) → k < i → same_name (get_or rows k d).0 key ≡ false) → (k : ℕ) (d : List ℕ × S) → k < i + 1 → same_name (get_or rows k d).0 key ≡ false
+  before_next key rows i r lt read other before k d below = elim (cases_lt k i) as (λ _. same_name (get_or rows k d).0 key ≡ false) [
+    | inl earlier ↦ before k d earlier
+    | inr past ↦ let here : k ≡ i = omega (arith, below, past) in ap (λ j. same_name (get_or rows j d).0 key) here ∙ ap (λ (x : List ℕ × S). same_name x.0 key) (get_or_default rows i d r lt ∙ sym read) ∙ other
+  ]

@@ -4,3 +4,4 @@ pub mod Arrays
 pub mod Formed
 pub mod Lengths
 pub mod Places
+pub mod Tables

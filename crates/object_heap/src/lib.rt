@@ -4,9 +4,11 @@
 mod arrays;
 mod heap;
 mod laws;
+mod named;
 mod object;
 mod row;
 mod shape;
+mod table;
 
 pub use flow_frames::FlowFault as HeapFault;
 pub use heap::Heap;

@@ -15,8 +15,9 @@ ghost use Rattle.object_heap.specs.Lengths.{IsPast, Keeps, append_own, ask_lengt
 ghost use Rattle.object_heap.specs.Places.{IsPlace, StandsAt};
 
 use crate::arrays::{LENGTH, element_of, is_past, length_above};
-use crate::row::{Row, check};
+use crate::row::check;
 use crate::shape::Shape;
+use crate::table::Table;
 use flow_frames::{FlowFault, Rule};
 use flow_text::{OutOfMemory, Text};
 use js_values::{Body, Class, Inner, Key, Marks, ObjId, Slot};
@@ -33,7 +34,7 @@ pub(crate) struct Object<T> {
     link: T,
     structure: T,
     extensible: bool,
-    rows: Vec<Row<T>>,
+    rows: Table<T>,
 }
 
 impl<T> Model for Object<T> {
@@ -41,7 +42,7 @@ impl<T> Model for Object<T> {
 
     ghost Value = { Object T };
 
-    ghost view = { λ o. record { class = o.class; inner = o.inner; proto = o.proto; link = o.link; structure = o.structure; extensible = o.extensible; rows = o.rows.items } };
+    ghost view = { λ o. record { class = o.class; inner = o.inner; proto = o.proto; link = o.link; structure = o.structure; extensible = o.extensible; rows = o.rows } };
 }
 
 impl<T: Copy> Object<T> {
@@ -63,7 +64,7 @@ impl<T: Copy> Object<T> {
             link,
             structure,
             extensible: true,
-            rows: Vec::new(alloc),
+            rows: Table::new(alloc),
         }
     }
 
@@ -91,7 +92,7 @@ impl<T: Copy> Object<T> {
     pub(crate) fn own(&self, name: &Text) -> Option<&Slot<T>>
         ensures { option_map (λ s. s.now) result ≡ own name.now self.now.rows }
     {
-        let place = self.place(name.units())?;
+        let place = self.place(name)?;
         Some(self.slot(place))
     }
 
@@ -99,24 +100,14 @@ impl<T: Copy> Object<T> {
     pub(crate) fn own_at(&self, n: usize) -> Option<(&Key, &Slot<T>)>
         ensures { option_map (λ r. (r.0.now, r.1.now)) result ≡ slice_get self.now.rows n }
     {
-        if n < self.rows.len() {
-            let row = &self.rows[n];
-            Some((row.key(), row.slot()))
-        } else {
-            None
-        }
+        self.rows.at(n)
     }
 
     /// The place of the property with a key.
-    fn place(&self, key: &[u16]) -> Option<usize>
-        ensures { IsPlace key.now self.now.rows result }
+    fn place(&self, name: &Text) -> Option<usize>
+        ensures { IsPlace name.now self.now.rows result }
     {
-        for (i, row) in self.rows.iter().enumerate() {
-            if row.is_named(key) {
-                return Some(i);
-            }
-        }
-        None
+        self.rows.place(name)
     }
 
     /// The property at a place.
@@ -124,7 +115,7 @@ impl<T: Copy> Object<T> {
         requires { place < length self.now.rows }
         ensures { option_map (λ r. r.1) (slice_get self.now.rows place) ≡ Some result.now }
     {
-        self.rows[place].slot()
+        self.rows.slot(place)
     }
 
     /// The union of the value label and the existence label of the property at a place.
@@ -148,7 +139,7 @@ impl<T: Copy> Object<T> {
     fn place_of(&self, key: &Key) -> Option<usize>
         ensures { IsPlace key.now self.now.rows result }
     {
-        self.place(key.text().units())
+        self.place(key.text())
     }
 
     /// The place of a key that it has.
@@ -164,7 +155,7 @@ impl<T: Copy> Object<T> {
         requires { IsSome (own name.now self.now.rows) }
         ensures { StandsAt name.now self.now.rows result }
     {
-        self.place(name.units()).unwrap()
+        self.place(name).unwrap()
     }
 
     /// Gives a property another body, with the label of that (rules W1 and W2).
@@ -191,7 +182,7 @@ impl<T: Copy> Object<T> {
         let have = self.value_label(labels, place)?;
         check(labels, rule, need, have)?;
         let label = labels.join(label, need)?;
-        self.rows[place].set_body(body, label);
+        self.rows.set_body(place, body, label);
         Ok(())
     }
 
@@ -213,7 +204,7 @@ impl<T: Copy> Object<T> {
     {
         let place = self.present(key);
         check(labels, Rule::W6, need, self.slot(place).existence)?;
-        self.rows[place].set_marks(marks);
+        self.rows.set_marks(place, marks);
         Ok(())
     }
 
@@ -239,7 +230,7 @@ impl<T: Copy> Object<T> {
         let old = self.slot(place).existence;
         check(labels, Rule::W8, need, old)?;
         let raised = labels.join(old, label)?;
-        self.rows[place].set_existence(raised);
+        self.rows.set_existence(place, raised);
         Ok(())
     }
 
@@ -339,11 +330,11 @@ impl<T: Copy> Object<T> {
     {
         match self.place_of(&key) {
             Some(place) => {
-                self.rows[place].set_slot(slot);
+                self.rows.set_slot(place, slot);
                 Ok(())
             }
             None => {
-                self.rows.push(Row::new(key, slot))?;
+                self.rows.push(key, slot)?;
                 Ok(())
             }
         }
@@ -354,7 +345,7 @@ impl<T: Copy> Object<T> {
         ensures { IsPast key.now self.now result }
     {
         let i = element_of(self.class, key)?;
-        let place = self.place(&LENGTH)?;
+        let place = self.length_at()?;
         if is_past(i, &self.slot(place).body) {
             Some(i)
         } else {
@@ -434,7 +425,7 @@ impl<T: Copy> Object<T> {
             existence: self.structure,
             marks,
         };
-        self.rows.push(Row::new(key, slot))?;
+        self.rows.push(key, slot)?;
         Ok(())
     }
 
@@ -452,7 +443,7 @@ impl<T: Copy> Object<T> {
         ensures { self.new ≡ length_set i label self.old }
     {
         let place = self.length_place();
-        self.rows[place].set_body(length_above(i), label);
+        self.rows.set_body(place, length_above(i), label);
     }
 
     /// The place of the `length`.
@@ -460,6 +451,13 @@ impl<T: Copy> Object<T> {
         requires { IsSome (own length_key self.now.rows) }
         ensures { StandsAt length_key self.now.rows result }
     {
-        self.place(&LENGTH).unwrap()
+        self.length_at().unwrap()
+    }
+
+    /// The place of the `length`, if there is one. An array has it first.
+    fn length_at(&self) -> Option<usize>
+        ensures { IsPlace length_key self.now.rows result }
+    {
+        self.rows.place_of_units(&LENGTH)
     }
 }

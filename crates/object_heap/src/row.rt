@@ -5,6 +5,7 @@ ghost use Rattle.origin_labels.specs.Names.{same_name};
 ghost use Rattle.object_heap.specs.Answers.{Checks};
 
 use flow_frames::{FlowStop, Rule};
+use flow_text::Text;
 use js_values::{Body, Key, Marks, Slot};
 use origin_labels::Labels;
 use std::marker::Model;
@@ -38,6 +39,13 @@ impl<T: Copy> Row<T> {
         ensures { result.now ≡ self.now.0 }
     {
         &self.key
+    }
+
+    /// Whether it has the key of a text.
+    pub(crate) fn is_called(&self, name: &Text) -> bool
+        ensures { result ≡ same_name self.now.0 name.now }
+    {
+        self.key.text() == name
     }
 
     /// Whether the units are those of its key.

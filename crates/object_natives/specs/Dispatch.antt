@@ -38,7 +38,7 @@ use Rattle.primitive_natives.specs.declared.boolean.BooleanFunction.TheVariants 
 use Rattle.primitive_natives.specs.declared.ending.Ending.{Ending}
 use Rattle.primitive_natives.specs.declared.math.MathFunction.TheVariants as math
 use Rattle.primitive_natives.specs.declared.number.NumberFunction.TheVariants as number
-use Rattle.property_steps.specs.declared.property.Integrity.TheVariants.{Sealed, Frozen}
+use Rattle.descriptor_pieces.specs.declared.property.Integrity.TheVariants.{Sealed, Frozen}
 
 -- What each built-in of this set is.
 abbrev pub built_ins : List BuiltIn

@@ -18,7 +18,7 @@ use primitive_natives::{BooleanCall, Ending, MathCall, NumberCall};
 use std::alloc::Global;
 
 /// What a call is at: one of the machines, a name that isn't offered, or an ending.
-#[derive(Debug, Drop)]
+#[derive(Drop)]
 pub enum Call {
     Ancestor(AncestorCall),
     Boolean(BooleanCall),
@@ -36,7 +36,7 @@ pub enum Call {
 }
 
 /// A call that has begun, or goes on.
-#[derive(Debug, Drop)]
+#[derive(Drop)]
 pub enum ObjectState {
     Begun(Call),
     Running(Call),

@@ -7,6 +7,7 @@ ghost use Rattle.object_natives.specs.Standing.{StandsAt};
 ghost use Rattle.object_natives.specs.Table.{entries};
 
 use crate::table::BuiltIn::LeftOut;
+use descriptor_pieces::Integrity;
 use native_protocol::Form;
 use native_protocol::Form::{Constructor, Function, LeftAccessor, LeftFunction};
 use object_functions::{
@@ -14,7 +15,6 @@ use object_functions::{
     ThisFunction,
 };
 use primitive_natives::{BooleanFunction, MathFunction, NumberFunction};
-use property_steps::Integrity;
 
 /// What is called.
 #[derive(Clone, Copy, Debug)]

@@ -21,7 +21,7 @@ pub enum BooleanFunction {
 }
 
 /// A call of one, which looks at a register.
-#[derive(Clone, Copy, Debug)]
+#[derive(Clone, Copy)]
 pub struct BooleanCall {
     function: BooleanFunction,
     to: Reg,

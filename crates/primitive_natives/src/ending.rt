@@ -20,7 +20,7 @@ pub enum Left {
 }
 
 /// How a built-in ends: it makes a value and gives it, it gives what a register holds, it throws a new error, or the run is left.
-#[derive(Debug, Drop)]
+#[derive(Drop)]
 pub enum Ending {
     Give { value: Primitive, to: Reg },
     Return { from: Reg },

@@ -28,7 +28,7 @@ pub enum Extreme {
 }
 
 /// A comparison of the arguments: the best number of those before the one in a register, and how many stand behind it.
-#[derive(Clone, Copy, Debug)]
+#[derive(Clone, Copy)]
 pub struct Comparing {
     extreme: Extreme,
     best: Option<Int>,
@@ -38,7 +38,7 @@ pub struct Comparing {
 }
 
 /// A call of one, in which an argument is converted.
-#[derive(Clone, Copy, Debug)]
+#[derive(Clone, Copy)]
 pub enum MathCall {
     Abs {
         number: NumberOf,

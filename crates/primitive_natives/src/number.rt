@@ -22,7 +22,7 @@ pub enum NumberFunction {
 
 /// A call of one: the argument is converted; `this` is looked at for its value, or for its text, with a radix that was passed or not;
 /// the radix is looked at, and converted.
-#[derive(Clone, Copy, Debug)]
+#[derive(Clone, Copy)]
 pub enum NumberCall {
     Convert {
         number: NumberOf,

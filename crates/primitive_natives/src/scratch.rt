@@ -7,7 +7,7 @@ use flow_text::OutOfMemory;
 use native_protocol::Reg;
 
 /// Four registers behind the arguments of a call.
-#[derive(Clone, Copy, Debug, PartialEq, Eq)]
+#[derive(Clone, Copy, PartialEq, Eq)]
 pub struct Scratch {
     pub first: Reg,
     pub second: Reg,

@@ -38,18 +38,18 @@ use Rattle.flow_meaning.specs.Scopes.{Halt, Jump, Val, L, State}
 use Rattle.flow_meaning.specs.Tracked.{act, bind_object, bind_to, bind_value, throw_error}
 use Rattle.flow_policy.specs.Policies.{Tables}
 use Rattle.flow_policy.specs.Inputs.{Given}
-use Rattle.step_world.specs.declared.came.Came.{Came}
-use Rattle.step_world.specs.declared.came.Came.TheVariants as came
-use Rattle.step_world.specs.declared.world.World.{World}
-use Rattle.step_world.specs.Acts.{Acts}
-use Rattle.step_world.specs.Worlds.{state_of}
-use Rattle.step_world.proofs.ActLaws.{Acts-as}
-use Rattle.step_names.proofs.ObjectLaws.{with_heap}
+use Rattle.run_state.specs.declared.outcome.Outcome as machine
+use Rattle.run_state.specs.declared.outcome.Outcome.TheVariants as outcome
+use Rattle.run_state.specs.declared.world.World.{World}
+use Rattle.run_state.specs.Acts.{Acts}
+use Rattle.run_state.specs.Worlds.{state_of}
+use Rattle.run_state.proofs.ActLaws.{Acts-as}
+use Rattle.property_access.proofs.ObjectLaws.{with_heap}
 use Rattle.property_requests.specs.Binding.{function_with}
 use Rattle.property_requests.specs.Building.{Adds, AddsAlone, IsLast}
 use Rattle.property_requests.proofs.BuildingLaws.{Built, built_more, built_alone, made_with}
 use Rattle.property_requests.proofs.ErasedLaws.{object_erased, erased_at}
-use Rattle.step_names.proofs.HeldLaws.{structure_has}
+use Rattle.property_access.proofs.HeldLaws.{structure_has}
 use Rattle.property_requests.proofs.HeldLaws.{shape_there}
 
 -- ---- a function that is made with its rows
@@ -147,7 +147,7 @@ module _ {S T : Type 0} (made : S → T → Type 0) (meaning : S → T → Label
       → Means made meaning store here (λ reading. context (map (seen_frame reading) w.frames.frames)) → Means made meaning store none (λ reading. bottom)
       → Means made meaning store depends (λ reading. union (reading label) (length_label (option_map (read_object reading) (slice_get w.heap o.0))))
       → IsLast made meaning store w.heap heap (λ reading. function_with (read_inner reading (Bound o label this args)) (reading depends) n (reading here))
-      → Acts made meaning store (λ reading. read_value reading) (λ reading. bind_object o (record { value = value.Object o; label = reading label }) (read_value reading this) (map (read_value reading) args)) w (with_heap heap w) (Ok (came.Goes (record { value = value.Object f; label = none })))
+      → Acts made meaning store (λ reading. read_value reading) (λ reading. bind_object o (record { value = value.Object o; label = reading label }) (read_value reading this) (map (read_value reading) args)) w (with_heap heap w) (Ok (outcome.Goes (record { value = value.Object f; label = none })))
   unfolding bind_object
   bound_made heap o f label depends here none this args n number counted context_is empty depending last = record {
     says = λ reading agrees told turns.
@@ -169,7 +169,7 @@ module _ {S T : Type 0} (made : S → T → Type 0) (meaning : S → T → Label
           ap₂ (λ p k. bound_count p k) (ap erased_in (slice_get-map (read_object reading) w.heap o.0) ∙ erased_same reading (slice_get w.heap o.0)) (length-map args (read_value reading))
           ∙ sym counted
 
-  module _ (tables : Tables) (inputs : Given) (target this : Labelled T) (args : List (Labelled T)) (after : World T) (result : Result (Came (Labelled T) T) (FlowFault T)) where
+  module _ (tables : Tables) (inputs : Given) (target this : Labelled T) (args : List (Labelled T)) (after : World T) (result : Result (machine.Outcome (Labelled T) T) (FlowFault T)) where
     abbrev binding : (T → Label) → L Val
     binding reading = act tables inputs bind (read_value reading target ∷ read_value reading this ∷ map (read_value reading) args)
 

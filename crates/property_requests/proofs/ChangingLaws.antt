@@ -30,13 +30,13 @@ use Rattle.flow_meaning.specs.Erased.{erased_slot}
 use Rattle.flow_meaning.specs.Requested.{body_label}
 use Rattle.flow_meaning.specs.Scopes.{Val, Halt, Jump, State, L}
 use Rattle.flow_meaning.specs.Tracked.{acted, set_body_if, set_marks}
-use Rattle.step_world.specs.declared.came.Came.{Came}
-use Rattle.step_world.specs.declared.came.Came.TheVariants as came
-use Rattle.step_world.specs.declared.world.World.{World}
-use Rattle.step_world.specs.Acts.{Acts, HasAnswer}
-use Rattle.step_world.specs.Worlds.{state_of}
-use Rattle.step_world.proofs.ActLaws.{Acts-as, Acts-passes, Acts-then}
-use Rattle.step_names.proofs.MeansLaws.{means_later}
+use Rattle.run_state.specs.declared.outcome.Outcome as machine
+use Rattle.run_state.specs.declared.outcome.Outcome.TheVariants as outcome
+use Rattle.run_state.specs.declared.world.World.{World}
+use Rattle.run_state.specs.Acts.{Acts, HasAnswer}
+use Rattle.run_state.specs.Worlds.{state_of}
+use Rattle.run_state.proofs.ActLaws.{Acts-as, Acts-passes, Acts-then}
+use Rattle.property_access.proofs.MeansLaws.{means_later}
 use Rattle.property_requests.specs.declared.definition.Definition.{Definition}
 use Rattle.property_requests.specs.declared.defining.Change.{Change}
 use Rattle.property_requests.specs.declared.defining.NewBody.{NewBody}
@@ -52,7 +52,7 @@ went_refused f (Err e) is = is
 
 -- ---- the two acts
 
-module _ {S T : Type 0} (made : S → T → Type 0) (meaning : S → T → Label) (store : S) (w after : World T) (o : ℕ) (key : List ℕ) (place need : T) (result : Result (Came (Unit {0}) T) (FlowFault T)) where
+module _ {S T : Type 0} (made : S → T → Type 0) (meaning : S → T → Label) (store : S) (w after : World T) (o : ℕ) (key : List ℕ) (place need : T) (result : Result (machine.Outcome (Unit {0}) T) (FlowFault T)) where
   abbrev Does : ((T → Label) → L (Unit {0})) → Type 0
   Does act = Acts made meaning store (λ reading (u : Unit {0}). u) act w after result
 
@@ -77,7 +77,7 @@ module _ {S T : Type 0} (made : S → T → Type 0) (meaning : S → T → Label
       ∙ ap (λ n. acted tt (heap_acts.set_body o key n body (reading label) s.heap) s) (sym (needs.is reading agrees)))
       acts
 
-pub body_stays : {S T : Type 0} (made : S → T → Type 0) (meaning : S → T → Label) (store : S) (w : World T) (o : ℕ) (key : List ℕ) (place : T) (given : Option (NewBody T)) → given ≡ None → Acts made meaning store (λ reading (u : Unit {0}). u) (λ reading. body_set reading (reading place) given o key) w w (Ok (came.Goes tt))
+pub body_stays : {S T : Type 0} (made : S → T → Type 0) (meaning : S → T → Label) (store : S) (w : World T) (o : ℕ) (key : List ℕ) (place : T) (given : Option (NewBody T)) → given ≡ None → Acts made meaning store (λ reading (u : Unit {0}). u) (λ reading. body_set reading (reading place) given o key) w w (Ok (outcome.Goes tt))
 unfolding body_set
 body_stays made meaning store w o key place given is = record { says = λ reading agrees told turns. ap (λ x. body_set reading (reading place) x o key (state_of reading w told turns)) is }
 
@@ -90,7 +90,7 @@ module _ {S T : Type 0} (made : S → T → Type 0) (meaning : S → T → Label
   abbrev marking : ℕ → List ℕ → T → T → Change T → (T → Label) → L (Unit {0})
   marking o key place given change reading = set_marks (union (reading place) (reading given)) change.marks o key
 
-  abbrev Changes : S → World T → World T → ℕ → List ℕ → T → T → Change T → Result (Came (Labelled T) T) (FlowFault T) → Type 0
+  abbrev Changes : S → World T → World T → ℕ → List ℕ → T → T → Change T → Result (machine.Outcome (Labelled T) T) (FlowFault T) → Type 0
   Changes store w after o key place given change result = Acts made meaning store (λ reading. read_value reading) (λ reading. changed_by reading change (reading place) (reading given) o key) w after result
 
   -- what is done behind the attributes
@@ -98,34 +98,34 @@ module _ {S T : Type 0} (made : S → T → Type 0) (meaning : S → T → Label
   behind o key place change reading = body_set reading (reading place) change.body o key >>= λ w. ret (nothing (reading place))
 
   pub marks_fail : (store : S) (w after : World T) (o : ℕ) (key : List ℕ) (place given : T) (change : Change T) (r : Result (Unit {0}) (FlowFault T)) (f : FlowFault T) → r ≡ Err f → Gives store w after (marking o key place given change) r
-      → (result : Result (Came (Labelled T) T) (FlowFault T)) → IsErrAnd result (λ e. e ≡ f) → Changes store w after o key place given change result
+      → (result : Result (machine.Outcome (Labelled T) T) (FlowFault T)) → IsErrAnd result (λ e. e ≡ f) → Changes store w after o key place given change result
   marks_fail store w after o key place given change r f err acts result is =
       Acts-passes made meaning store (λ reading (u : Unit {0}). u) (λ reading. read_value reading) (marking o key place given change) (λ reading u. behind o key place change reading) w after f result is
       (subst (Gives store w after (marking o key place given change)) err acts)
 
   module _ (room : S → ℕ) (firm : S → Bool) (old new : S) (kept : IsKept made meaning room firm old new) (w middle after : World T) (o : ℕ) (key : List ℕ) (place given : T) (change : Change T) (r : Result (Unit {0}) (FlowFault T)) (ok : r ≡ Ok tt) (acts : Gives old w middle (marking o key place given change) r) where
-    then_behind : (result : Result (Came (Labelled T) T) (FlowFault T)) → Acts made meaning new (λ reading. read_value reading) (behind o key place change) middle after result → Changes new w after o key place given change result
+    then_behind : (result : Result (machine.Outcome (Labelled T) T) (FlowFault T)) → Acts made meaning new (λ reading. read_value reading) (behind o key place change) middle after result → Changes new w after o key place given change result
     then_behind result second =
         Acts-then made meaning room firm old new kept (λ reading (u : Unit {0}). u) (λ reading. read_value reading) (marking o key place given change) (λ reading u. behind o key place change reading) w middle after tt result
         (subst (Gives old w middle (marking o key place given change)) ok acts) second
 
     pub body_fails : (s : Result (Unit {0}) (FlowFault T)) (f : FlowFault T) → s ≡ Err f → Gives new middle after (λ reading. body_set reading (reading place) change.body o key) s
-        → (result : Result (Came (Labelled T) T) (FlowFault T)) → IsErrAnd result (λ e. e ≡ f) → Changes new w after o key place given change result
+        → (result : Result (machine.Outcome (Labelled T) T) (FlowFault T)) → IsErrAnd result (λ e. e ≡ f) → Changes new w after o key place given change result
     body_fails s f err second result is =
         then_behind result
         (Acts-passes made meaning new (λ reading (u : Unit {0}). u) (λ reading. read_value reading) (λ reading. body_set reading (reading place) change.body o key) (λ reading w. ret (nothing (reading place))) middle after f result is
         (subst (Gives new middle after (λ reading. body_set reading (reading place) change.body o key)) err second))
 
-    pub both_set : (s : Result (Unit {0}) (FlowFault T)) → s ≡ Ok tt → Gives new middle after (λ reading. body_set reading (reading place) change.body o key) s → (v : Labelled T) → v ≡ nothing place → Changes new w after o key place given change (Ok (came.Goes v))
+    pub both_set : (s : Result (Unit {0}) (FlowFault T)) → s ≡ Ok tt → Gives new middle after (λ reading. body_set reading (reading place) change.body o key) s → (v : Labelled T) → v ≡ nothing place → Changes new w after o key place given change (Ok (outcome.Goes v))
     both_set s done second v is =
-        then_behind (Ok (came.Goes v)) (record {
+        then_behind (Ok (outcome.Goes v)) (record {
           says = λ reading agrees told turns.
               ap (λ (m : Outcome Halt Jump (Unit {0}) State). and_then m (λ w. ret (nothing (reading place)))) ((subst (Gives new middle after (λ reading. body_set reading (reading place) change.body o key)) done second).says reading agrees told turns)
               ∙ ap (λ (x : Labelled T). Goes (read_value reading x) (state_of reading after told turns)) (sym is);
         })
 
 -- a fault that is handed on has labels of the store
-pub faults_has : {X T : Type 0} (made : T → Type 0) (has : X → Type 0) (r : Result (Unit {0}) (FlowFault T)) (f : FlowFault T) → r ≡ Err f → HasAnswer (λ u. Unit {0}) made (went r) → (result : Result (Came X T) (FlowFault T)) → IsErrAnd result (λ e. e ≡ f) → HasAnswer has made result
+pub faults_has : {X T : Type 0} (made : T → Type 0) (has : X → Type 0) (r : Result (Unit {0}) (FlowFault T)) (f : FlowFault T) → r ≡ Err f → HasAnswer (λ u. Unit {0}) made (went r) → (result : Result (machine.Outcome X T) (FlowFault T)) → IsErrAnd result (λ e. e ≡ f) → HasAnswer has made result
 faults_has made has r f err answer (Ok x) is = absurd is
 faults_has {T = T} made has r f err answer (Err e) is = by e (subst (λ (x : Result (Unit {0}) (FlowFault T)). HasAnswer (λ u. Unit {0}) made (went x)) (err ∙ ap (λ (x : FlowFault T). Err x) (sym is)) answer)
   where

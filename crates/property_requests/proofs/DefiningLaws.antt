@@ -30,13 +30,13 @@ use Rattle.flow_meaning.specs.Erased.{erased_heap, erased_slot}
 use Rattle.flow_meaning.specs.Requested.{own_test, own_walk, property_in, value_label, body_label}
 use Rattle.flow_meaning.specs.Scopes.{Val, Halt, Jump, State, L}
 use Rattle.flow_meaning.specs.Tracked.{acted, define_given, define_in, define_over, ends, redefine, set_body_if, set_marks, throw_error}
-use Rattle.step_world.specs.declared.came.Came.{Came}
-use Rattle.step_world.specs.declared.came.Came.TheVariants as came
-use Rattle.step_world.specs.declared.came.Leaving.TheVariants as leaving
-use Rattle.step_world.specs.declared.world.World.{World}
-use Rattle.step_world.specs.Acts.{Acts}
-use Rattle.step_world.specs.Worlds.{state_of}
-use Rattle.step_world.proofs.ActLaws.{Acts-as}
+use Rattle.run_state.specs.declared.outcome.Outcome as machine
+use Rattle.run_state.specs.declared.outcome.Outcome.TheVariants as outcome
+use Rattle.run_state.specs.declared.outcome.Leaving.TheVariants as leaving
+use Rattle.run_state.specs.declared.world.World.{World}
+use Rattle.run_state.specs.Acts.{Acts}
+use Rattle.run_state.specs.Worlds.{state_of}
+use Rattle.run_state.proofs.ActLaws.{Acts-as}
 use Rattle.property_requests.specs.declared.definition.Definition.{Definition}
 use Rattle.property_requests.specs.declared.definition.GivenBody.{GivenBody}
 use Rattle.property_requests.specs.declared.defining.Change.{Change}
@@ -62,10 +62,10 @@ module _ {S T : Type 0} (made : S → T → Type 0) (meaning : S → T → Label
   given_of reading q s = define_given q.extensible (own key q.rows) d.marks (given_body (erased_heap s.heap) d.marks (shape_of d) (given_in reading d.value).value (given_in reading d.get).value (given_in reading d.set).value) (union (reading label) (own_test (own key q.rows) q.structure))
       (union (given_in reading d.value).label (union (given_in reading d.get).label (given_in reading d.set).label)) o.0 key
 
-  abbrev Defines : World T → Result (Came (Labelled T) T) (FlowFault T) → Type 0
+  abbrev Defines : World T → Result (machine.Outcome (Labelled T) T) (FlowFault T) → Type 0
   Defines after result = Acts made meaning store (λ reading. read_value reading) (λ reading s. defining reading (slice_get s.heap o.0) s) w after result
 
-  pub defines_nowhere : (after : World T) (result : Result (Came (Labelled T) T) (FlowFault T)) → length w.heap ≤ o.0 → Acts made meaning store (λ reading. read_value reading) (λ reading. throw_error {X = Val} kinds.TypeError (reading label)) w after result → Defines after result
+  pub defines_nowhere : (after : World T) (result : Result (machine.Outcome (Labelled T) T) (FlowFault T)) → length w.heap ≤ o.0 → Acts made meaning store (λ reading. read_value reading) (λ reading. throw_error {X = Val} kinds.TypeError (reading label)) w after result → Defines after result
   unfolding define_in
   defines_nowhere after result past acts =
       Acts-as made meaning store (λ reading. read_value reading) (λ reading. throw_error {X = Val} kinds.TypeError (reading label)) (λ reading s. defining reading (slice_get s.heap o.0) s) w after result
@@ -73,7 +73,7 @@ module _ {S T : Type 0} (made : S → T → Type 0) (meaning : S → T → Label
       acts
 
   module _ (shape : Shape T) (has : IsShape (slice_get w.heap o.0) shape) where
-    pub defines_array : is_array shape.class ≡ true → Defines w (Ok (came.Leaves leaving.Unbuilt))
+    pub defines_array : is_array shape.class ≡ true → Defines w (Ok (outcome.Leaves leaving.Unbuilt))
     unfolding define_in
     defines_array test =
         let there = shape_there w.heap o.0 shape has in
@@ -84,7 +84,7 @@ module _ {S T : Type 0} (made : S → T → Type 0) (meaning : S → T → Label
               ∙ ap (λ (b : Bool). choose b (ends (left not_built)) (given_of reading (read_object reading there.object) s) s) (sym (ap (λ (q : Shape T). is_array q.class) there.is) ∙ test);
         }
 
-    module _ (place given : T) (body : Option GivenBody) (after : World T) (result : Result (Came (Labelled T) T) (FlowFault T)) where
+    module _ (place given : T) (body : Option GivenBody) (after : World T) (result : Result (machine.Outcome (Labelled T) T) (FlowFault T)) where
       pub defines_there : is_array shape.class ≡ false → Means made meaning store place (λ reading. union (reading label) (own_walk key (option_map (read_object reading) (slice_get w.heap o.0))))
           → Means made meaning store given (λ reading. union (given_in reading d.value).label (union (given_in reading d.get).label (given_in reading d.set).label))
           → option_map body_of body ≡ given_body (erased_heap w.heap) d.marks (shape_of d) (value_of d.value) (value_of d.get) (value_of d.set)
@@ -119,7 +119,7 @@ module _ {S T : Type 0} (made : S → T → Type 0) (meaning : S → T → Label
 
 -- ---- what is given
 
-module _ {S T : Type 0} (made : S → T → Type 0) (meaning : S → T → Label) (store : S) (w after : World T) (result : Result (Came (Labelled T) T) (FlowFault T)) (o : ℕ) (key : List ℕ) (place given : T) where
+module _ {S T : Type 0} (made : S → T → Type 0) (meaning : S → T → Label) (store : S) (w after : World T) (result : Result (machine.Outcome (Labelled T) T) (FlowFault T)) (o : ℕ) (key : List ℕ) (place given : T) where
   abbrev Does : ((T → Label) → L Val) → Type 0
   Does act = Acts made meaning store (λ reading. read_value reading) act w after result
 

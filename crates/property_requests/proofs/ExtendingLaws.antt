@@ -20,12 +20,12 @@ use Rattle.prototype_walk.specs.Answers.{Means}
 use Rattle.es_meaning.specs.Outcomes.{Goes}
 use Rattle.es_meaning.specs.Requested.{reference_or_null}
 use Rattle.flow_meaning.specs.Tracked.{acted, extensible_in, prevent, prototype_in, truth_of}
-use Rattle.step_world.specs.declared.came.Came.{Came}
-use Rattle.step_world.specs.declared.came.Came.TheVariants as came
-use Rattle.step_world.specs.declared.world.World.{World}
-use Rattle.step_world.specs.Acts.{Acts}
-use Rattle.step_world.specs.Worlds.{state_of}
-use Rattle.step_world.proofs.ActLaws.{Acts-as}
+use Rattle.run_state.specs.declared.outcome.Outcome.{Outcome}
+use Rattle.run_state.specs.declared.outcome.Outcome.TheVariants as outcome
+use Rattle.run_state.specs.declared.world.World.{World}
+use Rattle.run_state.specs.Acts.{Acts}
+use Rattle.run_state.specs.Worlds.{state_of}
+use Rattle.run_state.proofs.ActLaws.{Acts-as}
 use Rattle.property_requests.specs.Finding.{Finds, nothing}
 use Rattle.property_requests.proofs.HeldLaws.{shape_there}
 
@@ -65,7 +65,7 @@ module _ {S T : Type 0} (made : S → T → Type 0) (meaning : S → T → Label
         }
 
 module _ {S T : Type 0} (made : S → T → Type 0) (meaning : S → T → Label) (store : S) (w : World T) (o : ℕ) (label : T) (v : Labelled T) (is : v ≡ nothing label) where
-  pub prevents_nowhere : length w.heap ≤ o → Acts made meaning store (λ reading. read_value reading) (λ reading. prevent (reading label) o) w w (Ok (came.Goes v))
+  pub prevents_nowhere : length w.heap ≤ o → Acts made meaning store (λ reading. read_value reading) (λ reading. prevent (reading label) o) w w (Ok (outcome.Goes v))
   unfolding prevent acted
   prevents_nowhere past = record {
     says = λ reading agrees told turns.
@@ -74,7 +74,7 @@ module _ {S T : Type 0} (made : S → T → Type 0) (meaning : S → T → Label
         ∙ ap (λ (x : Labelled T). Goes (read_value reading x) s) (sym is);
   }
 
-  pub prevents : (need : T) (after : World T) (result : Result (Came (Labelled T) T) (FlowFault T)) → Means made meaning store need (λ reading. union (context (map (seen_frame reading) w.frames.frames)) (reading label))
+  pub prevents : (need : T) (after : World T) (result : Result (Outcome (Labelled T) T) (FlowFault T)) → Means made meaning store need (λ reading. union (context (map (seen_frame reading) w.frames.frames)) (reading label))
       → Acts made meaning store (λ reading. read_value reading) (λ reading s. acted (read_value reading v) (heap_acts.prevent_extensions o (reading need) s.heap) s) w after result
       → Acts made meaning store (λ reading. read_value reading) (λ reading. prevent (reading label) o) w after result
   unfolding prevent

@@ -18,18 +18,18 @@ use Rattle.es_meaning.specs.Outcomes.{left, Goes}
 use Rattle.flow_meaning.specs.Requested.{own_walk}
 use Rattle.flow_meaning.specs.Scopes.{Val, L}
 use Rattle.flow_meaning.specs.Tracked.{ends, on_object, on_object_in, throw_error}
-use Rattle.step_world.specs.declared.came.Came.{Came}
-use Rattle.step_world.specs.declared.came.Came.TheVariants as came
-use Rattle.step_world.specs.declared.came.Leaving.TheVariants as leaving
-use Rattle.step_world.specs.declared.world.World.{World}
-use Rattle.step_world.specs.Acts.{Acts}
-use Rattle.step_world.specs.Worlds.{state_of}
-use Rattle.step_world.proofs.ActLaws.{Acts-as}
+use Rattle.run_state.specs.declared.outcome.Outcome.{Outcome}
+use Rattle.run_state.specs.declared.outcome.Outcome.TheVariants as outcome
+use Rattle.run_state.specs.declared.outcome.Leaving.TheVariants as leaving
+use Rattle.run_state.specs.declared.world.World.{World}
+use Rattle.run_state.specs.Acts.{Acts}
+use Rattle.run_state.specs.Worlds.{state_of}
+use Rattle.run_state.proofs.ActLaws.{Acts-as}
 use Rattle.property_requests.specs.Finding.{Finds, IsTest}
 use Rattle.property_requests.proofs.HeldLaws.{read_test}
 
 module _ {S T : Type 0} (made : S → T → Type 0) (meaning : S → T → Label) (store : S) (w : World T) (base : Labelled T) {X : Type 0} (read : (T → Label) → X → Val) where
-  module _ (next : (T → Label) → ℕ → L Val) (after : World T) (result : Result (Came X T) (FlowFault T)) where
+  module _ (next : (T → Label) → ℕ → L Val) (after : World T) (result : Result (Outcome X T) (FlowFault T)) where
     pub base_throws : (p : Primitive) → base.value ≡ value.Primitive p → Acts made meaning store read (λ reading. throw_error {X = Val} kinds.TypeError (reading base.label)) w after result
         → Acts made meaning store read (λ reading. on_object (read_value reading base) (next reading)) w after result
     unfolding on_object_in
@@ -50,7 +50,7 @@ module _ {S T : Type 0} (made : S → T → Type 0) (meaning : S → T → Label
   pub base_finds : (o : ObjId) → base.value ≡ value.Object o → (x : X) (v : Labelled T) (of : (T → Label) → Option (Object Label) → L Val)
       → ((reading : T → Label) → read reading x ≡ read_value reading v)
       → Finds made meaning store (λ reading. of reading (option_map (read_object reading) (slice_get w.heap o.0))) v
-      → Acts made meaning store read (λ reading. on_object (read_value reading base) (λ i s. of reading (slice_get s.heap i) s)) w w (Ok (came.Goes x))
+      → Acts made meaning store read (λ reading. on_object (read_value reading base) (λ i s. of reading (slice_get s.heap i) s)) w w (Ok (outcome.Goes x))
   unfolding on_object_in
   base_finds o is x v of same finds = record {
     says = λ reading agrees told turns.
@@ -62,7 +62,7 @@ module _ {S T : Type 0} (made : S → T → Type 0) (meaning : S → T → Label
   }
 
   -- what isn't built
-  pub base_leaves : (o : ObjId) → base.value ≡ value.Object o → Acts made meaning store read (λ reading. on_object (read_value reading base) (λ i. ends (left not_built))) w w (Ok (came.Leaves leaving.Unbuilt))
+  pub base_leaves : (o : ObjId) → base.value ≡ value.Object o → Acts made meaning store read (λ reading. on_object (read_value reading base) (λ i. ends (left not_built))) w w (Ok (outcome.Leaves leaving.Unbuilt))
   unfolding on_object_in
   base_leaves o is = record { says = λ reading agrees told turns. ap (λ b. on_object_in (reading base.label) b (λ i. ends (left not_built)) (state_of reading w told turns)) is }
 

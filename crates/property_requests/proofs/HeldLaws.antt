@@ -12,7 +12,7 @@ use Rattle.object_heap.specs.Formed.{own_in, IsShape}
 use Rattle.object_heap.proofs.ReadLaws.{read_own}
 use Rattle.flow_meaning.specs.Requested.{own_test, own_walk, value_label}
 use Rattle.prototype_walk.specs.Answers.{Means}
-use Rattle.step_names.proofs.HeldLaws.{own_has}
+use Rattle.property_access.proofs.HeldLaws.{own_has}
 use Rattle.property_requests.specs.Finding.{tested, IsTest}
 
 -- an element stands at each number below the length

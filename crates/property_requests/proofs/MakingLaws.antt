@@ -30,22 +30,22 @@ use Rattle.es_meaning.specs.Requested.{class_prototype, is_array, prototype_give
 use Rattle.es_meaning.specs.Start.{id}
 use Rattle.flow_meaning.specs.Scopes.{Val, L}
 use Rattle.flow_meaning.specs.Tracked.{act, ends, make_new, made_new}
-use Rattle.step_world.specs.declared.came.Came.{Came}
-use Rattle.step_world.specs.declared.came.Came.TheVariants as came
-use Rattle.step_world.specs.declared.came.Leaving.TheVariants as leaving
-use Rattle.step_world.specs.declared.world.World.{World}
-use Rattle.step_world.specs.Acts.{Acts}
-use Rattle.step_world.specs.Worlds.{state_of, Belongs}
-use Rattle.step_world.proofs.ActLaws.{Acts-as, Belongs-later}
-use Rattle.step_names.proofs.ObjectLaws.{with_heap}
+use Rattle.run_state.specs.declared.outcome.Outcome.{Outcome}
+use Rattle.run_state.specs.declared.outcome.Outcome.TheVariants as outcome
+use Rattle.run_state.specs.declared.outcome.Leaving.TheVariants as leaving
+use Rattle.run_state.specs.declared.world.World.{World}
+use Rattle.run_state.specs.Acts.{Acts}
+use Rattle.run_state.specs.Worlds.{state_of, Belongs}
+use Rattle.run_state.proofs.ActLaws.{Acts-as, Belongs-later}
+use Rattle.property_access.proofs.ObjectLaws.{with_heap}
 use Rattle.property_requests.specs.Making.{arguments_of}
 
 module _ {S T : Type 0} (made : S → T → Type 0) (meaning : S → T → Label) (store : S) (w : World T) (class : Class) (proto : Option ObjId) where
-  pub arrays_leave : (label : Label) → is_array class ≡ true → Acts made meaning store (λ reading. read_value reading) (λ reading. make_new class proto label) w w (Ok (came.Leaves leaving.Unbuilt))
+  pub arrays_leave : (label : Label) → is_array class ≡ true → Acts made meaning store (λ reading. read_value reading) (λ reading. make_new class proto label) w w (Ok (outcome.Leaves leaving.Unbuilt))
   unfolding make_new
   arrays_leave label test = record { says = λ reading agrees told turns. ap (λ (b : Bool). choose b (ends (left not_built)) (made_new class proto label) (state_of reading w told turns)) test }
 
-  pub makes_new : (label : (T → Label) → Label) (after : World T) (result : Result (Came (Labelled T) T) (FlowFault T)) → is_array class ≡ false
+  pub makes_new : (label : (T → Label) → Label) (after : World T) (result : Result (Outcome (Labelled T) T) (FlowFault T)) → is_array class ≡ false
       → Acts made meaning store (λ reading. read_value reading) (λ reading. made_new class proto (label reading)) w after result
       → Acts made meaning store (λ reading. read_value reading) (λ reading. make_new class proto (label reading)) w after result
   unfolding make_new
@@ -57,7 +57,7 @@ module _ {S T : Type 0} (made : S → T → Type 0) (meaning : S → T → Label
   -- the object, whose structure label is the context
   pub object_made : (heap : List (Object T)) (label here link none : T) (o : ObjId) → o.0 ≡ length w.heap → heap ≡ new_object class proto link here Plain w.heap
       → Means made meaning store here (λ reading. context (map (seen_frame reading) w.frames.frames)) → Means made meaning store link (λ reading. union (context (map (seen_frame reading) w.frames.frames)) (reading label)) → Means made meaning store none (λ reading. bottom)
-      → Acts made meaning store (λ reading. read_value reading) (λ reading. made_new class proto (reading label)) w (with_heap heap w) (Ok (came.Goes (record { value = value.Object o; label = none })))
+      → Acts made meaning store (λ reading. read_value reading) (λ reading. made_new class proto (reading label)) w (with_heap heap w) (Ok (outcome.Goes (record { value = value.Object o; label = none })))
   unfolding made_new
   object_made heap label here link none o number more context_is link_is empty = record {
     says = λ reading agrees told turns.
@@ -75,16 +75,16 @@ module _ {S T : Type 0} (made : S → T → Type 0) (meaning : S → T → Label
   asked tables inputs class proto reading = act tables inputs (operations.new_object class (is_some proto)) (arguments_of reading proto)
 
   module _ (store : S) (tables : Tables) (inputs : Given) (w : World T) (class : Class) (proto : Option (Labelled T)) where
-    pub new_leaves : is_array class ≡ true → Acts made meaning store (λ reading. read_value reading) (asked tables inputs class proto) w w (Ok (came.Leaves leaving.Unbuilt))
+    pub new_leaves : is_array class ≡ true → Acts made meaning store (λ reading. read_value reading) (asked tables inputs class proto) w w (Ok (outcome.Leaves leaving.Unbuilt))
     unfolding act make_new
     new_leaves test = by proto
       where
-        by : (p : Option (Labelled T)) → Acts made meaning store (λ reading. read_value reading) (asked tables inputs class p) w w (Ok (came.Leaves leaving.Unbuilt))
+        by : (p : Option (Labelled T)) → Acts made meaning store (λ reading. read_value reading) (asked tables inputs class p) w w (Ok (outcome.Leaves leaving.Unbuilt))
         by None = record { says = λ reading agrees told turns. ap (λ (b : Bool). choose b (ends (left not_built)) (made_new class (Some (class_prototype class)) bottom) (state_of reading w told turns)) test }
         by (Some v) = record { says = λ reading agrees told turns. ap (λ (b : Bool). choose b (ends (left not_built)) (made_new class (prototype_given v.value) (reading v.label)) (state_of reading w told turns)) test }
 
     module _ (test : is_array class ≡ false) where
-      pub new_by_value : (v : Labelled T) → proto ≡ Some v → (o : Option ObjId) → o ≡ prototype_given v.value → (after : World T) (result : Result (Came (Labelled T) T) (FlowFault T))
+      pub new_by_value : (v : Labelled T) → proto ≡ Some v → (o : Option ObjId) → o ≡ prototype_given v.value → (after : World T) (result : Result (Outcome (Labelled T) T) (FlowFault T))
           → Acts made meaning store (λ reading. read_value reading) (λ reading. made_new class o (reading v.label)) w after result → Acts made meaning store (λ reading. read_value reading) (asked tables inputs class proto) w after result
       unfolding act
       new_by_value v is o given after result acts =
@@ -95,7 +95,7 @@ module _ {S T : Type 0} (made : S → T → Type 0) (meaning : S → T → Label
           (makes_new made meaning store w class o (λ reading. reading v.label) after result test acts)
 
   pub new_by_class : (room : S → ℕ) (firm : S → Bool) (old new : S) → IsKept made meaning room firm old new → (tables : Tables) (inputs : Given) (w : World T) (class : Class) (proto : Option (Labelled T)) → is_array class ≡ false → proto ≡ None
-      → (o : ObjId) → o ≡ class_prototype class → (none : T) → made old none → meaning old none ≡ bottom → (after : World T) (result : Result (Came (Labelled T) T) (FlowFault T))
+      → (o : ObjId) → o ≡ class_prototype class → (none : T) → made old none → meaning old none ≡ bottom → (after : World T) (result : Result (Outcome (Labelled T) T) (FlowFault T))
       → Acts made meaning new (λ reading. read_value reading) (λ reading. made_new class (Some o) (reading none)) w after result → Acts made meaning new (λ reading. read_value reading) (asked tables inputs class proto) w after result
   unfolding act
   new_by_class room firm old new kept tables inputs w class proto test is o given none m empty after result acts =

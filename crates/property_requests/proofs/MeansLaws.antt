@@ -6,7 +6,7 @@ use Rattle.flow_frames.specs.Frames.{context}
 use Rattle.flow_frames.specs.Held.{Held, Belong, seen, seen_frame}
 use Rattle.js_values.proofs.ReadingLaws.{IsReading-earlier}
 use Rattle.prototype_walk.specs.Answers.{Means}
-use Rattle.step_names.proofs.Reading.{read_frames}
+use Rattle.property_access.proofs.Reading.{read_frames}
 
 module _ {S T : Type 0} (made : S → T → Type 0) (meaning : S → T → Label) (store : S) where
   -- a label means itself

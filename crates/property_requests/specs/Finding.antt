@@ -9,8 +9,8 @@ use Rattle.js_values.specs.Readings.{IsReading, read_value}
 use Rattle.es_meaning.specs.Outcomes.{Goes}
 use Rattle.es_meaning.specs.Plain.{undefined}
 use Rattle.flow_meaning.specs.Scopes.{Val, L, State}
-use Rattle.step_world.specs.declared.came.Came.{Came}
-use Rattle.step_world.specs.declared.came.Came.TheVariants as came
+use Rattle.run_state.specs.declared.outcome.Outcome.{Outcome}
+use Rattle.run_state.specs.declared.outcome.Outcome.TheVariants as outcome
 
 -- undefined, with a label
 abbrev pub nothing : {T : Type 0} → T → Labelled T
@@ -30,12 +30,12 @@ pub record Finds {S T : Type 0} (made : S → T → Type 0) (meaning : S → T �
   pub says : (reading : T → Label) → IsReading made meaning store reading → (s : State) → act reading s ≡ Goes (read_value reading v) s
 
 -- a fact for what a call goes on with, if it does
-abbrev pub IfGoes : {X T : Type 0} → (X → Type 0) → Came X T → Type 0
-IfGoes P (came.Goes x) = P x
-IfGoes P (came.Throws v) = Unit {0}
-IfGoes P (came.Leaves why) = Unit {0}
+abbrev pub IfGoes : {X T : Type 0} → (X → Type 0) → Outcome X T → Type 0
+IfGoes P (outcome.Goes x) = P x
+IfGoes P (outcome.Throws v) = Unit {0}
+IfGoes P (outcome.Leaves why) = Unit {0}
 
 -- what a call without a value comes to
-abbrev pub went : {T : Type 0} → Result (Unit {0}) (FlowFault T) → Result (Came (Unit {0}) T) (FlowFault T)
-went (Ok u) = Ok (came.Goes u)
+abbrev pub went : {T : Type 0} → Result (Unit {0}) (FlowFault T) → Result (Outcome (Unit {0}) T) (FlowFault T)
+went (Ok u) = Ok (outcome.Goes u)
 went (Err fault) = Err fault

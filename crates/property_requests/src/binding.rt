@@ -20,8 +20,8 @@ ghost use Rattle.flow_meaning.specs.Erased.{erased_object, erased_slot};
 ghost use Rattle.flow_meaning.specs.Requested.{length_label, length_name};
 ghost use Rattle.flow_meaning.specs.Tracked.{act, bind_object};
 ghost use Rattle.prototype_walk.specs.Answers.{Means};
-ghost use Rattle.step_world.specs.Acts.{Acts, HasAnswer};
-ghost use Rattle.step_world.specs.Worlds.{Belongs, Grows};
+ghost use Rattle.run_state.specs.Acts.{Acts, HasAnswer};
+ghost use Rattle.run_state.specs.Worlds.{Belongs, Grows};
 ghost use Rattle.property_requests.specs.Binding.{function_with};
 ghost use Rattle.property_requests.specs.Building.{AddsAlone, IsLast, IsOpen};
 
@@ -35,9 +35,9 @@ use js_values::{ArgList, Body, Class, Inner, Key, Labelled, Marks, ObjId, Slot, 
 use native_protocol::ErrorKind;
 use object_heap::Heap;
 use origin_labels::Labels;
+use property_access::throw_error;
+use run_state::{Outcome, World};
 use std::alloc::Global;
-use step_names::throw_error;
-use step_world::{Came, World};
 
 /// `length`
 const LENGTH: [u16; 6] = [0x6C, 0x65, 0x6E, 0x67, 0x74, 0x68];
@@ -72,7 +72,7 @@ pub fn bind<T: Copy, L: Labels<Label = T>>(
     target: &Labelled<T>,
     this: &Labelled<T>,
     args: &[Labelled<T>],
-) -> Result<Came<Labelled<T>, T>, FlowFault<T>>
+) -> Result<Outcome<Labelled<T>, T>, FlowFault<T>>
     requires target { L.made labels.old target.now.label }
     requires this { L.made labels.old this.now.label }
     requires args { All (HasValue (L.made labels.old)) args.now }
@@ -101,7 +101,7 @@ fn bind_object<T: Copy, L: Labels<Label = T>>(
     label: T,
     this: &Labelled<T>,
     args: &[Labelled<T>],
-) -> Result<Came<Labelled<T>, T>, FlowFault<T>>
+) -> Result<Outcome<Labelled<T>, T>, FlowFault<T>>
     requires there { o.0 < length world.old.heap }
     requires label { L.made labels.old label }
     requires this { L.made labels.old this.now.label }
@@ -120,7 +120,7 @@ fn bind_object<T: Copy, L: Labels<Label = T>>(
     let context = world.frames.context(labels);
     let heap = &mut world.heap;
     let f = make_function(alloc, labels, heap, context, inner, key, count, depends)?;
-    Ok(Came::Goes(Labelled {
+    Ok(Outcome::Goes(Labelled {
         value: Value::Object(f),
         label: labels.bottom(),
     }))

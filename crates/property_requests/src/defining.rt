@@ -16,8 +16,8 @@ ghost use Rattle.flow_meaning.specs.Requested.{body_label, property_in, value_la
 ghost use Rattle.flow_meaning.specs.Scopes.{Val};
 ghost use Rattle.flow_meaning.specs.Tracked.{act, define_given, define_in, define_over, set_marks, throw_error};
 ghost use Rattle.prototype_walk.specs.Answers.{Means};
-ghost use Rattle.step_world.specs.Acts.{Acts, HasAnswer};
-ghost use Rattle.step_world.specs.Worlds.{Belongs, Grows};
+ghost use Rattle.run_state.specs.Acts.{Acts, HasAnswer};
+ghost use Rattle.run_state.specs.Worlds.{Belongs, Grows};
 ghost use Rattle.property_requests.specs.Defining.{body_of, body_set, changed_by, definition_of, given_in, shape_of, HasDescriptor, HasNewBody, IsChange, IsNewBody};
 ghost use Rattle.property_requests.specs.Finding.{went};
 
@@ -34,9 +34,9 @@ use js_number::Primitive;
 use js_values::{Body, Key, Labelled, Marks, ObjId, Slot, Value};
 use native_protocol::{ErrorKind, GivenMarks};
 use origin_labels::Labels;
+use property_access::throw_error;
+use run_state::{Leaving, Outcome, World};
 use std::alloc::Global;
-use step_names::throw_error;
-use step_world::{Came, Leaving, World};
 
 /// Where a definition is done: the key in an object that is there. `place` is the label of the object and of the own test, `given` that of what is given.
 #[derive(Drop)]
@@ -70,7 +70,7 @@ pub fn define_property<T: Copy, L: Labels<Label = T>>(
     base: &Labelled<T>,
     key: Key,
     descriptor: Descriptor<T>,
-) -> Result<Came<Labelled<T>, T>, FlowFault<T>>
+) -> Result<Outcome<Labelled<T>, T>, FlowFault<T>>
     requires base { L.made labels.old base.now.label }
     requires descriptor { HasDescriptor (L.made labels.old) descriptor }
     requires belongs { Belongs L.made L.meaning labels.old world.old }
@@ -95,7 +95,7 @@ fn define_on<T: Copy, L: Labels<Label = T>>(
     key: Key,
     label: T,
     descriptor: Descriptor<T>,
-) -> Result<Came<Labelled<T>, T>, FlowFault<T>>
+) -> Result<Outcome<Labelled<T>, T>, FlowFault<T>>
     requires label { L.made labels.old label }
     requires descriptor { HasDescriptor (L.made labels.old) descriptor }
     requires belongs { Belongs L.made L.meaning labels.old world.old }
@@ -110,7 +110,7 @@ fn define_on<T: Copy, L: Labels<Label = T>>(
     }
     let shape = world.heap.shape(o);
     if is_array(shape.class) {
-        return Ok(Came::Leaves(Leaving::Unbuilt));
+        return Ok(Outcome::Leaves(Leaving::Unbuilt));
     }
     let place = place_of(labels, &world.heap, o, &key, label)?;
     let given = given_label(labels, &descriptor)?;
@@ -134,7 +134,7 @@ fn define_given<T: Copy, L: Labels<Label = T>>(
     extensible: bool,
     marks: GivenMarks,
     body: Option<GivenBody>,
-) -> Result<Came<Labelled<T>, T>, FlowFault<T>>
+) -> Result<Outcome<Labelled<T>, T>, FlowFault<T>>
     requires there { site.object.0 < length world.old.heap }
     requires place { L.made labels.old site.place }
     requires given { L.made labels.old site.given }
@@ -160,7 +160,7 @@ fn refuse<T: Copy, L: Labels<Label = T>>(
     labels: &mut L,
     world: &mut World<T>,
     site: &Site<T>,
-) -> Result<Came<Labelled<T>, T>, FlowFault<T>>
+) -> Result<Outcome<Labelled<T>, T>, FlowFault<T>>
     requires there { site.now.object.0 < length world.old.heap }
     requires place { L.made labels.old site.now.place }
     requires given { L.made labels.old site.now.given }
@@ -214,7 +214,7 @@ fn define_absent<T: Copy, L: Labels<Label = T>>(
     site: Site<T>,
     extensible: bool,
     definition: Definition,
-) -> Result<Came<Labelled<T>, T>, FlowFault<T>>
+) -> Result<Outcome<Labelled<T>, T>, FlowFault<T>>
     requires there { site.object.0 < length world.old.heap }
     requires absent { own_in site.key (slice_get world.old.heap site.object.0) ≡ None }
     requires place { L.made labels.old site.place }
@@ -239,7 +239,7 @@ fn add_new<T: Copy, L: Labels<Label = T>>(
     world: &mut World<T>,
     site: Site<T>,
     definition: Definition,
-) -> Result<Came<Labelled<T>, T>, FlowFault<T>>
+) -> Result<Outcome<Labelled<T>, T>, FlowFault<T>>
     requires there { site.object.0 < length world.old.heap }
     requires absent { own_in site.key (slice_get world.old.heap site.object.0) ≡ None }
     requires place { L.made labels.old site.place }
@@ -266,7 +266,7 @@ fn add_new<T: Copy, L: Labels<Label = T>>(
     world
         .heap
         .add(labels, object, key, need, body, given, marks)?;
-    Ok(Came::Goes(undefined(place)))
+    Ok(Outcome::Goes(undefined(place)))
 }
 
 /// The attributes that a property has by default (ECMA-262 8.6.1).
@@ -283,7 +283,7 @@ fn define_present<T: Copy, L: Labels<Label = T>>(
     world: &mut World<T>,
     site: &Site<T>,
     definition: Definition,
-) -> Result<Came<Labelled<T>, T>, FlowFault<T>>
+) -> Result<Outcome<Labelled<T>, T>, FlowFault<T>>
     requires there { site.now.object.0 < length world.old.heap }
     requires present { IsSome (own_in site.now.key (slice_get world.old.heap site.now.object.0)) }
     requires place { L.made labels.old site.now.place }
@@ -368,7 +368,7 @@ fn redefine<T: Copy, L: Labels<Label = T>>(
     world: &mut World<T>,
     site: &Site<T>,
     change: Change<T>,
-) -> Result<Came<Labelled<T>, T>, FlowFault<T>>
+) -> Result<Outcome<Labelled<T>, T>, FlowFault<T>>
     requires present { IsSome (own_in site.now.key (slice_get world.old.heap site.now.object.0)) }
     requires place { L.made labels.old site.now.place }
     requires given { L.made labels.old site.now.given }
@@ -382,7 +382,7 @@ fn redefine<T: Copy, L: Labels<Label = T>>(
 {
     set_marks(labels, world, site, change.marks)?;
     set_body(labels, world, site, change.body)?;
-    Ok(Came::Goes(undefined(site.place)))
+    Ok(Outcome::Goes(undefined(site.place)))
 }
 
 /// Gives a property that is there other attributes, by rule W6.

@@ -15,14 +15,14 @@ use native_protocol::GivenMarks;
 use std::alloc::Global;
 
 /// A getter or a setter in a definition: it is left as it is, or there is this one, if any.
-#[derive(Clone, Copy, Debug)]
+#[derive(Clone, Copy)]
 pub(crate) enum Half {
     Kept,
     Given(Option<ObjId>),
 }
 
 /// What a definition gives besides the attributes.
-#[derive(Debug, Drop)]
+#[derive(Drop)]
 pub(crate) enum GivenBody {
     Nothing,
     Value(Value),
@@ -30,7 +30,7 @@ pub(crate) enum GivenBody {
 }
 
 /// A definition of a property.
-#[derive(Debug, Drop)]
+#[derive(Drop)]
 pub(crate) struct Definition {
     pub(crate) marks: GivenMarks,
     pub(crate) body: GivenBody,

@@ -22,7 +22,7 @@ use origin_labels::Labels;
 
 /// What a definition of a property gives: attributes, a value, a getter and a setter, each of which may be left out. A getter or a setter that is undefined is
 /// given, as none.
-#[derive(Debug, Drop)]
+#[derive(Drop)]
 pub struct Descriptor<T> {
     pub marks: GivenMarks,
     pub value: Option<Labelled<T>>,

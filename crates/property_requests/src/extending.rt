@@ -9,8 +9,8 @@ ghost use Rattle.js_values.specs.Readings.{HasValue, read_object, read_value};
 ghost use Rattle.es_meaning.specs.Operations as operations;
 ghost use Rattle.es_meaning.specs.Requested.{reference_or_null};
 ghost use Rattle.flow_meaning.specs.Tracked.{act, extensible_in, prevent, prototype_in};
-ghost use Rattle.step_world.specs.Acts.{Acts, HasAnswer};
-ghost use Rattle.step_world.specs.Worlds.{Belongs, Grows};
+ghost use Rattle.run_state.specs.Acts.{Acts, HasAnswer};
+ghost use Rattle.run_state.specs.Worlds.{Belongs, Grows};
 ghost use Rattle.property_requests.specs.Finding.{Finds};
 
 use crate::parts::{join, need_of, undefined};
@@ -20,15 +20,15 @@ use js_number::Primitive;
 use js_values::{Labelled, ObjId, Value};
 use native_protocol::ErrorKind;
 use origin_labels::Labels;
-use step_names::throw_error;
-use step_world::{Came, World};
+use property_access::throw_error;
+use run_state::{Outcome, World};
 
 /// The prototype of an object, or null where it has none. It depends on the link. A primitive value throws a TypeError.
 pub fn prototype_of_object<T: Copy, L: Labels<Label = T>>(
     labels: &mut L,
     world: &mut World<T>,
     base: &Labelled<T>,
-) -> Result<Came<Labelled<T>, T>, FlowFault<T>>
+) -> Result<Outcome<Labelled<T>, T>, FlowFault<T>>
     requires base { L.made labels.old base.now.label }
     requires belongs { Belongs L.made L.meaning labels.old world.old }
     ensures acts { (tables : Tables) (inputs : Given) → Acts L.made L.meaning labels.new (λ reading. read_value reading) (λ reading. act tables inputs operations.prototype_of_object (read_value reading base.now ∷ [])) world.old world.new result }
@@ -41,7 +41,7 @@ pub fn prototype_of_object<T: Copy, L: Labels<Label = T>>(
         return throw_error(labels, world, ErrorKind::TypeError, base.label);
     };
     let proto = prototype_in(labels, world, o, base.label)?;
-    Ok(Came::Goes(proto))
+    Ok(Outcome::Goes(proto))
 }
 
 /// The prototype of an object, where the label is that of the base. That of an object that isn't there is null.
@@ -86,7 +86,7 @@ pub fn is_extensible<T: Copy, L: Labels<Label = T>>(
     labels: &mut L,
     world: &mut World<T>,
     base: &Labelled<T>,
-) -> Result<Came<Labelled<T>, T>, FlowFault<T>>
+) -> Result<Outcome<Labelled<T>, T>, FlowFault<T>>
     requires base { L.made labels.old base.now.label }
     requires belongs { Belongs L.made L.meaning labels.old world.old }
     ensures acts { (tables : Tables) (inputs : Given) → Acts L.made L.meaning labels.new (λ reading. read_value reading) (λ reading. act tables inputs operations.is_extensible (read_value reading base.now ∷ [])) world.old world.new result }
@@ -99,7 +99,7 @@ pub fn is_extensible<T: Copy, L: Labels<Label = T>>(
         return throw_error(labels, world, ErrorKind::TypeError, base.label);
     };
     let extensible = extensible_in(labels, world, o, base.label)?;
-    Ok(Came::Goes(extensible))
+    Ok(Outcome::Goes(extensible))
 }
 
 /// Whether an object may get further properties, where the label is that of the base. One that isn't there may not.
@@ -134,7 +134,7 @@ pub fn prevent_extensions<T: Copy, L: Labels<Label = T>>(
     labels: &mut L,
     world: &mut World<T>,
     base: &Labelled<T>,
-) -> Result<Came<Labelled<T>, T>, FlowFault<T>>
+) -> Result<Outcome<Labelled<T>, T>, FlowFault<T>>
     requires base { L.made labels.old base.now.label }
     requires belongs { Belongs L.made L.meaning labels.old world.old }
     ensures acts { (tables : Tables) (inputs : Given) → Acts L.made L.meaning labels.new (λ reading. read_value reading) (λ reading. act tables inputs operations.prevent_extensions (read_value reading base.now ∷ [])) world.old world.new result }
@@ -155,7 +155,7 @@ fn prevent<T: Copy, L: Labels<Label = T>>(
     world: &mut World<T>,
     o: ObjId,
     label: T,
-) -> Result<Came<Labelled<T>, T>, FlowFault<T>>
+) -> Result<Outcome<Labelled<T>, T>, FlowFault<T>>
     requires label { L.made labels.old label }
     requires belongs { Belongs L.made L.meaning labels.old world.old }
     ensures acts { Acts L.made L.meaning labels.new (λ reading. read_value reading) (λ reading. prevent (reading label) o.0) world.old world.new result }
@@ -165,9 +165,9 @@ fn prevent<T: Copy, L: Labels<Label = T>>(
     ensures kept { IsKept L.made L.meaning L.room L.firm labels.old labels.new }
 {
     if o.0 >= world.heap.len() {
-        return Ok(Came::Goes(undefined(label)));
+        return Ok(Outcome::Goes(undefined(label)));
     }
     let need = need_of(labels, &world.frames, label)?;
     world.heap.prevent_extensions(labels, o, need)?;
-    Ok(Came::Goes(undefined(label)))
+    Ok(Outcome::Goes(undefined(label)))
 }

@@ -9,8 +9,8 @@ ghost use Rattle.js_values.specs.Readings.{HasValue, read_value};
 ghost use Rattle.es_meaning.specs.Operations as operations;
 ghost use Rattle.es_meaning.specs.Requested.{class_prototype, prototype_given};
 ghost use Rattle.flow_meaning.specs.Tracked.{act, made_new};
-ghost use Rattle.step_world.specs.Acts.{Acts, HasAnswer};
-ghost use Rattle.step_world.specs.Worlds.{Belongs, Grows};
+ghost use Rattle.run_state.specs.Acts.{Acts, HasAnswer};
+ghost use Rattle.run_state.specs.Worlds.{Belongs, Grows};
 ghost use Rattle.property_requests.specs.Defining.{HasGiven};
 ghost use Rattle.property_requests.specs.Making.{arguments_of};
 
@@ -20,7 +20,7 @@ use js_number::Primitive;
 use js_values::{Class, Inner, Labelled, ObjId, Value};
 use object_heap::Heap;
 use origin_labels::Labels;
-use step_world::{Came, Leaving, World};
+use run_state::{Leaving, Outcome, World};
 
 /// Object.prototype, with which a run starts (ECMA-262 15.2.4).
 const OBJECT_PROTOTYPE: ObjId = ObjId(0);
@@ -44,7 +44,7 @@ pub fn new_object<T: Copy, L: Labels<Label = T>>(
     world: &mut World<T>,
     class: Class,
     proto: Option<Labelled<T>>,
-) -> Result<Came<Labelled<T>, T>, FlowFault<T>>
+) -> Result<Outcome<Labelled<T>, T>, FlowFault<T>>
     requires proto { HasGiven (L.made labels.old) proto }
     requires belongs { Belongs L.made L.meaning labels.old world.old }
     ensures acts { (tables : Tables) (inputs : Given) → Acts L.made L.meaning labels.new (λ reading. read_value reading) (λ reading. act tables inputs (operations.new_object class (is_some proto)) (arguments_of reading proto)) world.old world.new result }
@@ -54,7 +54,7 @@ pub fn new_object<T: Copy, L: Labels<Label = T>>(
     ensures kept { IsKept L.made L.meaning L.room L.firm labels.old labels.new }
 {
     if is_array(class) {
-        return Ok(Came::Leaves(Leaving::Unbuilt));
+        return Ok(Outcome::Leaves(Leaving::Unbuilt));
     }
     match proto {
         None => {
@@ -106,7 +106,7 @@ fn make<T: Copy, L: Labels<Label = T>>(
     class: Class,
     proto: Option<ObjId>,
     label: T,
-) -> Result<Came<Labelled<T>, T>, FlowFault<T>>
+) -> Result<Outcome<Labelled<T>, T>, FlowFault<T>>
     requires label { L.made labels.old label }
     requires belongs { Belongs L.made L.meaning labels.old world.old }
     ensures acts { Acts L.made L.meaning labels.new (λ reading. read_value reading) (λ reading. made_new class proto (reading label)) world.old world.new result }
@@ -122,7 +122,7 @@ fn make<T: Copy, L: Labels<Label = T>>(
     let link = join(labels, context, label)?;
     let heap = &mut world.heap;
     let o = heap.new_object(class, proto, link, context, Inner::Plain)?;
-    Ok(Came::Goes(Labelled {
+    Ok(Outcome::Goes(Labelled {
         value: Value::Object(o),
         label: labels.bottom(),
     }))

@@ -11,8 +11,8 @@ ghost use Rattle.es_meaning.specs.Operations.{OwnPart};
 ghost use Rattle.es_meaning.specs.Requested.{part_of_property};
 ghost use Rattle.flow_meaning.specs.Erased.{erased_slot};
 ghost use Rattle.flow_meaning.specs.Tracked.{act, own_property_in};
-ghost use Rattle.step_world.specs.Acts.{Acts, HasAnswer};
-ghost use Rattle.step_world.specs.Worlds.{Belongs, Grows};
+ghost use Rattle.run_state.specs.Acts.{Acts, HasAnswer};
+ghost use Rattle.run_state.specs.Worlds.{Belongs, Grows};
 ghost use Rattle.property_requests.specs.Finding.{Finds, IfGoes, nothing};
 ghost use Rattle.property_requests.specs.Owning.{part_in, HasParts, own_label};
 
@@ -23,12 +23,12 @@ use flow_text::OutOfMemory;
 use js_values::{Key, Labelled, ObjId, Slot, Value};
 use native_protocol::ErrorKind;
 use origin_labels::Labels;
+use property_access::throw_error;
+use run_state::{Leaving, Outcome, World};
 use std::alloc::Global;
-use step_names::throw_error;
-use step_world::{Came, Leaving, World};
 
 /// What is known of an own property. All of it is undefined where there is none.
-#[derive(Debug, Drop)]
+#[derive(Drop)]
 pub struct OwnProperty<T> {
     /// The sum of 1 for writable, 2 for enumerable, 4 for configurable and 8 for an accessor.
     pub marks: Labelled<T>,
@@ -45,7 +45,7 @@ pub fn own_property<T: Copy, L: Labels<Label = T>>(
     world: &mut World<T>,
     base: &Labelled<T>,
     key: &Key,
-) -> Result<Came<OwnProperty<T>, T>, FlowFault<T>>
+) -> Result<Outcome<OwnProperty<T>, T>, FlowFault<T>>
     requires base { L.made labels.old base.now.label }
     requires belongs { Belongs L.made L.meaning labels.old world.old }
     ensures acts { (tables : Tables) (inputs : Given) (part : OwnPart) → Acts L.made L.meaning labels.new (λ reading p. read_value reading (part_in part p)) (λ reading. act tables inputs (operations.own_property part key.now) (read_value reading base.now ∷ [])) world.old world.new result }
@@ -59,7 +59,7 @@ pub fn own_property<T: Copy, L: Labels<Label = T>>(
         return throw_error(labels, world, ErrorKind::TypeError, base.label);
     };
     let known = known_of(alloc, labels, world, o, key, base.label)?;
-    Ok(Came::Goes(known))
+    Ok(Outcome::Goes(known))
 }
 
 /// The own keys of an object as an array. Arrays aren't built yet, so the run leaves; a primitive base throws a TypeError.
@@ -67,7 +67,7 @@ pub fn own_keys<T: Copy, L: Labels<Label = T>>(
     labels: &mut L,
     world: &mut World<T>,
     base: &Labelled<T>,
-) -> Result<Came<Labelled<T>, T>, FlowFault<T>>
+) -> Result<Outcome<Labelled<T>, T>, FlowFault<T>>
     requires base { L.made labels.old base.now.label }
     requires belongs { Belongs L.made L.meaning labels.old world.old }
     ensures acts { (tables : Tables) (inputs : Given) (all : Bool) → Acts L.made L.meaning labels.new (λ reading. read_value reading) (λ reading. act tables inputs (operations.own_keys all) (read_value reading base.now ∷ [])) world.old world.new result }
@@ -78,7 +78,7 @@ pub fn own_keys<T: Copy, L: Labels<Label = T>>(
 {
     match base.value {
         Value::Primitive(_) => throw_error(labels, world, ErrorKind::TypeError, base.label),
-        Value::Object(_) => Ok(Came::Leaves(Leaving::Unbuilt)),
+        Value::Object(_) => Ok(Outcome::Leaves(Leaving::Unbuilt)),
     }
 }
 

@@ -1,6 +1,9 @@
 -- Enumerations, row by row and object by object, in a reading of the labels.
-use Rattle.std.proofs.Common.{◌≡◌, ℕ, zero, suc, ◌+◌, Bool, true, false, ◌&&◌, not, List, [], ◌∷◌, ◌++◌, drop, Option, Some, None, refl, sym, ap, ◌∙◌, arith, if◌then◌else◌}
+use Rattle.std.proofs.Common.{◌≡◌, ℕ, zero, suc, ◌+◌, Bool, true, false, ◌&&◌, ◌||◌, not, List, [], ◌∷◌, ◌++◌, drop, Option, Some, None, refl, sym, ap, ◌∙◌, arith, if◌then◌else◌}
 use Rattle.std.specs.List.{slice_get}
+use Rattle.std.specs.Ordering.{nat_cmp}
+use Rattle.std.specs.Cmp.Lexicographic.{slice_cmp}
+use Rattle.std.specs.BTreeSet.{insert_key}
 use Rattle.std.proofs.lemmas.Option.{none-some, same_Some}
 use Rattle.std.proofs.lemmas.List.{append_assoc, append-nil}
 use Rattle.origin_labels.specs.Label.{Label, IsLabel, bottom, union}
@@ -19,6 +22,7 @@ use Rattle.object_heap.specs.Formed.{IsFormed, row_in, IsShape}
 use Rattle.prototype_walk.specs.KeyLists.{fresh_keys, existences, Keys, keys_after, keys, rows_in}
 use Rattle.prototype_walk.specs.Answers.{Means, IsKeyList}
 use Rattle.prototype_walk.proofs.HeldLaws.{HasShape, shape_there}
+use Rattle.prototype_walk.proofs.MetLaws.{has_append, meets_key}
 use Rattle.prototype_walk.proofs.WalkLaws.{chain_at}
 
 -- ---- the rows that are left
@@ -65,13 +69,40 @@ module _ {T : Type 0} (o : Option (Object T)) (n : ℕ) (done all : List (List �
   pub fresh_all : (met : List (List ℕ)) → None ≡ row_in n o → done ++ fresh_keys met (drop n (rows_in o)) ≡ all → done ≡ all
   fresh_all met is same = sym (append-nil done) ∙ ap (λ rs. done ++ fresh_keys met rs) (sym (rows_end o n is)) ∙ same
 
-  pub meets_on : (new : List (List ℕ)) (r : List ℕ × Slot T) → Some r ≡ row_in n o → new ≡ done ++ r.0 ∷ [] → done ++ keys_of (drop n (rows_in o)) ≡ all → new ++ keys_of (drop (n + 1) (rows_in o)) ≡ all
-  meets_on new r is grows same =
-      let rest = keys_of (drop (n + 1) (rows_in o)) in
-      ap (λ ks. ks ++ rest) grows ∙ append_assoc done (r.0 ∷ []) rest ∙ ap (λ rs. done ++ keys_of rs) (sym (rows_more o n r is)) ∙ same
+-- the same keys are met
+abbrev pub MeetSame : List (List ℕ) → List (List ℕ) → Type 0
+MeetSame xs ys = (key : List ℕ) → has_name key xs ≡ has_name key ys
 
-  pub meets_all : None ≡ row_in n o → done ++ keys_of (drop n (rows_in o)) ≡ all → done ≡ all
-  meets_all is same = sym (append-nil done) ∙ ap (λ rs. done ++ keys_of rs) (sym (rows_end o n is)) ∙ same
+module _ {T : Type 0} (o : Option (Object T)) (n : ℕ) (done all : List (List ℕ)) where
+  pub meets_on : (new : List (List ℕ)) (r : List ℕ × Slot T) → Some r ≡ row_in n o → new ≡ insert_key (slice_cmp nat_cmp) done r.0 → MeetSame (done ++ keys_of (drop n (rows_in o))) all → MeetSame (new ++ keys_of (drop (n + 1) (rows_in o))) all
+  meets_on new r is grows same = λ key.
+      meets_key key r.0 done new (keys_of (drop (n + 1) (rows_in o))) grows
+      ∙ ap (λ rs. has_name key (done ++ keys_of rs)) (sym (rows_more o n r is)) ∙ same key
+
+  pub meets_all : None ≡ row_in n o → MeetSame (done ++ keys_of (drop n (rows_in o))) all → MeetSame done all
+  meets_all is same = λ key. ap (has_name key) (sym (append-nil done)) ∙ ap (λ rs. has_name key (done ++ keys_of rs)) (sym (rows_end o n is)) ∙ same key
+
+-- what is taken depends on which keys were met alone
+fresh_same : {T : Type 0} (xs ys : List (List ℕ)) → MeetSame xs ys → (rows : Rows (Slot T)) → fresh_keys xs rows ≡ fresh_keys ys rows
+fresh_same xs ys same [] = refl
+fresh_same xs ys same (r ∷ rows) =
+    ap (λ ks. if r.1.marks.enumerable && not (has_name r.0 xs) then r.0 ∷ ks else ks) (fresh_same xs ys same rows)
+    ∙ ap (λ met. if r.1.marks.enumerable && not met then r.0 ∷ fresh_keys ys rows else fresh_keys ys rows) (same r.0)
+
+met_more : (xs ys more : List (List ℕ)) → MeetSame xs ys → MeetSame (xs ++ more) (ys ++ more)
+met_more xs ys more same = λ key. has_append key xs more ∙ ap (λ s. s || has_name key more) (same key) ∙ sym (has_append key ys more)
+
+after_same : (xs ys : List (List ℕ)) → MeetSame xs ys → (objects : List (ℕ × Object Label)) → keys_after xs objects ≡ keys_after ys objects
+after_same xs ys same [] = refl
+after_same xs ys same (e ∷ objects) =
+    ap (λ ks. record {
+      keys = ks ++ (keys_after (xs ++ keys_of e.1.rows) objects).keys;
+      walk = union e.1.structure (union e.1.link (union (existences e.1.rows) (keys_after (xs ++ keys_of e.1.rows) objects).walk));
+    }) (fresh_same xs ys same e.1.rows)
+    ∙ ap (λ (rest : Keys). record {
+      keys = fresh_keys ys e.1.rows ++ rest.keys;
+      walk = union e.1.structure (union e.1.link (union (existences e.1.rows) rest.walk));
+    }) (after_same (xs ++ keys_of e.1.rows) (ys ++ keys_of e.1.rows) (met_more xs ys (keys_of e.1.rows) same) objects)
 
 -- ---- in a reading
 
@@ -125,7 +156,7 @@ module _ {S T : Type 0} (made : S → T → Type 0) (meaning : S → T → Label
 
   module _ (formed : IsFormed heap) (store : S) (i : ℕ) (met taken met_on taken_on : List (List ℕ)) (walk label : T) (shape : Shape T) (there : IsShape (slice_get heap i) shape)
       (comes : (reading : T → Label) → IsReading made meaning store reading → keys (object_chain (read_heap reading heap) o) ≡ after taken (reading walk) (keys_after met (object_chain (read_heap reading heap) i)))
-      (meets : met_on ≡ met ++ keys_of (rows_in (slice_get heap i))) (takes : taken_on ≡ taken ++ fresh_keys met (rows_in (slice_get heap i)))
+      (meets : (key : List ℕ) → has_name key met_on ≡ has_name key (met ++ keys_of (rows_in (slice_get heap i)))) (takes : taken_on ≡ taken ++ fresh_keys met (rows_in (slice_get heap i)))
       (means : (reading : T → Label) → IsReading made meaning store reading → reading label ≡ union (union (union (reading walk) (reading shape.structure)) (reading shape.link)) (existences (read_rows reading (rows_in (slice_get heap i))))) where
     held : HasShape heap i shape
     held = shape_there heap i shape there
@@ -155,17 +186,17 @@ module _ {S T : Type 0} (made : S → T → Type 0) (meaning : S → T → Label
         }
     step reading next leads =
         let proto = sym (ap (λ (q : Shape T). q.proto) held.is) ∙ leads in
-        let further = ap (λ ks. met ++ ks) (read_keys_of reading held.object.rows) ∙ sym (meets ∙ ap (λ x. met ++ keys_of (rows_in x)) held.here) in
+        let further = λ (key : List ℕ). ap (λ ks. has_name key (met ++ ks)) (read_keys_of reading held.object.rows) ∙ sym (meets key ∙ ap (λ x. has_name key (met ++ keys_of (rows_in x))) held.here) in
         ap (keys_after met) (chain_at reading heap formed i held.object held.here)
         ∙ ap (λ n. keys_after met ((i, read_object reading held.object) ∷ onwards (number_of n) (object_chain (read_heap reading heap)))) proto
         ∙ ap (λ ks. record {
           keys = ks ++ (keys_after (met ++ keys_of (read_rows reading held.object.rows)) (onwards (number_of next) (object_chain (read_heap reading heap)))).keys;
           walk = union (reading held.object.structure) (union (reading held.object.link) (union (existences (read_rows reading held.object.rows)) (keys_after (met ++ keys_of (read_rows reading held.object.rows)) (onwards (number_of next) (object_chain (read_heap reading heap)))).walk));
         }) (read_fresh reading met held.object.rows)
-        ∙ ap (λ m. record {
-          keys = fresh_keys met held.object.rows ++ (keys_after m (onwards (number_of next) (object_chain (read_heap reading heap)))).keys;
-          walk = union (reading held.object.structure) (union (reading held.object.link) (union (existences (read_rows reading held.object.rows)) (keys_after m (onwards (number_of next) (object_chain (read_heap reading heap)))).walk));
-        }) further
+        ∙ ap (λ (rest : Keys). record {
+          keys = fresh_keys met held.object.rows ++ rest.keys;
+          walk = union (reading held.object.structure) (union (reading held.object.link) (union (existences (read_rows reading held.object.rows)) rest.walk));
+        }) (after_same (met ++ keys_of (read_rows reading held.object.rows)) met_on further (onwards (number_of next) (object_chain (read_heap reading heap))))
 
     behind : (next : Option ObjId) → shape.proto ≡ next → (reading : T → Label) → IsReading made meaning store reading
         → keys (object_chain (read_heap reading heap) o) ≡ after taken_on (reading label) (keys_after met_on (onwards (number_of next) (object_chain (read_heap reading heap))))
@@ -184,7 +215,7 @@ module _ {S T : Type 0} (made : S → T → Type 0) (meaning : S → T → Label
 -- an object was enumerated, in stores that follow on one another
 module _ {S T : Type 0} (made : S → T → Type 0) (meaning : S → T → Label) (room : S → ℕ) (firm : S → Bool) (heap : List (Object T)) (formed : IsFormed heap) (o : ℕ) (old mid new : S) (first : IsKept made meaning room firm old mid) (second : IsKept made meaning room firm mid new)
     (i : ℕ) (met taken met_on taken_on : List (List ℕ)) (walk passed label : T) (shape : Shape T) (there : IsShape (slice_get heap i) shape) (comes : Enumerates made meaning old heap o i met taken walk)
-    (meets : met_on ≡ met ++ keys_of (rows_in (slice_get heap i))) (takes : taken_on ≡ taken ++ fresh_keys met (rows_in (slice_get heap i)))
+    (meets : (key : List ℕ) → has_name key met_on ≡ has_name key (met ++ keys_of (rows_in (slice_get heap i)))) (takes : taken_on ≡ taken ++ fresh_keys met (rows_in (slice_get heap i)))
     (passes : Means made meaning mid passed (λ reading. union (union (reading walk) (reading shape.structure)) (reading shape.link)))
     (joins : Means made meaning new label (λ reading. union (reading passed) (existences (read_rows reading (rows_in (slice_get heap i)))))) where
   at_mid : (reading : T → Label) → IsReading made meaning new reading → IsReading made meaning mid reading

@@ -1,4 +1,5 @@
 mod HeldLaws
 mod WalkLaws
 mod KeyLaws
+mod MetLaws
 mod PutLaws

@@ -1,6 +1,6 @@
 //! The keys of an object and its prototypes.
 
-ghost use Rattle.std.specs.Prelude.{◌≡◌, ◌<◌, [], ◌∷◌, ◌++◌, IfOk, OnOk, length, slice_get};
+ghost use Rattle.std.specs.Prelude.{◌≡◌, ◌<◌, ℕ, List, [], ◌∷◌, ◌++◌, IfOk, OnOk, length, slice_get};
 ghost use Rattle.origin_labels.specs.Label.{union};
 ghost use Rattle.origin_labels.specs.Names.{has_name};
 ghost use Rattle.origin_labels.specs.Stores.{IsKept};
@@ -16,6 +16,7 @@ use js_values::{Key, KeyRow, ObjId, Slot};
 use object_heap::Heap;
 use origin_labels::Labels;
 use std::alloc::Global;
+use std::collections::BTreeSet;
 
 /// The keys that `for in` takes, in order: the enumerable ones of the object, then those of each prototype that weren't met before. The label is that of the
 /// whole enumeration: the structure, the link and the existence of all properties of each object.
@@ -33,7 +34,7 @@ pub fn keys<T: Copy, L: Labels<Label = T>>(
     let count = heap.len();
     prove!(o.0 < count);
     let mut keys = KeyRow::new(alloc);
-    let mut met = KeyRow::new(alloc);
+    let mut met = BTreeSet::new(alloc);
     let mut at = o;
     let mut walk = labels.bottom();
     'along: loop {
@@ -54,11 +55,11 @@ fn take_fresh<T: Copy>(
     alloc: Global,
     heap: &Heap<T>,
     at: ObjId,
-    met: &KeyRow,
+    met: &BTreeSet<Key>,
     keys: &mut KeyRow,
 ) -> Result<(), OutOfMemory>
     requires { at.0 < length heap.now }
-    ensures { OnOk result (keys.new ≡ keys.old ++ fresh_keys met.now (rows_in (slice_get heap.now at.0))) }
+    ensures { OnOk result (keys.new ≡ keys.old ++ fresh_keys met.now.keys (rows_in (slice_get heap.now at.0))) }
 {
     for n in 0..usize::MAX {
         let Some((key, slot)) = heap.own_at(at, n) else {
@@ -75,10 +76,10 @@ fn take<T: Copy>(
     alloc: Global,
     key: &Key,
     slot: &Slot<T>,
-    met: &KeyRow,
+    met: &BTreeSet<Key>,
     keys: &mut KeyRow,
 ) -> Result<(), OutOfMemory>
-    ensures { OnOk result (keys.new ≡ keys.old ++ fresh_keys met.now ((key.now, slot.now) ∷ [])) }
+    ensures { OnOk result (keys.new ≡ keys.old ++ fresh_keys met.now.keys ((key.now, slot.now) ∷ [])) }
 {
     if slot.marks.enumerable && !has_met(met, key) {
         keys.push(key.copy(alloc)?)?;
@@ -87,28 +88,27 @@ fn take<T: Copy>(
 }
 
 /// Whether the key was met.
-#[tactic(auto, unfolding(origin_labels::specs::Names::has_name))]
-fn has_met(met: &KeyRow, key: &Key) -> bool
-    ensures { result ≡ has_name key.now met.now }
+fn has_met(met: &BTreeSet<Key>, key: &Key) -> bool
+    ensures { result ≡ has_name key.now met.now.keys }
 {
-    met.items().iter().any(|other| *other == *key)
+    met.contains(key)
 }
 
-/// Appends all keys of an object.
+/// Adds all keys of an object to those that were met.
 fn meet<T: Copy>(
     alloc: Global,
     heap: &Heap<T>,
     at: ObjId,
-    met: &mut KeyRow,
+    met: &mut BTreeSet<Key>,
 ) -> Result<(), OutOfMemory>
     requires { at.0 < length heap.now }
-    ensures { OnOk result (met.new ≡ met.old ++ keys_of (rows_in (slice_get heap.now at.0))) }
+    ensures { OnOk result ((key : List ℕ) → has_name key met.new.keys ≡ has_name key (met.old.keys ++ keys_of (rows_in (slice_get heap.now at.0)))) }
 {
     for n in 0..usize::MAX {
         let Some((key, _)) = heap.own_at(at, n) else {
             return Ok(());
         };
-        met.push(key.copy(alloc)?)?;
+        met.insert(key.copy(alloc)?)?;
     }
     // No object has so many properties.
     Err(OutOfMemory)

@@ -3,7 +3,7 @@
 use js_values::KeyRow;
 
 /// The keys that `for in` takes, and the label on which they depend.
-#[derive(Debug, Drop)]
+#[derive(Drop)]
 pub struct KeyList<T> {
     pub keys: KeyRow,
     pub walk: T,

@@ -4,7 +4,7 @@ use js_values::ObjId;
 
 /// What a put does: it writes the object's own property, adds one, calls the setter of the property of the object `at`, or is refused. `walk` is the label on
 /// which that depends.
-#[derive(Clone, Copy, Debug)]
+#[derive(Clone, Copy)]
 pub enum PutPlan<T> {
     Write { walk: T },
     Add { walk: T },

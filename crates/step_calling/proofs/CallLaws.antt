@@ -39,31 +39,31 @@ use Rattle.flow_meaning.specs.Scopes.{Halt, Jump, LabelledLine, State, Val, popp
 use Rattle.flow_meaning.specs.Tracked.{called_value, make_function, prototype_of, throw_error, with_call, with_fresh}
 use Rattle.function_table.specs.Callees.{callee_of}
 use Rattle.function_table.specs.declared.callee.Callee.{Callee as Known}
-use Rattle.step_world.specs.declared.came.Came.{Came}
-use Rattle.step_world.specs.declared.came.Came.TheVariants as came
-use Rattle.step_world.specs.declared.world.World.{World}
-use Rattle.step_world.specs.Acts.{Acts, HasAnswer, thrown}
-use Rattle.step_world.specs.Names.{leaving_name}
-use Rattle.step_world.specs.Worlds.{state_of}
-use Rattle.step_work.specs.declared.work.Jump.TheVariants as jump
-use Rattle.step_work.specs.declared.work.Next.{Next}
-use Rattle.step_work.specs.declared.work.Next.TheVariants as next
-use Rattle.step_work.specs.declared.work.Work.{Work}
-use Rattle.step_work.specs.declared.work.Work.TheVariants as work
-use Rattle.step_work.specs.Going.{Begins, here}
-use Rattle.step_work.specs.Kept.{Kept}
-use Rattle.step_work.specs.Pending.{Task, after, behind, next_plan, setting_above, setting_inside}
-use Rattle.step_work.specs.Resuming.{coming}
-use Rattle.step_work.specs.Settings.{Setting, entrance, setting_of}
-use Rattle.step_work.specs.Shapes.{nth}
-use Rattle.step_work.proofs.Handed.{behind_end, gives_alone, jumps_alone}
-use Rattle.step_work.proofs.EndLaws.{read_label, read_outside}
-use Rattle.step_work.proofs.ScopeLaws.{in_scope}
-use Rattle.step_entries.specs.Changing.{Changes, Gives}
+use Rattle.run_state.specs.declared.outcome.Outcome as machine
+use Rattle.run_state.specs.declared.outcome.Outcome.TheVariants as outcomes
+use Rattle.run_state.specs.declared.world.World.{World}
+use Rattle.run_state.specs.Acts.{Acts, HasAnswer, thrown}
+use Rattle.run_state.specs.Names.{leaving_name}
+use Rattle.run_state.specs.Worlds.{state_of}
+use Rattle.continuations.specs.declared.continuation.Jump.TheVariants as jump
+use Rattle.continuations.specs.declared.continuation.Control.{Control}
+use Rattle.continuations.specs.declared.continuation.Control.TheVariants as control
+use Rattle.continuations.specs.declared.continuation.Continuation.{Continuation}
+use Rattle.continuations.specs.declared.continuation.Continuation.TheVariants as continuation
+use Rattle.continuations.specs.Going.{Begins, here}
+use Rattle.continuations.specs.Kept.{Kept}
+use Rattle.continuations.specs.Pending.{Task, after, behind, next_plan, setting_above, setting_inside}
+use Rattle.continuations.specs.Resuming.{coming}
+use Rattle.continuations.specs.Settings.{Setting, entrance, setting_of}
+use Rattle.continuations.specs.Shapes.{nth}
+use Rattle.continuations.proofs.Handed.{behind_end, gives_alone, jumps_alone}
+use Rattle.continuations.proofs.EndLaws.{read_label, read_outside}
+use Rattle.continuations.proofs.ScopeLaws.{in_scope}
+use Rattle.function_entry.specs.Changing.{Changes, Gives}
 use Rattle.step_calling.specs.Calling.{ConstructsBy, InCall, InConstruction, IsThrow, Refuses, StartsBody, lying}
 use Rattle.step_calling.proofs.CalleeLaws.{comes_as}
 use Rattle.step_calling.proofs.ThrowLaws.{no_leaving, throw_leaves, throw_passes_branch, throw_passes_call, throw_passes_construction}
-use Rattle.step_converting.specs.Framed.{Begun}
+use Rattle.step_natives.specs.Framed.{Begun}
 
 -- ---- what throws in the frame of a call
 
@@ -107,7 +107,7 @@ module _ {S T : Type 0} (made : S → T → Type 0) (meaning : S → T → Label
     outside_some : (reading : T → Label) → 0 < length (outside reading)
     outside_some reading = omega (arith, outside_size reading, in_frame.deep)
 
-    pub refused_call : (what : Callee) (new : Kept T) (world_new : World T) (result : Result Next (FlowFault T))
+    pub refused_call : (what : Callee) (new : Kept T) (world_new : World T) (result : Result Control (FlowFault T))
         → ((l : Label) (this : Val) (vs : List Val) (s : State) → enter_call functions what l this vs E depth s ≡ as_plan One (throw_error kinds.TypeError l s))
         → Refuses made meaning store tables inputs set functions ns label stack new world world_new result → InCall made meaning store tables inputs set functions ns what label depth stack new world world_new result
     refused_call what new world_new result throws refuses =
@@ -116,7 +116,7 @@ module _ {S T : Type 0} (made : S → T → Type 0) (meaning : S → T → Label
         sym (throw_passes_call (outside reading) (pushed of (reading label)) quiet (outside_some reading) depth (outside_size reading) s (in_frame.innermost reading (earlier reading read)) kinds.TypeError (reading label))
         ∙ ap (λ p. and_plan p (end_call depth)) (sym (throws (reading label) (nth 0 (lying reading stack)) (drop 2 (lying reading stack)) s))) refuses
 
-    pub refused_construction : (what : Callee) (o fresh : ℕ) (new : Kept T) (world_new : World T) (result : Result Next (FlowFault T))
+    pub refused_construction : (what : Callee) (o fresh : ℕ) (new : Kept T) (world_new : World T) (result : Result Control (FlowFault T))
         → ((l : Label) (vs : List Val) (s : State) → enter_construction functions what l o vs E depth s ≡ as_plan One (throw_error kinds.TypeError l s))
         → Refuses made meaning store tables inputs set functions ns label stack new world world_new result → InConstruction made meaning store tables inputs set functions ns what label o fresh depth stack new world world_new result
     refused_construction what o fresh new world_new result throws refuses =
@@ -126,7 +126,7 @@ module _ {S T : Type 0} (made : S → T → Type 0) (meaning : S → T → Label
         ∙ ap (λ p. and_plan p (end_construction fresh depth)) (sym (throws (reading label) (drop 1 (lying reading stack)) s))) refuses
 
     -- a built-in that constructs nothing, in its own frame
-    pub refused_native : (which o : ℕ) (outer : World T) (new : Kept T) (world_new : World T) (result : Result Next (FlowFault T)) → of ≡ kind.Native → constructs_in set which ≡ false → depth ≡ length outer.frames.frames
+    pub refused_native : (which o : ℕ) (outer : World T) (new : Kept T) (world_new : World T) (result : Result Control (FlowFault T)) → of ≡ kind.Native → constructs_in set which ≡ false → depth ≡ length outer.frames.frames
         → ((reading : T → Label) → IsReading made meaning store reading → (told : List LabelledLine) (turns : ℕ) → state_of reading world told turns ≡ pushed_on kind.Native (reading label) (state_of reading outer told turns))
         → Refuses made meaning store tables inputs set functions ns label stack new world world_new result → ConstructsBy made meaning store tables inputs set functions ns ns (of_built_in which) label o stack new outer world_new result
     unfolding construct_by construct_built_in
@@ -142,17 +142,17 @@ module _ {S T : Type 0} (made : S → T → Type 0) (meaning : S → T → Label
         ∙ ap (λ b. and_plan (choose b runs refuses_so (pushed_on kind.Native (reading label) before)) (end_branch Value (length before.frames))) (sym none)) refuses
 
   -- by what it is in memory
-  pub call_of : (what : Known) (it : Callee) (label : T) (depth : ℕ) (old new : Kept T) (world world_new : World T) (result : Result Next (FlowFault T)) → callee_of what ≡ it
+  pub call_of : (what : Known) (it : Callee) (label : T) (depth : ℕ) (old new : Kept T) (world world_new : World T) (result : Result Control (FlowFault T)) → callee_of what ≡ it
       → InCall made meaning store tables inputs set functions ns it label depth old new world world_new result → InCall made meaning store tables inputs set functions ns (callee_of what) label depth old new world world_new result
   call_of what it label depth old new world world_new result is calls = subst (λ (c : Callee). InCall made meaning store tables inputs set functions ns c label depth old new world world_new result) (sym is) calls
 
-  pub construction_of : (what : Known) (it : Callee) (label : T) (o fresh depth : ℕ) (old new : Kept T) (world world_new : World T) (result : Result Next (FlowFault T)) → callee_of what ≡ it
+  pub construction_of : (what : Known) (it : Callee) (label : T) (o fresh depth : ℕ) (old new : Kept T) (world world_new : World T) (result : Result Control (FlowFault T)) → callee_of what ≡ it
       → InConstruction made meaning store tables inputs set functions ns it label o fresh depth old new world world_new result → InConstruction made meaning store tables inputs set functions ns (callee_of what) label o fresh depth old new world world_new result
   construction_of what it label o fresh depth old new world world_new result is constructs = subst (λ (c : Callee). InConstruction made meaning store tables inputs set functions ns c label o fresh depth old new world world_new result) (sym is) constructs
 
   -- ---- the throw itself
 
-  abbrev Throwing : T → World T → World T → Result (Came Next T) (FlowFault T) → Type 0
+  abbrev Throwing : T → World T → World T → Result (machine.Outcome Control T) (FlowFault T) → Type 0
   Throwing cause world world_new answer = Acts made meaning store (λ reading x. tt) (λ reading. throw_error {X = Unit {0}} kinds.TypeError (reading cause)) world world_new answer
 
   refused_fault : (cause : T) (old : Kept T) (world world_new : World T) (f : FlowFault T) → Throwing cause world world_new (Err f) → Refuses made meaning store tables inputs set functions ns cause old old world world_new (Err f)
@@ -162,26 +162,26 @@ module _ {S T : Type 0} (made : S → T → Type 0) (meaning : S → T → Label
   refused_fault cause old world world_new fault.OutOfMemory acts = λ reading told turns read. tt
 
   -- a `?` hands on the fault
-  pub refused_passes : (cause : T) (old : Kept T) (world world_new : World T) (f : FlowFault T) (result : Result Next (FlowFault T)) → IsErrAnd result (λ e. e ≡ f) → Throwing cause world world_new (Err f) → Refuses made meaning store tables inputs set functions ns cause old old world world_new result
+  pub refused_passes : (cause : T) (old : Kept T) (world world_new : World T) (f : FlowFault T) (result : Result Control (FlowFault T)) → IsErrAnd result (λ e. e ≡ f) → Throwing cause world world_new (Err f) → Refuses made meaning store tables inputs set functions ns cause old old world world_new result
   refused_passes cause old world world_new f (Ok x) is acts = absurd is
   refused_passes cause old world world_new f (Err e) is acts = subst (λ (g : FlowFault T). Refuses made meaning store tables inputs set functions ns cause old old world world_new (Err g)) (sym is) (refused_fault cause old world world_new f acts)
 
-  pub refused : (cause : T) (old new : Kept T) (world world_new : World T) (answer : Came Next T) (move : Next) → Throwing cause world world_new (Ok answer) → IsThrow answer
-      → move ≡ next.Jumps jump.Throws → new.tasks ≡ old.tasks → ((error : Labelled T) → answer ≡ came.Throws error → new.loose ≡ error ∷ []) → Refuses made meaning store tables inputs set functions ns cause old new world world_new (Ok move)
-  refused cause old new world world_new (came.Throws v) move acts throws jumps tasks lies = λ reading told turns read.
+  pub refused : (cause : T) (old new : Kept T) (world world_new : World T) (answer : machine.Outcome Control T) (move : Control) → Throwing cause world world_new (Ok answer) → IsThrow answer
+      → move ≡ control.Jumps jump.Throws → new.tasks ≡ old.tasks → ((error : Labelled T) → answer ≡ outcomes.Throws error → new.loose ≡ error ∷ []) → Refuses made meaning store tables inputs set functions ns cause old new world world_new (Ok move)
+  refused cause old new world world_new (outcomes.Throws v) move acts throws jumps tasks lies = λ reading told turns read.
       let t = state_of reading world_new told turns in
-      ap (λ (m : Next). coming tables inputs set functions reading new m (setting_of ns here) t) jumps
+      ap (λ (m : Control). coming tables inputs set functions reading new m (setting_of ns here) t) jumps
       ∙ jumps_alone tables inputs set functions reading jump.Throws old new v (setting_of ns here) t tasks (lies v refl)
       ∙ ap (λ (o : Outcome Halt Jump (Unit {0}) State). behind tables inputs set functions reading old.tasks (setting_of ns here) (as_plan One o)) (sym (acts.says reading read told turns))
-  refused cause old new world world_new (came.Goes x) move acts throws jumps tasks lies = absurd throws
-  refused cause old new world world_new (came.Leaves why) move acts throws jumps tasks lies = absurd throws
+  refused cause old new world world_new (outcomes.Goes x) move acts throws jumps tasks lies = absurd throws
+  refused cause old new world world_new (outcomes.Leaves why) move acts throws jumps tasks lies = absurd throws
 
   -- ---- what gives undefined
 
   pub nothing_given : (old new : Kept T) (world : World T) (frames : held.Kept T) (count depth : ℕ) (label out : T) → Begun made meaning store kind.Call old world count depth label
       → frames.frames ≡ take (length world.frames.frames - 1) world.frames.frames → label_at world.frames.frames (length world.frames.frames - 1) ≡ Some out
       → new.tasks ≡ old.tasks → new.loose ≡ record { value = undefined; label = out } ∷ []
-      → InCall made meaning store tables inputs set functions ns empty_callee label depth old new world (record world { frames = frames }) (Ok next.Value)
+      → InCall made meaning store tables inputs set functions ns empty_callee label depth old new world (record world { frames = frames }) (Ok control.Value)
   unfolding enter_call end_call popped union
   nothing_given old new world frames count depth label out in_frame cut labelled tasks lies = λ reading told turns read.
       let s = state_of reading world told turns in
@@ -193,17 +193,17 @@ module _ {S T : Type 0} (made : S → T → Type 0) (meaning : S → T → Label
 
   -- ---- functions of the script
 
-  body_goes : (w : Work) (kept : List (Labelled T)) (old middle new : Kept T) (move : Next) (ss : Statements) → middle ≡ record { tasks = old.tasks ++ (w, kept) ∷ []; loose = [] } → StartsBody ss middle new move → (reading : T → Label) (s : State)
+  body_goes : (w : Continuation) (kept : List (Labelled T)) (old middle new : Kept T) (move : Control) (ss : Statements) → middle ≡ record { tasks = old.tasks ++ (w, kept) ∷ []; loose = [] } → StartsBody ss middle new move → (reading : T → Label) (s : State)
       → coming tables inputs set functions reading new move (setting_of ns here) s ≡ behind tables inputs set functions reading old.tasks (setting_of ns here) (and_plan (statements (planned tables inputs set functions) (asking tables inputs set functions) ss (setting_inside w (setting_above old.tasks (setting_of ns here))).env s) (after tables inputs set functions w (map (read_value reading) kept) (setting_above old.tasks (setting_of ns here))))
   body_goes w kept old middle new move ss is begins reading s =
       begins tables inputs set functions reading (setting_of ns here) s (ap (λ (k : Kept T). k.loose) is)
       ∙ ap (λ (k : Kept T). behind tables inputs set functions reading k.tasks (setting_of ns here) (statements (planned tables inputs set functions) (asking tables inputs set functions) ss (setting_above k.tasks (setting_of ns here)).env s)) is
       ∙ in_scope made meaning store tables inputs set functions reading old.tasks (w, kept) (setting_of ns here) (λ g. statements (planned tables inputs set functions) (asking tables inputs set functions) ss g.env s)
 
-  pub script_called : (number : ℕ) (f : Function) (place : ℕ) (label : T) (this : Labelled T) (args : List (Labelled T)) (own : EnvId) (depth : ℕ) (old cleared middle new : Kept T) (world world_new : World T) (move : Next)
+  pub script_called : (number : ℕ) (f : Function) (place : ℕ) (label : T) (this : Labelled T) (args : List (Labelled T)) (own : EnvId) (depth : ℕ) (old cleared middle new : Kept T) (world world_new : World T) (move : Control)
       → ((reading : T → Label) → nth 0 (lying reading old) ≡ read_value reading this) → ((reading : T → Label) → drop 2 (lying reading old) ≡ map (read_value reading) args)
       → Changes made meaning store (λ reading. with_call functions number f place (read_value reading this) (map (read_value reading) args)) world world_new → own.0 ≡ length world.records
-      → cleared.tasks ≡ old.tasks → cleared.loose ≡ [] → middle ≡ record { tasks = cleared.tasks ++ (work.EndCall own depth, cleared.loose) ∷ []; loose = [] } → StartsBody (body_of f) middle new move
+      → cleared.tasks ≡ old.tasks → cleared.loose ≡ [] → middle ≡ record { tasks = cleared.tasks ++ (continuation.EndCall own depth, cleared.loose) ∷ []; loose = [] } → StartsBody (body_of f) middle new move
       → InCall made meaning store tables inputs set functions ns (of_script number f place) label depth old new world world_new (Ok move)
   unfolding enter_call
   script_called number f place label this args own depth old cleared middle new world world_new move first others changes is_own tasks none is begins = λ reading told turns read.
@@ -211,18 +211,18 @@ module _ {S T : Type 0} (made : S → T → Type 0) (meaning : S → T → Label
       let P = planned tables inputs set functions in
       let A = asking tables inputs set functions in
       let e = setting_of ns here in
-      let pushed_there : middle ≡ record { tasks = old.tasks ++ (work.EndCall own depth, []) ∷ []; loose = [] } = is ∙ ap₂ (λ (ts : List (Task T)) (vs : List (Labelled T)). record { tasks = ts ++ (work.EndCall own depth, vs) ∷ []; loose = [] }) tasks none in
-      body_goes (work.EndCall own depth) [] old middle new move (body_of f) pushed_there begins reading (state_of reading world_new told turns)
+      let pushed_there : middle ≡ record { tasks = old.tasks ++ (continuation.EndCall own depth, []) ∷ []; loose = [] } = is ∙ ap₂ (λ (ts : List (Task T)) (vs : List (Labelled T)). record { tasks = ts ++ (continuation.EndCall own depth, vs) ∷ []; loose = [] }) tasks none in
+      body_goes (continuation.EndCall own depth) [] old middle new move (body_of f) pushed_there begins reading (state_of reading world_new told turns)
       ∙ ap₂ (λ (n : ℕ) (u : State). behind tables inputs set functions reading old.tasks e (and_plan (statements P A (body_of f) (called_env n depth) u) (end_call depth))) (is_own ∙ sym (length-map world.records (read_record reading))) (changes.says reading read told turns)
       ∙ ap₂ (λ (v : Val) (vs : List Val). behind tables inputs set functions reading old.tasks e (and_plan (statements P A (body_of f) (called_env (length s.records) depth) (with_call functions number f place v vs s)) (end_call depth))) (sym (first reading)) (sym (others reading))
 
-  pub script_constructs : (number : ℕ) (f : Function) (place : ℕ) (label : T) (o fresh : ObjId) (proto this again : Labelled T) (args : List (Labelled T)) (own : EnvId) (depth : ℕ) (old cleared laid middle new : Kept T) (world with_object world_new : World T) (move : Next)
+  pub script_constructs : (number : ℕ) (f : Function) (place : ℕ) (label : T) (o fresh : ObjId) (proto this again : Labelled T) (args : List (Labelled T)) (own : EnvId) (depth : ℕ) (old cleared laid middle new : Kept T) (world with_object world_new : World T) (move : Control)
       → ((reading : T → Label) → drop 1 (lying reading old) ≡ map (read_value reading) args)
       → ((reading : T → Label) → IsReading made meaning store reading → read_value reading proto ≡ prototype_of (read_heap reading world.heap) o.0)
       → ((reading : T → Label) → IsReading made meaning store reading → (told : List LabelledLine) (turns : ℕ) → state_of reading with_object told turns ≡ with_fresh (read_value reading proto) (state_of reading world told turns))
       → fresh.0 ≡ length world.heap → this.value ≡ value.Object fresh → again.value ≡ value.Object fresh → ((reading : T → Label) → IsReading made meaning store reading → reading this.label ≡ bottom)
       → Changes made meaning store (λ reading. with_call functions number f place (read_value reading this) (map (read_value reading) args)) with_object world_new → own.0 ≡ length with_object.records
-      → cleared.tasks ≡ old.tasks → cleared.loose ≡ [] → laid.tasks ≡ cleared.tasks → laid.loose ≡ cleared.loose ++ again ∷ [] → middle ≡ record { tasks = laid.tasks ++ (work.EndNew own depth, laid.loose) ∷ []; loose = [] } → StartsBody (body_of f) middle new move
+      → cleared.tasks ≡ old.tasks → cleared.loose ≡ [] → laid.tasks ≡ cleared.tasks → laid.loose ≡ cleared.loose ++ again ∷ [] → middle ≡ record { tasks = laid.tasks ++ (continuation.EndNew own depth, laid.loose) ∷ []; loose = [] } → StartsBody (body_of f) middle new move
       → InConstruction made meaning store tables inputs set functions ns (of_script number f place) label o.0 (length world.heap) depth old new world world_new (Ok move)
   unfolding enter_call enter_construction
   script_constructs number f place label o fresh proto this again args own depth old cleared laid middle new world with_object world_new move others of_proto makes is_fresh is_this is_again empty changes is_own tasks none laid_tasks lies is begins = λ reading told turns read.
@@ -233,12 +233,12 @@ module _ {S T : Type 0} (made : S → T → Type 0) (meaning : S → T → Label
       let e = setting_of ns here in
       let vs = map (read_value reading) args in
       let done : ℕ → State → Plan = λ n u. and_plan (statements P A (body_of f) (called_env n depth) u) (end_construction fresh.0 depth) in
-      let pushed_there : middle ≡ record { tasks = old.tasks ++ (work.EndNew own depth, again ∷ []) ∷ []; loose = [] } = is ∙ ap₂ (λ (ts : List (Task T)) (ws : List (Labelled T)). record { tasks = ts ++ (work.EndNew own depth, ws) ∷ []; loose = [] }) (laid_tasks ∙ tasks) (lies ∙ ap (λ ws. ws ++ again ∷ []) none) in
+      let pushed_there : middle ≡ record { tasks = old.tasks ++ (continuation.EndNew own depth, again ∷ []) ∷ []; loose = [] } = is ∙ ap₂ (λ (ts : List (Task T)) (ws : List (Labelled T)). record { tasks = ts ++ (continuation.EndNew own depth, ws) ∷ []; loose = [] }) (laid_tasks ∙ tasks) (lies ∙ ap (λ ws. ws ++ again ∷ []) none) in
       let this_is : read_value reading this ≡ unlabelled (value.Object (id (length s.heap))) =
       ap₂ (λ (v : Data) (l : Label). record { value = v; label = l }) (is_this ∙ ap (λ n. value.Object (id n)) (is_fresh ∙ sym (length-map world.heap (read_object reading)))) (empty reading read) in
       let object_is : sf ≡ with_fresh (prototype_of s.heap o.0) s = makes reading read told turns ∙ ap (λ p. with_fresh p s) (of_proto reading read) in
       let made_so : ℕ → List Val → Plan = λ n ws. and_plan (statements P A (body_of f) (called_env (length s.records) depth) (with_call functions number f place (unlabelled (value.Object (id (length s.heap)))) ws (with_fresh (prototype_of s.heap o.0) s))) (end_construction n depth) in
-      body_goes (work.EndNew own depth) (again ∷ []) old middle new move (body_of f) pushed_there begins reading (state_of reading world_new told turns)
+      body_goes (continuation.EndNew own depth) (again ∷ []) old middle new move (body_of f) pushed_there begins reading (state_of reading world_new told turns)
       ∙ ap (λ (v : Data). behind tables inputs set functions reading old.tasks e (and_plan (statements P A (body_of f) (called_env own.0 depth) (state_of reading world_new told turns)) (end_construction (object_or_default v).0 depth))) is_again
       ∙ ap₂ (λ (n : ℕ) (u : State). behind tables inputs set functions reading old.tasks e (done n u)) (is_own ∙ sym (length-map with_object.records (read_record reading))) (changes.says reading read told turns)
       ∙ ap₂ (λ (v : Val) (u : State). behind tables inputs set functions reading old.tasks e (done (length u.records) (with_call functions number f place v vs u))) this_is object_is
@@ -246,11 +246,11 @@ module _ {S T : Type 0} (made : S → T → Type 0) (meaning : S → T → Label
 
   -- ---- functions as values
 
-  pub function_begins : (move : Next) (code : Function) (place : EnvId) (o : ObjId) (v : Labelled T) (old new : Kept T) (world world_new : World T)
+  pub function_begins : (move : Control) (code : Function) (place : EnvId) (o : ObjId) (v : Labelled T) (old new : Kept T) (world world_new : World T)
       → ((vs : List Val) (e : Setting) (s : State) → next_plan tables inputs set functions move vs e s ≡ as_plan Value (make_function functions code e.env.place s))
       → (setting_above old.tasks (setting_of ns here)).env.place ≡ place.0 → Gives made meaning store (λ reading. make_function functions code place.0) (unlabelled (value.Object o)) world world_new
       → v.value ≡ value.Object o → ((reading : T → Label) → IsReading made meaning store reading → reading v.label ≡ bottom) → new.tasks ≡ old.tasks → new.loose ≡ v ∷ []
-      → Begins made meaning store tables inputs set functions ns ns old new world world_new move (Ok next.Value)
+      → Begins made meaning store tables inputs set functions ns ns old new world world_new move (Ok control.Value)
   function_begins move code place o v old new world world_new plans there gives is_value empty tasks lies = λ reading told turns read.
       let s = state_of reading world told turns in
       let t = state_of reading world_new told turns in
@@ -264,34 +264,34 @@ module _ {S T : Type 0} (made : S → T → Type 0) (meaning : S → T → Label
 -- ---- an act that throws
 
 module _ {S T : Type 0} (made : S → T → Type 0) (meaning : S → T → Label) (store : S) where
-  abbrev Throws : T → World T → World T → Came Next T → Type 0
+  abbrev Throws : T → World T → World T → machine.Outcome Control T → Type 0
   Throws cause world world_new answer = Acts made meaning store (λ reading x. tt) (λ reading. throw_error {X = Unit {0}} kinds.TypeError (reading cause)) world world_new (Ok answer)
 
-  pub is_throw : (cause : T) (world world_new : World T) (answer : Came Next T) → Throws cause world world_new answer → HasAnswer (λ x. ⊥) (made store) (Ok answer) → IsThrow answer
-  is_throw cause world world_new (came.Throws v) acts has = tt
-  is_throw cause world world_new (came.Goes x) acts has = absurd has
-  is_throw cause world world_new (came.Leaves why) acts has =
+  pub is_throw : (cause : T) (world world_new : World T) (answer : machine.Outcome Control T) → Throws cause world world_new answer → HasAnswer (λ x. ⊥) (made store) (Ok answer) → IsThrow answer
+  is_throw cause world world_new (outcomes.Throws v) acts has = tt
+  is_throw cause world world_new (outcomes.Goes x) acts has = absurd has
+  is_throw cause world world_new (outcomes.Leaves why) acts has =
       no_leaving {X = Unit {0}} kinds.TypeError (meaning store cause) (state_of (meaning store) world [] 0) (state_of (meaning store) world_new [] 0) (left (leaving_name why)) (acts.says (meaning store) (record { agrees = λ label m. refl }) [] 0)
 
   -- what it throws has a label of the store, and the frame is left from inside which it is thrown
-  abbrev pub error_of : (answer : Came Next T) → IsThrow answer → Labelled T
-  error_of (came.Throws v) throws = v
-  error_of (came.Goes x) throws = absurd throws
-  error_of (came.Leaves why) throws = absurd throws
+  abbrev pub error_of : (answer : machine.Outcome Control T) → IsThrow answer → Labelled T
+  error_of (outcomes.Throws v) throws = v
+  error_of (outcomes.Goes x) throws = absurd throws
+  error_of (outcomes.Leaves why) throws = absurd throws
 
-  pub error_is : (answer : Came Next T) (throws : IsThrow answer) → answer ≡ came.Throws (error_of answer throws)
-  error_is (came.Throws v) throws = refl
-  error_is (came.Goes x) throws = absurd throws
-  error_is (came.Leaves why) throws = absurd throws
+  pub error_is : (answer : machine.Outcome Control T) (throws : IsThrow answer) → answer ≡ outcomes.Throws (error_of answer throws)
+  error_is (outcomes.Throws v) throws = refl
+  error_is (outcomes.Goes x) throws = absurd throws
+  error_is (outcomes.Leaves why) throws = absurd throws
 
-  pub error_made : (answer : Came Next T) (throws : IsThrow answer) → HasAnswer (λ x. ⊥) (made store) (Ok answer) → made store (error_of answer throws).label
-  error_made (came.Throws v) throws has = has
-  error_made (came.Goes x) throws has = absurd throws
-  error_made (came.Leaves why) throws has = absurd throws
+  pub error_made : (answer : machine.Outcome Control T) (throws : IsThrow answer) → HasAnswer (λ x. ⊥) (made store) (Ok answer) → made store (error_of answer throws).label
+  error_made (outcomes.Throws v) throws has = has
+  error_made (outcomes.Goes x) throws has = absurd throws
+  error_made (outcomes.Leaves why) throws has = absurd throws
 
-  pub frame_left : (before_store : S) → ((reading : T → Label) → IsReading made meaning store reading → IsReading made meaning before_store reading) → (of : Kind) → is_try of ≡ false → (stack : Kept T) (world world_new : World T) (count depth : ℕ) (label : T) (answer : Came Next T)
+  pub frame_left : (before_store : S) → ((reading : T → Label) → IsReading made meaning store reading → IsReading made meaning before_store reading) → (of : Kind) → is_try of ≡ false → (stack : Kept T) (world world_new : World T) (count depth : ℕ) (label : T) (answer : machine.Outcome Control T)
       → Begun made meaning before_store of stack world count depth label → Throws label world world_new answer → IsThrow answer → length world_new.frames.frames ≤ depth
-  frame_left before_store earlier of quiet stack world world_new count depth label (came.Throws v) in_frame acts throws =
+  frame_left before_store earlier of quiet stack world world_new count depth label (outcomes.Throws v) in_frame acts throws =
       let reading = meaning store in
       let read : IsReading made meaning store reading = record { agrees = λ l m. refl } in
       let fs = map (seen_frame reading) world.frames.frames in
@@ -299,5 +299,5 @@ module _ {S T : Type 0} (made : S → T → Type 0) (meaning : S → T → Label
       let some : 0 < length (take depth fs) = omega (arith, size, in_frame.deep) in
       let left_few = throw_leaves (take depth fs) (pushed of (reading label)) quiet some depth size (state_of reading world [] 0) (in_frame.innermost reading (earlier reading read)) {X = Unit {0}} kinds.TypeError (reading label) (thrown reading v) (state_of reading world_new [] 0) (acts.says reading read [] 0) in
       omega (arith, left_few, length-map world_new.frames.frames (seen_frame reading))
-  frame_left before_store earlier of quiet stack world world_new count depth label (came.Goes x) in_frame acts throws = absurd throws
-  frame_left before_store earlier of quiet stack world world_new count depth label (came.Leaves why) in_frame acts throws = absurd throws
+  frame_left before_store earlier of quiet stack world world_new count depth label (outcomes.Goes x) in_frame acts throws = absurd throws
+  frame_left before_store earlier of quiet stack world world_new count depth label (outcomes.Leaves why) in_frame acts throws = absurd throws

@@ -21,20 +21,20 @@ use Rattle.es_meaning.specs.Functions.{Callee, empty_callee, not_callable, of_bu
 use Rattle.flow_meaning.specs.Planned.{Enters, Plan, and_plan, call_by, call_value, construct_by, construct_value, end_call, end_construction, enter_call, enter_construction}
 use Rattle.flow_meaning.specs.Scopes.{LabelledLine, State, Val, pushed_on}
 use Rattle.flow_meaning.specs.Tracked.{callee_at}
-use Rattle.step_world.specs.declared.world.World.{World}
-use Rattle.step_world.specs.Worlds.{state_of}
-use Rattle.step_work.specs.declared.work.Next.{Next}
-use Rattle.step_work.specs.declared.work.Next.TheVariants as next
-use Rattle.step_work.specs.Going.{Begins, here}
-use Rattle.step_work.specs.Kept.{Kept}
-use Rattle.step_work.specs.Moving.{Moves}
-use Rattle.step_work.specs.Pending.{Task, behind, env_above, setting_above, setting_inside}
-use Rattle.step_work.specs.Settings.{Setting, entrance, setting_of}
-use Rattle.step_work.specs.Shapes.{nth}
+use Rattle.run_state.specs.declared.world.World.{World}
+use Rattle.run_state.specs.Worlds.{state_of}
+use Rattle.continuations.specs.declared.continuation.Control.{Control}
+use Rattle.continuations.specs.declared.continuation.Control.TheVariants as control
+use Rattle.continuations.specs.Going.{Begins, here}
+use Rattle.continuations.specs.Kept.{Kept}
+use Rattle.continuations.specs.Moving.{Moves}
+use Rattle.continuations.specs.Pending.{Task, behind, env_above, setting_above, setting_inside}
+use Rattle.continuations.specs.Settings.{Setting, entrance, setting_of}
+use Rattle.continuations.specs.Shapes.{nth}
 use Rattle.step_calling.specs.declared.reaching.Reached.{Reached}
 use Rattle.step_calling.specs.Calling.{CallsBy, CallsObject, Comes, ConstructsBy, ConstructsObject, InCall, InConstruction, lying, native_in, object_in}
 use Rattle.step_calling.specs.Reaching.{ReachesCall, ReachesConstruction}
-use Rattle.step_converting.specs.Framed.{Leads}
+use Rattle.step_natives.specs.Framed.{Leads}
 
 -- ---- what lies loose
 
@@ -88,18 +88,18 @@ place_above (w ∷ tasks) e = place_above tasks (setting_inside w.0 e)
 
 module _ {S T : Type 0} (made : S → T → Type 0) (meaning : S → T → Label) (store : S) (tables : Tables) (inputs : Given) (set : BuiltIns) (functions : List FunctionCode) where
   -- another plan that is equal, of another state
-  pub comes_as : (natives_old natives_new : List Steps) (p q : (T → Label) → State → Plan) (laid old new : Kept T) (inner world world_new : World T) (result : Result Next (FlowFault T)) → laid.tasks ≡ old.tasks
+  pub comes_as : (natives_old natives_new : List Steps) (p q : (T → Label) → State → Plan) (laid old new : Kept T) (inner world world_new : World T) (result : Result Control (FlowFault T)) → laid.tasks ≡ old.tasks
       → ((reading : T → Label) (told : List LabelledLine) (turns : ℕ) → IsReading made meaning store reading → p reading (state_of reading inner told turns) ≡ q reading (state_of reading world told turns))
       → Comes made meaning store tables inputs set functions natives_old natives_new p laid new inner world_new result → Comes made meaning store tables inputs set functions natives_old natives_new q old new world world_new result
   comes_as natives_old natives_new p q laid old new inner world world_new result tasks same comes = λ reading told turns read.
       subst (λ r. Moves tables inputs set functions reading new (setting_of natives_new here) (state_of reading world_new told turns) r result)
       (ap₂ (λ ts r. behind tables inputs set functions reading ts (setting_of natives_old here) r) tasks (same reading told turns read)) (comes reading told turns read)
 
-  module _ (natives_old natives_new : List Steps) (old new : Kept T) (world world_new : World T) (result : Result Next (FlowFault T)) where
+  module _ (natives_old natives_new : List Steps) (old new : Kept T) (world world_new : World T) (result : Result Control (FlowFault T)) where
     -- ---- calls
 
     pub call_begins : (count : ℕ) (v : Labelled T) (f : ObjId) → 2 ≤ length old.loose → Leads (drop 1 old.loose) v → object_in v.value ≡ Some f
-        → CallsObject made meaning store tables inputs set functions natives_old natives_new f v.label old new world world_new result → Begins made meaning store tables inputs set functions natives_old natives_new old new world world_new (next.Call count) result
+        → CallsObject made meaning store tables inputs set functions natives_old natives_new f v.label old new world world_new result → Begins made meaning store tables inputs set functions natives_old natives_new old new world world_new (control.Call count) result
     unfolding call_with
     call_begins count v f enough leads object comes =
         comes_as natives_old natives_new (λ reading s. call_value functions (reading v.label) (value.Object f) (nth 0 (lying reading old)) (drop 2 (lying reading old)) (entrance tables inputs set functions) s)
@@ -110,7 +110,7 @@ module _ {S T : Type 0} (made : S → T → Type 0) (meaning : S → T → Label
         ∙ ap (λ (u : Val). call_value functions u.label u.value (nth 0 (lying reading old)) (drop 2 (lying reading old)) (entrance tables inputs set functions) s) (sym (second_is reading old.loose v enough leads))) comes
 
     pub refused_begins : (count : ℕ) (v : Labelled T) → 2 ≤ length old.loose → Leads (drop 1 old.loose) v → object_in v.value ≡ None
-        → CallsBy made meaning store tables inputs set functions natives_old natives_new not_callable v.label 0 old new world world_new result → Begins made meaning store tables inputs set functions natives_old natives_new old new world world_new (next.Call count) result
+        → CallsBy made meaning store tables inputs set functions natives_old natives_new not_callable v.label 0 old new world world_new result → Begins made meaning store tables inputs set functions natives_old natives_new old new world world_new (control.Call count) result
     unfolding call_with
     refused_begins count v enough leads object comes =
         comes_as natives_old natives_new (λ reading s. call_by functions not_callable (reading v.label) 0 (nth 0 (lying reading old)) (drop 2 (lying reading old)) (entrance tables inputs set functions) s)
@@ -123,7 +123,7 @@ module _ {S T : Type 0} (made : S → T → Type 0) (meaning : S → T → Label
     -- ---- constructions
 
     pub construction_begins : (count : ℕ) (v : Labelled T) (f : ObjId) → Leads old.loose v → object_in v.value ≡ Some f
-        → ConstructsObject made meaning store tables inputs set functions natives_old natives_new f v.label old new world world_new result → Begins made meaning store tables inputs set functions natives_old natives_new old new world world_new (next.Construct count) result
+        → ConstructsObject made meaning store tables inputs set functions natives_old natives_new f v.label old new world world_new result → Begins made meaning store tables inputs set functions natives_old natives_new old new world world_new (control.Construct count) result
     unfolding call_with
     construction_begins count v f leads object comes =
         comes_as natives_old natives_new (λ reading s. construct_value set functions (reading v.label) (value.Object f) (drop 1 (lying reading old)) (entrance tables inputs set functions) s)
@@ -134,7 +134,7 @@ module _ {S T : Type 0} (made : S → T → Type 0) (meaning : S → T → Label
         ∙ ap (λ (u : Val). construct_value set functions u.label u.value (drop 1 (lying reading old)) (entrance tables inputs set functions) s) (sym (first_is reading old.loose v leads))) comes
 
     pub no_construction_begins : (count : ℕ) (v : Labelled T) → Leads old.loose v → object_in v.value ≡ None
-        → ConstructsBy made meaning store tables inputs set functions natives_old natives_new not_callable v.label 0 old new world world_new result → Begins made meaning store tables inputs set functions natives_old natives_new old new world world_new (next.Construct count) result
+        → ConstructsBy made meaning store tables inputs set functions natives_old natives_new not_callable v.label 0 old new world world_new result → Begins made meaning store tables inputs set functions natives_old natives_new old new world world_new (control.Construct count) result
     unfolding call_with
     no_construction_begins count v leads object comes =
         comes_as natives_old natives_new (λ reading s. construct_by set functions not_callable (reading v.label) 0 (drop 1 (lying reading old)) (entrance tables inputs set functions) s)

@@ -1,3 +1,4 @@
+pub mod BoundTargetLaws
 pub mod CallLaws
 pub mod CalleeLaws
 pub mod NativeLaws

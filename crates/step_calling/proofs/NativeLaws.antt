@@ -29,19 +29,19 @@ use Rattle.flow_meaning.specs.Planned.{Plan, as_plan, asking, call_by, construct
 use Rattle.flow_meaning.specs.Scopes.{State, Val}
 use Rattle.flow_meaning.specs.Tracked.{called_value, throw_error}
 use Rattle.step_natives.specs.States.{States, running_steps, waiting_steps}
-use Rattle.step_world.specs.declared.world.World.{World}
-use Rattle.step_world.specs.Worlds.{state_of}
-use Rattle.step_work.specs.declared.work.Next.{Next}
-use Rattle.step_work.specs.declared.work.Next.TheVariants as next
-use Rattle.step_work.specs.Going.{here}
-use Rattle.step_work.specs.Kept.{Kept, waiting}
-use Rattle.step_work.specs.Pending.{behind}
-use Rattle.step_work.specs.Resuming.{coming}
-use Rattle.step_work.specs.Settings.{entrance, setting_of}
-use Rattle.step_work.specs.Shapes.{nth}
-use Rattle.step_work.specs.Standing.{running}
+use Rattle.run_state.specs.declared.world.World.{World}
+use Rattle.run_state.specs.Worlds.{state_of}
+use Rattle.continuations.specs.declared.continuation.Control.{Control}
+use Rattle.continuations.specs.declared.continuation.Control.TheVariants as control
+use Rattle.continuations.specs.Going.{here}
+use Rattle.continuations.specs.Kept.{Kept, waiting}
+use Rattle.continuations.specs.Pending.{behind}
+use Rattle.continuations.specs.Resuming.{coming}
+use Rattle.continuations.specs.Settings.{entrance, setting_of}
+use Rattle.continuations.specs.Shapes.{nth}
+use Rattle.continuations.specs.Invariant.{running}
 use Rattle.step_calling.specs.Calling.{CallsBy, Comes, ConstructsBy, lying, native_in}
-use Rattle.step_converting.specs.Framed.{Leads, RunsNative, steps_at, steps_behind}
+use Rattle.step_natives.specs.Framed.{Leads, RunsNative, steps_at, steps_behind}
 
 -- ---- which built-ins construct
 
@@ -73,8 +73,8 @@ native_so (of_script number f place) which is = absurd (none-some which is)
 -- ---- the states while no built-in runs
 
 module _ {X : Type 0} (tells : X → Answer → X) (asks : X → Request) (natives : States X) where
-  pub steps_quiet : (move : Next) → running move ≡ 0 → steps_at tells asks natives move ≡ waiting_steps tells asks natives
-  steps_quiet (next.Request count) quiet = absurd (omega (arith, quiet))
+  pub steps_quiet : (move : Control) → running move ≡ 0 → steps_at tells asks natives move ≡ waiting_steps tells asks natives
+  steps_quiet (control.Request count) quiet = absurd (omega (arith, quiet))
   steps_quiet _ quiet = refl
 
 -- ---- registers
@@ -92,20 +92,20 @@ drop_read reading (v ∷ loose) = refl
 
 module _ {S T X : Type 0} (made : S → T → Type 0) (meaning : S → T → Label) (store : S) (tables : Tables) (inputs : Given) (set : BuiltIns) (functions : List FunctionCode) (tells : X → Answer → X) (asks : X → Request) (natives_old natives_new : States X) where
   -- a built-in whose state was begun runs
-  native_comes : (plan : (T → Label) → State → Plan) (which : ℕ) (constructs : Bool) (count argc : ℕ) (label : T) (old laid new : Kept T) (world world_new : World T) → RunsNative made meaning store label laid new world world_new (next.Request count)
+  native_comes : (plan : (T → Label) → State → Plan) (which : ℕ) (constructs : Bool) (count argc : ℕ) (label : T) (old laid new : Kept T) (world world_new : World T) → RunsNative made meaning store label laid new world world_new (control.Request count)
       → running_steps tells asks natives_new ≡ waiting_steps tells asks natives_old ++ begins_in set which argc constructs ∷ [] → length (waiting_steps tells asks natives_old) ≡ waiting laid.tasks → laid.tasks ≡ old.tasks → length laid.loose - 2 ≡ argc
       → ((reading : T → Label) (s : State) → IsReading made meaning store reading → in_frame kind.Native (reading label) ((entrance tables inputs set functions).built_in which constructs (lying reading laid)) s ≡ plan reading s)
-      → Comes made meaning store tables inputs set functions (waiting_steps tells asks natives_old) (steps_at tells asks natives_new (next.Request count)) plan old new world world_new (Ok (next.Request count))
+      → Comes made meaning store tables inputs set functions (waiting_steps tells asks natives_old) (steps_at tells asks natives_new (control.Request count)) plan old new world world_new (Ok (control.Request count))
   native_comes plan which constructs count argc label old laid new world world_new runs begun size tasks counted same = λ reading told turns read.
       let ns = waiting_steps tells asks natives_old in
       let s = state_of reading world told turns in
       let vs = lying reading laid in
-      ap (λ xs. coming tables inputs set functions reading new (next.Request count) (setting_of xs here) (state_of reading world_new told turns)) begun
+      ap (λ xs. coming tables inputs set functions reading new (control.Request count) (setting_of xs here) (state_of reading world_new told turns)) begun
       ∙ runs tables inputs set functions reading (setting_of ns here) (begins_in set which argc constructs) told turns read size
       ∙ ap (λ n. behind tables inputs set functions reading laid.tasks (setting_of ns here) (in_frame kind.Native (reading label) ((asking tables inputs set functions).native (begins_in set which n constructs) vs) s)) (sym counted ∙ ap (λ n. n - 2) (sym (length-map laid.loose (read_value reading))))
       ∙ ap₂ (λ ts p. behind tables inputs set functions reading ts (setting_of ns here) p) tasks (same reading s read)
 
-  pub native_calls : (which count argc : ℕ) (label : T) (o : ObjId) (old new : Kept T) (world world_new : World T) (move : Next) → move ≡ next.Request count → RunsNative made meaning store label old new world world_new move
+  pub native_calls : (which count argc : ℕ) (label : T) (o : ObjId) (old new : Kept T) (world world_new : World T) (move : Control) → move ≡ control.Request count → RunsNative made meaning store label old new world world_new move
       → running_steps tells asks natives_new ≡ waiting_steps tells asks natives_old ++ begins_in set which argc false ∷ [] → length (waiting_steps tells asks natives_old) ≡ waiting old.tasks → length old.loose - 2 ≡ argc
       → 2 ≤ length old.loose → Leads (drop 1 old.loose) (record { value = value.Object o; label = label })
       → CallsBy made meaning store tables inputs set functions (waiting_steps tells asks natives_old) (steps_behind {T = T} tells asks natives_new (Ok move)) (of_built_in which) label o.0 old new world world_new (Ok move)
@@ -115,7 +115,7 @@ module _ {S T X : Type 0} (made : S → T → Type 0) (meaning : S → T → Lab
       (λ r. native_comes (λ reading s. call_by functions (of_built_in which) (reading label) o.0 (nth 0 (lying reading old)) (drop 2 (lying reading old)) (entrance tables inputs set functions) s) which false count argc label old old new world world_new r begun size refl counted
       (λ reading s read. ap (λ vs. in_frame kind.Native (reading label) ((entrance tables inputs set functions).built_in which false vs) s) (registers_of reading old.loose o label enough leads))) runs
 
-  pub native_constructs : (which count argc : ℕ) (label none : T) (o : ObjId) (old laid new : Kept T) (world world_new : World T) (move : Next) → constructs_in set which ≡ true → move ≡ next.Request count → RunsNative made meaning store label laid new world world_new move
+  pub native_constructs : (which count argc : ℕ) (label none : T) (o : ObjId) (old laid new : Kept T) (world world_new : World T) (move : Control) → constructs_in set which ≡ true → move ≡ control.Request count → RunsNative made meaning store label laid new world world_new move
       → running_steps tells asks natives_new ≡ waiting_steps tells asks natives_old ++ begins_in set which argc true ∷ [] → length (waiting_steps tells asks natives_old) ≡ waiting laid.tasks → laid.tasks ≡ old.tasks → length laid.loose - 2 ≡ argc
       → laid.loose ≡ record { value = undefined; label = none } ∷ old.loose → ((reading : T → Label) → IsReading made meaning store reading → reading none ≡ bottom) → Leads old.loose (record { value = value.Object o; label = label })
       → ConstructsBy made meaning store tables inputs set functions (waiting_steps tells asks natives_old) (steps_behind {T = T} tells asks natives_new (Ok move)) (of_built_in which) label o.0 old new world world_new (Ok move)
@@ -131,7 +131,7 @@ module _ {S T X : Type 0} (made : S → T → Type 0) (meaning : S → T → Lab
       ∙ ap (λ b. in_frame kind.Native (reading label) (choose b (E.built_in which true (unlabelled undefined ∷ called_value (reading label) o.0 ∷ drop 1 (lying reading old))) (λ t. as_plan Value (throw_error {X = Val} kinds.TypeError (reading label) t))) s) (sym does))) runs
 
   -- while none is begun the states stay
-  pub quiet_comes : (plan : (T → Label) → State → Plan) (old new : Kept T) (world world_new : World T) (result : Result Next (FlowFault T)) → natives_new ≡ natives_old → IfOk result (λ move. running move ≡ 0)
+  pub quiet_comes : (plan : (T → Label) → State → Plan) (old new : Kept T) (world world_new : World T) (result : Result Control (FlowFault T)) → natives_new ≡ natives_old → IfOk result (λ move. running move ≡ 0)
       → Comes made meaning store tables inputs set functions (waiting_steps tells asks natives_old) (waiting_steps tells asks natives_old) plan old new world world_new result
       → Comes made meaning store tables inputs set functions (waiting_steps tells asks natives_old) (steps_behind tells asks natives_new result) plan old new world world_new result
   quiet_comes plan old new world world_new (Ok move) same quiet comes =

@@ -17,13 +17,13 @@ use Rattle.flow_meaning.specs.Requested as requested
 use Rattle.flow_meaning.specs.Requested.{aim_of, own_aim}
 use Rattle.flow_meaning.specs.Scopes.{Val}
 use Rattle.flow_meaning.specs.Tracked.{callee_at}
-use Rattle.step_bound.specs.declared.aims.Aim.{Aim}
-use Rattle.step_bound.specs.Aims.{ComesTo, IsAimed}
-use Rattle.step_work.specs.Kept.{Kept}
-use Rattle.step_work.specs.Shapes.{nth}
+use Rattle.step_calling.specs.declared.bound_target.BoundTarget.{BoundTarget}
+use Rattle.step_calling.specs.BoundTargets.{ComesTo, IsBoundTarget}
+use Rattle.continuations.specs.Kept.{Kept}
+use Rattle.continuations.specs.Shapes.{nth}
 use Rattle.step_calling.specs.Calling.{lying}
 use Rattle.step_calling.specs.Reaching.{IsLaid, ReachesCall, ReachesConstruction, called_with}
-use Rattle.step_converting.specs.Framed.{Leads}
+use Rattle.step_natives.specs.Framed.{Leads}
 
 pub map_drop : {X Y : Type 0} (f : X → Y) (n : ℕ) (xs : List X) → map f (drop n xs) ≡ drop n (map f xs)
 map_drop f zero xs = refl
@@ -67,7 +67,7 @@ module _ {S T : Type 0} (made : S → T → Type 0) (meaning : S → T → Label
     }
 
   -- a bound one: what it comes to is called
-  module _ (room : S → ℕ) (firm : S → Bool) (aimed_store store : S) (kept : IsKept made meaning room firm aimed_store store) (a : Aim T) (joined : T) (aimed : IsAimed made meaning aimed_store heap f.0 a) (m : made store joined)
+  module _ (room : S → ℕ) (firm : S → Bool) (aimed_store store : S) (kept : IsKept made meaning room firm aimed_store store) (a : BoundTarget T) (joined : T) (aimed : IsBoundTarget made meaning aimed_store heap f.0 a) (m : made store joined)
       (means : (reading : T → Label) → IsReading made meaning store reading → reading joined ≡ union (reading label) (reading a.label)) (old new : Kept T) (count : ℕ) (tasks : new.tasks ≡ old.tasks) (size : count ≡ length new.loose) where
     abbrev laid_args : ℕ → List (Labelled T)
     laid_args n = a.args ++ drop n old.loose

@@ -9,20 +9,20 @@ use Rattle.flow_frames.specs.declared.kind.Kind.{Kind}
 use Rattle.flow_frames.specs.Held as held
 use Rattle.js_values.specs.declared.value.Labelled.{Labelled}
 use Rattle.js_values.specs.Readings.{HasValue}
-use Rattle.step_world.specs.declared.world.World.{World}
-use Rattle.step_world.specs.Worlds.{Belongs}
-use Rattle.step_work.specs.declared.work.Work.{Work}
-use Rattle.step_work.specs.declared.work.Next.{Next}
-use Rattle.step_work.specs.declared.work.Next.TheVariants as next
-use Rattle.step_work.specs.Kept.{Kept, kept_operands, operands_of, scope_of, scopes_of, waiting, waits}
-use Rattle.step_work.specs.Going.{Lowers}
-use Rattle.step_work.specs.Loads.{Adds, load}
-use Rattle.step_work.specs.Pending.{values_of}
-use Rattle.step_work.specs.Resuming.{Keeps}
-use Rattle.step_work.specs.Standing.{Framed, Standing, depths, running}
-use Rattle.step_converting.specs.Framed.{Begun}
-use Rattle.step_converting.proofs.FrameLaws.{any_move, more_depths, values_kept}
-use Rattle.step_converting.proofs.ValueLists.{behind_has, front_has, one_has}
+use Rattle.run_state.specs.declared.world.World.{World}
+use Rattle.run_state.specs.Worlds.{Belongs}
+use Rattle.continuations.specs.declared.continuation.Continuation.{Continuation}
+use Rattle.continuations.specs.declared.continuation.Control.{Control}
+use Rattle.continuations.specs.declared.continuation.Control.TheVariants as control
+use Rattle.continuations.specs.Kept.{Kept, kept_operands, operands_of, scope_of, scopes_of, waiting, waits}
+use Rattle.continuations.specs.Going.{Lowers}
+use Rattle.continuations.specs.Loads.{Adds, load}
+use Rattle.continuations.specs.Pending.{values_of}
+use Rattle.continuations.specs.Resuming.{Keeps}
+use Rattle.continuations.specs.Invariant.{Framed, Invariant, depths, running}
+use Rattle.step_natives.specs.Framed.{Begun}
+use Rattle.step_natives.proofs.FrameLaws.{any_move, more_depths, values_kept}
+use Rattle.step_natives.proofs.ValueLists.{behind_has, front_has, one_has}
 use Rattle.step_calling.specs.declared.reaching.Reached.{Reached}
 use Rattle.step_calling.specs.Reaching.{IsLaid}
 
@@ -32,9 +32,9 @@ module _ {S T : Type 0} (made : S → T → Type 0) (meaning : S → T → Label
     pending_has = values_kept made meaning room firm old new kept (kept_operands stack.tasks) (front_has (HasValue (made old)) (kept_operands stack.tasks) stack.loose in_frame.operands)
 
     -- the values of a call are dropped, and its end is pushed, with the operands that it keeps
-    pub stands_entered : (cleared middle last : Kept T) (w : Work) (move : Next) → world_new.frames ≡ world.frames → scope_of w ≡ depth ∷ [] → waits w ≡ 0 → running move ≡ 0 → cleared.tasks ≡ stack.tasks → All (HasValue (made new)) cleared.loose
+    pub stands_entered : (cleared middle last : Kept T) (w : Continuation) (move : Control) → world_new.frames ≡ world.frames → scope_of w ≡ depth ∷ [] → waits w ≡ 0 → running move ≡ 0 → cleared.tasks ≡ stack.tasks → All (HasValue (made new)) cleared.loose
         → scopes_of middle.tasks ≡ scopes_of cleared.tasks ++ scope_of w → waiting middle.tasks ≡ waiting cleared.tasks + waits w → operands_of middle ≡ operands_of cleared → Keeps middle last move
-        → Standing made meaning new last world_new (values_of move) (scopes_of last.tasks) (waiting stack.tasks) move
+        → Invariant made meaning new last world_new (values_of move) (scopes_of last.tasks) (waiting stack.tasks) move
     stands_entered cleared middle last w move frames own none quiet tasks has scopes natives operands keeps =
         let same : scopes_of last.tasks ≡ scopes_of stack.tasks ++ depth ∷ [] = keeps.scopes ∙ scopes ∙ ap₂ (λ ts ds. scopes_of ts ++ ds) tasks own in
         let as_many : length world_new.frames.frames ≡ length world.frames.frames = ap (λ (k : held.Kept T). length k.frames) frames in
@@ -51,8 +51,8 @@ module _ {S T : Type 0} (made : S → T → Type 0) (meaning : S → T → Label
         }
 
     -- the values of a call are dropped, and one value is laid
-    pub stands_laid : (last : Kept T) (v : Labelled T) (move : Next) → last.tasks ≡ stack.tasks → last.loose ≡ v ∷ [] → made new v.label → values_of move ≡ 1 → running move ≡ 0 → Framed move (length world_new.frames.frames) (length (scopes_of stack.tasks))
-        → Standing made meaning new last world_new (values_of move) (scopes_of last.tasks) (waiting stack.tasks) move
+    pub stands_laid : (last : Kept T) (v : Labelled T) (move : Control) → last.tasks ≡ stack.tasks → last.loose ≡ v ∷ [] → made new v.label → values_of move ≡ 1 → running move ≡ 0 → Framed move (length world_new.frames.frames) (length (scopes_of stack.tasks))
+        → Invariant made meaning new last world_new (values_of move) (scopes_of last.tasks) (waiting stack.tasks) move
     stands_laid last v move tasks lies m one quiet framed = record {
       belongs = belongs;
       operands = subst (All (HasValue (made new))) (sym (ap₂ (λ ts vs. kept_operands ts ++ vs) tasks lies)) (All-append (HasValue (made new)) (kept_operands stack.tasks) (v ∷ []) pending_has (one_has (HasValue (made new)) v m));
@@ -64,8 +64,8 @@ module _ {S T : Type 0} (made : S → T → Type 0) (meaning : S → T → Label
     }
 
   -- what lies loose was laid anew
-  pub stands_reached : (stack laid : Kept T) (world : World T) (count natives enough : ℕ) (r : Reached T) → Standing made meaning old stack world count (scopes_of stack.tasks) natives next.Value → Belongs made meaning new world → IsLaid made meaning new enough stack laid r
-      → Standing made meaning new laid world r.count (scopes_of laid.tasks) natives next.Value
+  pub stands_reached : (stack laid : Kept T) (world : World T) (count natives enough : ℕ) (r : Reached T) → Invariant made meaning old stack world count (scopes_of stack.tasks) natives control.Value → Belongs made meaning new world → IsLaid made meaning new enough stack laid r
+      → Invariant made meaning new laid world r.count (scopes_of laid.tasks) natives control.Value
   stands_reached stack laid world count natives enough r s belongs is =
       let P = HasValue (made new) in
       let pending : All P (kept_operands stack.tasks) = values_kept made meaning room firm old new kept (kept_operands stack.tasks) (front_has (HasValue (made old)) (kept_operands stack.tasks) stack.loose s.operands) in
@@ -82,31 +82,31 @@ module _ {S T : Type 0} (made : S → T → Type 0) (meaning : S → T → Label
 
 -- ---- what is left to do
 
-pub lower_call : {T X : Type 0} (old new : Kept T) (n : ℕ) (result : Result Next X) → IfOk result (Adds 5 old new) → IfOk result (λ move. Lowers old (next.Call n) new move)
+pub lower_call : {T X : Type 0} (old new : Kept T) (n : ℕ) (result : Result Control X) → IfOk result (Adds 5 old new) → IfOk result (λ move. Lowers old (control.Call n) new move)
 lower_call old new n (Ok move) adds = omega (arith, adds)
 lower_call old new n (Err fault) adds = tt
 
-pub lower_construction : {T X : Type 0} (old new : Kept T) (n : ℕ) (result : Result Next X) → IfOk result (Adds 5 old new) → IfOk result (λ move. Lowers old (next.Construct n) new move)
+pub lower_construction : {T X : Type 0} (old new : Kept T) (n : ℕ) (result : Result Control X) → IfOk result (Adds 5 old new) → IfOk result (λ move. Lowers old (control.Construct n) new move)
 lower_construction old new n (Ok move) adds = omega (arith, adds)
 lower_construction old new n (Err fault) adds = tt
 
 -- from what was laid anew
-pub adds_under : {T X : Type 0} (old laid new : Kept T) (n : ℕ) (result : Result Next X) → laid.tasks ≡ old.tasks → IfOk result (Adds n laid new) → IfOk result (Adds n old new)
+pub adds_under : {T X : Type 0} (old laid new : Kept T) (n : ℕ) (result : Result Control X) → laid.tasks ≡ old.tasks → IfOk result (Adds n laid new) → IfOk result (Adds n old new)
 adds_under old laid new n (Ok move) tasks adds = let same : load laid.tasks ≡ load old.tasks = ap load tasks in omega (arith, same, adds)
 adds_under old laid new n (Err fault) tasks adds = tt
 
-pub adds_more : {T X : Type 0} (old new : Kept T) (result : Result Next X) → IfOk result (Adds 4 old new) → IfOk result (Adds 5 old new)
+pub adds_more : {T X : Type 0} (old new : Kept T) (result : Result Control X) → IfOk result (Adds 4 old new) → IfOk result (Adds 5 old new)
 adds_more old new (Ok move) adds = omega (arith, adds)
 adds_more old new (Err fault) adds = tt
 
-pub adds_running : {T X : Type 0} (old new : Kept T) (result : Result Next X) → IfOk result (Adds 1 old new) → IfOk result (Adds 4 old new)
+pub adds_running : {T X : Type 0} (old new : Kept T) (result : Result Control X) → IfOk result (Adds 1 old new) → IfOk result (Adds 4 old new)
 adds_running old new (Ok move) adds = omega (arith, adds)
 adds_running old new (Err fault) adds = tt
 
 module _ {S T : Type 0} (made : S → T → Type 0) (meaning : S → T → Label) where
   -- values were laid on others, and then all was kept
-  pub stands_kept : (store : S) (old laid last : Kept T) (world : World T) (count : ℕ) (loose : List (Labelled T)) (move : Next) → Standing made meaning store old world count (scopes_of old.tasks ++ []) (waiting old.tasks) next.Value
-      → laid.tasks ≡ old.tasks → laid.loose ≡ loose → (All (HasValue (made store)) old.loose → All (HasValue (made store)) loose) → Keeps laid last move → running move ≡ 0 → Standing made meaning store last world (values_of move) (scopes_of last.tasks) (waiting old.tasks) move
+  pub stands_kept : (store : S) (old laid last : Kept T) (world : World T) (count : ℕ) (loose : List (Labelled T)) (move : Control) → Invariant made meaning store old world count (scopes_of old.tasks ++ []) (waiting old.tasks) control.Value
+      → laid.tasks ≡ old.tasks → laid.loose ≡ loose → (All (HasValue (made store)) old.loose → All (HasValue (made store)) loose) → Keeps laid last move → running move ≡ 0 → Invariant made meaning store last world (values_of move) (scopes_of last.tasks) (waiting old.tasks) move
   stands_kept store old laid last world count loose move s tasks lies has keeps quiet =
       let P = HasValue (made store) in
       let same : scopes_of last.tasks ≡ scopes_of old.tasks ++ [] = keeps.scopes ∙ ap scopes_of tasks ∙ sym (append-nil (scopes_of old.tasks)) in
@@ -123,8 +123,8 @@ module _ {S T : Type 0} (made : S → T → Type 0) (meaning : S → T → Label
       }
 
   -- a value was laid below the others
-  pub stands_below : (store : S) (old laid : Kept T) (world : World T) (count more n : ℕ) (v : Labelled T) → Standing made meaning store old world count (scopes_of old.tasks) n next.Value
-      → laid.tasks ≡ old.tasks → laid.loose ≡ v ∷ old.loose → made store v.label → more ≡ length laid.loose → Standing made meaning store laid world more (scopes_of laid.tasks) (waiting laid.tasks) next.Value
+  pub stands_below : (store : S) (old laid : Kept T) (world : World T) (count more n : ℕ) (v : Labelled T) → Invariant made meaning store old world count (scopes_of old.tasks) n control.Value
+      → laid.tasks ≡ old.tasks → laid.loose ≡ v ∷ old.loose → made store v.label → more ≡ length laid.loose → Invariant made meaning store laid world more (scopes_of laid.tasks) (waiting laid.tasks) control.Value
   stands_below store old laid world count more n v s tasks lies m size =
       let P = HasValue (made store) in
       record {
@@ -142,7 +142,7 @@ module _ {S T : Type 0} (made : S → T → Type 0) (meaning : S → T → Label
   pub stands_valued : (room : S → ℕ) (firm : S → Bool) (old_store new_store : S) → IsKept made meaning room firm old_store new_store → (old last : Kept T) (world world_new : World T) (v : Labelled T)
       → All (HasValue (made old_store)) (operands_of old) → scopes_of old.tasks ≡ depths (length (scopes_of old.tasks)) → length world.frames.frames ≡ suc (length (scopes_of old.tasks)) → 0 < length world.records
       → Belongs made meaning new_store world_new → world_new.frames ≡ world.frames → length world.records ≤ length world_new.records → last.tasks ≡ old.tasks → last.loose ≡ v ∷ [] → made new_store v.label
-      → Standing made meaning new_store last world_new 1 (scopes_of last.tasks) (waiting old.tasks) next.Value
+      → Invariant made meaning new_store last world_new 1 (scopes_of last.tasks) (waiting old.tasks) control.Value
   stands_valued room firm old_store new_store kept old last world world_new v operands scopes frames some belongs same records tasks lies m = record {
     belongs = belongs;
     operands = subst (All (HasValue (made new_store))) (sym (ap₂ (λ ts vs. kept_operands ts ++ vs) tasks lies))

@@ -17,17 +17,17 @@ use Rattle.es_meaning.specs.Evaluation.{arguments, call_value, construct_value}
 use Rattle.es_meaning.specs.Operations.{calls}
 use Rattle.es_meaning.specs.Plain.{undefined}
 use Rattle.flow_meaning.specs.Planned.{asking, planned}
-use Rattle.step_world.specs.declared.world.World.{World}
-use Rattle.step_world.specs.Worlds.{state_of}
-use Rattle.step_work.specs.declared.work.Calling.TheVariants as calling
-use Rattle.step_work.specs.declared.work.Next.{Next}
-use Rattle.step_work.specs.declared.work.Work.TheVariants as work
-use Rattle.step_work.specs.Going.{Resumes, here}
-use Rattle.step_work.specs.Kept.{Kept}
-use Rattle.step_work.specs.Pending.{behind, first_or_undefined, owns_calling, setting_above}
-use Rattle.step_work.specs.Resuming.{BeginsBehind}
-use Rattle.step_work.specs.Settings.{entrance, setting_of}
-use Rattle.step_work.specs.Shapes.{calling_of}
+use Rattle.run_state.specs.declared.world.World.{World}
+use Rattle.run_state.specs.Worlds.{state_of}
+use Rattle.continuations.specs.declared.continuation.Calling.TheVariants as calling
+use Rattle.continuations.specs.declared.continuation.Control.{Control}
+use Rattle.continuations.specs.declared.continuation.Continuation.TheVariants as continuation
+use Rattle.continuations.specs.Going.{Resumes, here}
+use Rattle.continuations.specs.Kept.{Kept}
+use Rattle.continuations.specs.Pending.{behind, first_or_undefined, owns_calling, setting_above}
+use Rattle.continuations.specs.Resuming.{BeginsBehind}
+use Rattle.continuations.specs.Settings.{entrance, setting_of}
+use Rattle.continuations.specs.Shapes.{calling_of}
 
 -- one value is taken, and lies alone then with another one below it
 pub taken_alone : {T : Type 0} (old rest first laid : List (Labelled T)) (f this : Labelled T) → length old ≡ 1 → old ≡ rest ++ f ∷ [] → first ≡ rest ++ this ∷ [] → laid ≡ first ++ f ∷ [] → (old ≡ f ∷ []) × (laid ≡ this ∷ f ∷ [])
@@ -40,11 +40,11 @@ pub two_have : {T : Type 0} (made : T → Type 0) (this f : Labelled T) (loose :
 two_have made this f loose is m all zero d lt = m
 two_have made this f loose is m all (suc k) d lt = subst (All (HasValue made)) is all k d (omega (arith, lt))
 
-module _ {S T : Type 0} (made : S → T → Type 0) (meaning : S → T → Label) (store : S) (tables : Tables) (inputs : Given) (set : BuiltIns) (functions : List FunctionCode) (ns : List Steps) (es : Bor (List code.Expr)) (world : World T) (move : Next) where
+module _ {S T : Type 0} (made : S → T → Type 0) (meaning : S → T → Label) (store : S) (tables : Tables) (inputs : Given) (set : BuiltIns) (functions : List FunctionCode) (ns : List Steps) (es : Bor (List code.Expr)) (world : World T) (move : Control) where
   pub value_called : (old laid new : Kept T) (f : Labelled T) (label : T) → old.loose ≡ f ∷ [] → laid.tasks ≡ old.tasks → laid.loose ≡ record { value = undefined; label = label } ∷ f ∷ []
       → ((reading : T → Label) → IsReading made meaning store reading → reading label ≡ bottom)
       → BeginsBehind (λ tables inputs set functions vs e. arguments (planned tables inputs set functions) (entrance tables inputs set functions) (asking tables inputs set functions) (calling_of calling.Calls vs) (drop (owns_calling calling.Calls) vs) (view_exprs es.now) e.env.place) laid new move
-      → Resumes made meaning store tables inputs set functions (work.Callee es) ns ns old new world world (Ok move)
+      → Resumes made meaning store tables inputs set functions (continuation.Callee es) ns ns old new world world (Ok move)
   unfolding call_value
   value_called old laid new f label lies tasks both empty begins = λ reading told turns read.
       let s = state_of reading world told turns in
@@ -60,7 +60,7 @@ module _ {S T : Type 0} (made : S → T → Type 0) (meaning : S → T → Label
 
   pub value_constructs : (old new : Kept T) (loose : List (Labelled T)) → old.loose ≡ loose → length loose ≡ 1
       → BeginsBehind (λ tables inputs set functions vs e. arguments (planned tables inputs set functions) (entrance tables inputs set functions) (asking tables inputs set functions) (calling_of calling.Constructs vs) (drop (owns_calling calling.Constructs) vs) (view_exprs es.now) e.env.place) old new move
-      → Resumes made meaning store tables inputs set functions (work.Constructor es) ns ns old new world world (Ok move)
+      → Resumes made meaning store tables inputs set functions (continuation.Constructor es) ns ns old new world world (Ok move)
   unfolding construct_value
   value_constructs old new [] is one begins = absurd (omega (arith, one))
   value_constructs old new (f ∷ g ∷ loose) is one begins = absurd (omega (arith, one))

@@ -1,2 +1,3 @@
+pub mod BoundTargets
 pub mod Calling
 pub mod Reaching

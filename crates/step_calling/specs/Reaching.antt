@@ -12,11 +12,11 @@ use Rattle.es_meaning.specs.BuiltIns.{BuiltIns}
 use Rattle.flow_meaning.specs.Planned.{Enters, call_by, call_value, construct_by, construct_value}
 use Rattle.flow_meaning.specs.Scopes.{State}
 use Rattle.flow_meaning.specs.Tracked.{callee_at}
-use Rattle.step_work.specs.Kept.{Kept}
-use Rattle.step_work.specs.Shapes.{nth}
+use Rattle.continuations.specs.Kept.{Kept}
+use Rattle.continuations.specs.Shapes.{nth}
 use Rattle.step_calling.specs.declared.reaching.Reached.{Reached}
 use Rattle.step_calling.specs.Calling.{lying}
-use Rattle.step_converting.specs.Framed.{Leads}
+use Rattle.step_natives.specs.Framed.{Leads}
 
 -- a function with a label, in front of arguments
 abbrev pub called_with : {T : Type 0} → ObjId → T → List (Labelled T) → List (Labelled T)

@@ -11,16 +11,17 @@ ghost use Rattle.native_protocol.specs.Steps.{Steps};
 ghost use Rattle.es_meaning.specs.BuiltIns.{BuiltIns, built_ins_of};
 ghost use Rattle.function_table.specs.Callees.{callee_of};
 ghost use Rattle.function_table.specs.Tables.{table};
+ghost use Rattle.function_entry.specs.Calling.{IsOfTable};
 ghost use Rattle.step_natives.specs.States.{waiting_steps};
-ghost use Rattle.step_world.specs.Worlds.{Grows};
-ghost use Rattle.step_work.specs.declared.work.Next.TheVariants as next;
-ghost use Rattle.step_work.specs.Going.{Begins, Lowers};
-ghost use Rattle.step_work.specs.Kept.{scopes_of, waiting};
-ghost use Rattle.step_work.specs.Loads.{Adds};
-ghost use Rattle.step_work.specs.Pending.{values_of};
-ghost use Rattle.step_work.specs.Standing.{Standing, running};
-ghost use Rattle.step_work.specs.Stops.{HasStop};
-ghost use Rattle.step_converting.specs.Framed.{Begun, Leads, steps_behind};
+ghost use Rattle.run_state.specs.Worlds.{Grows};
+ghost use Rattle.continuations.specs.declared.continuation.Control.TheVariants as control;
+ghost use Rattle.continuations.specs.Going.{Begins, Lowers};
+ghost use Rattle.continuations.specs.Kept.{scopes_of, waiting};
+ghost use Rattle.continuations.specs.Loads.{Adds};
+ghost use Rattle.continuations.specs.Pending.{values_of};
+ghost use Rattle.continuations.specs.Invariant.{Invariant, running};
+ghost use Rattle.continuations.specs.Stops.{HasStop};
+ghost use Rattle.step_natives.specs.Framed.{Begun, Leads, steps_behind};
 ghost use Rattle.step_calling.specs.Calling.{CallsBy, CallsObject, InCall, native_in};
 
 use crate::entries::enter_script;
@@ -28,17 +29,16 @@ use crate::native_calls::{call_native, native_in};
 use crate::reaching::reach_call;
 use crate::refusals::{give_nothing, refuse};
 use crate::values::{object_in, second};
+use continuations::{Control, Stack};
 use flow_frames::{FlowFault, Kind};
+use function_entry::callee;
 use function_table::{Callee, Functions};
 use js_values::ObjId;
 use native_protocol::Natives;
 use origin_labels::Labels;
+use run_state::World;
 use std::alloc::Global;
-use step_converting::enter_frame;
-use step_entries::callee;
-use step_natives::NativeStates;
-use step_work::{Next, Stack};
-use step_world::World;
+use step_natives::{NativeStates, enter_frame};
 
 /// The value above the `this` that lies undermost is called with so many arguments.
 pub fn call<'p, L: Labels, N: Natives>(
@@ -50,11 +50,11 @@ pub fn call<'p, L: Labels, N: Natives>(
     states: &mut NativeStates<N::State>,
     stack: &mut Stack<'p, L::Label>,
     count: u32,
-) -> Result<Next<'p>, FlowFault<L::Label>>
-    requires standing { Standing L.made L.meaning labels.old stack.old world.old (values_of (next.Call count)) (scopes_of stack.old.tasks) (length states.old.states) (next.Call count) }
-    ensures begins { (tables : Tables) (inputs : Given) → Begins L.made L.meaning labels.new tables inputs (built_ins_of (N.entries natives.now) (N.begin natives.now) (N.after natives.now) (N.asks natives.now)) (table functions.now) (waiting_steps (N.after natives.now) (N.asks natives.now) states.old) (steps_behind (N.after natives.now) (N.asks natives.now) states.new result) stack.old stack.new world.old world.new (next.Call count) result }
-    ensures standing { IfOk result (λ move. Standing L.made L.meaning labels.new stack.new world.new (values_of move) (scopes_of stack.new.tasks) (length states.new.states) move) }
-    ensures lowers { IfOk result (λ move. Lowers stack.old (next.Call count) stack.new move) }
+) -> Result<Control<'p>, FlowFault<L::Label>>
+    requires standing { Invariant L.made L.meaning labels.old stack.old world.old (values_of (control.Call count)) (scopes_of stack.old.tasks) (length states.old.states) (control.Call count) }
+    ensures begins { (tables : Tables) (inputs : Given) → Begins L.made L.meaning labels.new tables inputs (built_ins_of (N.entries natives.now) (N.begin natives.now) (N.after natives.now) (N.asks natives.now)) (table functions.now) (waiting_steps (N.after natives.now) (N.asks natives.now) states.old) (steps_behind (N.after natives.now) (N.asks natives.now) states.new result) stack.old stack.new world.old world.new (control.Call count) result }
+    ensures standing { IfOk result (λ move. Invariant L.made L.meaning labels.new stack.new world.new (values_of move) (scopes_of stack.new.tasks) (length states.new.states) move) }
+    ensures lowers { IfOk result (λ move. Lowers stack.old (control.Call count) stack.new move) }
     ensures stopped { IfErr result (IfStop (HasStop (L.made labels.new))) }
     ensures grows { Grows world.old world.new }
     ensures kept { IsKept L.made L.meaning L.room L.firm labels.old labels.new }
@@ -92,13 +92,13 @@ fn call_object<'p, L: Labels, N: Natives>(
     count: usize,
     label: L::Label,
     f: ObjId,
-) -> Result<Next<'p>, FlowFault<L::Label>>
+) -> Result<Control<'p>, FlowFault<L::Label>>
     requires label { L.made labels.old label }
     requires enough { 2 ≤ count }
     requires leads { Leads (drop 1 stack.old.loose) (record { value = value.Object f; label = label }) }
-    requires standing { Standing L.made L.meaning labels.old stack.old world.old count (scopes_of stack.old.tasks) (length states.old.states) next.Value }
+    requires standing { Invariant L.made L.meaning labels.old stack.old world.old count (scopes_of stack.old.tasks) (length states.old.states) control.Value }
     ensures calls { (tables : Tables) (inputs : Given) → CallsObject L.made L.meaning labels.new tables inputs (built_ins_of (N.entries natives.now) (N.begin natives.now) (N.after natives.now) (N.asks natives.now)) (table functions.now) (waiting_steps (N.after natives.now) (N.asks natives.now) states.old) (steps_behind (N.after natives.now) (N.asks natives.now) states.new result) f label stack.old stack.new world.old world.new result }
-    ensures standing { IfOk result (λ move. Standing L.made L.meaning labels.new stack.new world.new (values_of move) (scopes_of stack.new.tasks) (length states.new.states) move) }
+    ensures standing { IfOk result (λ move. Invariant L.made L.meaning labels.new stack.new world.new (values_of move) (scopes_of stack.new.tasks) (length states.new.states) move) }
     ensures adds { IfOk result (Adds 5 stack.old stack.new) }
     ensures stopped { IfErr result (IfStop (HasStop (L.made labels.new))) }
     ensures grows { Grows world.old world.new }
@@ -134,13 +134,14 @@ fn call_reached<'p, L: Labels, N: Natives>(
     label: L::Label,
     o: ObjId,
     what: Callee<'p>,
-) -> Result<Next<'p>, FlowFault<L::Label>>
+) -> Result<Control<'p>, FlowFault<L::Label>>
+    requires known { IsOfTable (table functions.now) what }
     requires label { L.made labels.old label }
     requires enough { 2 ≤ count }
     requires leads { Leads (drop 1 stack.old.loose) (record { value = value.Object o; label = label }) }
-    requires standing { Standing L.made L.meaning labels.old stack.old world.old count (scopes_of stack.old.tasks) (length states.old.states) next.Value }
+    requires standing { Invariant L.made L.meaning labels.old stack.old world.old count (scopes_of stack.old.tasks) (length states.old.states) control.Value }
     ensures calls { (tables : Tables) (inputs : Given) → CallsBy L.made L.meaning labels.new tables inputs (built_ins_of (N.entries natives.now) (N.begin natives.now) (N.after natives.now) (N.asks natives.now)) (table functions.now) (waiting_steps (N.after natives.now) (N.asks natives.now) states.old) (steps_behind (N.after natives.now) (N.asks natives.now) states.new result) (callee_of what.entry) label o.0 stack.old stack.new world.old world.new result }
-    ensures standing { IfOk result (λ move. Standing L.made L.meaning labels.new stack.new world.new (values_of move) (scopes_of stack.new.tasks) (length states.new.states) move) }
+    ensures standing { IfOk result (λ move. Invariant L.made L.meaning labels.new stack.new world.new (values_of move) (scopes_of stack.new.tasks) (length states.new.states) move) }
     ensures adds { IfOk result (Adds 5 stack.old stack.new) }
     ensures stopped { IfErr result (IfStop (HasStop (L.made labels.new))) }
     ensures grows { Grows world.old world.new }
@@ -167,14 +168,15 @@ fn call_function<'p, L: Labels>(
     label: L::Label,
     _o: ObjId,
     what: Callee<'p>,
-) -> Result<Next<'p>, FlowFault<L::Label>>
+) -> Result<Control<'p>, FlowFault<L::Label>>
+    requires known { IsOfTable (table functions.now) what }
     requires other { native_in (callee_of what) ≡ None }
     requires label { L.made labels.old label }
     requires enough { 2 ≤ count }
-    requires standing { Standing L.made L.meaning labels.old stack.old world.old count (scopes_of stack.old.tasks) (waiting stack.old.tasks) next.Value }
+    requires standing { Invariant L.made L.meaning labels.old stack.old world.old count (scopes_of stack.old.tasks) (waiting stack.old.tasks) control.Value }
     ensures calls { (tables : Tables) (inputs : Given) (set : BuiltIns) (ns : List Steps) → CallsBy L.made L.meaning labels.new tables inputs set (table functions.now) ns ns (callee_of what.entry) label _o.0 stack.old stack.new world.old world.new result }
     ensures quiet { IfOk result (λ move. running move ≡ 0) }
-    ensures standing { IfOk result (λ move. Standing L.made L.meaning labels.new stack.new world.new (values_of move) (scopes_of stack.new.tasks) (waiting stack.old.tasks) move) }
+    ensures standing { IfOk result (λ move. Invariant L.made L.meaning labels.new stack.new world.new (values_of move) (scopes_of stack.new.tasks) (waiting stack.old.tasks) move) }
     ensures adds { IfOk result (Adds 5 stack.old stack.new) }
     ensures stopped { IfErr result (IfStop (HasStop (L.made labels.new))) }
     ensures grows { Grows world.old world.new }
@@ -197,12 +199,13 @@ fn go_in<'p, L: Labels>(
     depth: usize,
     label: L::Label,
     what: Callee<'p>,
-) -> Result<Next<'p>, FlowFault<L::Label>>
+) -> Result<Control<'p>, FlowFault<L::Label>>
+    requires known { IsOfTable (table functions.now) what }
     requires begun { Begun L.made L.meaning labels.old kind.Call stack.old world.old count depth label }
     requires enough { 2 ≤ count }
     ensures calls { (tables : Tables) (inputs : Given) (set : BuiltIns) (ns : List Steps) → InCall L.made L.meaning labels.new tables inputs set (table functions.now) ns (callee_of what.entry) label depth stack.old stack.new world.old world.new result }
     ensures quiet { IfOk result (λ move. running move ≡ 0) }
-    ensures standing { IfOk result (λ move. Standing L.made L.meaning labels.new stack.new world.new (values_of move) (scopes_of stack.new.tasks) (waiting stack.old.tasks) move) }
+    ensures standing { IfOk result (λ move. Invariant L.made L.meaning labels.new stack.new world.new (values_of move) (scopes_of stack.new.tasks) (waiting stack.old.tasks) move) }
     ensures adds { IfOk result (Adds 5 stack.old stack.new) }
     ensures stopped { IfErr result (IfStop (HasStop (L.made labels.new))) }
     ensures grows { Grows world.old world.new }

@@ -1,38 +1,39 @@
 //! Calls of functions of the script: what they begin with, and their bodies.
 
-ghost use Rattle.std.specs.Prelude.{◌≡◌, ◌≤◌, ◌+◌, ◌++◌, ◌∷◌, [], List, length, drop, OnOk, IfErr, IfOk};
+ghost use Rattle.std.specs.Prelude.{◌≡◌, ◌≤◌, ◌+◌, ◌++◌, ◌∷◌, [], List, length, drop, slice_get, Some, OnOk, IfErr, IfOk};
 ghost use Rattle.origin_labels.specs.Stores.{IsKept};
 ghost use Rattle.flow_frames.specs.declared.kind.Kind.TheVariants as kind;
 ghost use Rattle.flow_frames.specs.Stops.{IfStop};
 ghost use Rattle.flow_policy.specs.Policies.{Tables};
 ghost use Rattle.flow_policy.specs.Inputs.{Given};
 ghost use Rattle.js_ast.specs.Trees.{body_of};
+ghost use Rattle.js_ast.specs.Held.{code_of};
 ghost use Rattle.js_ast.specs.Views.{view_function, view_stmts};
 ghost use Rattle.native_protocol.specs.Steps.{Steps};
 ghost use Rattle.es_meaning.specs.BuiltIns.{BuiltIns};
 ghost use Rattle.es_meaning.specs.Functions.{of_script};
 ghost use Rattle.function_table.specs.Tables.{table};
-ghost use Rattle.step_world.specs.Worlds.{Grows};
-ghost use Rattle.step_work.specs.Kept.{scopes_of, waiting};
-ghost use Rattle.step_work.specs.Loads.{Adds};
-ghost use Rattle.step_work.specs.Pending.{values_of};
-ghost use Rattle.step_work.specs.Resuming.{Keeps};
-ghost use Rattle.step_work.specs.Standing.{Standing, given, running};
-ghost use Rattle.step_work.specs.Stops.{HasStop};
-ghost use Rattle.step_converting.specs.Framed.{Begun};
+ghost use Rattle.run_state.specs.Worlds.{Grows};
+ghost use Rattle.continuations.specs.Kept.{scopes_of, waiting};
+ghost use Rattle.continuations.specs.Loads.{Adds};
+ghost use Rattle.continuations.specs.Pending.{values_of};
+ghost use Rattle.continuations.specs.Resuming.{Keeps};
+ghost use Rattle.continuations.specs.Invariant.{Invariant, given, running};
+ghost use Rattle.continuations.specs.Stops.{HasStop};
+ghost use Rattle.step_natives.specs.Framed.{Begun};
 ghost use Rattle.step_calling.specs.Calling.{InCall, StartsBody};
 
 use crate::values::this_of;
+use continuations::{Continuation, Control, Stack, begin_statements};
 use flow_frames::FlowFault;
 use flow_text::OutOfMemory;
+use function_entry::enter;
 use function_table::Functions;
 use js_ast::{Function, Stmt};
 use js_values::EnvId;
 use origin_labels::Labels;
+use run_state::World;
 use std::alloc::Global;
-use step_entries::enter;
-use step_work::{Next, Stack, Work, begin_statements};
-use step_world::World;
 
 /// What a function of the script does.
 #[tactic(auto, using(js_ast::proofs::ViewLaws::parts_function))]
@@ -43,17 +44,17 @@ fn body(function: &Function) -> &[Stmt]
 }
 
 /// Whether a built-in runs next.
-fn is_request(next: Next<'_>) -> bool
+fn is_request(next: Control<'_>) -> bool
     ensures { running next.entry ≡ given result }
 {
-    matches!(next, Next::Request(_))
+    matches!(next, Control::Request(_))
 }
 
 /// The statements of a function. None of them is a built-in's request.
 pub(crate) fn begin_body<'p, T: Copy>(
     stack: &mut Stack<'p, T>,
     function: &'p Function,
-) -> Result<Next<'p>, OutOfMemory>
+) -> Result<Control<'p>, OutOfMemory>
     requires loose { length stack.old.loose ≡ 0 }
     ensures begins { IfOk result (StartsBody (body_of (view_function function.entry.now)) stack.old stack.new) }
     ensures quiet { IfOk result (λ move. running move ≡ 0) }
@@ -80,12 +81,13 @@ pub(crate) fn enter_script<'p, L: Labels>(
     number: u32,
     function: &'p Function,
     place: EnvId,
-) -> Result<Next<'p>, FlowFault<L::Label>>
+) -> Result<Control<'p>, FlowFault<L::Label>>
+    requires known { slice_get (table functions.now) number ≡ Some (code_of function.now) }
     requires begun { Begun L.made L.meaning labels.old kind.Call stack.old world.old count depth _label }
     requires enough { 2 ≤ count }
     ensures calls { (tables : Tables) (inputs : Given) (set : BuiltIns) (ns : List Steps) → InCall L.made L.meaning labels.new tables inputs set (table functions.now) ns (of_script number (view_function function.entry.now) place.0) _label depth stack.old stack.new world.old world.new result }
     ensures quiet { IfOk result (λ move. running move ≡ 0) }
-    ensures standing { IfOk result (λ move. Standing L.made L.meaning labels.new stack.new world.new (values_of move) (scopes_of stack.new.tasks) (waiting stack.old.tasks) move) }
+    ensures standing { IfOk result (λ move. Invariant L.made L.meaning labels.new stack.new world.new (values_of move) (scopes_of stack.new.tasks) (waiting stack.old.tasks) move) }
     ensures adds { IfOk result (Adds 5 stack.old stack.new) }
     ensures stopped { IfErr result (IfStop (HasStop (L.made labels.new))) }
     ensures grows { Grows world.old world.new }
@@ -97,7 +99,7 @@ pub(crate) fn enter_script<'p, L: Labels>(
         alloc, labels, world, functions, number, function, place, this, args,
     )?;
     stack.clear(count);
-    stack.push(Work::EndCall(own, depth))?;
+    stack.push(Continuation::EndCall(own, depth))?;
     let next = begin_body(stack, function)?;
     Ok(next)
 }

@@ -5,12 +5,13 @@ ghost use Rattle.es_meaning.specs.Plain.{undefined};
 ghost use Rattle.js_values.specs.declared.value.Value.TheVariants as value;
 ghost use Rattle.step_calling.specs.Reaching.{called_with};
 
+use crate::bound_target::BoundTarget;
+use crate::lists::append;
+use continuations::Stack;
 use flow_text::OutOfMemory;
 use js_number::Primitive;
 use js_values::{ArgList, Labelled, ObjId, Value};
 use std::alloc::Global;
-use step_bound::{Aim, append};
-use step_work::Stack;
 
 /// Lays values on top.
 pub(crate) fn lay_all<'p, T: Copy>(
@@ -61,7 +62,7 @@ pub(crate) fn lay_call<'p, T: Copy>(
     alloc: Global,
     stack: &mut Stack<'p, T>,
     count: usize,
-    aim: Aim<T>,
+    aim: BoundTarget<T>,
     label: T,
 ) -> Result<usize, OutOfMemory>
     requires count { count ≡ length stack.old.loose }
@@ -86,7 +87,7 @@ pub(crate) fn lay_construction<'p, T: Copy>(
     alloc: Global,
     stack: &mut Stack<'p, T>,
     count: usize,
-    aim: Aim<T>,
+    aim: BoundTarget<T>,
     label: T,
 ) -> Result<usize, OutOfMemory>
     requires count { count ≡ length stack.old.loose }

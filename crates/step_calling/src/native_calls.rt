@@ -14,29 +14,28 @@ ghost use Rattle.es_meaning.specs.Holders.{constructs_in, form_constructs};
 ghost use Rattle.function_table.specs.Callees.{callee_of};
 ghost use Rattle.native_protocol.specs.Steps.{Steps};
 ghost use Rattle.step_natives.specs.States.{waiting_steps};
-ghost use Rattle.step_world.specs.Worlds.{Grows};
-ghost use Rattle.step_work.specs.declared.work.Next.TheVariants as next;
-ghost use Rattle.step_work.specs.Kept.{scopes_of, waiting};
-ghost use Rattle.step_work.specs.Loads.{Adds};
-ghost use Rattle.step_work.specs.Pending.{values_of};
-ghost use Rattle.step_work.specs.Standing.{Standing, running};
-ghost use Rattle.step_work.specs.Stops.{HasStop};
-ghost use Rattle.step_converting.specs.Framed.{Leads, steps_behind};
+ghost use Rattle.run_state.specs.Worlds.{Grows};
+ghost use Rattle.continuations.specs.declared.continuation.Control.TheVariants as control;
+ghost use Rattle.continuations.specs.Kept.{scopes_of, waiting};
+ghost use Rattle.continuations.specs.Loads.{Adds};
+ghost use Rattle.continuations.specs.Pending.{values_of};
+ghost use Rattle.continuations.specs.Invariant.{Invariant, running};
+ghost use Rattle.continuations.specs.Stops.{HasStop};
+ghost use Rattle.step_natives.specs.Framed.{Leads, steps_behind};
 ghost use Rattle.step_calling.specs.Calling.{CallsBy, ConstructsBy, native_in};
 
 use crate::laying::lay_undefined_below;
 use crate::refusals::refuse;
+use continuations::{Control, Stack};
 use flow_frames::{FlowFault, Kind};
 use flow_text::OutOfMemory;
 use function_table::Callee;
 use js_values::ObjId;
 use native_protocol::{Form, Natives};
 use origin_labels::Labels;
+use run_state::World;
 use std::alloc::Global;
-use step_converting::{begin_native, enter_frame};
-use step_natives::NativeStates;
-use step_work::{Next, Stack};
-use step_world::World;
+use step_natives::{NativeStates, begin_native, enter_frame};
 
 // The number of the first built-in of a set: the accessors stand before it, and construct.
 const FIRST: u32 = 3;
@@ -106,13 +105,13 @@ pub(crate) fn call_native<'p, L: Labels, N: Natives>(
     label: L::Label,
     _o: ObjId,
     which: u32,
-) -> Result<Next<'p>, FlowFault<L::Label>>
+) -> Result<Control<'p>, FlowFault<L::Label>>
     requires label { L.made labels.old label }
     requires enough { 2 ≤ count }
     requires leads { Leads (drop 1 stack.old.loose) (record { value = value.Object _o; label = label }) }
-    requires standing { Standing L.made L.meaning labels.old stack.old world.old count (scopes_of stack.old.tasks) (length states.old.states) next.Value }
+    requires standing { Invariant L.made L.meaning labels.old stack.old world.old count (scopes_of stack.old.tasks) (length states.old.states) control.Value }
     ensures calls { (tables : Tables) (inputs : Given) (functions : List FunctionCode) → CallsBy L.made L.meaning labels.new tables inputs (built_ins_of (N.entries natives.now) (N.begin natives.now) (N.after natives.now) (N.asks natives.now)) functions (waiting_steps (N.after natives.now) (N.asks natives.now) states.old) (steps_behind (N.after natives.now) (N.asks natives.now) states.new result) (of_built_in which) label _o.0 stack.old stack.new world.old world.new result }
-    ensures standing { IfOk result (λ move. Standing L.made L.meaning labels.new stack.new world.new (values_of move) (scopes_of stack.new.tasks) (length states.new.states) move) }
+    ensures standing { IfOk result (λ move. Invariant L.made L.meaning labels.new stack.new world.new (values_of move) (scopes_of stack.new.tasks) (length states.new.states) move) }
     ensures adds { IfOk result (Adds 4 stack.old stack.new) }
     ensures stopped { IfErr result (IfStop (HasStop (L.made labels.new))) }
     ensures grows { Grows world.old world.new }
@@ -137,14 +136,14 @@ fn run_constructor<'p, L: Labels, N: Natives>(
     label: L::Label,
     _o: ObjId,
     which: u32,
-) -> Result<Next<'p>, FlowFault<L::Label>>
+) -> Result<Control<'p>, FlowFault<L::Label>>
     requires constructs { constructs_in (built_ins_of (N.entries natives.now) (N.begin natives.now) (N.after natives.now) (N.asks natives.now)) which ≡ true }
     requires label { L.made labels.old label }
     requires enough { 1 ≤ count }
     requires leads { Leads stack.old.loose (record { value = value.Object _o; label = label }) }
-    requires standing { Standing L.made L.meaning labels.old stack.old world.old count (scopes_of stack.old.tasks) (length states.old.states) next.Value }
+    requires standing { Invariant L.made L.meaning labels.old stack.old world.old count (scopes_of stack.old.tasks) (length states.old.states) control.Value }
     ensures constructs { (tables : Tables) (inputs : Given) (functions : List FunctionCode) → ConstructsBy L.made L.meaning labels.new tables inputs (built_ins_of (N.entries natives.now) (N.begin natives.now) (N.after natives.now) (N.asks natives.now)) functions (waiting_steps (N.after natives.now) (N.asks natives.now) states.old) (steps_behind (N.after natives.now) (N.asks natives.now) states.new result) (of_built_in which) label _o.0 stack.old stack.new world.old world.new result }
-    ensures standing { IfOk result (λ move. Standing L.made L.meaning labels.new stack.new world.new (values_of move) (scopes_of stack.new.tasks) (length states.new.states) move) }
+    ensures standing { IfOk result (λ move. Invariant L.made L.meaning labels.new stack.new world.new (values_of move) (scopes_of stack.new.tasks) (length states.new.states) move) }
     ensures adds { IfOk result (Adds 4 stack.old stack.new) }
     ensures stopped { IfErr result (IfStop (HasStop (L.made labels.new))) }
     ensures grows { Grows world.old world.new }
@@ -168,12 +167,12 @@ fn refuse_native<'p, L: Labels>(
     label: L::Label,
     _o: ObjId,
     _which: u32,
-) -> Result<Next<'p>, FlowFault<L::Label>>
+) -> Result<Control<'p>, FlowFault<L::Label>>
     requires label { L.made labels.old label }
-    requires standing { Standing L.made L.meaning labels.old stack.old world.old count (scopes_of stack.old.tasks) (waiting stack.old.tasks) next.Value }
+    requires standing { Invariant L.made L.meaning labels.old stack.old world.old count (scopes_of stack.old.tasks) (waiting stack.old.tasks) control.Value }
     ensures constructs { (tables : Tables) (inputs : Given) (set : BuiltIns) (functions : List FunctionCode) (ns : List Steps) → constructs_in set _which ≡ false → ConstructsBy L.made L.meaning labels.new tables inputs set functions ns ns (of_built_in _which) label _o.0 stack.old stack.new world.old world.new result }
     ensures quiet { IfOk result (λ move. running move ≡ 0) }
-    ensures standing { IfOk result (λ move. Standing L.made L.meaning labels.new stack.new world.new (values_of move) (scopes_of stack.new.tasks) (waiting stack.old.tasks) move) }
+    ensures standing { IfOk result (λ move. Invariant L.made L.meaning labels.new stack.new world.new (values_of move) (scopes_of stack.new.tasks) (waiting stack.old.tasks) move) }
     ensures adds { IfOk result (Adds 4 stack.old stack.new) }
     ensures stopped { IfErr result (IfStop (HasStop (L.made labels.new))) }
     ensures grows { Grows world.old world.new }
@@ -195,13 +194,13 @@ pub(crate) fn construct_native<'p, L: Labels, N: Natives>(
     label: L::Label,
     o: ObjId,
     which: u32,
-) -> Result<Next<'p>, FlowFault<L::Label>>
+) -> Result<Control<'p>, FlowFault<L::Label>>
     requires label { L.made labels.old label }
     requires enough { 1 ≤ count }
     requires leads { Leads stack.old.loose (record { value = value.Object o; label = label }) }
-    requires standing { Standing L.made L.meaning labels.old stack.old world.old count (scopes_of stack.old.tasks) (length states.old.states) next.Value }
+    requires standing { Invariant L.made L.meaning labels.old stack.old world.old count (scopes_of stack.old.tasks) (length states.old.states) control.Value }
     ensures constructs { (tables : Tables) (inputs : Given) (functions : List FunctionCode) → ConstructsBy L.made L.meaning labels.new tables inputs (built_ins_of (N.entries natives.now) (N.begin natives.now) (N.after natives.now) (N.asks natives.now)) functions (waiting_steps (N.after natives.now) (N.asks natives.now) states.old) (steps_behind (N.after natives.now) (N.asks natives.now) states.new result) (of_built_in which) label o.0 stack.old stack.new world.old world.new result }
-    ensures standing { IfOk result (λ move. Standing L.made L.meaning labels.new stack.new world.new (values_of move) (scopes_of stack.new.tasks) (length states.new.states) move) }
+    ensures standing { IfOk result (λ move. Invariant L.made L.meaning labels.new stack.new world.new (values_of move) (scopes_of stack.new.tasks) (length states.new.states) move) }
     ensures adds { IfOk result (Adds 4 stack.old stack.new) }
     ensures stopped { IfErr result (IfStop (HasStop (L.made labels.new))) }
     ensures grows { Grows world.old world.new }

@@ -4,17 +4,17 @@ ghost use Rattle.std.specs.Prelude.{◌≡◌, ◌≤◌, drop, length, IfOk};
 ghost use Rattle.origin_labels.specs.Stores.{IsKept};
 ghost use Rattle.js_values.specs.declared.value.Value.TheVariants as value;
 ghost use Rattle.js_values.specs.Readings.{HasHeap};
-ghost use Rattle.step_converting.specs.Framed.{Leads};
+ghost use Rattle.step_natives.specs.Framed.{Leads};
 ghost use Rattle.step_calling.specs.Reaching.{ReachesCall, ReachesConstruction};
 
+use crate::bound_target::bound_target_of;
 use crate::laying::{lay_call, lay_construction};
+use continuations::Stack;
 use flow_text::OutOfMemory;
 use js_values::ObjId;
 use object_heap::Heap;
 use origin_labels::Labels;
 use std::alloc::Global;
-use step_bound::aim_of;
-use step_work::Stack;
 
 /// The function that is reached, the label of it and of all on the way, and how many values lie loose then.
 #[derive(Clone, Copy)]
@@ -42,7 +42,7 @@ pub(crate) fn reach_call<'p, T: Copy, L: Labels<Label = T>>(
     ensures reaches { IfOk result (ReachesCall L.made L.meaning labels.new heap.now f label stack.old stack.new) }
     ensures kept { IsKept L.made L.meaning L.room L.firm labels.old labels.new }
 {
-    let aim = aim_of(alloc, labels, heap, f)?;
+    let aim = bound_target_of(alloc, labels, heap, f)?;
     match aim {
         None => Ok(Reached {
             function: f,
@@ -80,7 +80,7 @@ pub(crate) fn reach_construction<'p, T: Copy, L: Labels<Label = T>>(
     ensures reaches { IfOk result (ReachesConstruction L.made L.meaning labels.new heap.now f label stack.old stack.new) }
     ensures kept { IsKept L.made L.meaning L.room L.firm labels.old labels.new }
 {
-    let aim = aim_of(alloc, labels, heap, f)?;
+    let aim = bound_target_of(alloc, labels, heap, f)?;
     match aim {
         None => Ok(Reached {
             function: f,

@@ -12,48 +12,48 @@ ghost use Rattle.js_values.specs.declared.value.Labelled.{Labelled as LabelledOf
 ghost use Rattle.native_protocol.specs.Steps.{Steps};
 ghost use Rattle.es_meaning.specs.BuiltIns.{BuiltIns};
 ghost use Rattle.es_meaning.specs.Functions.{empty_callee};
-ghost use Rattle.step_world.specs.declared.came.Came.TheVariants as came;
-ghost use Rattle.step_world.specs.Worlds.{Grows};
-ghost use Rattle.step_work.specs.declared.work.Jump.TheVariants as jump;
-ghost use Rattle.step_work.specs.declared.work.Next.TheVariants as next;
-ghost use Rattle.step_work.specs.Kept.{scopes_of, waiting};
-ghost use Rattle.step_work.specs.Loads.{Adds};
-ghost use Rattle.step_work.specs.Pending.{values_of};
-ghost use Rattle.step_work.specs.Standing.{Standing, running};
-ghost use Rattle.step_work.specs.Stops.{HasStop};
-ghost use Rattle.step_converting.specs.Framed.{Begun};
+ghost use Rattle.run_state.specs.declared.outcome.Outcome.TheVariants as outcome;
+ghost use Rattle.run_state.specs.Worlds.{Grows};
+ghost use Rattle.continuations.specs.declared.continuation.Jump.TheVariants as jump;
+ghost use Rattle.continuations.specs.declared.continuation.Control.TheVariants as control;
+ghost use Rattle.continuations.specs.Kept.{scopes_of, waiting};
+ghost use Rattle.continuations.specs.Loads.{Adds};
+ghost use Rattle.continuations.specs.Pending.{values_of};
+ghost use Rattle.continuations.specs.Invariant.{Invariant, running};
+ghost use Rattle.continuations.specs.Stops.{HasStop};
+ghost use Rattle.step_natives.specs.Framed.{Begun};
 ghost use Rattle.step_calling.specs.Calling.{InCall, IsThrow, Refuses};
 
+use continuations::{Control, Jump, Stack};
 use flow_frames::{FlowFault, Kind, belonging_lasts};
 use flow_text::OutOfMemory;
 use js_number::Primitive;
 use js_values::{Labelled, Value};
 use native_protocol::ErrorKind;
 use origin_labels::Labels;
-use step_names::throw_error;
-use step_work::{Jump, Next, Stack};
-use step_world::{Came, World};
+use property_access::throw_error;
+use run_state::{Outcome, World};
 
 /// Lays what an act threw, in place of the values that lay loose.
 fn thrown<'p, T: Copy>(
     stack: &mut Stack<'p, T>,
     count: usize,
-    answer: Came<Next<'p>, T>,
-) -> Result<Next<'p>, OutOfMemory>
+    answer: Outcome<Control<'p>, T>,
+) -> Result<Control<'p>, OutOfMemory>
     requires count { count ≡ length stack.old.loose }
     requires throws { IsThrow answer }
-    ensures jumps { IfOk result (λ move. move ≡ next.Jumps jump.Throws) }
+    ensures jumps { IfOk result (λ move. move ≡ control.Jumps jump.Throws) }
     ensures tasks { stack.new.tasks ≡ stack.old.tasks }
-    ensures lies { IfOk result (λ move. (error : LabelledOf T) → answer.entry ≡ came.Throws error → stack.new.loose ≡ error ∷ []) }
+    ensures lies { IfOk result (λ move. (error : LabelledOf T) → answer.entry ≡ outcome.Throws error → stack.new.loose ≡ error ∷ []) }
 {
     match answer {
-        Came::Throws(error) => {
+        Outcome::Throws(error) => {
             stack.clear(count);
             stack.lay(error)?;
-            Ok(Next::Jumps(Jump::Throws))
+            Ok(Control::Jumps(Jump::Throws))
         }
-        Came::Goes(_) => unreachable!(),
-        Came::Leaves(_) => unreachable!(),
+        Outcome::Goes(_) => unreachable!(),
+        Outcome::Leaves(_) => unreachable!(),
     }
 }
 
@@ -66,12 +66,12 @@ pub(crate) fn refuse<'p, L: Labels>(
     count: usize,
     _depth: usize,
     label: L::Label,
-) -> Result<Next<'p>, FlowFault<L::Label>>
+) -> Result<Control<'p>, FlowFault<L::Label>>
     requires kind { is_try _kind ≡ false }
     requires begun { Begun L.made L.meaning labels.old _kind stack.old world.old count _depth label }
     ensures refuses { (tables : Tables) (inputs : Given) (set : BuiltIns) (functions : List FunctionCode) (ns : List Steps) → Refuses L.made L.meaning labels.new tables inputs set functions ns label stack.old stack.new world.old world.new result }
     ensures quiet { IfOk result (λ move. running move ≡ 0) }
-    ensures standing { IfOk result (λ move. Standing L.made L.meaning labels.new stack.new world.new (values_of move) (scopes_of stack.new.tasks) (waiting stack.old.tasks) move) }
+    ensures standing { IfOk result (λ move. Invariant L.made L.meaning labels.new stack.new world.new (values_of move) (scopes_of stack.new.tasks) (waiting stack.old.tasks) move) }
     ensures adds { IfOk result (Adds 4 stack.old stack.new) }
     ensures stopped { IfErr result (IfStop (HasStop (L.made labels.new))) }
     ensures grows { Grows world.old world.new }
@@ -90,11 +90,11 @@ pub(crate) fn give_nothing<'p, L: Labels>(
     count: usize,
     _depth: usize,
     _label: L::Label,
-) -> Result<Next<'p>, FlowFault<L::Label>>
+) -> Result<Control<'p>, FlowFault<L::Label>>
     requires begun { Begun L.made L.meaning labels.now kind.Call stack.old world.old count _depth _label }
     ensures gives { (tables : Tables) (inputs : Given) (set : BuiltIns) (functions : List FunctionCode) (ns : List Steps) → InCall L.made L.meaning labels.now tables inputs set functions ns empty_callee _label _depth stack.old stack.new world.old world.new result }
     ensures quiet { IfOk result (λ move. running move ≡ 0) }
-    ensures standing { IfOk result (λ move. Standing L.made L.meaning labels.now stack.new world.new (values_of move) (scopes_of stack.new.tasks) (waiting stack.old.tasks) move) }
+    ensures standing { IfOk result (λ move. Invariant L.made L.meaning labels.now stack.new world.new (values_of move) (scopes_of stack.new.tasks) (waiting stack.old.tasks) move) }
     ensures adds { IfOk result (Adds 4 stack.old stack.new) }
     ensures stopped { IfErr result (IfStop (HasStop (L.made labels.now))) }
     ensures grows { Grows world.old world.new }
@@ -108,5 +108,5 @@ pub(crate) fn give_nothing<'p, L: Labels>(
         value: Value::Primitive(Primitive::Undefined),
         label,
     })?;
-    Ok(Next::Value)
+    Ok(Control::Value)
 }

@@ -9,27 +9,27 @@ ghost use Rattle.js_ast.specs.Functions.{FunctionCode};
 ghost use Rattle.std.specs.Prelude.{List};
 ghost use Rattle.native_protocol.specs.Steps.{Steps};
 ghost use Rattle.es_meaning.specs.BuiltIns.{BuiltIns};
-ghost use Rattle.step_world.specs.Worlds.{Grows};
-ghost use Rattle.step_work.specs.declared.work.Next.TheVariants as next;
-ghost use Rattle.step_work.specs.declared.work.Work.TheVariants as work;
-ghost use Rattle.step_work.specs.Going.{Resumes};
-ghost use Rattle.step_work.specs.Kept.{scope_of, scopes_of, waiting};
-ghost use Rattle.step_work.specs.Loads.{Adds, weight};
-ghost use Rattle.step_work.specs.Pending.{owns, values_of};
-ghost use Rattle.step_work.specs.Standing.{Standing, running};
-ghost use Rattle.step_work.specs.Stops.{HasStop};
-ghost use Rattle.step_converting.specs.Framed.{Leads};
+ghost use Rattle.run_state.specs.Worlds.{Grows};
+ghost use Rattle.continuations.specs.declared.continuation.Control.TheVariants as control;
+ghost use Rattle.continuations.specs.declared.continuation.Continuation.TheVariants as continuation;
+ghost use Rattle.continuations.specs.Going.{Resumes};
+ghost use Rattle.continuations.specs.Kept.{scope_of, scopes_of, waiting};
+ghost use Rattle.continuations.specs.Loads.{Adds, weight};
+ghost use Rattle.continuations.specs.Pending.{owns, values_of};
+ghost use Rattle.continuations.specs.Invariant.{Invariant, running};
+ghost use Rattle.continuations.specs.Stops.{HasStop};
+ghost use Rattle.step_natives.specs.Framed.{Leads};
 ghost use Rattle.step_calling.specs.Calling.{object_in};
 
+use continuations::{Calling, Control, Stack, begin_arguments};
 use flow_frames::FlowFault;
 use flow_text::OutOfMemory;
 use js_ast::Expr;
 use js_number::Primitive;
 use js_values::{Labelled, ObjId, Value};
 use origin_labels::Labels;
+use run_state::World;
 use std::alloc::Global;
-use step_work::{Calling, Next, Stack, begin_arguments};
-use step_world::World;
 
 /// The value is called with these arguments (ECMA-262 11.2.3). It is no reference, and `this` is undefined.
 pub fn callee<'p, L: Labels>(
@@ -37,11 +37,11 @@ pub fn callee<'p, L: Labels>(
     world: &mut World<L::Label>,
     stack: &mut Stack<'p, L::Label>,
     args: &'p [Expr],
-) -> Result<Next<'p>, FlowFault<L::Label>>
-    requires standing { Standing L.made L.meaning labels.old stack.old world.old (owns (work.Callee args) + 1) (scopes_of stack.old.tasks ++ scope_of (work.Callee args)) (waiting stack.old.tasks) next.Value }
-    ensures resumes { (tables : Tables) (inputs : Given) (set : BuiltIns) (functions : List FunctionCode) (ns : List Steps) → Resumes L.made L.meaning labels.new tables inputs set functions (work.Callee args.entry) ns ns stack.old stack.new world.old world.new result }
-    ensures standing { IfOk result (λ move. running move ≡ 0 → Standing L.made L.meaning labels.new stack.new world.new (values_of move) (scopes_of stack.new.tasks) (waiting stack.old.tasks) move) }
-    ensures adds { IfOk result (Adds (weight (work.Callee args.entry) + 3) stack.old stack.new) }
+) -> Result<Control<'p>, FlowFault<L::Label>>
+    requires standing { Invariant L.made L.meaning labels.old stack.old world.old (owns (continuation.Callee args) + 1) (scopes_of stack.old.tasks ++ scope_of (continuation.Callee args)) (waiting stack.old.tasks) control.Value }
+    ensures resumes { (tables : Tables) (inputs : Given) (set : BuiltIns) (functions : List FunctionCode) (ns : List Steps) → Resumes L.made L.meaning labels.new tables inputs set functions (continuation.Callee args.entry) ns ns stack.old stack.new world.old world.new result }
+    ensures standing { IfOk result (λ move. running move ≡ 0 → Invariant L.made L.meaning labels.new stack.new world.new (values_of move) (scopes_of stack.new.tasks) (waiting stack.old.tasks) move) }
+    ensures adds { IfOk result (Adds (weight (continuation.Callee args.entry) + 3) stack.old stack.new) }
     ensures stopped { IfErr result (IfStop (HasStop (L.made labels.new))) }
     ensures grows { Grows world.old world.new }
     ensures kept { IsKept L.made L.meaning L.room L.firm labels.old labels.new }
@@ -63,11 +63,11 @@ pub fn constructor<'p, L: Labels>(
     world: &mut World<L::Label>,
     stack: &mut Stack<'p, L::Label>,
     args: &'p [Expr],
-) -> Result<Next<'p>, FlowFault<L::Label>>
-    requires standing { Standing L.made L.meaning labels.old stack.old world.old (owns (work.Constructor args) + 1) (scopes_of stack.old.tasks ++ scope_of (work.Constructor args)) (waiting stack.old.tasks) next.Value }
-    ensures resumes { (tables : Tables) (inputs : Given) (set : BuiltIns) (functions : List FunctionCode) (ns : List Steps) → Resumes L.made L.meaning labels.new tables inputs set functions (work.Constructor args.entry) ns ns stack.old stack.new world.old world.new result }
-    ensures standing { IfOk result (λ move. running move ≡ 0 → Standing L.made L.meaning labels.new stack.new world.new (values_of move) (scopes_of stack.new.tasks) (waiting stack.old.tasks) move) }
-    ensures adds { IfOk result (Adds (weight (work.Constructor args.entry) + 3) stack.old stack.new) }
+) -> Result<Control<'p>, FlowFault<L::Label>>
+    requires standing { Invariant L.made L.meaning labels.old stack.old world.old (owns (continuation.Constructor args) + 1) (scopes_of stack.old.tasks ++ scope_of (continuation.Constructor args)) (waiting stack.old.tasks) control.Value }
+    ensures resumes { (tables : Tables) (inputs : Given) (set : BuiltIns) (functions : List FunctionCode) (ns : List Steps) → Resumes L.made L.meaning labels.new tables inputs set functions (continuation.Constructor args.entry) ns ns stack.old stack.new world.old world.new result }
+    ensures standing { IfOk result (λ move. running move ≡ 0 → Invariant L.made L.meaning labels.new stack.new world.new (values_of move) (scopes_of stack.new.tasks) (waiting stack.old.tasks) move) }
+    ensures adds { IfOk result (Adds (weight (continuation.Constructor args.entry) + 3) stack.old stack.new) }
     ensures stopped { IfErr result (IfStop (HasStop (L.made labels.new))) }
     ensures grows { Grows world.old world.new }
     ensures kept { IsKept L.made L.meaning L.room L.firm labels.old labels.new }

@@ -28,17 +28,17 @@ use Rattle.flow_meaning.specs.Planned.{Ask, Completion, Enters, Give, Plan, an_e
 use Rattle.flow_meaning.specs.Planned as plans
 use Rattle.low_equal.specs.Observed.{Front}
 use Rattle.low_equal.proofs.Adding.{Continued, front_continued, lines_run, Adds, Adding, adding, asking_adding, ask_adds, give_adds, end_adds, and_adds, result_adds, branch_adds, round_adds, call_adds, construction_adds, handler_adds, block_adds, instance_end_adds, setter_adds, waiting_adds}
-use Rattle.step_work.specs.declared.work.Work.{Work}
-use Rattle.step_work.specs.declared.work.Work.TheVariants as work
-use Rattle.step_work.specs.declared.work.Next.{Next}
-use Rattle.step_work.specs.declared.work.Next.TheVariants as next
-use Rattle.step_work.specs.declared.work.Use.TheVariants as use_as
-use Rattle.step_work.specs.Settings.{Setting, entrance, outermost_steps}
-use Rattle.step_work.specs.declared.work.Counting.TheVariants as counting
-use Rattle.step_work.specs.Shapes.{all_labels, calling_of, finishes, handles, labels_at, nth, use_of, target_of, round_of, statements_from, waiting_of}
-use Rattle.step_work.specs.declared.work.Calling.{Calling}
-use Rattle.step_work.specs.declared.work.Calling.TheVariants as calling
-use Rattle.step_work.specs.Pending.{Task, behind_setter, converted_left, fallen, handler_of, last_of, owns_calling, owns_use, owns_target, setting_inside, first_or_undefined, keys_left, tests_of, visit_behind, result_type, after, next_plan, after_task, behind}
+use Rattle.continuations.specs.declared.continuation.Continuation.{Continuation}
+use Rattle.continuations.specs.declared.continuation.Continuation.TheVariants as continuation
+use Rattle.continuations.specs.declared.continuation.Control.{Control}
+use Rattle.continuations.specs.declared.continuation.Control.TheVariants as control
+use Rattle.continuations.specs.declared.continuation.Use.TheVariants as use_as
+use Rattle.continuations.specs.Settings.{Setting, entrance, outermost_steps}
+use Rattle.continuations.specs.declared.continuation.Counting.TheVariants as counting
+use Rattle.continuations.specs.Shapes.{all_labels, calling_of, finishes, handles, labels_at, nth, use_of, target_of, round_of, statements_from, waiting_of}
+use Rattle.continuations.specs.declared.continuation.Calling.{Calling}
+use Rattle.continuations.specs.declared.continuation.Calling.TheVariants as calling
+use Rattle.continuations.specs.Pending.{Task, behind_setter, converted_left, fallen, handler_of, last_of, owns_calling, owns_use, owns_target, setting_inside, first_or_undefined, keys_left, tests_of, visit_behind, result_type, after, next_plan, after_task, behind}
 
 module _ (tables : Tables) (inputs : Given) (set : BuiltIns) (functions : List FunctionCode) where
   -- the plans
@@ -142,79 +142,79 @@ module _ (tables : Tables) (inputs : Given) (set : BuiltIns) (functions : List F
   properties_adds act vs (more_properties (setter at key f) ps) i s = and_adds tables inputs set functions s (A.function f i s) (with_result Value (more_values A E R act vs ps i)) ((K.function {w = tt} f {i = i} {j = i} tt).adds s) (more_adds act vs ps i)
 
   -- what work does with a completion
-  after_adds : (w : Work) (vs : List Val) (e : Setting) (c : Completion) (s : State) → Adds tables inputs set functions s (after tables inputs set functions w vs e c s)
+  after_adds : (w : Continuation) (vs : List Val) (e : Setting) (c : Completion) (s : State) → Adds tables inputs set functions s (after tables inputs set functions w vs e c s)
   unfolding adding
-  after_adds (work.Unary o) vs e = result_adds tables inputs set functions Value _ (λ v. link.unary_value_linked A A K E E H o {w = tt} {v = v} {v' = v} tt)
-  after_adds (work.BinaryRight o r) vs e = result_adds tables inputs set functions Value _ (λ v. link.binary_right_linked A A K E E H R R h o (view_expr r.now) {w = tt} {i = e.env.place} {j = e.env.place} {v = v} {v' = v} tt tt)
-  after_adds (work.BinaryDone o) vs e = result_adds tables inputs set functions Value _ (λ v. link.binary_values_linked A A K E E H o {w = tt} {v = first_or_undefined vs} {u = v} {v' = first_or_undefined vs} {u' = v} tt tt)
-  after_adds (work.AndRight r) vs e = result_adds tables inputs set functions Value _ (λ v. link.and_right_linked A A K E E H R R h (view_expr r.now) {w = tt} {i = e.env.place} {j = e.env.place} {v = v} {v' = v} tt tt)
-  after_adds (work.OrRight r) vs e = result_adds tables inputs set functions Value _ (λ v. link.or_right_linked A A K E E H R R h (view_expr r.now) {w = tt} {i = e.env.place} {j = e.env.place} {v = v} {v' = v} tt tt)
-  after_adds (work.Choose a b) vs e = result_adds tables inputs set functions Value _ (λ v. link.choose_expr_linked A A K E E H R R h (view_expr a.now) (view_expr b.now) {w = tt} {i = e.env.place} {j = e.env.place} {v = v} {v' = v} tt tt)
-  after_adds (work.CommaRight r) vs e = result_adds tables inputs set functions Value _ (λ v. link.comma_right_linked A A K E E H R R h (view_expr r.now) {w = tt} {i = e.env.place} {j = e.env.place} {v = v} {v' = v} tt tt)
-  after_adds (work.AssignTo n) vs e = result_adds tables inputs set functions Value _ (λ v. link.assign_to_linked A A K E E H {w = tt} {n = target_of n vs} {n' = target_of n vs} {v = v} {v' = v} tt tt)
-  after_adds (work.CompoundDone o n) vs e = result_adds tables inputs set functions Value _
+  after_adds (continuation.Unary o) vs e = result_adds tables inputs set functions Value _ (λ v. link.unary_value_linked A A K E E H o {w = tt} {v = v} {v' = v} tt)
+  after_adds (continuation.BinaryRight o r) vs e = result_adds tables inputs set functions Value _ (λ v. link.binary_right_linked A A K E E H R R h o (view_expr r.now) {w = tt} {i = e.env.place} {j = e.env.place} {v = v} {v' = v} tt tt)
+  after_adds (continuation.BinaryDone o) vs e = result_adds tables inputs set functions Value _ (λ v. link.binary_values_linked A A K E E H o {w = tt} {v = first_or_undefined vs} {u = v} {v' = first_or_undefined vs} {u' = v} tt tt)
+  after_adds (continuation.AndRight r) vs e = result_adds tables inputs set functions Value _ (λ v. link.and_right_linked A A K E E H R R h (view_expr r.now) {w = tt} {i = e.env.place} {j = e.env.place} {v = v} {v' = v} tt tt)
+  after_adds (continuation.OrRight r) vs e = result_adds tables inputs set functions Value _ (λ v. link.or_right_linked A A K E E H R R h (view_expr r.now) {w = tt} {i = e.env.place} {j = e.env.place} {v = v} {v' = v} tt tt)
+  after_adds (continuation.Choose a b) vs e = result_adds tables inputs set functions Value _ (λ v. link.choose_expr_linked A A K E E H R R h (view_expr a.now) (view_expr b.now) {w = tt} {i = e.env.place} {j = e.env.place} {v = v} {v' = v} tt tt)
+  after_adds (continuation.CommaRight r) vs e = result_adds tables inputs set functions Value _ (λ v. link.comma_right_linked A A K E E H R R h (view_expr r.now) {w = tt} {i = e.env.place} {j = e.env.place} {v = v} {v' = v} tt tt)
+  after_adds (continuation.AssignTo n) vs e = result_adds tables inputs set functions Value _ (λ v. link.assign_to_linked A A K E E H {w = tt} {n = target_of n vs} {n' = target_of n vs} {v = v} {v' = v} tt tt)
+  after_adds (continuation.CompoundDone o n) vs e = result_adds tables inputs set functions Value _
       (λ v. link.compound_done_linked A A K E E H R R h o {w = tt} {n = target_of n vs} {n' = target_of n vs} {a = nth (owns_target n) vs} {v = v} {a' = nth (owns_target n) vs} {v' = v} tt tt tt)
-  after_adds (work.Argument f count rest) vs e = result_adds tables inputs set functions Value _
+  after_adds (continuation.Argument f count rest) vs e = result_adds tables inputs set functions Value _
       (λ v. link.more_arguments_linked A A K E E H R R h (view_exprs rest.now) {f = calling_of f vs} {g = calling_of f vs} {w = tt} {i = e.env.place} {j = e.env.place} {vs = drop (owns_calling f) vs} {us = drop (owns_calling f) vs} {v = v} {v' = v} (any_calling f vs) tt (any_values (drop (owns_calling f) vs)) tt)
-  after_adds (work.Callee es) vs e = result_adds tables inputs set functions Value _ (λ v. link.call_value_linked A A K E E H R R h (view_exprs es.now) {w = tt} {i = e.env.place} {j = e.env.place} {f = v} {f' = v} tt tt)
-  after_adds (work.Constructor es) vs e = result_adds tables inputs set functions Value _ (λ v. link.construct_value_linked A A K E E H R R h (view_exprs es.now) {w = tt} {i = e.env.place} {j = e.env.place} {f = v} {f' = v} tt tt)
-  after_adds (work.InstanceRight r) vs e = result_adds tables inputs set functions Value _ (λ v. link.instance_right_linked A A K E E H R R h (view_expr r.now) {w = tt} {i = e.env.place} {j = e.env.place} {v = v} {v' = v} tt tt)
-  after_adds work.InstanceDone vs e = result_adds tables inputs set functions Value _ (λ v. link.instance_done_linked A A K E E H R R h {w = tt} {v = first_or_undefined vs} {f = v} {v' = first_or_undefined vs} {f' = v} tt tt)
-  after_adds (work.Raise x) vs e = result_adds tables inputs set functions Value _ (λ v. link.behind_expression_linked A A K E E H R R h (upgrade_of (view_expr x.now)) {w = tt} {e = e.env} {d = e.env} tt v v)
-  after_adds work.Throw vs e = result_adds tables inputs set functions Value _ (λ v. link.jump_with_linked A A K E E H R R h thrown {w = tt} {e = e.env} {d = e.env} {v = v} {v' = v} tt tt)
-  after_adds work.Return vs e = result_adds tables inputs set functions Value _ (λ v. link.jump_with_linked A A K E E H R R h returned {w = tt} {e = e.env} {d = e.env} {v = v} {v' = v} tt tt)
-  after_adds (work.Switched of cs) vs e = result_adds tables inputs set functions Value _ (λ v. link.switched_linked A A K E E H R R h (all_labels [] (view_stmt of.now)) (view_clauses (nodes_of cs.now)) {w = tt} {e = e.env} {d = e.env} {v = v} {v' = v} tt tt)
-  after_adds (work.Compared cs i) vs e = result_adds tables inputs set functions Value _ (λ v. compared_adds (first_or_undefined vs) (view_clauses (nodes_of cs.now)) (view_clauses (drop i (nodes_of cs.now))) e.env v)
-  after_adds (work.Falls cs i) vs e = fallen_adds i (view_clauses cs.now) e.env
-  after_adds (work.MemberBase how text) vs e = result_adds tables inputs set functions Value _ (λ v. link.member_base_linked A A K E E H R R h (use_of how vs) text.now {w = tt} {i = e.env.place} {j = e.env.place} {b = v} {b' = v} tt tt)
-  after_adds (work.IndexBase how x) vs e = result_adds tables inputs set functions Value _ (λ v. link.index_base_linked A A K E E H R R h (use_of how vs) (view_expr x.now) {w = tt} {i = e.env.place} {j = e.env.place} {b = v} {b' = v} tt tt)
-  after_adds (work.IndexKey how) vs e = result_adds tables inputs set functions Value _
+  after_adds (continuation.Callee es) vs e = result_adds tables inputs set functions Value _ (λ v. link.call_value_linked A A K E E H R R h (view_exprs es.now) {w = tt} {i = e.env.place} {j = e.env.place} {f = v} {f' = v} tt tt)
+  after_adds (continuation.Constructor es) vs e = result_adds tables inputs set functions Value _ (λ v. link.construct_value_linked A A K E E H R R h (view_exprs es.now) {w = tt} {i = e.env.place} {j = e.env.place} {f = v} {f' = v} tt tt)
+  after_adds (continuation.InstanceRight r) vs e = result_adds tables inputs set functions Value _ (λ v. link.instance_right_linked A A K E E H R R h (view_expr r.now) {w = tt} {i = e.env.place} {j = e.env.place} {v = v} {v' = v} tt tt)
+  after_adds continuation.InstanceDone vs e = result_adds tables inputs set functions Value _ (λ v. link.instance_done_linked A A K E E H R R h {w = tt} {v = first_or_undefined vs} {f = v} {v' = first_or_undefined vs} {f' = v} tt tt)
+  after_adds (continuation.Raise x) vs e = result_adds tables inputs set functions Value _ (λ v. link.behind_expression_linked A A K E E H R R h (upgrade_of (view_expr x.now)) {w = tt} {e = e.env} {d = e.env} tt v v)
+  after_adds continuation.Throw vs e = result_adds tables inputs set functions Value _ (λ v. link.jump_with_linked A A K E E H R R h thrown {w = tt} {e = e.env} {d = e.env} {v = v} {v' = v} tt tt)
+  after_adds continuation.Return vs e = result_adds tables inputs set functions Value _ (λ v. link.jump_with_linked A A K E E H R R h returned {w = tt} {e = e.env} {d = e.env} {v = v} {v' = v} tt tt)
+  after_adds (continuation.Switched of cs) vs e = result_adds tables inputs set functions Value _ (λ v. link.switched_linked A A K E E H R R h (all_labels [] (view_stmt of.now)) (view_clauses (nodes_of cs.now)) {w = tt} {e = e.env} {d = e.env} {v = v} {v' = v} tt tt)
+  after_adds (continuation.Compared cs i) vs e = result_adds tables inputs set functions Value _ (λ v. compared_adds (first_or_undefined vs) (view_clauses (nodes_of cs.now)) (view_clauses (drop i (nodes_of cs.now))) e.env v)
+  after_adds (continuation.Falls cs i) vs e = fallen_adds i (view_clauses cs.now) e.env
+  after_adds (continuation.MemberBase how text) vs e = result_adds tables inputs set functions Value _ (λ v. link.member_base_linked A A K E E H R R h (use_of how vs) text.now {w = tt} {i = e.env.place} {j = e.env.place} {b = v} {b' = v} tt tt)
+  after_adds (continuation.IndexBase how x) vs e = result_adds tables inputs set functions Value _ (λ v. link.index_base_linked A A K E E H R R h (use_of how vs) (view_expr x.now) {w = tt} {i = e.env.place} {j = e.env.place} {b = v} {b' = v} tt tt)
+  after_adds (continuation.IndexKey how) vs e = result_adds tables inputs set functions Value _
       (λ v. link.index_key_linked A A K E E H R R h (use_of how vs) {w = tt} {i = e.env.place} {j = e.env.place} {b = nth (owns_use how) vs} {k = v} {b' = nth (owns_use how) vs} {k' = v} tt tt tt)
-  after_adds (work.Property ps count) vs e = result_adds tables inputs set functions Value _
+  after_adds (continuation.Property ps count) vs e = result_adds tables inputs set functions Value _
       (λ v. link.more_values_linked A A K E E H R R h (object_of (parts_of (view_properties (nodes_of ps.now)))) (view_properties (drop (count + 1) (nodes_of ps.now))) {w = tt} {i = e.env.place} {j = e.env.place} {vs = vs} {us = vs} {v = v} {v' = v} tt (any_values vs) tt)
-  after_adds work.Discard vs e = result_adds tables inputs set functions Value _ (λ v. link.discard_linked A A K {w = tt} {v = v} {v' = v} tt)
-  after_adds (work.ChooseStmt s) vs e = result_adds tables inputs set functions Value _ (λ v. link.choose_stmt_linked A A K E E H R R h (view_stmt s.now) {w = tt} {e = e.env} {d = e.env} {v = v} {v' = v} tt tt)
-  after_adds (work.ChooseStmts s t) vs e = result_adds tables inputs set functions Value _ (λ v. link.choose_stmts_linked A A K E E H R R h (view_stmt s.now) (view_stmt t.now) {w = tt} {e = e.env} {d = e.env} {v = v} {v' = v} tt tt)
-  after_adds (work.Statements ss) vs e = result_adds tables inputs set functions One _ (λ a. link.behind_linked A A K R R h (view_stmts ss.now) {w = tt} {e = e.env} {d = e.env} tt)
-  after_adds (work.Variable n ds) vs e = result_adds tables inputs set functions Value _
+  after_adds continuation.Discard vs e = result_adds tables inputs set functions Value _ (λ v. link.discard_linked A A K {w = tt} {v = v} {v' = v} tt)
+  after_adds (continuation.ChooseStmt s) vs e = result_adds tables inputs set functions Value _ (λ v. link.choose_stmt_linked A A K E E H R R h (view_stmt s.now) {w = tt} {e = e.env} {d = e.env} {v = v} {v' = v} tt tt)
+  after_adds (continuation.ChooseStmts s t) vs e = result_adds tables inputs set functions Value _ (λ v. link.choose_stmts_linked A A K E E H R R h (view_stmt s.now) (view_stmt t.now) {w = tt} {e = e.env} {d = e.env} {v = v} {v' = v} tt tt)
+  after_adds (continuation.Statements ss) vs e = result_adds tables inputs set functions One _ (λ a. link.behind_linked A A K R R h (view_stmts ss.now) {w = tt} {e = e.env} {d = e.env} tt)
+  after_adds (continuation.Variable n ds) vs e = result_adds tables inputs set functions Value _
       (λ v. link.more_variables_linked A A K E E H R R h (view_other_declarations ds.now) {w = tt} {i = e.env.place} {j = e.env.place} {n = target_of n vs} {n' = target_of n vs} {v = v} {v' = v} tt tt tt)
-  after_adds (work.Looped r) vs e = result_adds tables inputs set functions Value _ (λ v. link.looped_value_linked A A K E E H R R h (round_of r) {w = tt} {e = e.env} {d = e.env} v v tt)
-  after_adds (work.Declared r) vs e = result_adds tables inputs set functions One _ (λ a. link.looped_linked A A K E E H R R h (round_of r) {w = tt} {e = e.env} {d = e.env} tt)
-  after_adds (work.Tested r) vs e = result_adds tables inputs set functions Value _ (λ v. link.turn_test_linked A A K E E H R R h (round_of r) {w = tt} {e = e.env} {d = e.env} {v = v} {v' = v} tt tt)
-  after_adds (work.Updated r) vs e = result_adds tables inputs set functions Value _ (λ v. link.updated_linked A A K E E H R R h (round_of r) {w = tt} {e = e.env} {d = e.env} v v tt)
-  after_adds (work.Turned r) vs e = result_adds tables inputs set functions One _ (λ a. link.turned_round_linked A A K E E H R R h (round_of r) {w = tt} {e = e.env} {d = e.env} tt)
-  after_adds (work.Enumerated x) vs e = result_adds tables inputs set functions Value _ (λ v. link.enumerated_linked A A K E E H R R h (labels_at (view_stmt x.of.now)) (view_target x.target.now) (view_stmt x.body.now) {w = tt} {e = e.env} {d = e.env} {o = v} {o' = v} tt tt)
-  after_adds (work.VisitBody s) vs e = result_adds tables inputs set functions Value _ (λ v. link.visit_body_linked A A K E E H R R h (view_stmt s.now) {w = tt} {e = e.env} {d = e.env} v v tt)
-  after_adds (work.Visited x count) vs e = result_adds tables inputs set functions One _ (λ a. link.visited_linked A A K E E H R R h {w = tt} {v = visit_behind x vs} {v' = visit_behind x vs} {e = e.env} {d = e.env} (visits_of tt) tt)
-  after_adds (work.EndBranch gives depth) vs e = branch_adds tables inputs set functions (result_type gives) depth
-  after_adds (work.EndRound turn depth of) vs e = round_adds tables inputs set functions depth
-  after_adds (work.EndLabel depth text) vs e = round_adds tables inputs set functions depth
-  after_adds (work.EndTry depth) vs e = round_adds tables inputs set functions depth
-  after_adds (work.EndCall own depth) vs e = call_adds tables inputs set functions depth
-  after_adds (work.EndNew own depth) vs e = construction_adds tables inputs set functions _ depth
-  after_adds (work.EndBlock x depth) vs e = block_adds tables inputs set functions (handles (view_stmt x.now)) (finishes (view_stmt x.now)) (handler_of tables inputs set functions (view_stmt x.now) e.env) depth (handled_adds (view_stmt x.now) e.env) (last_adds (view_stmt x.now) e.env)
-  after_adds (work.EndHandler x own depth) vs e = handler_adds tables inputs set functions (finishes (view_stmt x.now)) depth (last_adds (view_stmt x.now) e.env)
-  after_adds (work.EndLast waiting) vs e = waiting_adds tables inputs set functions (waiting_of waiting vs)
-  after_adds (work.ConvertedLeft o) vs e = result_adds tables inputs set functions Value _ (λ v. converted_adds (conversion_of o) o (first_or_undefined vs) v)
-  after_adds (work.Operate o) vs e = result_adds tables inputs set functions Value _ (λ v. link.binary_done_linked A A K o {w = tt} {v = first_or_undefined vs} {u = v} {v' = first_or_undefined vs} {u' = v} tt tt)
-  after_adds (work.UnaryConverted o) vs e = result_adds tables inputs set functions Value _ (λ v. link.unary_done_linked A A K o {w = tt} {v = v} {v' = v} tt)
-  after_adds work.KeyHas vs e = result_adds tables inputs set functions Value _ (λ v. link.has_left_linked A A K {w = tt} {u = first_or_undefined vs} {v = v} {u' = first_or_undefined vs} {v' = v} tt tt)
-  after_adds (work.KeyOf how) vs e = result_adds tables inputs set functions Value _
+  after_adds (continuation.Looped r) vs e = result_adds tables inputs set functions Value _ (λ v. link.looped_value_linked A A K E E H R R h (round_of r) {w = tt} {e = e.env} {d = e.env} v v tt)
+  after_adds (continuation.Declared r) vs e = result_adds tables inputs set functions One _ (λ a. link.looped_linked A A K E E H R R h (round_of r) {w = tt} {e = e.env} {d = e.env} tt)
+  after_adds (continuation.Tested r) vs e = result_adds tables inputs set functions Value _ (λ v. link.turn_test_linked A A K E E H R R h (round_of r) {w = tt} {e = e.env} {d = e.env} {v = v} {v' = v} tt tt)
+  after_adds (continuation.Updated r) vs e = result_adds tables inputs set functions Value _ (λ v. link.updated_linked A A K E E H R R h (round_of r) {w = tt} {e = e.env} {d = e.env} v v tt)
+  after_adds (continuation.Turned r) vs e = result_adds tables inputs set functions One _ (λ a. link.turned_round_linked A A K E E H R R h (round_of r) {w = tt} {e = e.env} {d = e.env} tt)
+  after_adds (continuation.Enumerated x) vs e = result_adds tables inputs set functions Value _ (λ v. link.enumerated_linked A A K E E H R R h (labels_at (view_stmt x.of.now)) (view_target x.target.now) (view_stmt x.body.now) {w = tt} {e = e.env} {d = e.env} {o = v} {o' = v} tt tt)
+  after_adds (continuation.VisitBody s) vs e = result_adds tables inputs set functions Value _ (λ v. link.visit_body_linked A A K E E H R R h (view_stmt s.now) {w = tt} {e = e.env} {d = e.env} v v tt)
+  after_adds (continuation.Visited x count) vs e = result_adds tables inputs set functions One _ (λ a. link.visited_linked A A K E E H R R h {w = tt} {v = visit_behind x vs} {v' = visit_behind x vs} {e = e.env} {d = e.env} (visits_of tt) tt)
+  after_adds (continuation.EndBranch gives depth) vs e = branch_adds tables inputs set functions (result_type gives) depth
+  after_adds (continuation.EndRound turn depth of) vs e = round_adds tables inputs set functions depth
+  after_adds (continuation.EndLabel depth text) vs e = round_adds tables inputs set functions depth
+  after_adds (continuation.EndTry depth) vs e = round_adds tables inputs set functions depth
+  after_adds (continuation.EndCall own depth) vs e = call_adds tables inputs set functions depth
+  after_adds (continuation.EndNew own depth) vs e = construction_adds tables inputs set functions _ depth
+  after_adds (continuation.EndBlock x depth) vs e = block_adds tables inputs set functions (handles (view_stmt x.now)) (finishes (view_stmt x.now)) (handler_of tables inputs set functions (view_stmt x.now) e.env) depth (handled_adds (view_stmt x.now) e.env) (last_adds (view_stmt x.now) e.env)
+  after_adds (continuation.EndHandler x own depth) vs e = handler_adds tables inputs set functions (finishes (view_stmt x.now)) depth (last_adds (view_stmt x.now) e.env)
+  after_adds (continuation.EndLast waiting) vs e = waiting_adds tables inputs set functions (waiting_of waiting vs)
+  after_adds (continuation.ConvertedLeft o) vs e = result_adds tables inputs set functions Value _ (λ v. converted_adds (conversion_of o) o (first_or_undefined vs) v)
+  after_adds (continuation.Operate o) vs e = result_adds tables inputs set functions Value _ (λ v. link.binary_done_linked A A K o {w = tt} {v = first_or_undefined vs} {u = v} {v' = first_or_undefined vs} {u' = v} tt tt)
+  after_adds (continuation.UnaryConverted o) vs e = result_adds tables inputs set functions Value _ (λ v. link.unary_done_linked A A K o {w = tt} {v = v} {v' = v} tt)
+  after_adds continuation.KeyHas vs e = result_adds tables inputs set functions Value _ (λ v. link.has_left_linked A A K {w = tt} {u = first_or_undefined vs} {v = v} {u' = first_or_undefined vs} {v' = v} tt tt)
+  after_adds (continuation.KeyOf how) vs e = result_adds tables inputs set functions Value _
       (λ v. link.with_key_linked A A K E E H R R h (use_of how vs) {w = tt} {i = e.env.place} {j = e.env.place} {b = nth (owns_use how) vs} {k = v} {b' = nth (owns_use how) vs} {k' = v} tt tt tt)
-  after_adds (work.Counted counting.Prefix o n) vs e = result_adds tables inputs set functions Value _ (λ v. link.prefix_value_linked A A K E E H o {w = tt} {n = target_of n vs} {n' = target_of n vs} {v = v} {v' = v} tt tt)
-  after_adds (work.Counted counting.Postfix o n) vs e = result_adds tables inputs set functions Value _ (λ v. link.postfix_value_linked A A K E E H o {w = tt} {n = target_of n vs} {n' = target_of n vs} {v = v} {v' = v} tt tt)
-  after_adds (work.CountedNumber counting.Prefix o n) vs e = result_adds tables inputs set functions Value _ (λ v. link.prefix_number_linked A A K E E H o {w = tt} {n = target_of n vs} {n' = target_of n vs} {v = v} {v' = v} tt tt)
-  after_adds (work.CountedNumber counting.Postfix o n) vs e = result_adds tables inputs set functions Value _ (λ v. link.postfix_number_linked A A K E E H o {w = tt} {n = target_of n vs} {n' = target_of n vs} {v = v} {v' = v} tt tt)
-  after_adds (work.CompoundRight o x n) vs e = result_adds tables inputs set functions Value _
+  after_adds (continuation.Counted counting.Prefix o n) vs e = result_adds tables inputs set functions Value _ (λ v. link.prefix_value_linked A A K E E H o {w = tt} {n = target_of n vs} {n' = target_of n vs} {v = v} {v' = v} tt tt)
+  after_adds (continuation.Counted counting.Postfix o n) vs e = result_adds tables inputs set functions Value _ (λ v. link.postfix_value_linked A A K E E H o {w = tt} {n = target_of n vs} {n' = target_of n vs} {v = v} {v' = v} tt tt)
+  after_adds (continuation.CountedNumber counting.Prefix o n) vs e = result_adds tables inputs set functions Value _ (λ v. link.prefix_number_linked A A K E E H o {w = tt} {n = target_of n vs} {n' = target_of n vs} {v = v} {v' = v} tt tt)
+  after_adds (continuation.CountedNumber counting.Postfix o n) vs e = result_adds tables inputs set functions Value _ (λ v. link.postfix_number_linked A A K E E H o {w = tt} {n = target_of n vs} {n' = target_of n vs} {v = v} {v' = v} tt tt)
+  after_adds (continuation.CompoundRight o x n) vs e = result_adds tables inputs set functions Value _
       (λ v. link.compound_right_linked A A K E E H R R h o (view_expr x.now) {w = tt} {i = e.env.place} {j = e.env.place} {n = target_of n vs} {n' = target_of n vs} {a = v} {a' = v} tt tt tt)
-  after_adds (work.CalledBy es) vs e = result_adds tables inputs set functions Value _
+  after_adds (continuation.CalledBy es) vs e = result_adds tables inputs set functions Value _
       (λ v. link.arguments_linked A A K E E H R R h (view_exprs es.now) {f = meaning.calls v (first_or_undefined vs)} {g = meaning.calls v (first_or_undefined vs)} {w = tt} {i = e.env.place} {j = e.env.place} {vs = []} {us = []} (both_call tt tt) tt nils)
-  after_adds work.InstanceTest vs e = instance_end_adds tables inputs set functions (first_or_undefined vs).label (object_or_default (first_or_undefined vs).value).0
-  after_adds work.GiveBehind vs e = behind_adding (give A (first_or_undefined vs)) (λ u. link.give_linked A A K {w = tt} {v = first_or_undefined vs} {v' = first_or_undefined vs} tt)
-  after_adds (work.VariablesBehind ds) vs e = behind_adding (λ u. variables A E R (view_other_declarations ds.now) e.env.place) (λ u. record { adds = variables_adds (view_other_declarations ds.now) e.env.place })
-  after_adds (work.Answered count (Some to)) vs e = result_adds tables inputs set functions Value _
+  after_adds continuation.InstanceTest vs e = instance_end_adds tables inputs set functions (first_or_undefined vs).label (object_or_default (first_or_undefined vs).value).0
+  after_adds continuation.GiveBehind vs e = behind_adding (give A (first_or_undefined vs)) (λ u. link.give_linked A A K {w = tt} {v = first_or_undefined vs} {v' = first_or_undefined vs} tt)
+  after_adds (continuation.VariablesBehind ds) vs e = behind_adding (λ u. variables A E R (view_other_declarations ds.now) e.env.place) (λ u. record { adds = variables_adds (view_other_declarations ds.now) e.env.place })
+  after_adds (continuation.Answered count (Some to)) vs e = result_adds tables inputs set functions Value _
       (λ v. requests.answered_in_linked A A K E E H R R h (outermost_steps e.natives) to {w = tt} {vs = vs} {us = vs} {v = v} {v' = v} (any_values vs) tt)
-  after_adds (work.Answered count None) vs e = behind_adding (put_behind A E R (outermost_steps e.natives) vs) (λ u. requests.put_behind_linked A A K E E H R R h (outermost_steps e.natives) {w = tt} {vs = vs} {us = vs} (any_values vs))
+  after_adds (continuation.Answered count None) vs e = behind_adding (put_behind A E R (outermost_steps e.natives) vs) (λ u. requests.put_behind_linked A A K E E H R R h (outermost_steps e.natives) {w = tt} {vs = vs} {us = vs} (any_values vs))
 
   -- the keys that a `for in` has left
   visits_adds : (labels : List (Option (List ℕ))) (target : Target) (body : Statement) (o : Val) (keys : List (List ℕ)) (e : Env ℕ) → Adding tables inputs set functions (visits A E R labels target body o keys e)
@@ -247,41 +247,41 @@ module _ (tables : Tables) (inputs : Given) (set : BuiltIns) (functions : List F
   call_adding (meaning.constructs f) vs = K.construct {w = tt} {f = f} {f' = f} {vs = vs} {us = vs} {E = E} {D = E} tt (any_values vs) H
 
   -- what a machine does next
-  next_adds : (move : Next) (vs : List Val) (e : Setting) (s : State) → Adds tables inputs set functions s (next_plan tables inputs set functions move vs e s)
+  next_adds : (move : Control) (vs : List Val) (e : Setting) (s : State) → Adds tables inputs set functions s (next_plan tables inputs set functions move vs e s)
   unfolding adding
-  next_adds next.Value vs e s = give_adds tables inputs set functions _ s
-  next_adds (next.Jumps j) vs e s = give_adds tables inputs set functions _ s
-  next_adds next.Done vs e s = give_adds tables inputs set functions _ s
-  next_adds next.Null vs e s = give_adds tables inputs set functions _ s
-  next_adds (next.Bool b) vs e s = give_adds tables inputs set functions _ s
-  next_adds (next.Number n) vs e s = give_adds tables inputs set functions _ s
-  next_adds (next.Text text) vs e s = give_adds tables inputs set functions _ s
-  next_adds (next.Name text) vs e s = name_adds e.env.place text.now (read_value A E R) s read_adds
-  next_adds next.This vs e s = name_adds e.env.place (codes "this") (read_value A E R) s read_adds
-  next_adds (next.Object ps count) vs e s = properties_adds (object_of (parts_of (view_properties (nodes_of ps.now)))) vs (view_properties (drop count (nodes_of ps.now))) e.env.place s
-  next_adds (next.GiveVariable x) vs e s = name_adds e.env.place x.now.text (used A E R (use_of use_as.GivenText vs) e.env.place) s (given_adds vs e.env.place)
-  next_adds (next.Keys x) vs e s = keys_adds (labels_at (view_stmt x.of.now)) (view_target x.target.now) (view_stmt x.body.now) (nth 0 vs) e.env s
-  next_adds (next.Visits x count) vs e s = (visits_adds (labels_at (view_stmt x.of.now)) (view_target x.target.now) (view_stmt x.body.now) (nth 0 vs) (keys_left vs) e.env).adds s
-  next_adds (next.Expr x) vs e s = ask_adds tables inputs set functions _ s
-  next_adds (next.Use how x) vs e s = ask_adds tables inputs set functions _ s
-  next_adds (next.Stmt x) vs e s = ask_adds tables inputs set functions _ s
-  next_adds (next.Named x n) vs e s = ask_adds tables inputs set functions _ s
-  next_adds (next.Variables ds) vs e s = variables_adds (variable_list (view_declarations ds.now)) e.env.place s
-  next_adds (next.Turn r) vs e s = ask_adds tables inputs set functions _ s
-  next_adds (next.Visit x count) vs e s = ask_adds tables inputs set functions _ s
-  next_adds (next.Loop r) vs e s = (link.loop_linked A A K E E H R R h (round_of r) {w = tt} {e = e.env} {d = e.env} tt).adds s
-  next_adds (next.DoLoop r) vs e s = (K.round {w = tt} false (round_of r).labels {e = e.env} {d = e.env} (R.turn (round_of r)) (R.turn (round_of r)) tt (λ w l d d' q. h.turn (round_of r) w d d' q)).adds s
-  next_adds (next.Call count) vs e s = (call_adding (calling_of calling.Calls vs) (drop 2 vs)).adds s
-  next_adds (next.Construct count) vs e s = (call_adding (calling_of calling.Constructs vs) (drop 1 vs)).adds s
-  next_adds (next.Request count) vs e s = ask_adds tables inputs set functions _ s
-  next_adds (next.Convert kind) vs e s = (K.primitive {w = tt} kind {v = first_or_undefined vs} {v' = first_or_undefined vs} {E = E} {D = E} tt H).adds s
-  next_adds next.Compare vs e s = (K.comparable {w = tt} {v = nth 0 vs} {u = nth 1 vs} {v' = nth 0 vs} {u' = nth 1 vs} {E = E} {D = E} tt tt H).adds s
-  next_adds (next.Function f) vs e s = (K.function {w = tt} (view_function f.now) {i = e.env.place} {j = e.env.place} tt).adds s
-  next_adds (next.Break turn label) vs e s = (K.jump {w = tt} (left_by turn (text_of_label (view_name label.now))) {e = e.env} {d = e.env} {v = A.literal prims.Undefined} {v' = A.literal prims.Undefined} tt tt).adds s
-  next_adds next.Return vs e s = (K.jump {w = tt} returned {e = e.env} {d = e.env} {v = A.literal prims.Undefined} {v' = A.literal prims.Undefined} tt tt).adds s
-  next_adds (next.Labelled text x) vs e s = (K.round {w = tt} false (Some text.now ∷ []) {e = e.env} {d = e.env} (R.stmt (view_stmt x.now)) (R.stmt (view_stmt x.now)) tt (λ w l d d' q. h.stmt (view_stmt x.now) w d d' q)).adds s
-  next_adds (next.Try x) vs e s = (link.stmt_linked A A K E E H R R h (view_stmt x.now) tt e.env e.env tt).adds s
-  next_adds (next.Leave why) vs e s = end_adds tables inputs set functions _ s
+  next_adds control.Value vs e s = give_adds tables inputs set functions _ s
+  next_adds (control.Jumps j) vs e s = give_adds tables inputs set functions _ s
+  next_adds control.Done vs e s = give_adds tables inputs set functions _ s
+  next_adds control.Null vs e s = give_adds tables inputs set functions _ s
+  next_adds (control.Bool b) vs e s = give_adds tables inputs set functions _ s
+  next_adds (control.Number n) vs e s = give_adds tables inputs set functions _ s
+  next_adds (control.Text text) vs e s = give_adds tables inputs set functions _ s
+  next_adds (control.Name text) vs e s = name_adds e.env.place text.now (read_value A E R) s read_adds
+  next_adds control.This vs e s = name_adds e.env.place (codes "this") (read_value A E R) s read_adds
+  next_adds (control.Object ps count) vs e s = properties_adds (object_of (parts_of (view_properties (nodes_of ps.now)))) vs (view_properties (drop count (nodes_of ps.now))) e.env.place s
+  next_adds (control.GiveVariable x) vs e s = name_adds e.env.place x.now.text (used A E R (use_of use_as.GivenText vs) e.env.place) s (given_adds vs e.env.place)
+  next_adds (control.Keys x) vs e s = keys_adds (labels_at (view_stmt x.of.now)) (view_target x.target.now) (view_stmt x.body.now) (nth 0 vs) e.env s
+  next_adds (control.Visits x count) vs e s = (visits_adds (labels_at (view_stmt x.of.now)) (view_target x.target.now) (view_stmt x.body.now) (nth 0 vs) (keys_left vs) e.env).adds s
+  next_adds (control.Expr x) vs e s = ask_adds tables inputs set functions _ s
+  next_adds (control.Use how x) vs e s = ask_adds tables inputs set functions _ s
+  next_adds (control.Stmt x) vs e s = ask_adds tables inputs set functions _ s
+  next_adds (control.Named x n) vs e s = ask_adds tables inputs set functions _ s
+  next_adds (control.Variables ds) vs e s = variables_adds (variable_list (view_declarations ds.now)) e.env.place s
+  next_adds (control.Turn r) vs e s = ask_adds tables inputs set functions _ s
+  next_adds (control.Visit x count) vs e s = ask_adds tables inputs set functions _ s
+  next_adds (control.Loop r) vs e s = (link.loop_linked A A K E E H R R h (round_of r) {w = tt} {e = e.env} {d = e.env} tt).adds s
+  next_adds (control.DoLoop r) vs e s = (K.round {w = tt} false (round_of r).labels {e = e.env} {d = e.env} (R.turn (round_of r)) (R.turn (round_of r)) tt (λ w l d d' q. h.turn (round_of r) w d d' q)).adds s
+  next_adds (control.Call count) vs e s = (call_adding (calling_of calling.Calls vs) (drop 2 vs)).adds s
+  next_adds (control.Construct count) vs e s = (call_adding (calling_of calling.Constructs vs) (drop 1 vs)).adds s
+  next_adds (control.Request count) vs e s = ask_adds tables inputs set functions _ s
+  next_adds (control.Convert kind) vs e s = (K.primitive {w = tt} kind {v = first_or_undefined vs} {v' = first_or_undefined vs} {E = E} {D = E} tt H).adds s
+  next_adds control.Compare vs e s = (K.comparable {w = tt} {v = nth 0 vs} {u = nth 1 vs} {v' = nth 0 vs} {u' = nth 1 vs} {E = E} {D = E} tt tt H).adds s
+  next_adds (control.Function f) vs e s = (K.function {w = tt} (view_function f.now) {i = e.env.place} {j = e.env.place} tt).adds s
+  next_adds (control.Break turn label) vs e s = (K.jump {w = tt} (left_by turn (text_of_label (view_name label.now))) {e = e.env} {d = e.env} {v = A.literal prims.Undefined} {v' = A.literal prims.Undefined} tt tt).adds s
+  next_adds control.Return vs e s = (K.jump {w = tt} returned {e = e.env} {d = e.env} {v = A.literal prims.Undefined} {v' = A.literal prims.Undefined} tt tt).adds s
+  next_adds (control.Labelled text x) vs e s = (K.round {w = tt} false (Some text.now ∷ []) {e = e.env} {d = e.env} (R.stmt (view_stmt x.now)) (R.stmt (view_stmt x.now)) tt (λ w l d d' q. h.stmt (view_stmt x.now) w d d' q)).adds s
+  next_adds (control.Try x) vs e s = (link.stmt_linked A A K E E H R R h (view_stmt x.now) tt e.env e.env tt).adds s
+  next_adds (control.Leave why) vs e s = end_adds tables inputs set functions _ s
 
   module _ {T : Type 0} (reading : T → Label) where
     -- a plan, and behind it pending work
@@ -291,12 +291,12 @@ module _ (tables : Tables) (inputs : Given) (set : BuiltIns) (functions : List F
     behind_adds (w ∷ tasks) e p s a = and_adds tables inputs set functions s (behind tables inputs set functions reading tasks (setting_inside w.0 e) p) (after_task tables inputs set functions reading w e) (behind_adds tasks (setting_inside w.0 e) p s a) (after_adds w.0 (map (readings.read_value reading) w.1) e)
 
     -- the next move with all that is pending: the lines of the state are how those of the run begin
-    pub adds_lines : (tasks : List (Task T)) (e f : Setting) (move : Next) (vs : List Val) (s : State)
+    pub adds_lines : (tasks : List (Task T)) (e f : Setting) (move : Control) (vs : List Val) (s : State)
         → Front s.lines (performed_run (perform (plans.meaning tables inputs set functions) (behind tables inputs set functions reading tasks e (next_plan tables inputs set functions move vs f s)))).lines
     adds_lines tasks e f move vs s =
         subst (Front s.lines) (lines_run (perform (plans.meaning tables inputs set functions) (behind tables inputs set functions reading tasks e (next_plan tables inputs set functions move vs f s)))) (behind_adds tasks e (next_plan tables inputs set functions move vs f s) s (next_adds move vs f s))
 
     -- and others stand behind them
-    pub continued_lines : (tasks : List (Task T)) (e f : Setting) (move : Next) (vs : List Val) (s : State)
+    pub continued_lines : (tasks : List (Task T)) (e f : Setting) (move : Control) (vs : List Val) (s : State)
         → Continued s.lines (performed_run (perform (plans.meaning tables inputs set functions) (behind tables inputs set functions reading tasks e (next_plan tables inputs set functions move vs f s)))).lines
     continued_lines tasks e f move vs s = front_continued (adds_lines tasks e f move vs s)

@@ -26,38 +26,38 @@ use Rattle.flow_meaning.specs.Scopes.{Jump as Jumps}
 use Rattle.es_meaning.specs.Evaluation.{put_behind}
 use Rattle.flow_meaning.specs.Laws.{performed_run}
 use Rattle.flow_meaning.specs.Planned.{Ask, Give, Plan, end_setter, a_request, gave, jumped, meaning, perform, plan}
-use Rattle.step_world.specs.declared.world.World.{World}
-use Rattle.step_world.specs.Worlds.{state_of}
+use Rattle.run_state.specs.declared.world.World.{World}
+use Rattle.run_state.specs.Worlds.{state_of}
 use Rattle.step_natives.specs.States.{States, running_steps, told, waiting_steps}
-use Rattle.step_converting.specs.Framed.{steps_at}
+use Rattle.step_natives.specs.Framed.{steps_at}
 use Rattle.channel_requests.specs.Answers.{line_of}
 use Rattle.channel_requests.specs.declared.printing.Printed.{Printed}
 use Rattle.step_requests.specs.Doing.{IsPrinted}
 use Rattle.step_requests.specs.Requesting.{Requests, steps_now}
-use Rattle.step_work.specs.Answering.{IsAnswered}
-use Rattle.step_work.specs.declared.work.Jump.{Jump}
-use Rattle.step_work.specs.declared.work.Next.{Next}
-use Rattle.step_work.specs.declared.work.Next.TheVariants as next
-use Rattle.step_work.specs.declared.work.Work.{Work}
-use Rattle.step_work.specs.declared.work.Work.TheVariants as work
-use Rattle.step_work.specs.Going.{ComesTo, Passes, here}
-use Rattle.step_work.specs.Kept.{Kept, kept_operands, scopes_of, waiting}
-use Rattle.step_work.specs.Loads.{Adds, load}
-use Rattle.step_work.specs.Pending.{after, behind, first_or_undefined, owns, setting_above}
-use Rattle.step_work.specs.Resuming.{coming}
-use Rattle.step_work.specs.Settings.{Setting, outermost_steps, setting_of}
-use Rattle.step_work.specs.Shapes.{jump_of}
-use Rattle.step_work.specs.Standing.{Standing, depths}
-use Rattle.step_work.specs.Stops.{HasStop}
-use Rattle.step_work.proofs.RegisterLaws.{above_enough, behind_enough}
+use Rattle.continuations.specs.Answering.{IsAnswered}
+use Rattle.continuations.specs.declared.continuation.Jump.{Jump}
+use Rattle.continuations.specs.declared.continuation.Control.{Control}
+use Rattle.continuations.specs.declared.continuation.Control.TheVariants as control
+use Rattle.continuations.specs.declared.continuation.Continuation.{Continuation}
+use Rattle.continuations.specs.declared.continuation.Continuation.TheVariants as continuation
+use Rattle.continuations.specs.Going.{ComesTo, Passes, here}
+use Rattle.continuations.specs.Kept.{Kept, kept_operands, scopes_of, waiting}
+use Rattle.continuations.specs.Loads.{Adds, load}
+use Rattle.continuations.specs.Pending.{after, behind, first_or_undefined, owns, setting_above}
+use Rattle.continuations.specs.Resuming.{coming}
+use Rattle.continuations.specs.Settings.{Setting, outermost_steps, setting_of}
+use Rattle.continuations.specs.Shapes.{jump_of}
+use Rattle.continuations.specs.Invariant.{Invariant, depths}
+use Rattle.continuations.specs.Stops.{HasStop}
+use Rattle.continuations.proofs.RegisterLaws.{above_enough, behind_enough}
 use Rattle.step_core.specs.declared.progress.Progress.{Progress}
 use Rattle.step_core.specs.declared.steps.Advance.{Advance}
 use Rattle.step_core.specs.declared.steps.Advance.TheVariants as advance
 use Rattle.step_core.specs.Continuing.{continued}
 use Rattle.step_core.specs.Going.{StandsStill}
 use Rattle.step_core.specs.declared.steps.Ending.TheVariants as ending
-use Rattle.step_core.specs.Outlook.{ahead, outlook}
-use Rattle.step_core.specs.Stepping.{IsAsked, Prints, Stepped, StandsBefore, completion_above, outlook_after, still_step}
+use Rattle.step_core.specs.RemainingRun.{ahead, remaining_run}
+use Rattle.step_core.specs.Stepping.{IsAsked, Prints, Stepped, StandsBefore, completion_above, remaining_run_after, still_step}
 use Rattle.step_core.proofs.Parts.{front_all}
 use Rattle.step_core.proofs.StepLaws.{AsksFor, ends_steps, entered_after, moved_steps, spent_alone, still_behind, still_steps, stepped_as, lowers_by}
 
@@ -94,31 +94,31 @@ module _ {X : Type 0} (tells : X → Answer → X) (asks : X → Request) where
 -- ---- one is told
 
 -- what work goes on with, by the operands and the value above them
-continued_by : {T : Type 0} (tables : Tables) (inputs : Given) (set : BuiltIns) (functions : List FunctionCode) (reading : T → Label) (w : Work) (kept : List (Labelled T)) (value : Labelled T) (e : Setting) (s : State) → length kept ≡ owns w
+continued_by : {T : Type 0} (tables : Tables) (inputs : Given) (set : BuiltIns) (functions : List FunctionCode) (reading : T → Label) (w : Continuation) (kept : List (Labelled T)) (value : Labelled T) (e : Setting) (s : State) → length kept ≡ owns w
     → continued tables inputs set functions reading w (kept ++ value ∷ []) e s ≡ after tables inputs set functions w (map (read_value reading) kept) e (gave (read_value reading value)) s
 continued_by tables inputs set functions reading w kept value e s size =
     ap₂ (λ vs us. after tables inputs set functions w (map (read_value reading) vs) e (gave (first_or_undefined (map (read_value reading) us))) s) (ap (λ n. take n (kept ++ value ∷ [])) (sym size) ∙ take-append_seam kept (value ∷ [])) (ap (λ n. drop n (kept ++ value ∷ [])) (sym size) ∙ drop-append_seam kept (value ∷ []))
 
 module _ {S T X : Type 0} (made : S → T → Type 0) (meaning_of : S → T → Label) (store : S) (tables : Tables) (inputs : Given) (set : BuiltIns) (functions : List FunctionCode) (tells : X → Answer → X) (asks : X → Request) where
   pub told_steps : (m : Progress T X) (count : ℕ) (to : Option Reg) (middle new : Kept T) (natives : States X) (kept : List (Labelled T)) (value : Labelled T) (next_count n : ℕ)
-      → Standing made meaning_of store m.stack m.world n (scopes_of m.stack.tasks) (waiting m.stack.tasks) next.Value → length m.natives.states ≡ waiting m.stack.tasks + 1
+      → Invariant made meaning_of store m.stack m.world n (scopes_of m.stack.tasks) (waiting m.stack.tasks) control.Value → length m.natives.states ≡ waiting m.stack.tasks + 1
       → middle.tasks ≡ m.stack.tasks → middle.loose ≡ kept ++ value ∷ [] → length kept ≡ count
-      → ((reading : T → Label) (e : Setting) (s : State) → IsReading made meaning_of store reading → continued tables inputs set functions reading (work.Answered count to) middle.loose e s ≡ continued tables inputs set functions reading (work.Answered count to) m.stack.loose e s)
-      → IsAnswered made meaning_of store count to middle new (next.Request next_count) → new.tasks ≡ middle.tasks → length new.loose ≡ next_count → All (HasValue (made store)) new.loose
+      → ((reading : T → Label) (e : Setting) (s : State) → IsReading made meaning_of store reading → continued tables inputs set functions reading (continuation.Answered count to) middle.loose e s ≡ continued tables inputs set functions reading (continuation.Answered count to) m.stack.loose e s)
+      → IsAnswered made meaning_of store count to middle new (control.Request next_count) → new.tasks ≡ middle.tasks → length new.loose ≡ next_count → All (HasValue (made store)) new.loose
       → natives.states ≡ m.natives.states → ((front : List Steps) (steps : Steps) → waiting_steps tells asks m.natives ≡ front ++ steps ∷ [] → running_steps tells asks natives ≡ front ++ steps_behind steps answer.Done ∷ [])
-      → Stepped made meaning_of store tables inputs set functions tells asks (λ reading. outlook_after tables inputs set functions tells asks reading m (work.Answered count to) (completion_above tables inputs set functions tells asks reading m (work.Answered count to))) (ahead m next.Value + 1)
-      (record { world = m.world; stack = new; natives = natives; turns = m.turns }) (advance.Goes (next.Request next_count))
+      → Stepped made meaning_of store tables inputs set functions tells asks (λ reading. remaining_run_after tables inputs set functions tells asks reading m (continuation.Answered count to) (completion_above tables inputs set functions tells asks reading m (continuation.Answered count to))) (ahead m control.Value + 1)
+      (record { world = m.world; stack = new; natives = natives; turns = m.turns }) (advance.Goes (control.Request next_count))
   told_steps m count to middle new natives kept value next_count n stands size tasks lies below same answered still values has states told_by =
       let waits = waits_last tells asks m.natives (waiting m.stack.tasks) size in
       let front = waits.0 in
       let steps = waits.1 in
-      let w = work.Answered count to in
+      let w = continuation.Answered count to in
       let after_move : Progress T X = record { world = m.world; stack = new; natives = natives; turns = m.turns } in
       let p : (T → Label) → List LabelledLine → ℕ → Plan = λ reading said turns. behind tables inputs set functions reading m.stack.tasks (setting_of (waiting_steps tells asks m.natives) here) (continued tables inputs set functions reading w m.stack.loose (setting_above m.stack.tasks (setting_of (waiting_steps tells asks m.natives) here)) (state_of reading m.world said turns)) in
-      moved_steps made meaning_of store tables inputs set functions tells asks (running_steps tells asks natives) p after_move (ahead m next.Value + 1) (Ok (next.Request next_count)) (Ok (advance.Goes (next.Request next_count))) refl
+      moved_steps made meaning_of store tables inputs set functions tells asks (running_steps tells asks natives) p after_move (ahead m control.Value + 1) (Ok (control.Request next_count)) (Ok (advance.Goes (control.Request next_count))) refl
       (λ reading said turns read.
       let s = state_of reading m.world said turns in
-      ap (λ ns. coming tables inputs set functions reading new (next.Request next_count) (setting_of ns here) s) (told_by front steps waits.2)
+      ap (λ ns. coming tables inputs set functions reading new (control.Request next_count) (setting_of ns here) s) (told_by front steps waits.2)
       ∙ answered tables inputs set functions reading (setting_of front here) steps s kept value read (waits.3 ∙ ap waiting (sym tasks)) lies
       ∙ sym (ap (λ q. behind tables inputs set functions reading middle.tasks (setting_of (front ++ steps ∷ []) here) q) (continued_by tables inputs set functions reading w kept value (setting_above middle.tasks (setting_of (front ++ steps ∷ []) here)) s below))
       ∙ ap (λ vs. behind tables inputs set functions reading middle.tasks (setting_of (front ++ steps ∷ []) here) (continued tables inputs set functions reading w vs (setting_above middle.tasks (setting_of (front ++ steps ∷ []) here)) s)) (sym lies)
@@ -141,28 +141,28 @@ module _ {S T X : Type 0} (made : S → T → Type 0) (meaning_of : S → T → 
 
 module _ {S T X : Type 0} (made : S → T → Type 0) (meaning_of : S → T → Label) (store : S) (tables : Tables) (inputs : Given) (set : BuiltIns) (functions : List FunctionCode) (tells : X → Answer → X) (asks : X → Request) where
   -- a jump passes the work of a built-in in whatever setting
-  jumped_past : (count : ℕ) (to : Option Reg) (vs us : List Val) (e f : Setting) (j : Jumps) (s : State) → after tables inputs set functions (work.Answered count to) vs e (jumped j) s ≡ after tables inputs set functions (work.Answered count to) us f (jumped j) s
+  jumped_past : (count : ℕ) (to : Option Reg) (vs us : List Val) (e f : Setting) (j : Jumps) (s : State) → after tables inputs set functions (continuation.Answered count to) vs e (jumped j) s ≡ after tables inputs set functions (continuation.Answered count to) us f (jumped j) s
   unfolding put_behind end_setter
   jumped_past count (Some to) vs us e f j s = refl
   jumped_past count None vs us e f j s = refl
 
-  pub left_steps : (m : Progress T X) (count : ℕ) (to : Option Reg) (j : Jump) (value : Labelled T) (new : Kept T) (natives : States X) (moved : Result Next (FlowFault T)) (result : Result (Advance T) OutOfMemory) → result ≡ still_step moved
+  pub left_steps : (m : Progress T X) (count : ℕ) (to : Option Reg) (j : Jump) (value : Labelled T) (new : Kept T) (natives : States X) (moved : Result Control (FlowFault T)) (result : Result (Advance T) OutOfMemory) → result ≡ still_step moved
       → length m.natives.states ≡ waiting m.stack.tasks + 1 → length natives.states + 1 ≡ length m.natives.states
       → ((front : List Steps) (steps : Steps) → waiting_steps tells asks m.natives ≡ front ++ steps ∷ [] → waiting_steps tells asks natives ≡ front)
-      → ((front : List Steps) → Passes made meaning_of store tables inputs set functions j (work.Answered count to) value front front m.stack new m.world m.world moved)
+      → ((front : List Steps) → Passes made meaning_of store tables inputs set functions j (continuation.Answered count to) value front front m.stack new m.world m.world moved)
       → IfOk moved (StandsStill made meaning_of store (waiting m.stack.tasks) new m.world) → IfOk moved (Adds 4 m.stack new) → IfErr moved (IfStop (HasStop (made store)))
-      → IfOk result (Stepped made meaning_of store tables inputs set functions tells asks (λ reading. outlook_after tables inputs set functions tells asks reading m (work.Answered count to) (jumped (jump_of j (read_value reading value)))) (ahead m (next.Jumps j) + 1)
+      → IfOk result (Stepped made meaning_of store tables inputs set functions tells asks (λ reading. remaining_run_after tables inputs set functions tells asks reading m (continuation.Answered count to) (jumped (jump_of j (read_value reading value)))) (ahead m (control.Jumps j) + 1)
       (record { world = m.world; stack = new; natives = natives; turns = m.turns }))
   left_steps m count to j value new natives moved result is size fewer rest passes standing adds stopped =
       let waits = waits_last tells asks m.natives (waiting m.stack.tasks) size in
       let front = waits.0 in
       let steps = waits.1 in
-      let w = work.Answered count to in
+      let w = continuation.Answered count to in
       let now = rest front steps waits.2 in
       let after_move : Progress T X = record { world = m.world; stack = new; natives = natives; turns = m.turns } in
       let vs : (T → Label) → List Val = λ reading. map (read_value reading) (take (owns w) m.stack.loose) in
       let p : (T → Label) → List LabelledLine → ℕ → Plan = λ reading said turns. behind tables inputs set functions reading m.stack.tasks (setting_of front here) (after tables inputs set functions w (vs reading) (setting_above m.stack.tasks (setting_of front here)) (jumped (jump_of j (read_value reading value))) (state_of reading m.world said turns)) in
-      stepped_as made meaning_of store tables inputs set functions tells asks (λ reading said. perform (meaning tables inputs set functions) (p reading said m.turns)) (λ reading. outlook_after tables inputs set functions tells asks reading m w (jumped (jump_of j (read_value reading value)))) (ahead m (next.Jumps j) + 1) (ahead m (next.Jumps j) + 1) after_move result
+      stepped_as made meaning_of store tables inputs set functions tells asks (λ reading said. perform (meaning tables inputs set functions) (p reading said m.turns)) (λ reading. remaining_run_after tables inputs set functions tells asks reading m w (jumped (jump_of j (read_value reading value)))) (ahead m (control.Jumps j) + 1) (ahead m (control.Jumps j) + 1) after_move result
       (λ reading said read.
       let s = state_of reading m.world said m.turns in
       let jumps = jump_of j (read_value reading value) in
@@ -171,20 +171,20 @@ module _ {S T X : Type 0} (made : S → T → Type 0) (meaning_of : S → T → 
       ∙ ap (behind tables inputs set functions reading m.stack.tasks (setting_of (front ++ steps ∷ []) here)) (jumped_past count to (vs reading) (vs reading) (setting_above m.stack.tasks (setting_of front here)) (setting_above m.stack.tasks (setting_of (front ++ steps ∷ []) here)) jumps s)
       ∙ ap (λ ns. behind tables inputs set functions reading m.stack.tasks (setting_of ns here) (after tables inputs set functions w (vs reading) (setting_above m.stack.tasks (setting_of ns here)) (jumped jumps) s)) (sym waits.2)))
       refl
-      (still_steps made meaning_of store tables inputs set functions tells asks p after_move (ahead m (next.Jumps j) + 1) moved result is
+      (still_steps made meaning_of store tables inputs set functions tells asks p after_move (ahead m (control.Jumps j) + 1) moved result is
       (subst (λ ns. ComesTo made meaning_of store tables inputs set functions ns p new m.world moved) (sym now) (passes front))
       (still_behind made meaning_of store after_move (waiting m.stack.tasks) moved (omega (arith, size, fewer)) standing) (lowers_by m.stack new 1 m.turns moved adds) stopped)
 
 -- ---- one asks
 
 -- the steps by the next move, in two words
-pub steps_same : {X : Type 0} (tells : X → Answer → X) (asks : X → Request) (natives : States X) (move : Next) → steps_at tells asks natives move ≡ steps_now tells asks natives move
-steps_same tells asks natives (next.Request count) = refl
+pub steps_same : {X : Type 0} (tells : X → Answer → X) (asks : X → Request) (natives : States X) (move : Control) → steps_at tells asks natives move ≡ steps_now tells asks natives move
+steps_same tells asks natives (control.Request count) = refl
 steps_same tells asks natives _ = refl
 
 module _ {S T X : Type 0} (made : S → T → Type 0) (meaning_of : S → T → Label) (store : S) (tables : Tables) (inputs : Given) (set : BuiltIns) (functions : List FunctionCode) (tells : X → Answer → X) (asks : X → Request) (m : Progress T X) (count : ℕ) (runs : length m.natives.states ≡ waiting m.stack.tasks + 1) where
   -- what it wants: a part that is its request
-  wants : (front : List Steps) (steps : Steps) → length front ≡ waiting m.stack.tasks → AsksFor tables inputs set functions (next.Request count) (setting_above m.stack.tasks (setting_of (front ++ steps ∷ []) here))
+  wants : (front : List Steps) (steps : Steps) → length front ≡ waiting m.stack.tasks → AsksFor tables inputs set functions (control.Request count) (setting_above m.stack.tasks (setting_of (front ++ steps ∷ []) here))
   wants front steps size =
       let above = above_enough m.stack.tasks front (steps ∷ []) here size in
       record {
@@ -194,28 +194,28 @@ module _ {S T X : Type 0} (made : S → T → Type 0) (meaning_of : S → T → 
       }
 
   -- without a turn the run ends
-  pub unasked : m.turns ≡ 0 → Stepped made meaning_of store tables inputs set functions tells asks (λ reading. outlook tables inputs set functions tells asks reading m (next.Request count)) (ahead m (next.Request count)) m (advance.Ends ending.OutOfTurns)
+  pub unasked : m.turns ≡ 0 → Stepped made meaning_of store tables inputs set functions tells asks (λ reading. remaining_run tables inputs set functions tells asks reading m (control.Request count)) (ahead m (control.Request count)) m (advance.Ends ending.OutOfTurns)
   unasked none =
       let last = runs_last tells asks m.natives (waiting m.stack.tasks) runs in
-      ends_steps made meaning_of store tables inputs set functions tells asks (λ reading. outlook tables inputs set functions tells asks reading m (next.Request count)) m (ahead m (next.Request count)) ending.OutOfTurns tt
-      (λ reading told. spent_alone tables inputs set functions tells asks reading m (last.0 ++ last.1 ∷ []) (next.Request count) last.2 (wants last.0 last.1 last.3) told none)
+      ends_steps made meaning_of store tables inputs set functions tells asks (λ reading. remaining_run tables inputs set functions tells asks reading m (control.Request count)) m (ahead m (control.Request count)) ending.OutOfTurns tt
+      (λ reading told. spent_alone tables inputs set functions tells asks reading m (last.0 ++ last.1 ∷ []) (control.Request count) last.2 (wants last.0 last.1 last.3) told none)
 
   module _ (turns : ℕ) (some : m.turns ≡ suc turns) (stack : Kept T) (world : World T) (natives : States X) where
     abbrev behind_it : Progress T X
     behind_it = record { world = world; stack = stack; natives = natives; turns = turns }
 
-    abbrev Does : Result (Next × Option (Printed T)) (FlowFault T) → Type 0
+    abbrev Does : Result (Control × Option (Printed T)) (FlowFault T) → Type 0
     Does result = Requests made meaning_of store tables inputs tells asks m.natives natives m.stack stack m.world world result
 
     -- what was to come is what the request's plan is
     asked_for : (reading : T → Label) (told : List LabelledLine) → (front : List Steps) (steps : Steps) → running_steps tells asks m.natives ≡ front ++ steps ∷ [] → length front ≡ waiting m.stack.tasks
-        → perform (meaning tables inputs set functions) (behind tables inputs set functions reading m.stack.tasks (setting_of (front ++ steps ∷ []) here) (plan tables inputs set functions (a_request steps (map (read_value reading) m.stack.loose)) (state_of reading m.world told turns))) ≡ outlook tables inputs set functions tells asks reading m (next.Request count) told
+        → perform (meaning tables inputs set functions) (behind tables inputs set functions reading m.stack.tasks (setting_of (front ++ steps ∷ []) here) (plan tables inputs set functions (a_request steps (map (read_value reading) m.stack.loose)) (state_of reading m.world told turns))) ≡ remaining_run tables inputs set functions tells asks reading m (control.Request count) told
     unfolding wants
-    asked_for reading told front steps is size = entered_after tables inputs set functions tells asks reading m (front ++ steps ∷ []) (next.Request count) is (wants front steps size) told turns some
+    asked_for reading told front steps is size = entered_after tables inputs set functions tells asks reading m (front ++ steps ∷ []) (control.Request count) is (wants front steps size) told turns some
 
     -- it is done, and this comes next
-    pub asked_goes : (move : Next) → Does (Ok (move, None)) → StandsBefore made meaning_of store behind_it move → Adds 7 m.stack stack move
-        → Stepped made meaning_of store tables inputs set functions tells asks (λ reading. outlook tables inputs set functions tells asks reading m (next.Request count)) (ahead m (next.Request count)) behind_it (advance.Goes move)
+    pub asked_goes : (move : Control) → Does (Ok (move, None)) → StandsBefore made meaning_of store behind_it move → Adds 7 m.stack stack move
+        → Stepped made meaning_of store tables inputs set functions tells asks (λ reading. remaining_run tables inputs set functions tells asks reading m (control.Request count)) (ahead m (control.Request count)) behind_it (advance.Goes move)
     asked_goes move does standing adds = record {
       comes = λ reading told read.
           let last = runs_last tells asks m.natives (waiting m.stack.tasks) runs in
@@ -229,17 +229,17 @@ module _ {S T X : Type 0} (made : S → T → Type 0) (meaning_of : S → T → 
     }
 
     -- it printed a line
-    pub asked_prints : (move : Next) (line : Printed T) (s : Advance T) → Does (Ok (move, Some line)) → Prints line move s → StandsBefore made meaning_of store behind_it move → Adds 7 m.stack stack move → IsPrinted (made store) (length tables.outputs) line
-        → Stepped made meaning_of store tables inputs set functions tells asks (λ reading. outlook tables inputs set functions tells asks reading m (next.Request count)) (ahead m (next.Request count)) behind_it s
+    pub asked_prints : (move : Control) (line : Printed T) (s : Advance T) → Does (Ok (move, Some line)) → Prints line move s → StandsBefore made meaning_of store behind_it move → Adds 7 m.stack stack move → IsPrinted (made store) (length tables.outputs) line
+        → Stepped made meaning_of store tables inputs set functions tells asks (λ reading. remaining_run tables inputs set functions tells asks reading m (control.Request count)) (ahead m (control.Request count)) behind_it s
     asked_prints move line (advance.Line box after_move) does prints standing adds printed = record {
       comes = λ reading told read.
           let last = runs_last tells asks m.natives (waiting m.stack.tasks) runs in
           sym (asked_for reading told last.0 last.1 last.2 last.3)
           ∙ ap (perform (meaning tables inputs set functions)) (sym (does.says set functions reading here last.0 last.1 told turns read last.2 last.3))
           ∙ ap (λ ns. perform (meaning tables inputs set functions) (coming tables inputs set functions reading stack move (setting_of ns here) (state_of reading world (told ++ line_of tables reading line ∷ []) turns))) (sym (steps_same tells asks natives move))
-          ∙ ap₂ (λ n p. outlook tables inputs set functions tells asks reading behind_it n (told ++ line_of tables reading p ∷ [])) (sym prints.1) (sym prints.0);
+          ∙ ap₂ (λ n p. remaining_run tables inputs set functions tells asks reading behind_it n (told ++ line_of tables reading p ∷ [])) (sym prints.1) (sym prints.0);
       standing = subst (StandsBefore made meaning_of store behind_it) (sym prints.1) standing;
-      lowers = subst (λ n. ahead behind_it n < ahead m (next.Request count)) (sym prints.1) (omega (arith, adds, some));
+      lowers = subst (λ n. ahead behind_it n < ahead m (control.Request count)) (sym prints.1) (omega (arith, adds, some));
       printed = subst (IsPrinted (made store) (length tables.outputs)) (sym prints.0) printed;
       stopped = tt;
     }
@@ -248,7 +248,7 @@ module _ {S T X : Type 0} (made : S → T → Type 0) (meaning_of : S → T → 
 
     -- a rule stopped it
     pub asked_stops : (stop : FlowStop T) → Does (Err (fault.Stop stop)) → HasStop (made store) stop
-        → Stepped made meaning_of store tables inputs set functions tells asks (λ reading. outlook tables inputs set functions tells asks reading m (next.Request count)) (ahead m (next.Request count)) behind_it (advance.Ends (ending.Stopped stop))
+        → Stepped made meaning_of store tables inputs set functions tells asks (λ reading. remaining_run tables inputs set functions tells asks reading m (control.Request count)) (ahead m (control.Request count)) behind_it (advance.Ends (ending.Stopped stop))
     unfolding perform
     asked_stops stop does stopped = record {
       comes = λ reading told read.
@@ -262,13 +262,13 @@ module _ {S T X : Type 0} (made : S → T → Type 0) (meaning_of : S → T → 
     }
 
     -- whichever it was
-    pub asked_steps : (moved : Result (Next × Option (Printed T)) (FlowFault T)) (result : Result (Advance T) OutOfMemory) → IfOk result (IsAsked moved) → Does moved → IfOk moved (λ moves. StandsBefore made meaning_of store behind_it moves.0) → IfOk moved (λ moves. Adds 7 m.stack stack moves.0)
+    pub asked_steps : (moved : Result (Control × Option (Printed T)) (FlowFault T)) (result : Result (Advance T) OutOfMemory) → IfOk result (IsAsked moved) → Does moved → IfOk moved (λ moves. StandsBefore made meaning_of store behind_it moves.0) → IfOk moved (λ moves. Adds 7 m.stack stack moves.0)
         → IfOk moved (λ moves. IfSome moves.1 (IsPrinted (made store) (length tables.outputs))) → IfErr moved (IfStop (HasStop (made store)))
-        → IfOk result (Stepped made meaning_of store tables inputs set functions tells asks (λ reading. outlook tables inputs set functions tells asks reading m (next.Request count)) (ahead m (next.Request count)) behind_it)
+        → IfOk result (Stepped made meaning_of store tables inputs set functions tells asks (λ reading. remaining_run tables inputs set functions tells asks reading m (control.Request count)) (ahead m (control.Request count)) behind_it)
     asked_steps moved (Err f) is does standing adds printed stopped = tt
     asked_steps (Ok (move, None)) (Ok s) is does standing adds printed stopped =
-        subst (Stepped made meaning_of store tables inputs set functions tells asks (λ reading. outlook tables inputs set functions tells asks reading m (next.Request count)) (ahead m (next.Request count)) behind_it) (sym is) (asked_goes move does standing adds)
+        subst (Stepped made meaning_of store tables inputs set functions tells asks (λ reading. remaining_run tables inputs set functions tells asks reading m (control.Request count)) (ahead m (control.Request count)) behind_it) (sym is) (asked_goes move does standing adds)
     asked_steps (Ok (move, Some line)) (Ok s) is does standing adds printed stopped = asked_prints move line s does is standing adds printed
     asked_steps (Err (fault.Stop stop)) (Ok s) is does standing adds printed stopped =
-        subst (Stepped made meaning_of store tables inputs set functions tells asks (λ reading. outlook tables inputs set functions tells asks reading m (next.Request count)) (ahead m (next.Request count)) behind_it) (sym is) (asked_stops stop does stopped)
+        subst (Stepped made meaning_of store tables inputs set functions tells asks (λ reading. remaining_run tables inputs set functions tells asks reading m (control.Request count)) (ahead m (control.Request count)) behind_it) (sym is) (asked_stops stop does stopped)
     asked_steps (Err fault.OutOfMemory) (Ok s) is does standing adds printed stopped = absurd is

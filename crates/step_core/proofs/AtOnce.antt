@@ -23,16 +23,16 @@ use Rattle.flow_meaning.specs.Erased.{unlabelled}
 use Rattle.flow_meaning.specs.Scopes.{LabelledLine, State}
 use Rattle.flow_meaning.specs.Planned.{Ask, Completion, Give, a_stmt, an_expr, and_go, gave, meaning, perform}
 use Rattle.flow_meaning.proofs.Performing.{perform_asked}
-use Rattle.step_world.specs.declared.world.World.{World}
-use Rattle.step_world.specs.Worlds.{Grows, state_of}
-use Rattle.step_world.proofs.ActLaws.{Belongs-later, Grows-refl}
-use Rattle.step_work.specs.declared.work.Next.{Next}
-use Rattle.step_work.specs.declared.work.Next.TheVariants as next
-use Rattle.step_work.specs.Kept.{Kept, kept_operands, operands_of, scopes_of, waiting}
-use Rattle.step_work.specs.Loads.{load}
-use Rattle.step_work.specs.Pending.{behind, env_above, setting_above, first_or_undefined}
-use Rattle.step_work.specs.Moving.{Rests}
-use Rattle.step_work.specs.Settings.{Setting, setting_of}
+use Rattle.run_state.specs.declared.world.World.{World}
+use Rattle.run_state.specs.Worlds.{Grows, state_of}
+use Rattle.run_state.proofs.ActLaws.{Belongs-later, Grows-refl}
+use Rattle.continuations.specs.declared.continuation.Control.{Control}
+use Rattle.continuations.specs.declared.continuation.Control.TheVariants as control
+use Rattle.continuations.specs.Kept.{Kept, kept_operands, operands_of, scopes_of, waiting}
+use Rattle.continuations.specs.Loads.{load}
+use Rattle.continuations.specs.Pending.{behind, env_above, setting_above, first_or_undefined}
+use Rattle.continuations.specs.Moving.{Rests}
+use Rattle.continuations.specs.Settings.{Setting, setting_of}
 use Rattle.step_natives.specs.States.{waiting_steps}
 use Rattle.step_numbers.specs.Assigned.{Finishes, Gives, Rebinds}
 use Rattle.step_numbers.specs.Evaluated.{Evaluates}
@@ -40,9 +40,9 @@ use Rattle.step_core.specs.declared.progress.Progress.{Progress}
 use Rattle.flow_text.specs.declared.memory.OutOfMemory.{OutOfMemory}
 use Rattle.step_core.specs.declared.steps.Advance.{Advance}
 use Rattle.step_core.specs.declared.steps.Advance.TheVariants as advance
-use Rattle.step_core.specs.Outlook.{ahead, outlook}
-use Rattle.step_work.specs.Going.{here}
-use Rattle.step_work.specs.Standing.{Standing}
+use Rattle.step_core.specs.RemainingRun.{ahead, remaining_run}
+use Rattle.continuations.specs.Going.{here}
+use Rattle.continuations.specs.Invariant.{Invariant}
 use Rattle.step_core.specs.Stepping.{StandsBefore, Stepped}
 use Rattle.step_core.proofs.Continued.{env_of}
 use Rattle.step_core.proofs.Performed.{perform_behind}
@@ -60,7 +60,7 @@ module _ {T X : Type 0} (tables : Tables) (inputs : Given) (set : BuiltIns) (fun
   -- its value is handed on, with so many turns left
   handed_on : (x : Bor Expr) (stack : Kept T) (v : Labelled T) → m.stack.loose ≡ [] → stack.tasks ≡ m.stack.tasks → stack.loose ≡ m.stack.loose ++ v ∷ []
       → meaning tables inputs set functions (an_expr (view_expr x.now) at) (state_of reading m.world told m.turns) ≡ Goes (read_value reading v) (state_of reading new told left)
-      → outlook tables inputs set functions tells asks reading m (next.Expr x) told ≡ outlook tables inputs set functions tells asks reading (record { world = new; stack = stack; natives = m.natives; turns = left }) next.Value told
+      → remaining_run tables inputs set functions tells asks reading m (control.Expr x) told ≡ remaining_run tables inputs set functions tells asks reading (record { world = new; stack = stack; natives = m.natives; turns = left }) control.Value told
   unfolding and_go
   handed_on x stack v none tasks laid comes =
       let M = meaning tables inputs set functions in
@@ -75,7 +75,7 @@ module _ {T X : Type 0} (tables : Tables) (inputs : Given) (set : BuiltIns) (fun
 
   -- a statement came to its end, with so many turns left
   finished_on : (x : Bor Stmt) → meaning tables inputs set functions (a_stmt (view_stmt x.now) (env_above m.stack.tasks here)) (state_of reading m.world told m.turns) ≡ Goes (unlabelled undefined) (state_of reading new told left)
-      → outlook tables inputs set functions tells asks reading m (next.Stmt x) told ≡ outlook tables inputs set functions tells asks reading (record { world = new; stack = m.stack; natives = m.natives; turns = left }) next.Done told
+      → remaining_run tables inputs set functions tells asks reading m (control.Stmt x) told ≡ remaining_run tables inputs set functions tells asks reading (record { world = new; stack = m.stack; natives = m.natives; turns = left }) control.Done told
   unfolding and_go
   finished_on x comes =
       let M = meaning tables inputs set functions in
@@ -88,7 +88,7 @@ module _ {T X : Type 0} (tables : Tables) (inputs : Given) (set : BuiltIns) (fun
 
 -- a value that was laid, and nothing
 module _ {T : Type 0} (made : T → Type 0) where
-  value_rests : (old new : Kept T) (v : Labelled T) → length old.loose ≡ 0 → new.tasks ≡ old.tasks → new.loose ≡ old.loose ++ v ∷ [] → made v.label → Rests made old new next.Value
+  value_rests : (old new : Kept T) (v : Labelled T) → length old.loose ≡ 0 → new.tasks ≡ old.tasks → new.loose ≡ old.loose ++ v ∷ [] → made v.label → Rests made old new control.Value
   value_rests old new v none tasks laid has =
       let alone : new.loose ≡ v ∷ [] = laid ∙ ap (λ vs. vs ++ v ∷ []) (nil_from_length old.loose none) in
       record {
@@ -98,7 +98,7 @@ module _ {T : Type 0} (made : T → Type 0) where
         operands = λ all. subst (All (HasValue made)) (sym (ap₂ (λ ts vs. kept_operands ts ++ vs) tasks alone)) (All-push (HasValue made) (kept_operands old.tasks) v all has);
       }
 
-  done_rests : (old : Kept T) → length old.loose ≡ 0 → Rests made old old next.Done
+  done_rests : (old : Kept T) → length old.loose ≡ 0 → Rests made old old control.Done
   done_rests old none = record {
     values = none;
     scopes = refl;
@@ -108,7 +108,7 @@ module _ {T : Type 0} (made : T → Type 0) where
 
 module _ {S T : Type 0} (made : S → T → Type 0) (meaning_of : S → T → Label) (room : S → ℕ) (firm : S → Bool) (earlier later : S) (kept : IsKept made meaning_of room firm earlier later) (rising : (store : S) (label : T) → made store label → IsLabel (meaning_of store label)) where
   -- the machine stands in the later store
-  pub stands_later : (stack : Kept T) (world : World T) (pending : List ℕ) (count natives : ℕ) (move : Next) → Standing made meaning_of earlier stack world count pending natives move → Standing made meaning_of later stack world count pending natives move
+  pub stands_later : (stack : Kept T) (world : World T) (pending : List ℕ) (count natives : ℕ) (move : Control) → Invariant made meaning_of earlier stack world count pending natives move → Invariant made meaning_of later stack world count pending natives move
   stands_later stack world pending count natives move stands = record {
     belongs = Belongs-later made meaning_of room firm earlier later kept rising world stands.belongs;
     operands = later_values made meaning_of room firm earlier later kept (operands_of stack) stands.operands;
@@ -120,13 +120,13 @@ module _ {S T : Type 0} (made : S → T → Type 0) (meaning_of : S → T → La
   }
 
   -- a step that hands its value on
-  pub evaluated_steps : (tables : Tables) (inputs : Given) {X : Type 0} (set : BuiltIns) (functions : List FunctionCode) (tells : X → Answer → X) (asks : X → Request) (m : Progress T X) (at : ℕ) (place : (env_above m.stack.tasks here).place ≡ at) (x : Bor Expr) (stack : Kept T) (v : Labelled T) (left : ℕ) → StandsBefore made meaning_of earlier m (next.Expr x)
+  pub evaluated_steps : (tables : Tables) (inputs : Given) {X : Type 0} (set : BuiltIns) (functions : List FunctionCode) (tells : X → Answer → X) (asks : X → Request) (m : Progress T X) (at : ℕ) (place : (env_above m.stack.tasks here).place ≡ at) (x : Bor Expr) (stack : Kept T) (v : Labelled T) (left : ℕ) → StandsBefore made meaning_of earlier m (control.Expr x)
       → stack.tasks ≡ m.stack.tasks → stack.loose ≡ m.stack.loose ++ v ∷ [] → Evaluates made meaning_of later (view_expr x.now) at m.world m.turns v left
-      → Stepped made meaning_of later tables inputs set functions tells asks (λ reading. outlook tables inputs set functions tells asks reading m (next.Expr x)) (ahead m (next.Expr x)) (record { world = m.world; stack = stack; natives = m.natives; turns = left }) (advance.Goes next.Value)
+      → Stepped made meaning_of later tables inputs set functions tells asks (λ reading. remaining_run tables inputs set functions tells asks reading m (control.Expr x)) (ahead m (control.Expr x)) (record { world = m.world; stack = stack; natives = m.natives; turns = left }) (advance.Goes control.Value)
   evaluated_steps tables inputs set functions tells asks m at place x stack v left stands tasks laid evaluates = record {
     comes = λ reading told read. handed_on tables inputs set functions tells asks reading told m at place m.world left x stack v (nil_from_length m.stack.loose stands.values) tasks laid (evaluates.comes tables inputs set functions reading told read);
-    standing = standing_rests made meaning_of room firm earlier later kept m.stack stack m.world m.world next.Value
-        (standing_whole made meaning_of earlier m.stack m.world (scopes_of m.stack.tasks) (next.Expr x) (λ frames scopes whole. whole) refl stands) (value_rests (made later) m.stack stack v stands.values tasks laid evaluates.labelled)
+    standing = standing_rests made meaning_of room firm earlier later kept m.stack stack m.world m.world control.Value
+        (standing_whole made meaning_of earlier m.stack m.world (scopes_of m.stack.tasks) (control.Expr x) (λ frames scopes whole. whole) refl stands) (value_rests (made later) m.stack stack v stands.values tasks laid evaluates.labelled)
         refl (Belongs-later made meaning_of room firm earlier later kept rising m.world stands.belongs) (Grows-refl m.world) refl;
     lowers = let fewer = evaluates.fewer in let same : load stack.tasks ≡ load m.stack.tasks = ap load tasks in omega (arith, fewer, same);
     printed = tt;
@@ -134,13 +134,13 @@ module _ {S T : Type 0} (made : S → T → Type 0) (meaning_of : S → T → La
   }
 
   -- a step that hands on what was assigned
-  pub assigned_steps : (tables : Tables) (inputs : Given) {X : Type 0} (set : BuiltIns) (functions : List FunctionCode) (tells : X → Answer → X) (asks : X → Request) (m : Progress T X) (at : ℕ) (place : (env_above m.stack.tasks here).place ≡ at) (new : World T) (x : Bor Expr) (stack : Kept T) (v : Labelled T) (left : ℕ) → StandsBefore made meaning_of earlier m (next.Expr x)
+  pub assigned_steps : (tables : Tables) (inputs : Given) {X : Type 0} (set : BuiltIns) (functions : List FunctionCode) (tells : X → Answer → X) (asks : X → Request) (m : Progress T X) (at : ℕ) (place : (env_above m.stack.tasks here).place ≡ at) (new : World T) (x : Bor Expr) (stack : Kept T) (v : Labelled T) (left : ℕ) → StandsBefore made meaning_of earlier m (control.Expr x)
       → stack.tasks ≡ m.stack.tasks → stack.loose ≡ m.stack.loose ++ v ∷ [] → Gives made meaning_of later (view_expr x.now) at m.world new m.turns v left → Rebinds made meaning_of later m.world new
-      → Stepped made meaning_of later tables inputs set functions tells asks (λ reading. outlook tables inputs set functions tells asks reading m (next.Expr x)) (ahead m (next.Expr x)) (record { world = new; stack = stack; natives = m.natives; turns = left }) (advance.Goes next.Value)
+      → Stepped made meaning_of later tables inputs set functions tells asks (λ reading. remaining_run tables inputs set functions tells asks reading m (control.Expr x)) (ahead m (control.Expr x)) (record { world = new; stack = stack; natives = m.natives; turns = left }) (advance.Goes control.Value)
   assigned_steps tables inputs set functions tells asks m at place new x stack v left stands tasks laid gives rebinds = record {
     comes = λ reading told read. handed_on tables inputs set functions tells asks reading told m at place new left x stack v (nil_from_length m.stack.loose stands.values) tasks laid (gives.comes tables inputs set functions reading told read);
-    standing = standing_rests made meaning_of room firm earlier later kept m.stack stack m.world new next.Value
-        (standing_whole made meaning_of earlier m.stack m.world (scopes_of m.stack.tasks) (next.Expr x) (λ frames scopes whole. whole) refl stands) (value_rests (made later) m.stack stack v stands.values tasks laid gives.labelled)
+    standing = standing_rests made meaning_of room firm earlier later kept m.stack stack m.world new control.Value
+        (standing_whole made meaning_of earlier m.stack m.world (scopes_of m.stack.tasks) (control.Expr x) (λ frames scopes whole. whole) refl stands) (value_rests (made later) m.stack stack v stands.values tasks laid gives.labelled)
         (ap (λ f. length f.frames) rebinds.frames) rebinds.belongs rebinds.grows refl;
     lowers = let fewer = gives.fewer in let same : load stack.tasks ≡ load m.stack.tasks = ap load tasks in omega (arith, fewer, same);
     printed = tt;
@@ -148,13 +148,13 @@ module _ {S T : Type 0} (made : S → T → Type 0) (meaning_of : S → T → La
   }
 
   -- a step by which a statement comes to its end
-  pub finished_steps : (tables : Tables) (inputs : Given) {X : Type 0} (set : BuiltIns) (functions : List FunctionCode) (tells : X → Answer → X) (asks : X → Request) (m : Progress T X) (at : ℕ) (place : (env_above m.stack.tasks here).place ≡ at) (new : World T) (x : Bor Stmt) (left : ℕ) → StandsBefore made meaning_of earlier m (next.Stmt x)
+  pub finished_steps : (tables : Tables) (inputs : Given) {X : Type 0} (set : BuiltIns) (functions : List FunctionCode) (tells : X → Answer → X) (asks : X → Request) (m : Progress T X) (at : ℕ) (place : (env_above m.stack.tasks here).place ≡ at) (new : World T) (x : Bor Stmt) (left : ℕ) → StandsBefore made meaning_of earlier m (control.Stmt x)
       → Finishes made meaning_of later (view_stmt x.now) at m.world new m.turns left → Rebinds made meaning_of later m.world new
-      → Stepped made meaning_of later tables inputs set functions tells asks (λ reading. outlook tables inputs set functions tells asks reading m (next.Stmt x)) (ahead m (next.Stmt x)) (record { world = new; stack = m.stack; natives = m.natives; turns = left }) (advance.Goes next.Done)
+      → Stepped made meaning_of later tables inputs set functions tells asks (λ reading. remaining_run tables inputs set functions tells asks reading m (control.Stmt x)) (ahead m (control.Stmt x)) (record { world = new; stack = m.stack; natives = m.natives; turns = left }) (advance.Goes control.Done)
   finished_steps tables inputs set functions tells asks m at place new x left stands finishes rebinds = record {
     comes = λ reading told read. finished_on tables inputs set functions tells asks reading told m at place new left x (finishes.comes tables inputs set functions (env_above m.stack.tasks here) reading told place read);
-    standing = standing_rests made meaning_of room firm earlier later kept m.stack m.stack m.world new next.Done
-        (standing_whole made meaning_of earlier m.stack m.world (scopes_of m.stack.tasks) (next.Stmt x) (λ frames scopes whole. whole) refl stands) (done_rests (made later) m.stack stands.values)
+    standing = standing_rests made meaning_of room firm earlier later kept m.stack m.stack m.world new control.Done
+        (standing_whole made meaning_of earlier m.stack m.world (scopes_of m.stack.tasks) (control.Stmt x) (λ frames scopes whole. whole) refl stands) (done_rests (made later) m.stack stands.values)
         (ap (λ f. length f.frames) rebinds.frames) rebinds.belongs rebinds.grows refl;
     lowers = let fewer = finishes.fewer in omega (arith, fewer);
     printed = tt;
@@ -162,15 +162,15 @@ module _ {S T : Type 0} (made : S → T → Type 0) (meaning_of : S → T → La
   }
 
   -- nothing was done, and the machine stands in the later store
-  pub stands_unchanged : (stack : Kept T) (world same : World T) (pending : List ℕ) (count natives : ℕ) (move : Next) → same ≡ world → Standing made meaning_of earlier stack world count pending natives move → Standing made meaning_of later stack same count pending natives move
-  stands_unchanged stack world same pending count natives move is stands = subst (λ w. Standing made meaning_of later stack w count pending natives move) (sym is) (stands_later stack world pending count natives move stands)
+  pub stands_unchanged : (stack : Kept T) (world same : World T) (pending : List ℕ) (count natives : ℕ) (move : Control) → same ≡ world → Invariant made meaning_of earlier stack world count pending natives move → Invariant made meaning_of later stack same count pending natives move
+  stands_unchanged stack world same pending count natives move is stands = subst (λ w. Invariant made meaning_of later stack w count pending natives move) (sym is) (stands_later stack world pending count natives move stands)
 
 -- the machine is the same where its world is
-pub unchanged_steps : {S T X : Type 0} (made : S → T → Type 0) (meaning_of : S → T → Label) (store : S) (tables : Tables) (inputs : Given) (set : BuiltIns) (functions : List FunctionCode) (tells : X → Answer → X) (asks : X → Request) (m new : Progress T X) (same : World T) (move : Next) (result : Result (Advance T) OutOfMemory) → same ≡ m.world
-    → IfOk result (Stepped made meaning_of store tables inputs set functions tells asks (λ reading. outlook tables inputs set functions tells asks reading (record { world = same; stack = m.stack; natives = m.natives; turns = m.turns }) move) (ahead (record { world = same; stack = m.stack; natives = m.natives; turns = m.turns }) move) new)
-    → IfOk result (Stepped made meaning_of store tables inputs set functions tells asks (λ reading. outlook tables inputs set functions tells asks reading m move) (ahead m move) new)
+pub unchanged_steps : {S T X : Type 0} (made : S → T → Type 0) (meaning_of : S → T → Label) (store : S) (tables : Tables) (inputs : Given) (set : BuiltIns) (functions : List FunctionCode) (tells : X → Answer → X) (asks : X → Request) (m new : Progress T X) (same : World T) (move : Control) (result : Result (Advance T) OutOfMemory) → same ≡ m.world
+    → IfOk result (Stepped made meaning_of store tables inputs set functions tells asks (λ reading. remaining_run tables inputs set functions tells asks reading (record { world = same; stack = m.stack; natives = m.natives; turns = m.turns }) move) (ahead (record { world = same; stack = m.stack; natives = m.natives; turns = m.turns }) move) new)
+    → IfOk result (Stepped made meaning_of store tables inputs set functions tells asks (λ reading. remaining_run tables inputs set functions tells asks reading m move) (ahead m move) new)
 unchanged_steps made meaning_of store tables inputs set functions tells asks m new same move result is stepped =
-    subst (λ w. IfOk result (Stepped made meaning_of store tables inputs set functions tells asks (λ reading. outlook tables inputs set functions tells asks reading (record { world = w; stack = m.stack; natives = m.natives; turns = m.turns }) move) (ahead (record { world = w; stack = m.stack; natives = m.natives; turns = m.turns }) move) new)) is stepped
+    subst (λ w. IfOk result (Stepped made meaning_of store tables inputs set functions tells asks (λ reading. remaining_run tables inputs set functions tells asks reading (record { world = w; stack = m.stack; natives = m.natives; turns = m.turns }) move) (ahead (record { world = w; stack = m.stack; natives = m.natives; turns = m.turns }) move) new)) is stepped
 
 pub unchanged_grows : {T : Type 0} (world same new : World T) → same ≡ world → Grows same new → Grows world new
 unchanged_grows world same new is grows = subst (λ w. Grows w new) is grows

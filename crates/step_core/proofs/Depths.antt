@@ -2,10 +2,10 @@
 use Rattle.std.proofs.Common.{sym, ap, ap₂, ◌∙◌, ◌≡◌, ◌<◌, ◌+◌, ℕ, suc, List, [], ◌∷◌, ◌++◌, length, arith}
 use Rattle.std.proofs.lemmas.List.{length-append, same_from_push}
 use Rattle.flow_frames.specs.Held.{Held}
-use Rattle.step_work.specs.declared.work.Next.{Next}
-use Rattle.step_work.specs.declared.work.Next.TheVariants as next
-use Rattle.step_work.specs.Resuming.{StandsAt}
-use Rattle.step_work.specs.Standing.{depths, Framed}
+use Rattle.continuations.specs.declared.continuation.Control.{Control}
+use Rattle.continuations.specs.declared.continuation.Control.TheVariants as control
+use Rattle.continuations.specs.Resuming.{StandsAt}
+use Rattle.continuations.specs.Invariant.{depths, Framed}
 
 one_more : (pending : List ℕ) (depth : ℕ) → length (pending ++ depth ∷ []) ≡ suc (length pending)
 one_more pending depth = omega (arith, length-append pending (depth ∷ []))
@@ -28,11 +28,11 @@ pub last_depth : (pending : List ℕ) (depth frames : ℕ) → pending ++ depth 
 last_depth pending depth frames are size = let is = (last_depths pending depth are).1 in let more = one_more pending depth in omega (arith, is, more, size)
 
 -- where no jump has left a frame
-pub framed : (move : Next) (frames scopes : ℕ) → frames ≡ suc scopes → Framed move frames scopes
-framed (next.Jumps j) frames scopes size = omega (arith, size)
+pub framed : (move : Control) (frames scopes : ℕ) → frames ≡ suc scopes → Framed move frames scopes
+framed (control.Jumps j) frames scopes size = omega (arith, size)
 framed _ frames scopes size = size
 
 -- as many frames stand as at a depth, or fewer, if a jump goes on
-pub framed_at : {T : Type 0} (depth : ℕ) (frames : List (Held T)) (move : Next) (scopes : ℕ) → depth ≡ suc scopes → StandsAt depth frames move → Framed move (length frames) scopes
-framed_at depth frames (next.Jumps j) scopes deep stands = omega (arith, deep, stands)
+pub framed_at : {T : Type 0} (depth : ℕ) (frames : List (Held T)) (move : Control) (scopes : ℕ) → depth ≡ suc scopes → StandsAt depth frames move → Framed move (length frames) scopes
+framed_at depth frames (control.Jumps j) scopes deep stands = omega (arith, deep, stands)
 framed_at depth frames _ scopes deep stands = stands ∙ deep

@@ -12,6 +12,7 @@ pub mod StartLaws
 pub mod AtOnce
 pub mod Refused
 pub mod MachineLaws
+pub mod RoomLaws
 pub mod Moves
 pub mod Asking
 pub mod Requested

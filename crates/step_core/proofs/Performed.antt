@@ -10,8 +10,8 @@ use Rattle.flow_meaning.specs.Scopes.{as_plain, Halt, State}
 use Rattle.flow_meaning.specs.Planned.{Part, Completion, Plan, Give, Ask, End, Ran, Evaluator, plan, and_go, perform, meaning}
 use Rattle.flow_meaning.proofs.Performing.{and_go_twice, perform_and, and_give, perform_asked}
 use Rattle.flow_meaning.proofs.Depth.{is_performed}
-use Rattle.step_work.specs.Settings.{Setting}
-use Rattle.step_work.specs.Pending.{Task, setting_inside, after_task, behind}
+use Rattle.continuations.specs.Settings.{Setting}
+use Rattle.continuations.specs.Pending.{Task, setting_inside, after_task, behind}
 
 module _ {T : Type 0} (tables : Tables) (inputs : Given) (set : BuiltIns) (functions : List FunctionCode) (reading : T → Label) where
   -- a plan is performed first, and then what waits

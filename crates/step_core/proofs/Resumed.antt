@@ -7,39 +7,39 @@ use Rattle.origin_labels.specs.Stores.{IsKept}
 use Rattle.flow_frames.specs.declared.faults.FlowFault.{FlowFault}
 use Rattle.js_values.specs.declared.value.Labelled.{Labelled}
 use Rattle.js_values.specs.Readings.{HasValue}
-use Rattle.step_world.specs.declared.world.World.{World}
-use Rattle.step_world.specs.Worlds.{Belongs}
-use Rattle.step_work.specs.declared.work.Work.{Work}
-use Rattle.step_work.specs.declared.work.Work.TheVariants as work
-use Rattle.step_work.specs.declared.work.Next.{Next}
-use Rattle.step_work.specs.declared.work.Next.TheVariants as next
-use Rattle.step_work.specs.Kept.{Kept, scope_of, scopes_of, waiting, kept_operands, operands_of, without_top}
-use Rattle.step_work.specs.Pending.{values_of}
-use Rattle.step_work.specs.Resuming.{Keeps, Opened, Closed}
-use Rattle.step_work.specs.Moving.{Rests, Stands}
-use Rattle.step_work.specs.Standing.{Standing, depths, Framed}
+use Rattle.run_state.specs.declared.world.World.{World}
+use Rattle.run_state.specs.Worlds.{Belongs}
+use Rattle.continuations.specs.declared.continuation.Continuation.{Continuation}
+use Rattle.continuations.specs.declared.continuation.Continuation.TheVariants as continuation
+use Rattle.continuations.specs.declared.continuation.Control.{Control}
+use Rattle.continuations.specs.declared.continuation.Control.TheVariants as control
+use Rattle.continuations.specs.Kept.{Kept, scope_of, scopes_of, waiting, kept_operands, operands_of, without_top}
+use Rattle.continuations.specs.Pending.{values_of}
+use Rattle.continuations.specs.Resuming.{Keeps, Opened, Closed}
+use Rattle.continuations.specs.Moving.{Rests, Stands}
+use Rattle.continuations.specs.Invariant.{Invariant, depths, Framed}
 use Rattle.step_core.specs.Going.{StandsStill}
 use Rattle.step_core.specs.Continuing.{acts, scoped, leads, used_of, LeavesIn, StillIn, MadeIn}
 use Rattle.step_core.proofs.Depths.{depths_more, depths_outside, inner_depth, last_depth, framed}
 use Rattle.step_core.proofs.Parts.{behind_all, front_all, later_values}
 use Rattle.step_core.proofs.Stood.{framed_behind}
 
-unscoped : (w : Work) → scoped w ≡ false → leads w ≡ false → scope_of w ≡ []
-unscoped (work.EndBranch gives depth) never led = absurd cc
-unscoped (work.EndRound turn depth of) never led = absurd cc
-unscoped (work.EndLabel depth text) never led = absurd cc
-unscoped (work.EndTry depth) never led = absurd cc
-unscoped (work.EndCall own depth) never led = absurd cc
-unscoped (work.EndNew own depth) never led = absurd cc
+unscoped : (w : Continuation) → scoped w ≡ false → leads w ≡ false → scope_of w ≡ []
+unscoped (continuation.EndBranch gives depth) never led = absurd cc
+unscoped (continuation.EndRound turn depth of) never led = absurd cc
+unscoped (continuation.EndLabel depth text) never led = absurd cc
+unscoped (continuation.EndTry depth) never led = absurd cc
+unscoped (continuation.EndCall own depth) never led = absurd cc
+unscoped (continuation.EndNew own depth) never led = absurd cc
 unscoped _ never led = refl
 
-acting_unscoped : (w : Work) → acts w ≡ true → scope_of w ≡ []
-acting_unscoped (work.EndBranch gives depth) acting = absurd cc
-acting_unscoped (work.EndRound turn depth of) acting = absurd cc
-acting_unscoped (work.EndLabel depth text) acting = absurd cc
-acting_unscoped (work.EndTry depth) acting = absurd cc
-acting_unscoped (work.EndCall own depth) acting = absurd cc
-acting_unscoped (work.EndNew own depth) acting = absurd cc
+acting_unscoped : (w : Continuation) → acts w ≡ true → scope_of w ≡ []
+acting_unscoped (continuation.EndBranch gives depth) acting = absurd cc
+acting_unscoped (continuation.EndRound turn depth of) acting = absurd cc
+acting_unscoped (continuation.EndLabel depth text) acting = absurd cc
+acting_unscoped (continuation.EndTry depth) acting = absurd cc
+acting_unscoped (continuation.EndCall own depth) acting = absurd cc
+acting_unscoped (continuation.EndNew own depth) acting = absurd cc
 acting_unscoped _ acting = refl
 
 module _ {T : Type 0} (P : T → Type 0) (stack : Kept T) where
@@ -58,38 +58,38 @@ module _ {T : Type 0} (P : T → Type 0) (stack : Kept T) where
   operands_below new n tasks loose all =
       operands_with new tasks (subst (All (HasValue P)) (sym loose) (All-take (HasValue P) n stack.loose (behind_all (HasValue P) (kept_operands stack.tasks) stack.loose all))) all
 
-  used_all : (w : Work) → All (HasValue P) (operands_of stack) → All (HasValue P) (operands_of (used_of w stack))
-  used_all (work.BinaryRight o r) all = all
-  used_all (work.Argument f count rest) all = all
-  used_all (work.Property ps count) all = all
-  used_all (work.IndexBase how x) all = all
-  used_all (work.CompoundRight o x t) all = all
-  used_all (work.CalledBy es) all = all
-  used_all (work.InstanceRight r) all = all
-  used_all (work.Visited x count) all = all
-  used_all (work.Statements ss) all = all
-  used_all (work.Declared r) all = all
-  used_all (work.Turned r) all = all
+  used_all : (w : Continuation) → All (HasValue P) (operands_of stack) → All (HasValue P) (operands_of (used_of w stack))
+  used_all (continuation.BinaryRight o r) all = all
+  used_all (continuation.Argument f count rest) all = all
+  used_all (continuation.Property ps count) all = all
+  used_all (continuation.IndexBase how x) all = all
+  used_all (continuation.CompoundRight o x t) all = all
+  used_all (continuation.CalledBy es) all = all
+  used_all (continuation.InstanceRight r) all = all
+  used_all (continuation.Visited x count) all = all
+  used_all (continuation.Statements ss) all = all
+  used_all (continuation.Declared r) all = all
+  used_all (continuation.Turned r) all = all
   used_all _ all = operands_below (without_top stack) (length stack.loose - 1) refl refl all
 
-used_tasks : {T : Type 0} → (w : Work) (stack : Kept T) → (used_of w stack).tasks ≡ stack.tasks
-used_tasks (work.BinaryRight o r) stack = refl
-used_tasks (work.Argument f count rest) stack = refl
-used_tasks (work.Property ps count) stack = refl
-used_tasks (work.IndexBase how x) stack = refl
-used_tasks (work.CompoundRight o x t) stack = refl
-used_tasks (work.CalledBy es) stack = refl
-used_tasks (work.InstanceRight r) stack = refl
-used_tasks (work.Visited x count) stack = refl
-used_tasks (work.Statements ss) stack = refl
-used_tasks (work.Declared r) stack = refl
-used_tasks (work.Turned r) stack = refl
+used_tasks : {T : Type 0} → (w : Continuation) (stack : Kept T) → (used_of w stack).tasks ≡ stack.tasks
+used_tasks (continuation.BinaryRight o r) stack = refl
+used_tasks (continuation.Argument f count rest) stack = refl
+used_tasks (continuation.Property ps count) stack = refl
+used_tasks (continuation.IndexBase how x) stack = refl
+used_tasks (continuation.CompoundRight o x t) stack = refl
+used_tasks (continuation.CalledBy es) stack = refl
+used_tasks (continuation.InstanceRight r) stack = refl
+used_tasks (continuation.Visited x count) stack = refl
+used_tasks (continuation.Statements ss) stack = refl
+used_tasks (continuation.Declared r) stack = refl
+used_tasks (continuation.Turned r) stack = refl
 used_tasks _ stack = refl
 
 module _ {S T : Type 0} (made : S → T → Type 0) (meaning : S → T → Label) where
   -- ---- the frame of the scope that ends
 
-  module _ (store : S) (w : Work) (old : Kept T) (world : World T) (count natives : ℕ) (stands : Standing made meaning store old world count (scopes_of old.tasks ++ scope_of w) natives next.Value) (depth : ℕ) (is : scope_of w ≡ depth ∷ []) where
+  module _ (store : S) (w : Continuation) (old : Kept T) (world : World T) (count natives : ℕ) (stands : Invariant made meaning store old world count (scopes_of old.tasks ++ scope_of w) natives control.Value) (depth : ℕ) (is : scope_of w ≡ depth ∷ []) where
     here_scopes : scopes_of old.tasks ++ depth ∷ [] ≡ depths (length (scopes_of old.tasks ++ depth ∷ []))
     here_scopes = subst (λ ds. scopes_of old.tasks ++ ds ≡ depths (length (scopes_of old.tasks ++ ds))) is stands.scopes
 
@@ -103,8 +103,8 @@ module _ {S T : Type 0} (made : S → T → Type 0) (meaning : S → T → Label
     none_have : (xs : List (Labelled T)) → xs ≡ [] → All (HasValue (made store)) xs
     none_have xs none = subst (All (HasValue (made store))) (sym none) (All-nil (HasValue (made store)))
 
-    module _ (w : Work) (old new : Kept T) (world_old world_new : World T) (count natives : ℕ) (move : Next)
-        (stands : Standing made meaning before old world_old count (scopes_of old.tasks ++ scope_of w) natives next.Value) (belongs : Belongs made meaning store world_new) (records : length world_old.records ≤ length world_new.records) where
+    module _ (w : Continuation) (old new : Kept T) (world_old world_new : World T) (count natives : ℕ) (move : Control)
+        (stands : Invariant made meaning before old world_old count (scopes_of old.tasks ++ scope_of w) natives control.Value) (belongs : Belongs made meaning store world_new) (records : length world_old.records ≤ length world_new.records) where
       some_record : 0 < length world_new.records
       some_record = let some = stands.records in omega (arith, some, records)
 
@@ -176,27 +176,27 @@ module _ {S T : Type 0} (made : S → T → Type 0) (meaning : S → T → Label
       stands_alone never led still keeps = stands_still (unscoped w never led) still keeps
 
     -- behind work that acts on the run's state
-    pub stands_acting : (w : Work) (old new : Kept T) (world_old world_new : World T) (count natives : ℕ) (result : Result Next (FlowFault T)) → acts w ≡ true
-        → Standing made meaning before old world_old count (scopes_of old.tasks ++ scope_of w) natives next.Value → Belongs made meaning store world_new → length world_old.records ≤ length world_new.records
+    pub stands_acting : (w : Continuation) (old new : Kept T) (world_old world_new : World T) (count natives : ℕ) (result : Result Control (FlowFault T)) → acts w ≡ true
+        → Invariant made meaning before old world_old count (scopes_of old.tasks ++ scope_of w) natives control.Value → Belongs made meaning store world_new → length world_old.records ≤ length world_new.records
         → IfOk result (Rests (made store) old new) → IfOk result (Stands world_old world_new) → IfOk result (StandsStill made meaning store natives new world_new)
     stands_acting w old new world_old world_new count natives (Ok move) acting stands belongs records rests frames = stands_acted w old new world_old world_new count natives move stands belongs records (acting_unscoped w acting) rests frames
     stands_acting w old new world_old world_new count natives (Err f) acting stands belongs records rests frames = tt
 
     -- and behind work in frames
-    pub stands_in : (w : Work) (old new : Kept T) (world_old world_new : World T) (count natives : ℕ) (move : Next) → scoped w ≡ true
-        → Standing made meaning before old world_old count (scopes_of old.tasks ++ scope_of w) natives next.Value → Belongs made meaning store world_new → length world_old.records ≤ length world_new.records
+    pub stands_in : (w : Continuation) (old new : Kept T) (world_old world_new : World T) (count natives : ℕ) (move : Control) → scoped w ≡ true
+        → Invariant made meaning before old world_old count (scopes_of old.tasks ++ scope_of w) natives control.Value → Belongs made meaning store world_new → length world_old.records ≤ length world_new.records
         → LeavesIn w old new world_old.frames.frames world_new.frames.frames move → StillIn w world_old.frames.frames world_new.frames.frames → MadeIn (made store) w new.loose
         → StandsStill made meaning store natives new world_new move
-    stands_in (work.AndRight r) old new world_old world_new count natives move in_frames stands belongs records leaves still labels = stands_opened (work.AndRight r) old new world_old world_new count natives move stands belongs records refl leaves
-    stands_in (work.OrRight r) old new world_old world_new count natives move in_frames stands belongs records leaves still labels = stands_opened (work.OrRight r) old new world_old world_new count natives move stands belongs records refl leaves
-    stands_in (work.Choose a b) old new world_old world_new count natives move in_frames stands belongs records leaves still labels = stands_opened (work.Choose a b) old new world_old world_new count natives move stands belongs records refl leaves
-    stands_in (work.ChooseStmt s) old new world_old world_new count natives move in_frames stands belongs records leaves still labels = stands_opened (work.ChooseStmt s) old new world_old world_new count natives move stands belongs records refl leaves
-    stands_in (work.ChooseStmts s t) old new world_old world_new count natives move in_frames stands belongs records leaves still labels = stands_opened (work.ChooseStmts s t) old new world_old world_new count natives move stands belongs records refl leaves
-    stands_in (work.Enumerated x) old new world_old world_new count natives move in_frames stands belongs records leaves still labels = stands_opened (work.Enumerated x) old new world_old world_new count natives move stands belongs records refl leaves
-    stands_in (work.Tested r) old new world_old world_new count natives move in_frames stands belongs records leaves still labels = stands_still (work.Tested r) old new world_old world_new count natives move stands belongs records refl still leaves
-    stands_in (work.EndBranch true depth) old new world_old world_new count natives move in_frames stands belongs records leaves still labels = stands_closed (work.EndBranch true depth) old new world_old world_new count natives move stands belongs records depth refl labels leaves
-    stands_in (work.EndBranch false depth) old new world_old world_new count natives move in_frames stands belongs records leaves still labels = stands_closed (work.EndBranch false depth) old new world_old world_new count natives move stands belongs records depth refl (none_have new.loose labels) leaves
-    stands_in (work.EndRound turn depth of) old new world_old world_new count natives move in_frames stands belongs records leaves still labels = stands_closed (work.EndRound turn depth of) old new world_old world_new count natives move stands belongs records depth refl (none_have new.loose labels) leaves
-    stands_in (work.EndLabel depth text) old new world_old world_new count natives move in_frames stands belongs records leaves still labels = stands_closed (work.EndLabel depth text) old new world_old world_new count natives move stands belongs records depth refl (none_have new.loose labels) leaves
-    stands_in (work.EndTry depth) old new world_old world_new count natives move in_frames stands belongs records leaves still labels = stands_closed (work.EndTry depth) old new world_old world_new count natives move stands belongs records depth refl (none_have new.loose labels) leaves
+    stands_in (continuation.AndRight r) old new world_old world_new count natives move in_frames stands belongs records leaves still labels = stands_opened (continuation.AndRight r) old new world_old world_new count natives move stands belongs records refl leaves
+    stands_in (continuation.OrRight r) old new world_old world_new count natives move in_frames stands belongs records leaves still labels = stands_opened (continuation.OrRight r) old new world_old world_new count natives move stands belongs records refl leaves
+    stands_in (continuation.Choose a b) old new world_old world_new count natives move in_frames stands belongs records leaves still labels = stands_opened (continuation.Choose a b) old new world_old world_new count natives move stands belongs records refl leaves
+    stands_in (continuation.ChooseStmt s) old new world_old world_new count natives move in_frames stands belongs records leaves still labels = stands_opened (continuation.ChooseStmt s) old new world_old world_new count natives move stands belongs records refl leaves
+    stands_in (continuation.ChooseStmts s t) old new world_old world_new count natives move in_frames stands belongs records leaves still labels = stands_opened (continuation.ChooseStmts s t) old new world_old world_new count natives move stands belongs records refl leaves
+    stands_in (continuation.Enumerated x) old new world_old world_new count natives move in_frames stands belongs records leaves still labels = stands_opened (continuation.Enumerated x) old new world_old world_new count natives move stands belongs records refl leaves
+    stands_in (continuation.Tested r) old new world_old world_new count natives move in_frames stands belongs records leaves still labels = stands_still (continuation.Tested r) old new world_old world_new count natives move stands belongs records refl still leaves
+    stands_in (continuation.EndBranch true depth) old new world_old world_new count natives move in_frames stands belongs records leaves still labels = stands_closed (continuation.EndBranch true depth) old new world_old world_new count natives move stands belongs records depth refl labels leaves
+    stands_in (continuation.EndBranch false depth) old new world_old world_new count natives move in_frames stands belongs records leaves still labels = stands_closed (continuation.EndBranch false depth) old new world_old world_new count natives move stands belongs records depth refl (none_have new.loose labels) leaves
+    stands_in (continuation.EndRound turn depth of) old new world_old world_new count natives move in_frames stands belongs records leaves still labels = stands_closed (continuation.EndRound turn depth of) old new world_old world_new count natives move stands belongs records depth refl (none_have new.loose labels) leaves
+    stands_in (continuation.EndLabel depth text) old new world_old world_new count natives move in_frames stands belongs records leaves still labels = stands_closed (continuation.EndLabel depth text) old new world_old world_new count natives move stands belongs records depth refl (none_have new.loose labels) leaves
+    stands_in (continuation.EndTry depth) old new world_old world_new count natives move in_frames stands belongs records leaves still labels = stands_closed (continuation.EndTry depth) old new world_old world_new count natives move stands belongs records depth refl (none_have new.loose labels) leaves
     stands_in _ old new world_old world_new count natives move in_frames stands belongs records leaves still labels = absurd cc

@@ -10,19 +10,19 @@ use Rattle.js_values.specs.Readings.{HasValue}
 use Rattle.es_meaning.specs.Evaluation.{statements}
 use Rattle.flow_meaning.specs.Scopes.{State}
 use Rattle.flow_meaning.specs.Planned.{planned, asking}
-use Rattle.step_world.specs.declared.world.World.{World}
-use Rattle.step_world.specs.Worlds.{Belongs}
+use Rattle.run_state.specs.declared.world.World.{World}
+use Rattle.run_state.specs.Worlds.{Belongs}
 use Rattle.native_protocol.specs.declared.request.Answer.{Answer}
 use Rattle.native_protocol.specs.declared.request.Request.{Request}
 use Rattle.step_natives.specs.States.{States, waiting_steps}
-use Rattle.step_converting.specs.Framed.{steps_at}
-use Rattle.step_work.specs.declared.work.Next.{Next}
-use Rattle.step_work.specs.Kept.{Kept, scopes_of, operands_of, waiting}
-use Rattle.step_work.specs.Pending.{behind, setting_above, values_of}
-use Rattle.step_work.specs.Settings.{setting_of}
-use Rattle.step_work.specs.Resuming.{Begins, Keeps, coming}
-use Rattle.step_work.specs.Going.{here}
-use Rattle.step_work.specs.Standing.{Standing, depths, running}
+use Rattle.step_natives.specs.Framed.{steps_at}
+use Rattle.continuations.specs.declared.continuation.Control.{Control}
+use Rattle.continuations.specs.Kept.{Kept, scopes_of, operands_of, waiting}
+use Rattle.continuations.specs.Pending.{behind, setting_above, values_of}
+use Rattle.continuations.specs.Settings.{setting_of}
+use Rattle.continuations.specs.Resuming.{Begins, Keeps, coming}
+use Rattle.continuations.specs.Going.{here}
+use Rattle.continuations.specs.Invariant.{Invariant, depths, running}
 use Rattle.step_core.proofs.Depths.{framed}
 use Rattle.std.proofs.Common.{ap₂, ◌<◌, ◌∷◌}
 use Rattle.std.proofs.lemmas.List.Elements.{All-cons}
@@ -37,16 +37,16 @@ use Rattle.flow_meaning.specs.Laws.{performed_run}
 use Rattle.flow_meaning.specs.Planned.{perform, meaning}
 use Rattle.flow_meaning.specs.Scopes.{Val}
 use Rattle.flow_meaning.specs.Tracked.{start, throw_error, tracked_run}
-use Rattle.step_work.specs.declared.work.Jump.TheVariants as jump
-use Rattle.step_work.specs.declared.work.Next.TheVariants as next
-use Rattle.step_world.specs.Acts.{thrown}
+use Rattle.continuations.specs.declared.continuation.Jump.TheVariants as jump
+use Rattle.continuations.specs.declared.continuation.Control.TheVariants as control
+use Rattle.run_state.specs.Acts.{thrown}
 use Rattle.step_core.proofs.Refused.{one_frame}
 use Rattle.step_core.proofs.StepLaws.{begun_refused, starts}
 use Rattle.std.proofs.lemmas.List.{length-map}
-use Rattle.step_world.specs.Worlds.{state_of}
+use Rattle.run_state.specs.Worlds.{state_of}
 use Rattle.flow_frames.specs.Held.{seen_frame}
 
-module _ {T : Type 0} (old new : Kept T) (move : Next) (empty : old ≡ record { tasks = []; loose = [] }) where
+module _ {T : Type 0} (old new : Kept T) (move : Control) (empty : old ≡ record { tasks = []; loose = [] }) where
   -- without work the program's statements come first
   pub begun_alone : (tables : Tables) (inputs : Given) (set : BuiltIns) (functions : List FunctionCode) (reading : T → Label) (program : Statements) (s : State) → Begins (λ tables inputs set functions e. statements (planned tables inputs set functions) (asking tables inputs set functions) program e.env) old new move
       → coming tables inputs set functions reading new move (setting_of [] here) s ≡ statements (planned tables inputs set functions) (asking tables inputs set functions) program here s
@@ -57,7 +57,7 @@ module _ {T : Type 0} (old new : Kept T) (move : Next) (empty : old ≡ record {
 
   -- and the machine stands
   pub standing_begun : {S : Type 0} (made : S → T → Type 0) (meaning_of : S → T → Label) (store : S) (world : World T) → Keeps old new move → Belongs made meaning_of store world → length world.frames.frames ≡ 1 → length world.records ≡ 1 → running move ≡ 0
-      → Standing made meaning_of store new world (values_of move) (scopes_of new.tasks) 0 move
+      → Invariant made meaning_of store new world (values_of move) (scopes_of new.tasks) 0 move
   standing_begun made meaning_of store world keeps belongs alone one still =
       let none : scopes_of new.tasks ≡ [] = keeps.scopes ∙ ap (λ k. scopes_of k.tasks) empty in
       record {
@@ -75,16 +75,16 @@ module _ {T : Type 0} (old new : Kept T) (move : Next) (empty : old ≡ record {
 module _ {T : Type 0} (stack : Kept T) (value : Labelled T) (nothing : stack.tasks ≡ []) (alone : stack.loose ≡ value ∷ []) where
   -- the throw that lies there comes to the run
   pub refused_starts : (tables : Tables) (inputs : Given) (set : BuiltIns) (reading : T → Label) (program : Statements) (s first : State) (turns : ℕ) → may_declare set program ≡ false → throw_error {X = Val} kinds.TypeError bottom first ≡ Jumps (thrown reading value) s → first ≡ start tables inputs set program turns
-      → performed_run (perform (meaning tables inputs set (functions_of program)) (coming tables inputs set (functions_of program) reading stack (next.Jumps jump.Throws) (setting_of [] here) s)) ≡ tracked_run set tables inputs program turns
+      → performed_run (perform (meaning tables inputs set (functions_of program)) (coming tables inputs set (functions_of program) reading stack (control.Jumps jump.Throws) (setting_of [] here) s)) ≡ tracked_run set tables inputs program turns
   unfolding behind setting_above
   refused_starts tables inputs set reading program s first turns declares throws is =
-      starts tables inputs set reading program stack (next.Jumps jump.Throws) s first turns
-      (ap₂ (λ ts vs. coming tables inputs set (functions_of program) reading (record { tasks = ts; loose = vs }) (next.Jumps jump.Throws) (setting_of [] here) s) nothing alone
+      starts tables inputs set reading program stack (control.Jumps jump.Throws) s first turns
+      (ap₂ (λ ts vs. coming tables inputs set (functions_of program) reading (record { tasks = ts; loose = vs }) (control.Jumps jump.Throws) (setting_of [] here) s) nothing alone
       ∙ begun_refused tables inputs set reading program first s (thrown reading value) declares throws) is
 
   -- and the machine stands
   pub standing_refused : {S : Type 0} (made : S → T → Type 0) (meaning_of : S → T → Label) (store : S) (world : World T) → made store value.label → Belongs made meaning_of store world → length world.frames.frames ≡ 1 → 0 < length world.records
-      → Standing made meaning_of store stack world 1 (scopes_of stack.tasks) 0 (next.Jumps jump.Throws)
+      → Invariant made meaning_of store stack world 1 (scopes_of stack.tasks) 0 (control.Jumps jump.Throws)
   standing_refused made meaning_of store world has belongs one_frame some_record =
       let none : scopes_of stack.tasks ≡ [] = ap scopes_of nothing in
       record {
@@ -108,7 +108,7 @@ not_false true is = refl
 not_false false is = absurd (cc is)
 
 -- no built-in waits at first
-pub none_waits : {X : Type 0} (tells : X → Answer → X) (asks : X → Request) (natives : States X) (move : Next) → natives.states ≡ [] → running move ≡ 0 → steps_at tells asks natives move ≡ []
+pub none_waits : {X : Type 0} (tells : X → Answer → X) (asks : X → Request) (natives : States X) (move : Control) → natives.states ≡ [] → running move ≡ 0 → steps_at tells asks natives move ≡ []
 unfolding waiting_steps
-none_waits tells asks natives (next.Request count) none still = absurd (omega (arith, still))
+none_waits tells asks natives (control.Request count) none still = absurd (omega (arith, still))
 none_waits tells asks natives _ none still = ap (λ ss. waiting_steps tells asks (record { states = ss; answer = natives.answer })) none

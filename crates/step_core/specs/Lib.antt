@@ -1,4 +1,5 @@
-pub mod Outlook
+pub mod RemainingRun
+pub mod Rooms
 pub mod Going
 pub mod Continuing
 pub mod Stepping

@@ -18,21 +18,21 @@ use Rattle.step_core.specs.declared.steps.Step.{Step}
 use Rattle.step_core.specs.declared.steps.Step.TheVariants as step
 use Rattle.step_core.specs.declared.steps.Ending as code
 use Rattle.step_core.specs.declared.steps.Ending.TheVariants as ending
-use Rattle.step_core.specs.Outlook as outlook
+use Rattle.step_core.specs.RemainingRun as remaining_run
 use Rattle.step_core.specs.Stepping.{StandsBefore}
 
 -- how much a machine does before its run ends
 abbrev pub ahead : {T X : Type 0} → Machine T X → ℕ
-ahead m = outlook.ahead m.progress m.next
+ahead m = remaining_run.ahead m.progress m.next
 
 module _ {T X : Type 0} (set : BuiltIns) (tells : X → Answer → X) (asks : X → Request) (reading : T → Label) where
   -- what the run of a machine comes to with a set of built-ins, in a reading, where these lines were printed
   abbrev pub comes_to : Machine T X → List LabelledLine → Ran
-  comes_to m told = outlook.outlook m.policy.now m.inputs.now set (table m.functions) tells asks reading m.progress m.next told
+  comes_to m told = remaining_run.remaining_run m.policy.now m.inputs.now set (table m.functions) tells asks reading m.progress m.next told
 
   -- how a run ended
   abbrev pub ending_of : Machine T X → code.Ending T → Ending Halt
-  ending_of m e = outlook.ending_of reading m.progress e
+  ending_of m e = remaining_run.ending_of reading m.progress e
 
   -- a step comes to the same: it goes on, it goes on behind a line that it printed, or the run ended so
   abbrev pub Comes : Machine T X → List LabelledLine → Ran → Step T → Type 0

@@ -12,24 +12,26 @@ ghost use Rattle.flow_policy.specs.Inputs.{Given};
 ghost use Rattle.js_ast.specs.Functions.{FunctionCode};
 ghost use Rattle.native_protocol.specs.Steps.{Steps};
 ghost use Rattle.es_meaning.specs.BuiltIns.{BuiltIns, built_ins_of};
+ghost use Rattle.es_meaning.specs.Functions.{this_name};
 ghost use Rattle.step_natives.specs.States.{waiting_steps};
-ghost use Rattle.step_converting.specs.Framed.{steps_behind};
+ghost use Rattle.step_natives.specs.Framed.{steps_behind};
 ghost use Rattle.js_values.specs.Readings.{read_value};
 ghost use Rattle.flow_meaning.specs.Planned.{Part};
-ghost use Rattle.step_world.specs.Worlds.{Grows};
+ghost use Rattle.run_state.specs.Worlds.{Grows};
 ghost use Rattle.function_table.specs.Tables.{table};
-ghost use Rattle.step_work.specs.Stops.{HasStop};
-ghost use Rattle.step_work.specs.declared.work.Next.TheVariants as next;
-ghost use Rattle.step_work.specs.Kept.{scopes_of, waiting};
-ghost use Rattle.step_work.specs.Loads.{Adds};
-ghost use Rattle.step_work.specs.Pending.{env_above, owns_use, setting_above, values_of};
-ghost use Rattle.step_work.specs.Settings.{setting_of};
-ghost use Rattle.step_work.specs.Going.{Begins, Lowers};
+ghost use Rattle.continuations.specs.Stops.{HasStop};
+ghost use Rattle.continuations.specs.declared.continuation.Control.TheVariants as control;
+ghost use Rattle.continuations.specs.Kept.{scopes_of, waiting};
+ghost use Rattle.continuations.specs.Loads.{Adds};
+ghost use Rattle.continuations.specs.Pending.{env_above, owns_use, setting_above, values_of};
+ghost use Rattle.continuations.specs.Settings.{setting_of};
+ghost use Rattle.continuations.specs.Going.{Begins, Lowers};
 ghost use Rattle.step_core.specs.Going.{Enters, StandsStill, part_in};
-ghost use Rattle.step_work.specs.Going.{here};
-ghost use Rattle.step_work.specs.Standing.{Standing};
+ghost use Rattle.continuations.specs.Going.{here};
+ghost use Rattle.continuations.specs.Invariant.{Invariant};
 ghost use Rattle.step_core.specs.Stepping.{begins_work, calls_function, makes_value};
 
+use continuations::{Control, Enumeration, Round, Stack, Use};
 use flow_frames::FlowFault;
 use flow_text::{OutOfMemory, Text};
 use function_table::Functions;
@@ -38,23 +40,21 @@ use js_number::Int;
 use js_values::EnvId;
 use native_protocol::Natives;
 use origin_labels::Labels;
+use run_state::World;
 use std::alloc::Global;
 use step_calling::{call, construct, function};
-use step_converting::{compare, convert};
-use step_jumps::{leave_by, return_nothing};
-use step_literals::{boolean, null, number, object, text};
-use step_moves::{begin_use, declare, give_variable, read_name, this};
-use step_natives::NativeStates;
-use step_switches::begin_labelled;
-use step_tries::{begin_try, is_try};
-use step_visits::{next_visit, take_keys};
-use step_work::{
-    Enumeration, Next, Round, Stack, Use, begin_do_loop, begin_expression, begin_loop, begin_named,
-    begin_statement, begin_turn, begin_visit,
+use step_control::{
+    begin_do_loop, begin_expression, begin_loop, begin_named, begin_statement, begin_turn,
+    begin_visit,
 };
-use step_world::World;
+use step_jumps::{begin_try, is_try, leave_by, return_nothing};
+use step_literals::{boolean, null, number, object, text};
+use step_natives::{NativeStates, compare, convert};
+use step_references::{begin_use, declare, give_variable, read_name, this};
+use step_statements::{begin_labelled, next_visit, take_keys};
 
 /// The record in which what comes next is evaluated. That it is there isn't known here, and is looked at.
+#[inline(always)]
 pub(crate) fn present<'p, T: Copy>(
     world: &World<T>,
     stack: &Stack<'p, T>,
@@ -71,14 +71,15 @@ pub(crate) fn present<'p, T: Copy>(
 }
 
 /// A part of the script is entered, for which a turn was spent. A move that enters none stays as it is.
+#[inline(always)]
 pub(crate) fn enter<'p, L: Labels>(
     alloc: Global,
     labels: &mut L,
     world: &mut World<L::Label>,
     stack: &mut Stack<'p, L::Label>,
-    next: Next<'p>,
-) -> Result<Next<'p>, FlowFault<L::Label>>
-    requires standing { Standing L.made L.meaning labels.old stack.old world.old (values_of next) (scopes_of stack.old.tasks) (waiting stack.old.tasks) next }
+    next: Control<'p>,
+) -> Result<Control<'p>, FlowFault<L::Label>>
+    requires standing { Invariant L.made L.meaning labels.old stack.old world.old (values_of next) (scopes_of stack.old.tasks) (waiting stack.old.tasks) next }
     ensures enters { (tables : Tables) (inputs : Given) (set : BuiltIns) (functions : List FunctionCode) (natives : List Steps) (part : (L.Label → Label) → Part) → ((reading : L.Label → Label) → part_in (map (read_value reading) stack.old.loose) (setting_above stack.old.tasks (setting_of natives here)) next.entry ≡ Some (part reading)) → Enters L.made L.meaning labels.new tables inputs set functions natives stack.old stack.new world.old world.new part result }
     ensures standing { IfOk result (StandsStill L.made L.meaning labels.new (waiting stack.old.tasks) stack.new world.new) }
     ensures adds { IfOk result (Adds 15 stack.old stack.new) }
@@ -87,25 +88,26 @@ pub(crate) fn enter<'p, L: Labels>(
     ensures kept { IsKept L.made L.meaning L.room L.firm labels.old labels.new }
 {
     match next {
-        Next::Expr(e) => enter_expression(labels, world, stack, e),
-        Next::Use(how, target) => enter_use(alloc, labels, world, stack, how, target),
-        Next::Stmt(s) => enter_statement(labels, world, stack, s),
-        Next::Named(of, passed) => enter_named(labels, world, stack, of, passed),
-        Next::Turn(round) => enter_turn(labels, world, stack, round),
-        Next::Visit(enumeration, count) => enter_visit(labels, world, stack, enumeration, count),
+        Control::Expr(e) => enter_expression(labels, world, stack, e),
+        Control::Use(how, target) => enter_use(alloc, labels, world, stack, how, target),
+        Control::Stmt(s) => enter_statement(labels, world, stack, s),
+        Control::Named(of, passed) => enter_named(labels, world, stack, of, passed),
+        Control::Turn(round) => enter_turn(labels, world, stack, round),
+        Control::Visit(enumeration, count) => enter_visit(labels, world, stack, enumeration, count),
         other => Ok(other),
     }
 }
 
 /// An expression is entered.
+#[inline(always)]
 fn enter_expression<'p, L: Labels>(
     _labels: &L,
     _world: &World<L::Label>,
     stack: &mut Stack<'p, L::Label>,
     e: &'p Expr,
-) -> Result<Next<'p>, FlowFault<L::Label>>
-    requires standing { Standing L.made L.meaning _labels.now stack.old _world.now 0 (scopes_of stack.old.tasks) (waiting stack.old.tasks) (next.Expr e) }
-    ensures enters { (tables : Tables) (inputs : Given) (set : BuiltIns) (functions : List FunctionCode) (natives : List Steps) (part : (L.Label → Label) → Part) → ((reading : L.Label → Label) → part_in (map (read_value reading) stack.old.loose) (setting_above stack.old.tasks (setting_of natives here)) (next.Expr e.entry) ≡ Some (part reading)) → Enters L.made L.meaning _labels.now tables inputs set functions natives stack.old stack.new _world.now _world.now part result }
+) -> Result<Control<'p>, FlowFault<L::Label>>
+    requires standing { Invariant L.made L.meaning _labels.now stack.old _world.now 0 (scopes_of stack.old.tasks) (waiting stack.old.tasks) (control.Expr e) }
+    ensures enters { (tables : Tables) (inputs : Given) (set : BuiltIns) (functions : List FunctionCode) (natives : List Steps) (part : (L.Label → Label) → Part) → ((reading : L.Label → Label) → part_in (map (read_value reading) stack.old.loose) (setting_above stack.old.tasks (setting_of natives here)) (control.Expr e.entry) ≡ Some (part reading)) → Enters L.made L.meaning _labels.now tables inputs set functions natives stack.old stack.new _world.now _world.now part result }
     ensures standing { IfOk result (StandsStill L.made L.meaning _labels.now (waiting stack.old.tasks) stack.new _world.now) }
     ensures adds { IfOk result (Adds 15 stack.old stack.new) }
     ensures stopped { IfErr result (IfStop (HasStop (L.made _labels.now))) }
@@ -115,6 +117,7 @@ fn enter_expression<'p, L: Labels>(
 }
 
 /// A reference is entered for a use.
+#[inline(always)]
 fn enter_use<'p, L: Labels>(
     alloc: Global,
     labels: &mut L,
@@ -122,9 +125,9 @@ fn enter_use<'p, L: Labels>(
     stack: &mut Stack<'p, L::Label>,
     how: Use<'p>,
     target: &'p Expr,
-) -> Result<Next<'p>, FlowFault<L::Label>>
-    requires standing { Standing L.made L.meaning labels.old stack.old world.old (owns_use how) (scopes_of stack.old.tasks) (waiting stack.old.tasks) (next.Use how target) }
-    ensures enters { (tables : Tables) (inputs : Given) (set : BuiltIns) (functions : List FunctionCode) (natives : List Steps) (part : (L.Label → Label) → Part) → ((reading : L.Label → Label) → part_in (map (read_value reading) stack.old.loose) (setting_above stack.old.tasks (setting_of natives here)) (next.Use how.entry target.entry) ≡ Some (part reading)) → Enters L.made L.meaning labels.new tables inputs set functions natives stack.old stack.new world.old world.new part result }
+) -> Result<Control<'p>, FlowFault<L::Label>>
+    requires standing { Invariant L.made L.meaning labels.old stack.old world.old (owns_use how) (scopes_of stack.old.tasks) (waiting stack.old.tasks) (control.Use how target) }
+    ensures enters { (tables : Tables) (inputs : Given) (set : BuiltIns) (functions : List FunctionCode) (natives : List Steps) (part : (L.Label → Label) → Part) → ((reading : L.Label → Label) → part_in (map (read_value reading) stack.old.loose) (setting_above stack.old.tasks (setting_of natives here)) (control.Use how.entry target.entry) ≡ Some (part reading)) → Enters L.made L.meaning labels.new tables inputs set functions natives stack.old stack.new world.old world.new part result }
     ensures standing { IfOk result (StandsStill L.made L.meaning labels.new (waiting stack.old.tasks) stack.new world.new) }
     ensures adds { IfOk result (Adds 15 stack.old stack.new) }
     ensures stopped { IfErr result (IfStop (HasStop (L.made labels.new))) }
@@ -136,14 +139,15 @@ fn enter_use<'p, L: Labels>(
 }
 
 /// A statement is entered.
+#[inline(always)]
 fn enter_statement<'p, L: Labels>(
     _labels: &L,
     _world: &World<L::Label>,
     stack: &mut Stack<'p, L::Label>,
     s: &'p Stmt,
-) -> Result<Next<'p>, FlowFault<L::Label>>
-    requires standing { Standing L.made L.meaning _labels.now stack.old _world.now 0 (scopes_of stack.old.tasks) (waiting stack.old.tasks) (next.Stmt s) }
-    ensures enters { (tables : Tables) (inputs : Given) (set : BuiltIns) (functions : List FunctionCode) (natives : List Steps) (part : (L.Label → Label) → Part) → ((reading : L.Label → Label) → part_in (map (read_value reading) stack.old.loose) (setting_above stack.old.tasks (setting_of natives here)) (next.Stmt s.entry) ≡ Some (part reading)) → Enters L.made L.meaning _labels.now tables inputs set functions natives stack.old stack.new _world.now _world.now part result }
+) -> Result<Control<'p>, FlowFault<L::Label>>
+    requires standing { Invariant L.made L.meaning _labels.now stack.old _world.now 0 (scopes_of stack.old.tasks) (waiting stack.old.tasks) (control.Stmt s) }
+    ensures enters { (tables : Tables) (inputs : Given) (set : BuiltIns) (functions : List FunctionCode) (natives : List Steps) (part : (L.Label → Label) → Part) → ((reading : L.Label → Label) → part_in (map (read_value reading) stack.old.loose) (setting_above stack.old.tasks (setting_of natives here)) (control.Stmt s.entry) ≡ Some (part reading)) → Enters L.made L.meaning _labels.now tables inputs set functions natives stack.old stack.new _world.now _world.now part result }
     ensures standing { IfOk result (StandsStill L.made L.meaning _labels.now (waiting stack.old.tasks) stack.new _world.now) }
     ensures adds { IfOk result (Adds 15 stack.old stack.new) }
     ensures stopped { IfErr result (IfStop (HasStop (L.made _labels.now))) }
@@ -153,15 +157,16 @@ fn enter_statement<'p, L: Labels>(
 }
 
 /// A loop, a `switch` or a labelled statement is entered that stands behind labels.
+#[inline(always)]
 fn enter_named<'p, L: Labels>(
     _labels: &L,
     _world: &World<L::Label>,
     stack: &mut Stack<'p, L::Label>,
     of: &'p Stmt,
     passed: u32,
-) -> Result<Next<'p>, FlowFault<L::Label>>
-    requires standing { Standing L.made L.meaning _labels.now stack.old _world.now 0 (scopes_of stack.old.tasks) (waiting stack.old.tasks) (next.Named of passed) }
-    ensures enters { (tables : Tables) (inputs : Given) (set : BuiltIns) (functions : List FunctionCode) (natives : List Steps) (part : (L.Label → Label) → Part) → ((reading : L.Label → Label) → part_in (map (read_value reading) stack.old.loose) (setting_above stack.old.tasks (setting_of natives here)) (next.Named of.entry passed) ≡ Some (part reading)) → Enters L.made L.meaning _labels.now tables inputs set functions natives stack.old stack.new _world.now _world.now part result }
+) -> Result<Control<'p>, FlowFault<L::Label>>
+    requires standing { Invariant L.made L.meaning _labels.now stack.old _world.now 0 (scopes_of stack.old.tasks) (waiting stack.old.tasks) (control.Named of passed) }
+    ensures enters { (tables : Tables) (inputs : Given) (set : BuiltIns) (functions : List FunctionCode) (natives : List Steps) (part : (L.Label → Label) → Part) → ((reading : L.Label → Label) → part_in (map (read_value reading) stack.old.loose) (setting_above stack.old.tasks (setting_of natives here)) (control.Named of.entry passed) ≡ Some (part reading)) → Enters L.made L.meaning _labels.now tables inputs set functions natives stack.old stack.new _world.now _world.now part result }
     ensures standing { IfOk result (StandsStill L.made L.meaning _labels.now (waiting stack.old.tasks) stack.new _world.now) }
     ensures adds { IfOk result (Adds 15 stack.old stack.new) }
     ensures stopped { IfErr result (IfStop (HasStop (L.made _labels.now))) }
@@ -171,14 +176,15 @@ fn enter_named<'p, L: Labels>(
 }
 
 /// A turn is entered.
+#[inline(always)]
 fn enter_turn<'p, L: Labels>(
     labels: &mut L,
     world: &mut World<L::Label>,
     stack: &mut Stack<'p, L::Label>,
     round: Round<'p>,
-) -> Result<Next<'p>, FlowFault<L::Label>>
-    requires standing { Standing L.made L.meaning labels.old stack.old world.old 0 (scopes_of stack.old.tasks) (waiting stack.old.tasks) (next.Turn round) }
-    ensures enters { (tables : Tables) (inputs : Given) (set : BuiltIns) (functions : List FunctionCode) (natives : List Steps) (part : (L.Label → Label) → Part) → ((reading : L.Label → Label) → part_in (map (read_value reading) stack.old.loose) (setting_above stack.old.tasks (setting_of natives here)) (next.Turn round.entry) ≡ Some (part reading)) → Enters L.made L.meaning labels.new tables inputs set functions natives stack.old stack.new world.old world.new part result }
+) -> Result<Control<'p>, FlowFault<L::Label>>
+    requires standing { Invariant L.made L.meaning labels.old stack.old world.old 0 (scopes_of stack.old.tasks) (waiting stack.old.tasks) (control.Turn round) }
+    ensures enters { (tables : Tables) (inputs : Given) (set : BuiltIns) (functions : List FunctionCode) (natives : List Steps) (part : (L.Label → Label) → Part) → ((reading : L.Label → Label) → part_in (map (read_value reading) stack.old.loose) (setting_above stack.old.tasks (setting_of natives here)) (control.Turn round.entry) ≡ Some (part reading)) → Enters L.made L.meaning labels.new tables inputs set functions natives stack.old stack.new world.old world.new part result }
     ensures standing { IfOk result (StandsStill L.made L.meaning labels.new (waiting stack.old.tasks) stack.new world.new) }
     ensures adds { IfOk result (Adds 15 stack.old stack.new) }
     ensures stopped { IfErr result (IfStop (HasStop (L.made labels.new))) }
@@ -191,15 +197,16 @@ fn enter_turn<'p, L: Labels>(
 }
 
 /// A turn of a `for in` is entered.
+#[inline(always)]
 fn enter_visit<'p, L: Labels>(
     labels: &mut L,
     world: &mut World<L::Label>,
     stack: &mut Stack<'p, L::Label>,
     enumeration: Enumeration<'p>,
     count: u32,
-) -> Result<Next<'p>, FlowFault<L::Label>>
-    requires standing { Standing L.made L.meaning labels.old stack.old world.old (count + 2) (scopes_of stack.old.tasks) (waiting stack.old.tasks) (next.Visit enumeration count) }
-    ensures enters { (tables : Tables) (inputs : Given) (set : BuiltIns) (functions : List FunctionCode) (natives : List Steps) (part : (L.Label → Label) → Part) → ((reading : L.Label → Label) → part_in (map (read_value reading) stack.old.loose) (setting_above stack.old.tasks (setting_of natives here)) (next.Visit enumeration.entry count) ≡ Some (part reading)) → Enters L.made L.meaning labels.new tables inputs set functions natives stack.old stack.new world.old world.new part result }
+) -> Result<Control<'p>, FlowFault<L::Label>>
+    requires standing { Invariant L.made L.meaning labels.old stack.old world.old (count + 2) (scopes_of stack.old.tasks) (waiting stack.old.tasks) (control.Visit enumeration count) }
+    ensures enters { (tables : Tables) (inputs : Given) (set : BuiltIns) (functions : List FunctionCode) (natives : List Steps) (part : (L.Label → Label) → Part) → ((reading : L.Label → Label) → part_in (map (read_value reading) stack.old.loose) (setting_above stack.old.tasks (setting_of natives here)) (control.Visit enumeration.entry count) ≡ Some (part reading)) → Enters L.made L.meaning labels.new tables inputs set functions natives stack.old stack.new world.old world.new part result }
     ensures standing { IfOk result (StandsStill L.made L.meaning labels.new (waiting stack.old.tasks) stack.new world.new) }
     ensures adds { IfOk result (Adds 15 stack.old stack.new) }
     ensures stopped { IfErr result (IfStop (HasStop (L.made labels.new))) }
@@ -211,15 +218,18 @@ fn enter_visit<'p, L: Labels>(
     Ok(next)
 }
 
-/// A value that stands in the script, a name, an object of a literal, variables, a loop, the keys of a `for in`, a jump, a labelled statement or a `try` statement: what a machine does next without entering a part. Any other move stays as it is.
+/// A value that stands in the script, a name, an object of a literal, variables, a loop, the keys of a `for in`, a jump, a labelled statement or a `try` statement: what a machine does next without entering a part. Any other move stays as it is. `this_text` is the name of `this`.
+#[inline(always)]
 pub(crate) fn begin_move<'p, L: Labels>(
     alloc: Global,
     labels: &mut L,
+    this_text: &Text,
     world: &mut World<L::Label>,
     stack: &mut Stack<'p, L::Label>,
-    next: Next<'p>,
-) -> Result<Next<'p>, FlowFault<L::Label>>
-    requires standing { Standing L.made L.meaning labels.old stack.old world.old (values_of next) (scopes_of stack.old.tasks) (waiting stack.old.tasks) next }
+    next: Control<'p>,
+) -> Result<Control<'p>, FlowFault<L::Label>>
+    requires name { this_text.now ≡ this_name }
+    requires standing { Invariant L.made L.meaning labels.old stack.old world.old (values_of next) (scopes_of stack.old.tasks) (waiting stack.old.tasks) next }
     ensures begins { (tables : Tables) (inputs : Given) (set : BuiltIns) (functions : List FunctionCode) (natives : List Steps) → Begins L.made L.meaning labels.new tables inputs set functions natives natives stack.old stack.new world.old world.new next.entry result }
     ensures standing { IfOk result (StandsStill L.made L.meaning labels.new (waiting stack.old.tasks) stack.new world.new) }
     ensures lowers { begins_work next.entry ≡ true → IfOk result (λ n. Lowers stack.old next.entry stack.new n) }
@@ -228,38 +238,39 @@ pub(crate) fn begin_move<'p, L: Labels>(
     ensures kept { IsKept L.made L.meaning L.room L.firm labels.old labels.new }
 {
     match next {
-        Next::Null => begin_null(labels, world, stack),
-        Next::Bool(b) => begin_boolean(labels, world, stack, b),
-        Next::Number(n) => begin_number(labels, world, stack, n),
-        Next::Text(units) => begin_text(alloc, labels, world, stack, units),
-        Next::Name(name) => begin_name(alloc, labels, world, stack, name),
-        Next::This => begin_this(alloc, labels, world, stack),
-        Next::GiveVariable(variable) => begin_giving(alloc, labels, world, stack, variable),
-        Next::Keys(enumeration) => begin_keys(alloc, labels, world, stack, enumeration),
-        Next::Visits(enumeration, count) => {
+        Control::Null => begin_null(labels, world, stack),
+        Control::Bool(b) => begin_boolean(labels, world, stack, b),
+        Control::Number(n) => begin_number(labels, world, stack, n),
+        Control::Text(units) => begin_text(alloc, labels, world, stack, units),
+        Control::Name(name) => begin_name(alloc, labels, world, stack, name),
+        Control::This => begin_this(alloc, labels, world, stack, this_text),
+        Control::GiveVariable(variable) => begin_giving(alloc, labels, world, stack, variable),
+        Control::Keys(enumeration) => begin_keys(alloc, labels, world, stack, enumeration),
+        Control::Visits(enumeration, count) => {
             begin_visits(alloc, labels, world, stack, enumeration, count)
         }
-        Next::Variables(list) => begin_variables(labels, world, stack, list),
-        Next::Loop(round) => begin_loop_of(labels, world, stack, round),
-        Next::DoLoop(round) => begin_do_loop_of(labels, world, stack, round),
-        Next::Break(turn, label) => begin_leaving(labels, world, stack, turn, label),
-        Next::Return => begin_return(labels, world, stack),
-        Next::Labelled(text, s) => begin_label(labels, world, stack, text, s),
-        Next::Try(s) => begin_try_of(labels, world, stack, s),
+        Control::Variables(list) => begin_variables(labels, world, stack, list),
+        Control::Loop(round) => begin_loop_of(labels, world, stack, round),
+        Control::DoLoop(round) => begin_do_loop_of(labels, world, stack, round),
+        Control::Break(turn, label) => begin_leaving(labels, world, stack, turn, label),
+        Control::Return => begin_return(labels, world, stack),
+        Control::Labelled(text, s) => begin_label(labels, world, stack, text, s),
+        Control::Try(s) => begin_try_of(labels, world, stack, s),
         other => Ok(other),
     }
 }
 
 /// `null`.
+#[inline(always)]
 fn begin_null<'p, L: Labels>(
     labels: &L,
     _world: &World<L::Label>,
     stack: &mut Stack<'p, L::Label>,
-) -> Result<Next<'p>, FlowFault<L::Label>>
-    requires standing { Standing L.made L.meaning labels.now stack.old _world.now 0 (scopes_of stack.old.tasks) (waiting stack.old.tasks) next.Null }
-    ensures begins { (tables : Tables) (inputs : Given) (set : BuiltIns) (functions : List FunctionCode) (natives : List Steps) → Begins L.made L.meaning labels.now tables inputs set functions natives natives stack.old stack.new _world.now _world.now next.Null result }
+) -> Result<Control<'p>, FlowFault<L::Label>>
+    requires standing { Invariant L.made L.meaning labels.now stack.old _world.now 0 (scopes_of stack.old.tasks) (waiting stack.old.tasks) control.Null }
+    ensures begins { (tables : Tables) (inputs : Given) (set : BuiltIns) (functions : List FunctionCode) (natives : List Steps) → Begins L.made L.meaning labels.now tables inputs set functions natives natives stack.old stack.new _world.now _world.now control.Null result }
     ensures standing { IfOk result (StandsStill L.made L.meaning labels.now (waiting stack.old.tasks) stack.new _world.now) }
-    ensures lowers { IfOk result (Lowers stack.old next.Null stack.new) }
+    ensures lowers { IfOk result (Lowers stack.old control.Null stack.new) }
     ensures stopped { IfErr result (IfStop (HasStop (L.made labels.now))) }
 {
     let next = null(labels, stack)?;
@@ -267,16 +278,17 @@ fn begin_null<'p, L: Labels>(
 }
 
 /// A boolean that stands in the script.
+#[inline(always)]
 fn begin_boolean<'p, L: Labels>(
     labels: &L,
     _world: &World<L::Label>,
     stack: &mut Stack<'p, L::Label>,
     b: bool,
-) -> Result<Next<'p>, FlowFault<L::Label>>
-    requires standing { Standing L.made L.meaning labels.now stack.old _world.now 0 (scopes_of stack.old.tasks) (waiting stack.old.tasks) (next.Bool b) }
-    ensures begins { (tables : Tables) (inputs : Given) (set : BuiltIns) (functions : List FunctionCode) (natives : List Steps) → Begins L.made L.meaning labels.now tables inputs set functions natives natives stack.old stack.new _world.now _world.now (next.Bool b) result }
+) -> Result<Control<'p>, FlowFault<L::Label>>
+    requires standing { Invariant L.made L.meaning labels.now stack.old _world.now 0 (scopes_of stack.old.tasks) (waiting stack.old.tasks) (control.Bool b) }
+    ensures begins { (tables : Tables) (inputs : Given) (set : BuiltIns) (functions : List FunctionCode) (natives : List Steps) → Begins L.made L.meaning labels.now tables inputs set functions natives natives stack.old stack.new _world.now _world.now (control.Bool b) result }
     ensures standing { IfOk result (StandsStill L.made L.meaning labels.now (waiting stack.old.tasks) stack.new _world.now) }
-    ensures lowers { IfOk result (Lowers stack.old (next.Bool b) stack.new) }
+    ensures lowers { IfOk result (Lowers stack.old (control.Bool b) stack.new) }
     ensures stopped { IfErr result (IfStop (HasStop (L.made labels.now))) }
 {
     let next = boolean(labels, stack, b)?;
@@ -284,16 +296,17 @@ fn begin_boolean<'p, L: Labels>(
 }
 
 /// A number that stands in the script.
+#[inline(always)]
 fn begin_number<'p, L: Labels>(
     labels: &L,
     _world: &World<L::Label>,
     stack: &mut Stack<'p, L::Label>,
     n: &'p Int,
-) -> Result<Next<'p>, FlowFault<L::Label>>
-    requires standing { Standing L.made L.meaning labels.now stack.old _world.now 0 (scopes_of stack.old.tasks) (waiting stack.old.tasks) (next.Number n) }
-    ensures begins { (tables : Tables) (inputs : Given) (set : BuiltIns) (functions : List FunctionCode) (natives : List Steps) → Begins L.made L.meaning labels.now tables inputs set functions natives natives stack.old stack.new _world.now _world.now (next.Number n.entry) result }
+) -> Result<Control<'p>, FlowFault<L::Label>>
+    requires standing { Invariant L.made L.meaning labels.now stack.old _world.now 0 (scopes_of stack.old.tasks) (waiting stack.old.tasks) (control.Number n) }
+    ensures begins { (tables : Tables) (inputs : Given) (set : BuiltIns) (functions : List FunctionCode) (natives : List Steps) → Begins L.made L.meaning labels.now tables inputs set functions natives natives stack.old stack.new _world.now _world.now (control.Number n.entry) result }
     ensures standing { IfOk result (StandsStill L.made L.meaning labels.now (waiting stack.old.tasks) stack.new _world.now) }
-    ensures lowers { IfOk result (Lowers stack.old (next.Number n.entry) stack.new) }
+    ensures lowers { IfOk result (Lowers stack.old (control.Number n.entry) stack.new) }
     ensures stopped { IfErr result (IfStop (HasStop (L.made labels.now))) }
 {
     let next = number(labels, stack, n)?;
@@ -301,17 +314,18 @@ fn begin_number<'p, L: Labels>(
 }
 
 /// A text that stands in the script.
+#[inline(always)]
 fn begin_text<'p, L: Labels>(
     alloc: Global,
     labels: &L,
     _world: &World<L::Label>,
     stack: &mut Stack<'p, L::Label>,
     units: &'p Text,
-) -> Result<Next<'p>, FlowFault<L::Label>>
-    requires standing { Standing L.made L.meaning labels.now stack.old _world.now 0 (scopes_of stack.old.tasks) (waiting stack.old.tasks) (next.Text units) }
-    ensures begins { (tables : Tables) (inputs : Given) (set : BuiltIns) (functions : List FunctionCode) (natives : List Steps) → Begins L.made L.meaning labels.now tables inputs set functions natives natives stack.old stack.new _world.now _world.now (next.Text units.entry) result }
+) -> Result<Control<'p>, FlowFault<L::Label>>
+    requires standing { Invariant L.made L.meaning labels.now stack.old _world.now 0 (scopes_of stack.old.tasks) (waiting stack.old.tasks) (control.Text units) }
+    ensures begins { (tables : Tables) (inputs : Given) (set : BuiltIns) (functions : List FunctionCode) (natives : List Steps) → Begins L.made L.meaning labels.now tables inputs set functions natives natives stack.old stack.new _world.now _world.now (control.Text units.entry) result }
     ensures standing { IfOk result (StandsStill L.made L.meaning labels.now (waiting stack.old.tasks) stack.new _world.now) }
-    ensures lowers { IfOk result (Lowers stack.old (next.Text units.entry) stack.new) }
+    ensures lowers { IfOk result (Lowers stack.old (control.Text units.entry) stack.new) }
     ensures stopped { IfErr result (IfStop (HasStop (L.made labels.now))) }
 {
     let next = text(alloc, labels, stack, units)?;
@@ -319,17 +333,18 @@ fn begin_text<'p, L: Labels>(
 }
 
 /// The value of a name.
+#[inline(always)]
 fn begin_name<'p, L: Labels>(
     alloc: Global,
     labels: &mut L,
     world: &mut World<L::Label>,
     stack: &mut Stack<'p, L::Label>,
     name: &'p Text,
-) -> Result<Next<'p>, FlowFault<L::Label>>
-    requires standing { Standing L.made L.meaning labels.old stack.old world.old 0 (scopes_of stack.old.tasks) (waiting stack.old.tasks) (next.Name name) }
-    ensures begins { (tables : Tables) (inputs : Given) (set : BuiltIns) (functions : List FunctionCode) (natives : List Steps) → Begins L.made L.meaning labels.new tables inputs set functions natives natives stack.old stack.new world.old world.new (next.Name name.entry) result }
+) -> Result<Control<'p>, FlowFault<L::Label>>
+    requires standing { Invariant L.made L.meaning labels.old stack.old world.old 0 (scopes_of stack.old.tasks) (waiting stack.old.tasks) (control.Name name) }
+    ensures begins { (tables : Tables) (inputs : Given) (set : BuiltIns) (functions : List FunctionCode) (natives : List Steps) → Begins L.made L.meaning labels.new tables inputs set functions natives natives stack.old stack.new world.old world.new (control.Name name.entry) result }
     ensures standing { IfOk result (StandsStill L.made L.meaning labels.new (waiting stack.old.tasks) stack.new world.new) }
-    ensures lowers { IfOk result (Lowers stack.old (next.Name name.entry) stack.new) }
+    ensures lowers { IfOk result (Lowers stack.old (control.Name name.entry) stack.new) }
     ensures stopped { IfErr result (IfStop (HasStop (L.made labels.new))) }
     ensures grows { Grows world.old world.new }
     ensures kept { IsKept L.made L.meaning L.room L.firm labels.old labels.new }
@@ -339,36 +354,40 @@ fn begin_name<'p, L: Labels>(
 }
 
 /// The value of `this`.
+#[inline(always)]
 fn begin_this<'p, L: Labels>(
     alloc: Global,
     labels: &mut L,
     world: &mut World<L::Label>,
     stack: &mut Stack<'p, L::Label>,
-) -> Result<Next<'p>, FlowFault<L::Label>>
-    requires standing { Standing L.made L.meaning labels.old stack.old world.old 0 (scopes_of stack.old.tasks) (waiting stack.old.tasks) next.This }
-    ensures begins { (tables : Tables) (inputs : Given) (set : BuiltIns) (functions : List FunctionCode) (natives : List Steps) → Begins L.made L.meaning labels.new tables inputs set functions natives natives stack.old stack.new world.old world.new next.This result }
+    this_text: &Text,
+) -> Result<Control<'p>, FlowFault<L::Label>>
+    requires name { this_text.now ≡ this_name }
+    requires standing { Invariant L.made L.meaning labels.old stack.old world.old 0 (scopes_of stack.old.tasks) (waiting stack.old.tasks) control.This }
+    ensures begins { (tables : Tables) (inputs : Given) (set : BuiltIns) (functions : List FunctionCode) (natives : List Steps) → Begins L.made L.meaning labels.new tables inputs set functions natives natives stack.old stack.new world.old world.new control.This result }
     ensures standing { IfOk result (StandsStill L.made L.meaning labels.new (waiting stack.old.tasks) stack.new world.new) }
-    ensures lowers { IfOk result (Lowers stack.old next.This stack.new) }
+    ensures lowers { IfOk result (Lowers stack.old control.This stack.new) }
     ensures stopped { IfErr result (IfStop (HasStop (L.made labels.new))) }
     ensures grows { Grows world.old world.new }
     ensures kept { IsKept L.made L.meaning L.room L.firm labels.old labels.new }
 {
     let place = present(world, stack)?;
-    this(alloc, labels, world, stack, place)
+    this(alloc, labels, world, stack, place, this_text)
 }
 
 /// A variable is given a key.
+#[inline(always)]
 fn begin_giving<'p, L: Labels>(
     alloc: Global,
     labels: &mut L,
     world: &mut World<L::Label>,
     stack: &mut Stack<'p, L::Label>,
     variable: &'p Ident,
-) -> Result<Next<'p>, FlowFault<L::Label>>
-    requires standing { Standing L.made L.meaning labels.old stack.old world.old 1 (scopes_of stack.old.tasks) (waiting stack.old.tasks) (next.GiveVariable variable) }
-    ensures begins { (tables : Tables) (inputs : Given) (set : BuiltIns) (functions : List FunctionCode) (natives : List Steps) → Begins L.made L.meaning labels.new tables inputs set functions natives natives stack.old stack.new world.old world.new (next.GiveVariable variable.entry) result }
+) -> Result<Control<'p>, FlowFault<L::Label>>
+    requires standing { Invariant L.made L.meaning labels.old stack.old world.old 1 (scopes_of stack.old.tasks) (waiting stack.old.tasks) (control.GiveVariable variable) }
+    ensures begins { (tables : Tables) (inputs : Given) (set : BuiltIns) (functions : List FunctionCode) (natives : List Steps) → Begins L.made L.meaning labels.new tables inputs set functions natives natives stack.old stack.new world.old world.new (control.GiveVariable variable.entry) result }
     ensures standing { IfOk result (StandsStill L.made L.meaning labels.new (waiting stack.old.tasks) stack.new world.new) }
-    ensures lowers { IfOk result (Lowers stack.old (next.GiveVariable variable.entry) stack.new) }
+    ensures lowers { IfOk result (Lowers stack.old (control.GiveVariable variable.entry) stack.new) }
     ensures stopped { IfErr result (IfStop (HasStop (L.made labels.new))) }
     ensures grows { Grows world.old world.new }
     ensures kept { IsKept L.made L.meaning L.room L.firm labels.old labels.new }
@@ -378,17 +397,18 @@ fn begin_giving<'p, L: Labels>(
 }
 
 /// The keys of a value.
+#[inline(always)]
 fn begin_keys<'p, L: Labels>(
     alloc: Global,
     labels: &mut L,
     world: &mut World<L::Label>,
     stack: &mut Stack<'p, L::Label>,
     enumeration: Enumeration<'p>,
-) -> Result<Next<'p>, FlowFault<L::Label>>
-    requires standing { Standing L.made L.meaning labels.old stack.old world.old 1 (scopes_of stack.old.tasks) (waiting stack.old.tasks) (next.Keys enumeration) }
-    ensures begins { (tables : Tables) (inputs : Given) (set : BuiltIns) (functions : List FunctionCode) (natives : List Steps) → Begins L.made L.meaning labels.new tables inputs set functions natives natives stack.old stack.new world.old world.new (next.Keys enumeration.entry) result }
+) -> Result<Control<'p>, FlowFault<L::Label>>
+    requires standing { Invariant L.made L.meaning labels.old stack.old world.old 1 (scopes_of stack.old.tasks) (waiting stack.old.tasks) (control.Keys enumeration) }
+    ensures begins { (tables : Tables) (inputs : Given) (set : BuiltIns) (functions : List FunctionCode) (natives : List Steps) → Begins L.made L.meaning labels.new tables inputs set functions natives natives stack.old stack.new world.old world.new (control.Keys enumeration.entry) result }
     ensures standing { IfOk result (StandsStill L.made L.meaning labels.new (waiting stack.old.tasks) stack.new world.new) }
-    ensures lowers { IfOk result (Lowers stack.old (next.Keys enumeration.entry) stack.new) }
+    ensures lowers { IfOk result (Lowers stack.old (control.Keys enumeration.entry) stack.new) }
     ensures stopped { IfErr result (IfStop (HasStop (L.made labels.new))) }
     ensures grows { Grows world.old world.new }
     ensures kept { IsKept L.made L.meaning L.room L.firm labels.old labels.new }
@@ -397,6 +417,7 @@ fn begin_keys<'p, L: Labels>(
 }
 
 /// The next key that is visited.
+#[inline(always)]
 fn begin_visits<'p, L: Labels>(
     alloc: Global,
     labels: &mut L,
@@ -404,11 +425,11 @@ fn begin_visits<'p, L: Labels>(
     stack: &mut Stack<'p, L::Label>,
     enumeration: Enumeration<'p>,
     count: u32,
-) -> Result<Next<'p>, FlowFault<L::Label>>
-    requires standing { Standing L.made L.meaning labels.old stack.old world.old (count + 1) (scopes_of stack.old.tasks) (waiting stack.old.tasks) (next.Visits enumeration count) }
-    ensures begins { (tables : Tables) (inputs : Given) (set : BuiltIns) (functions : List FunctionCode) (natives : List Steps) → Begins L.made L.meaning labels.new tables inputs set functions natives natives stack.old stack.new world.old world.new (next.Visits enumeration.entry count) result }
+) -> Result<Control<'p>, FlowFault<L::Label>>
+    requires standing { Invariant L.made L.meaning labels.old stack.old world.old (count + 1) (scopes_of stack.old.tasks) (waiting stack.old.tasks) (control.Visits enumeration count) }
+    ensures begins { (tables : Tables) (inputs : Given) (set : BuiltIns) (functions : List FunctionCode) (natives : List Steps) → Begins L.made L.meaning labels.new tables inputs set functions natives natives stack.old stack.new world.old world.new (control.Visits enumeration.entry count) result }
     ensures standing { IfOk result (StandsStill L.made L.meaning labels.new (waiting stack.old.tasks) stack.new world.new) }
-    ensures lowers { IfOk result (Lowers stack.old (next.Visits enumeration.entry count) stack.new) }
+    ensures lowers { IfOk result (Lowers stack.old (control.Visits enumeration.entry count) stack.new) }
     ensures stopped { IfErr result (IfStop (HasStop (L.made labels.new))) }
     ensures grows { Grows world.old world.new }
     ensures kept { IsKept L.made L.meaning L.room L.firm labels.old labels.new }
@@ -417,16 +438,17 @@ fn begin_visits<'p, L: Labels>(
 }
 
 /// Variables with their first values.
+#[inline(always)]
 fn begin_variables<'p, L: Labels>(
     labels: &mut L,
     world: &World<L::Label>,
     stack: &mut Stack<'p, L::Label>,
     list: &'p Declarations,
-) -> Result<Next<'p>, FlowFault<L::Label>>
-    requires standing { Standing L.made L.meaning labels.old stack.old world.now 0 (scopes_of stack.old.tasks) (waiting stack.old.tasks) (next.Variables list) }
-    ensures begins { (tables : Tables) (inputs : Given) (set : BuiltIns) (functions : List FunctionCode) (natives : List Steps) → Begins L.made L.meaning labels.new tables inputs set functions natives natives stack.old stack.new world.now world.now (next.Variables list.entry) result }
+) -> Result<Control<'p>, FlowFault<L::Label>>
+    requires standing { Invariant L.made L.meaning labels.old stack.old world.now 0 (scopes_of stack.old.tasks) (waiting stack.old.tasks) (control.Variables list) }
+    ensures begins { (tables : Tables) (inputs : Given) (set : BuiltIns) (functions : List FunctionCode) (natives : List Steps) → Begins L.made L.meaning labels.new tables inputs set functions natives natives stack.old stack.new world.now world.now (control.Variables list.entry) result }
     ensures standing { IfOk result (StandsStill L.made L.meaning labels.new (waiting stack.old.tasks) stack.new world.now) }
-    ensures lowers { IfOk result (Lowers stack.old (next.Variables list.entry) stack.new) }
+    ensures lowers { IfOk result (Lowers stack.old (control.Variables list.entry) stack.new) }
     ensures stopped { IfErr result (IfStop (HasStop (L.made labels.new))) }
     ensures kept { IsKept L.made L.meaning L.room L.firm labels.old labels.new }
 {
@@ -435,16 +457,17 @@ fn begin_variables<'p, L: Labels>(
 }
 
 /// A loop begins with its condition.
+#[inline(always)]
 fn begin_loop_of<'p, L: Labels>(
     labels: &mut L,
     world: &mut World<L::Label>,
     stack: &mut Stack<'p, L::Label>,
     round: Round<'p>,
-) -> Result<Next<'p>, FlowFault<L::Label>>
-    requires standing { Standing L.made L.meaning labels.old stack.old world.old 0 (scopes_of stack.old.tasks) (waiting stack.old.tasks) (next.Loop round) }
-    ensures begins { (tables : Tables) (inputs : Given) (set : BuiltIns) (functions : List FunctionCode) (natives : List Steps) → Begins L.made L.meaning labels.new tables inputs set functions natives natives stack.old stack.new world.old world.new (next.Loop round.entry) result }
+) -> Result<Control<'p>, FlowFault<L::Label>>
+    requires standing { Invariant L.made L.meaning labels.old stack.old world.old 0 (scopes_of stack.old.tasks) (waiting stack.old.tasks) (control.Loop round) }
+    ensures begins { (tables : Tables) (inputs : Given) (set : BuiltIns) (functions : List FunctionCode) (natives : List Steps) → Begins L.made L.meaning labels.new tables inputs set functions natives natives stack.old stack.new world.old world.new (control.Loop round.entry) result }
     ensures standing { IfOk result (StandsStill L.made L.meaning labels.new (waiting stack.old.tasks) stack.new world.new) }
-    ensures lowers { IfOk result (Lowers stack.old (next.Loop round.entry) stack.new) }
+    ensures lowers { IfOk result (Lowers stack.old (control.Loop round.entry) stack.new) }
     ensures stopped { IfErr result (IfStop (HasStop (L.made labels.new))) }
     ensures grows { Grows world.old world.new }
     ensures kept { IsKept L.made L.meaning L.room L.firm labels.old labels.new }
@@ -455,16 +478,17 @@ fn begin_loop_of<'p, L: Labels>(
 }
 
 /// A loop begins with a turn.
+#[inline(always)]
 fn begin_do_loop_of<'p, L: Labels>(
     labels: &mut L,
     world: &mut World<L::Label>,
     stack: &mut Stack<'p, L::Label>,
     round: Round<'p>,
-) -> Result<Next<'p>, FlowFault<L::Label>>
-    requires standing { Standing L.made L.meaning labels.old stack.old world.old 0 (scopes_of stack.old.tasks) (waiting stack.old.tasks) (next.DoLoop round) }
-    ensures begins { (tables : Tables) (inputs : Given) (set : BuiltIns) (functions : List FunctionCode) (natives : List Steps) → Begins L.made L.meaning labels.new tables inputs set functions natives natives stack.old stack.new world.old world.new (next.DoLoop round.entry) result }
+) -> Result<Control<'p>, FlowFault<L::Label>>
+    requires standing { Invariant L.made L.meaning labels.old stack.old world.old 0 (scopes_of stack.old.tasks) (waiting stack.old.tasks) (control.DoLoop round) }
+    ensures begins { (tables : Tables) (inputs : Given) (set : BuiltIns) (functions : List FunctionCode) (natives : List Steps) → Begins L.made L.meaning labels.new tables inputs set functions natives natives stack.old stack.new world.old world.new (control.DoLoop round.entry) result }
     ensures standing { IfOk result (StandsStill L.made L.meaning labels.new (waiting stack.old.tasks) stack.new world.new) }
-    ensures lowers { IfOk result (Lowers stack.old (next.DoLoop round.entry) stack.new) }
+    ensures lowers { IfOk result (Lowers stack.old (control.DoLoop round.entry) stack.new) }
     ensures stopped { IfErr result (IfStop (HasStop (L.made labels.new))) }
     ensures grows { Grows world.old world.new }
     ensures kept { IsKept L.made L.meaning L.room L.firm labels.old labels.new }
@@ -475,17 +499,18 @@ fn begin_do_loop_of<'p, L: Labels>(
 }
 
 /// A loop or a statement is left, or a turn of it.
+#[inline(always)]
 fn begin_leaving<'p, L: Labels>(
     labels: &mut L,
     world: &mut World<L::Label>,
     stack: &mut Stack<'p, L::Label>,
     turn: bool,
     label: &'p Option<Ident>,
-) -> Result<Next<'p>, FlowFault<L::Label>>
-    requires standing { Standing L.made L.meaning labels.old stack.old world.old 0 (scopes_of stack.old.tasks) (waiting stack.old.tasks) (next.Break turn label) }
-    ensures begins { (tables : Tables) (inputs : Given) (set : BuiltIns) (functions : List FunctionCode) (natives : List Steps) → Begins L.made L.meaning labels.new tables inputs set functions natives natives stack.old stack.new world.old world.new (next.Break turn label.entry) result }
+) -> Result<Control<'p>, FlowFault<L::Label>>
+    requires standing { Invariant L.made L.meaning labels.old stack.old world.old 0 (scopes_of stack.old.tasks) (waiting stack.old.tasks) (control.Break turn label) }
+    ensures begins { (tables : Tables) (inputs : Given) (set : BuiltIns) (functions : List FunctionCode) (natives : List Steps) → Begins L.made L.meaning labels.new tables inputs set functions natives natives stack.old stack.new world.old world.new (control.Break turn label.entry) result }
     ensures standing { IfOk result (StandsStill L.made L.meaning labels.new (waiting stack.old.tasks) stack.new world.new) }
-    ensures lowers { IfOk result (Lowers stack.old (next.Break turn label.entry) stack.new) }
+    ensures lowers { IfOk result (Lowers stack.old (control.Break turn label.entry) stack.new) }
     ensures stopped { IfErr result (IfStop (HasStop (L.made labels.new))) }
     ensures grows { Grows world.old world.new }
     ensures kept { IsKept L.made L.meaning L.room L.firm labels.old labels.new }
@@ -495,6 +520,7 @@ fn begin_leaving<'p, L: Labels>(
 }
 
 /// The units of a label, or none.
+#[inline(always)]
 fn units_of(label: &Option<Ident>) -> Option<&[u16]>
     ensures { option_map (λ text. text.now) result ≡ text_of_label (view_name label.now) }
 {
@@ -505,15 +531,16 @@ fn units_of(label: &Option<Ident>) -> Option<&[u16]>
 }
 
 /// A function is left without a value.
+#[inline(always)]
 fn begin_return<'p, L: Labels>(
     labels: &mut L,
     world: &mut World<L::Label>,
     stack: &mut Stack<'p, L::Label>,
-) -> Result<Next<'p>, FlowFault<L::Label>>
-    requires standing { Standing L.made L.meaning labels.old stack.old world.old 0 (scopes_of stack.old.tasks) (waiting stack.old.tasks) next.Return }
-    ensures begins { (tables : Tables) (inputs : Given) (set : BuiltIns) (functions : List FunctionCode) (natives : List Steps) → Begins L.made L.meaning labels.new tables inputs set functions natives natives stack.old stack.new world.old world.new next.Return result }
+) -> Result<Control<'p>, FlowFault<L::Label>>
+    requires standing { Invariant L.made L.meaning labels.old stack.old world.old 0 (scopes_of stack.old.tasks) (waiting stack.old.tasks) control.Return }
+    ensures begins { (tables : Tables) (inputs : Given) (set : BuiltIns) (functions : List FunctionCode) (natives : List Steps) → Begins L.made L.meaning labels.new tables inputs set functions natives natives stack.old stack.new world.old world.new control.Return result }
     ensures standing { IfOk result (StandsStill L.made L.meaning labels.new (waiting stack.old.tasks) stack.new world.new) }
-    ensures lowers { IfOk result (Lowers stack.old next.Return stack.new) }
+    ensures lowers { IfOk result (Lowers stack.old control.Return stack.new) }
     ensures stopped { IfErr result (IfStop (HasStop (L.made labels.new))) }
     ensures grows { Grows world.old world.new }
     ensures kept { IsKept L.made L.meaning L.room L.firm labels.old labels.new }
@@ -523,17 +550,18 @@ fn begin_return<'p, L: Labels>(
 }
 
 /// A labelled statement, which is no loop and no `switch`.
+#[inline(always)]
 fn begin_label<'p, L: Labels>(
     labels: &mut L,
     world: &mut World<L::Label>,
     stack: &mut Stack<'p, L::Label>,
     text: &'p Text,
     s: &'p Stmt,
-) -> Result<Next<'p>, FlowFault<L::Label>>
-    requires standing { Standing L.made L.meaning labels.old stack.old world.old 0 (scopes_of stack.old.tasks) (waiting stack.old.tasks) (next.Labelled text s) }
-    ensures begins { (tables : Tables) (inputs : Given) (set : BuiltIns) (functions : List FunctionCode) (natives : List Steps) → Begins L.made L.meaning labels.new tables inputs set functions natives natives stack.old stack.new world.old world.new (next.Labelled text.entry s.entry) result }
+) -> Result<Control<'p>, FlowFault<L::Label>>
+    requires standing { Invariant L.made L.meaning labels.old stack.old world.old 0 (scopes_of stack.old.tasks) (waiting stack.old.tasks) (control.Labelled text s) }
+    ensures begins { (tables : Tables) (inputs : Given) (set : BuiltIns) (functions : List FunctionCode) (natives : List Steps) → Begins L.made L.meaning labels.new tables inputs set functions natives natives stack.old stack.new world.old world.new (control.Labelled text.entry s.entry) result }
     ensures standing { IfOk result (StandsStill L.made L.meaning labels.new (waiting stack.old.tasks) stack.new world.new) }
-    ensures lowers { IfOk result (Lowers stack.old (next.Labelled text.entry s.entry) stack.new) }
+    ensures lowers { IfOk result (Lowers stack.old (control.Labelled text.entry s.entry) stack.new) }
     ensures stopped { IfErr result (IfStop (HasStop (L.made labels.new))) }
     ensures grows { Grows world.old world.new }
     ensures kept { IsKept L.made L.meaning L.room L.firm labels.old labels.new }
@@ -542,16 +570,17 @@ fn begin_label<'p, L: Labels>(
 }
 
 /// A `try` statement.
+#[inline(always)]
 fn begin_try_of<'p, L: Labels>(
     labels: &mut L,
     world: &mut World<L::Label>,
     stack: &mut Stack<'p, L::Label>,
     s: &'p Stmt,
-) -> Result<Next<'p>, FlowFault<L::Label>>
-    requires standing { Standing L.made L.meaning labels.old stack.old world.old 0 (scopes_of stack.old.tasks) (waiting stack.old.tasks) (next.Try s) }
-    ensures begins { (tables : Tables) (inputs : Given) (set : BuiltIns) (functions : List FunctionCode) (natives : List Steps) → Begins L.made L.meaning labels.new tables inputs set functions natives natives stack.old stack.new world.old world.new (next.Try s.entry) result }
+) -> Result<Control<'p>, FlowFault<L::Label>>
+    requires standing { Invariant L.made L.meaning labels.old stack.old world.old 0 (scopes_of stack.old.tasks) (waiting stack.old.tasks) (control.Try s) }
+    ensures begins { (tables : Tables) (inputs : Given) (set : BuiltIns) (functions : List FunctionCode) (natives : List Steps) → Begins L.made L.meaning labels.new tables inputs set functions natives natives stack.old stack.new world.old world.new (control.Try s.entry) result }
     ensures standing { IfOk result (StandsStill L.made L.meaning labels.new (waiting stack.old.tasks) stack.new world.new) }
-    ensures lowers { IfOk result (Lowers stack.old (next.Try s.entry) stack.new) }
+    ensures lowers { IfOk result (Lowers stack.old (control.Try s.entry) stack.new) }
     ensures stopped { IfErr result (IfStop (HasStop (L.made labels.new))) }
     ensures grows { Grows world.old world.new }
     ensures kept { IsKept L.made L.meaning L.room L.firm labels.old labels.new }
@@ -564,6 +593,7 @@ fn begin_try_of<'p, L: Labels>(
 }
 
 /// A value is called, makes an object, or is converted.
+#[inline(always)]
 pub(crate) fn begin_calling<'p, L: Labels, N: Natives>(
     alloc: Global,
     labels: &mut L,
@@ -572,41 +602,42 @@ pub(crate) fn begin_calling<'p, L: Labels, N: Natives>(
     natives: &N,
     states: &mut NativeStates<N::State>,
     stack: &mut Stack<'p, L::Label>,
-    next: Next<'p>,
-) -> Result<Next<'p>, FlowFault<L::Label>>
+    next: Control<'p>,
+) -> Result<Control<'p>, FlowFault<L::Label>>
     requires calls { calls_function next ≡ true }
-    requires standing { Standing L.made L.meaning labels.old stack.old world.old (values_of next) (scopes_of stack.old.tasks) (length states.old.states) next }
+    requires standing { Invariant L.made L.meaning labels.old stack.old world.old (values_of next) (scopes_of stack.old.tasks) (length states.old.states) next }
     ensures begins { (tables : Tables) (inputs : Given) → Begins L.made L.meaning labels.new tables inputs (built_ins_of (N.entries natives.now) (N.begin natives.now) (N.after natives.now) (N.asks natives.now)) (table functions.now) (waiting_steps (N.after natives.now) (N.asks natives.now) states.old) (steps_behind (N.after natives.now) (N.asks natives.now) states.new result) stack.old stack.new world.old world.new next.entry result }
-    ensures standing { IfOk result (λ move. Standing L.made L.meaning labels.new stack.new world.new (values_of move) (scopes_of stack.new.tasks) (length states.new.states) move) }
+    ensures standing { IfOk result (λ move. Invariant L.made L.meaning labels.new stack.new world.new (values_of move) (scopes_of stack.new.tasks) (length states.new.states) move) }
     ensures lowers { IfOk result (λ n. Lowers stack.old next.entry stack.new n) }
     ensures stopped { IfErr result (IfStop (HasStop (L.made labels.new))) }
     ensures grows { Grows world.old world.new }
     ensures kept { IsKept L.made L.meaning L.room L.firm labels.old labels.new }
 {
     match next {
-        Next::Call(count) => call(
+        Control::Call(count) => call(
             alloc, labels, world, functions, natives, states, stack, count,
         ),
-        Next::Construct(count) => construct(
+        Control::Construct(count) => construct(
             alloc, labels, world, functions, natives, states, stack, count,
         ),
-        Next::Convert(hint) => convert(labels, world, stack, states, hint),
-        Next::Compare => compare(labels, world, stack, states),
+        Control::Convert(hint) => convert(labels, world, stack, states, hint),
+        Control::Compare => compare(labels, world, stack, states),
         _ => unreachable!(),
     }
 }
 
 /// A value is made of a function of the script, or of a literal. No built-in begins.
+#[inline(always)]
 pub(crate) fn make_value<'p, L: Labels>(
     alloc: Global,
     labels: &mut L,
     world: &mut World<L::Label>,
     functions: &Functions<'p>,
     stack: &mut Stack<'p, L::Label>,
-    next: Next<'p>,
-) -> Result<Next<'p>, FlowFault<L::Label>>
+    next: Control<'p>,
+) -> Result<Control<'p>, FlowFault<L::Label>>
     requires makes { makes_value next ≡ true }
-    requires standing { Standing L.made L.meaning labels.old stack.old world.old (values_of next) (scopes_of stack.old.tasks) (waiting stack.old.tasks) next }
+    requires standing { Invariant L.made L.meaning labels.old stack.old world.old (values_of next) (scopes_of stack.old.tasks) (waiting stack.old.tasks) next }
     ensures begins { (tables : Tables) (inputs : Given) (set : BuiltIns) (natives : List Steps) → Begins L.made L.meaning labels.new tables inputs set (table functions.now) natives natives stack.old stack.new world.old world.new next.entry result }
     ensures standing { IfOk result (StandsStill L.made L.meaning labels.new (waiting stack.old.tasks) stack.new world.new) }
     ensures lowers { IfOk result (λ n. Lowers stack.old next.entry stack.new n) }
@@ -615,8 +646,8 @@ pub(crate) fn make_value<'p, L: Labels>(
     ensures kept { IsKept L.made L.meaning L.room L.firm labels.old labels.new }
 {
     match next {
-        Next::Function(f) => begin_function(alloc, labels, world, functions, stack, f),
-        Next::Object(list, count) => {
+        Control::Function(f) => begin_function(alloc, labels, world, functions, stack, f),
+        Control::Object(list, count) => {
             begin_object(alloc, labels, world, functions, stack, list, count)
         }
         _ => unreachable!(),
@@ -624,6 +655,7 @@ pub(crate) fn make_value<'p, L: Labels>(
 }
 
 /// A function of the script comes to a value.
+#[inline(always)]
 fn begin_function<'p, L: Labels>(
     alloc: Global,
     labels: &mut L,
@@ -631,11 +663,11 @@ fn begin_function<'p, L: Labels>(
     functions: &Functions<'p>,
     stack: &mut Stack<'p, L::Label>,
     f: &'p Function,
-) -> Result<Next<'p>, FlowFault<L::Label>>
-    requires standing { Standing L.made L.meaning labels.old stack.old world.old 0 (scopes_of stack.old.tasks) (waiting stack.old.tasks) (next.Function f) }
-    ensures begins { (tables : Tables) (inputs : Given) (set : BuiltIns) (natives : List Steps) → Begins L.made L.meaning labels.new tables inputs set (table functions.now) natives natives stack.old stack.new world.old world.new (next.Function f.entry) result }
+) -> Result<Control<'p>, FlowFault<L::Label>>
+    requires standing { Invariant L.made L.meaning labels.old stack.old world.old 0 (scopes_of stack.old.tasks) (waiting stack.old.tasks) (control.Function f) }
+    ensures begins { (tables : Tables) (inputs : Given) (set : BuiltIns) (natives : List Steps) → Begins L.made L.meaning labels.new tables inputs set (table functions.now) natives natives stack.old stack.new world.old world.new (control.Function f.entry) result }
     ensures standing { IfOk result (StandsStill L.made L.meaning labels.new (waiting stack.old.tasks) stack.new world.new) }
-    ensures lowers { IfOk result (λ n. Lowers stack.old (next.Function f.entry) stack.new n) }
+    ensures lowers { IfOk result (λ n. Lowers stack.old (control.Function f.entry) stack.new n) }
     ensures stopped { IfErr result (IfStop (HasStop (L.made labels.new))) }
     ensures grows { Grows world.old world.new }
     ensures kept { IsKept L.made L.meaning L.room L.firm labels.old labels.new }
@@ -645,6 +677,7 @@ fn begin_function<'p, L: Labels>(
 }
 
 /// An object of a literal.
+#[inline(always)]
 fn begin_object<'p, L: Labels>(
     alloc: Global,
     labels: &mut L,
@@ -653,11 +686,11 @@ fn begin_object<'p, L: Labels>(
     stack: &mut Stack<'p, L::Label>,
     list: &'p PropertyList,
     count: u32,
-) -> Result<Next<'p>, FlowFault<L::Label>>
-    requires standing { Standing L.made L.meaning labels.old stack.old world.old count (scopes_of stack.old.tasks) (waiting stack.old.tasks) (next.Object list count) }
-    ensures begins { (tables : Tables) (inputs : Given) (set : BuiltIns) (natives : List Steps) → Begins L.made L.meaning labels.new tables inputs set (table functions.now) natives natives stack.old stack.new world.old world.new (next.Object list.entry count) result }
+) -> Result<Control<'p>, FlowFault<L::Label>>
+    requires standing { Invariant L.made L.meaning labels.old stack.old world.old count (scopes_of stack.old.tasks) (waiting stack.old.tasks) (control.Object list count) }
+    ensures begins { (tables : Tables) (inputs : Given) (set : BuiltIns) (natives : List Steps) → Begins L.made L.meaning labels.new tables inputs set (table functions.now) natives natives stack.old stack.new world.old world.new (control.Object list.entry count) result }
     ensures standing { IfOk result (StandsStill L.made L.meaning labels.new (waiting stack.old.tasks) stack.new world.new) }
-    ensures lowers { IfOk result (λ n. Lowers stack.old (next.Object list.entry count) stack.new n) }
+    ensures lowers { IfOk result (λ n. Lowers stack.old (control.Object list.entry count) stack.new n) }
     ensures stopped { IfErr result (IfStop (HasStop (L.made labels.new))) }
     ensures grows { Grows world.old world.new }
     ensures kept { IsKept L.made L.meaning L.room L.firm labels.old labels.new }

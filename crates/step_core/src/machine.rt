@@ -14,13 +14,14 @@ ghost use Rattle.flow_meaning.specs.Laws.{performed_run};
 ghost use Rattle.flow_meaning.specs.Scopes.{LabelledLine};
 ghost use Rattle.flow_meaning.specs.Tracked.{tracked_run};
 ghost use Rattle.step_requests.specs.Doing.{IsPrinted};
-ghost use Rattle.step_work.specs.Stops.{HasStop};
+ghost use Rattle.continuations.specs.Stops.{HasStop};
 ghost use Rattle.step_core.specs.Machines.{Comes, IfOn, IfPrinted, IfStopped, IsMoved, IsReserved, Runs, ahead, comes_to};
 
 use crate::beginning::begin;
 use crate::progress::Progress;
-use crate::stepping::stepped;
+use crate::stepping::{run_on, stepped};
 use crate::steps::{Advance, Step};
+use continuations::Control;
 use flow_policy::{Inputs, Policy};
 use flow_text::OutOfMemory;
 use function_table::Functions;
@@ -28,7 +29,6 @@ use js_ast::Program;
 use native_protocol::Natives;
 use origin_labels::Labels;
 use std::alloc::Global;
-use step_work::Next;
 
 /// A run in its middle. It goes on step by step, and holds no store of labels and no set of built-ins: those are the same at each step.
 #[derive(Drop)]
@@ -40,7 +40,7 @@ pub struct Machine<'p, T, S> {
     pub functions: Functions<'p>,
     pub progress: Progress<'p, T, S>,
     /// What it does next.
-    pub next: Next<'p>,
+    pub next: Control<'p>,
 }
 
 impl<'p, T: Copy, S: Drop> Machine<'p, T, S> {
@@ -105,6 +105,46 @@ impl<'p, T: Copy, S: Drop> Machine<'p, T, S> {
         ensures kept { IsKept L.made L.meaning L.room L.firm labels.old labels.new }
     {
         let came = stepped(
+            self.alloc,
+            labels,
+            natives,
+            self.policy,
+            self.inputs,
+            &self.functions,
+            &mut self.progress,
+            self.next,
+        )?;
+        match came {
+            Advance::Goes(next) => {
+                self.next = next;
+                Ok(Step::Goes)
+            }
+            Advance::Line(line, next) => {
+                self.next = next;
+                Ok(Step::Line(line))
+            }
+            Advance::Ends(ending) => Ok(Step::Ends(ending)),
+        }
+    }
+
+    /// Steps until a line is printed or the run ends, as `step` does it, and makes the room for each step. Out of memory ends the run, whatever is left of the
+    /// machine.
+    pub fn advance<L: Labels<Label = T>, N: Natives<State = S>>(
+        &mut self,
+        labels: &mut L,
+        natives: &N,
+    ) -> Result<Step<T>, OutOfMemory>
+        requires runs { Runs L.made L.meaning L.room labels.old self.old }
+        ensures comes { IfOk result (λ s. (reading : T → Label) (told : List LabelledLine) → IsReading L.made L.meaning labels.new reading → Comes (built_ins_of (N.entries natives.now) (N.begin natives.now) (N.after natives.now) (N.asks natives.now)) (N.after natives.now) (N.asks natives.now) reading self.new told (comes_to (built_ins_of (N.entries natives.now) (N.begin natives.now) (N.after natives.now) (N.asks natives.now)) (N.after natives.now) (N.asks natives.now) reading self.old told) s) }
+        ensures runs { IfOk result (IfOn (Runs L.made L.meaning L.room labels.new self.new)) }
+        ensures lowers { IfOk result (IfOn (ahead self.new < ahead self.old)) }
+        ensures printed { IfOk result (IfPrinted (IsPrinted (L.made labels.new) (length self.old.policy.now.outputs))) }
+        ensures stopped { IfOk result (IfStopped (HasStop (L.made labels.new))) }
+        ensures moved { IsMoved self.old self.new }
+        ensures positions { length self.new.progress.world.positions.items ≡ length self.old.policy.now.inputs }
+        ensures kept { IsKept L.made L.meaning L.room L.firm labels.old labels.new }
+    {
+        let came = run_on(
             self.alloc,
             labels,
             natives,

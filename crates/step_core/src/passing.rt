@@ -1,4 +1,4 @@
-//! Work that a jump passes, and the ends of scopes that it reaches.
+//! A continuation that a jump passes, and the ends of scopes that it reaches.
 
 ghost use Rattle.std.specs.Prelude.{◌≡◌, ◌+◌, ◌++◌, [], ◌∷◌, ℕ, Bool, Ok, false, true, IfErr, IfOk, drop, List};
 ghost use Rattle.std.specs.Borrow.{Bor};
@@ -12,36 +12,38 @@ ghost use Rattle.native_protocol.specs.Steps.{Steps};
 ghost use Rattle.es_meaning.specs.BuiltIns.{BuiltIns};
 ghost use Rattle.js_ast.specs.declared.trees.Stmt.{Stmt};
 ghost use Rattle.js_values.specs.declared.value.Labelled.{Labelled};
-ghost use Rattle.step_world.specs.Worlds.{Grows};
-ghost use Rattle.step_work.specs.declared.work.Work.TheVariants as work;
-ghost use Rattle.step_work.specs.declared.work.Next.TheVariants as next;
-ghost use Rattle.step_work.specs.Going.{Passes};
+ghost use Rattle.run_state.specs.Worlds.{Grows};
+ghost use Rattle.continuations.specs.declared.continuation.Continuation.TheVariants as continuations;
+ghost use Rattle.continuations.specs.declared.continuation.Control.TheVariants as control;
+ghost use Rattle.continuations.specs.Going.{Passes};
 ghost use Rattle.step_core.specs.Going.{StandsStill};
-ghost use Rattle.step_work.specs.Kept.{may_stay, scope_of, scopes_of, waiting};
-ghost use Rattle.step_work.specs.Loads.{Adds, weight};
-ghost use Rattle.step_work.specs.Pending.{owns, values_of};
-ghost use Rattle.step_work.specs.Standing.{Standing};
-ghost use Rattle.step_work.specs.Stops.{HasStop};
+ghost use Rattle.continuations.specs.Kept.{may_stay, scope_of, scopes_of, waiting};
+ghost use Rattle.continuations.specs.Loads.{Adds, weight};
+ghost use Rattle.continuations.specs.Pending.{owns, values_of};
+ghost use Rattle.continuations.specs.Invariant.{Invariant};
+ghost use Rattle.continuations.specs.Stops.{HasStop};
 
 use crate::entering::present;
+use continuations::{Continuation, Control, Jump, Stack};
 use flow_frames::FlowFault;
 use js_ast::Stmt;
 use origin_labels::Labels;
+use run_state::World;
 use std::alloc::Global;
-use step_tries::{pass_block, pass_call, pass_construction, pass_handler};
-use step_work::{Jump, Next, Stack, Work, pass, pass_branch, pass_round};
-use step_world::World;
+use step_control::{pass, pass_branch, pass_round};
+use step_jumps::{pass_block, pass_call, pass_construction, pass_handler};
 
 /// A jump, whose value lies above the operands of work that was taken, passes it, or comes to the end of the scope that it was to reach.
+#[inline(always)]
 pub(crate) fn pass_work<'p, L: Labels>(
     alloc: Global,
     labels: &mut L,
     world: &mut World<L::Label>,
     stack: &mut Stack<'p, L::Label>,
     jump: Jump,
-    work: Work<'p>,
-) -> Result<Next<'p>, FlowFault<L::Label>>
-    requires standing { Standing L.made L.meaning labels.old stack.old world.old (owns work + 1) (scopes_of stack.old.tasks ++ scope_of work) (waiting stack.old.tasks) (next.Jumps jump) }
+    work: Continuation<'p>,
+) -> Result<Control<'p>, FlowFault<L::Label>>
+    requires standing { Invariant L.made L.meaning labels.old stack.old world.old (owns work + 1) (scopes_of stack.old.tasks ++ scope_of work) (waiting stack.old.tasks) (control.Jumps jump) }
     ensures passes { (tables : Tables) (inputs : Given) (set : BuiltIns) (functions : List FunctionCode) (natives : List Steps) (value : Labelled L.Label) → drop (owns work.entry) stack.old.loose ≡ value ∷ [] → Passes L.made L.meaning labels.new tables inputs set functions jump work.entry value natives natives stack.old stack.new world.old world.new result }
     ensures standing { IfOk result (StandsStill L.made L.meaning labels.new (waiting stack.old.tasks) stack.new world.new) }
     ensures adds { IfOk result (Adds (weight work.entry + 3) stack.old stack.new) }
@@ -50,27 +52,36 @@ pub(crate) fn pass_work<'p, L: Labels>(
     ensures kept { IsKept L.made L.meaning L.room L.firm labels.old labels.new }
 {
     match work {
-        Work::EndBranch(gives, depth) => end_branch_by(labels, world, stack, jump, gives, depth),
-        Work::EndRound(_, depth, _) | Work::EndLabel(depth, _) | Work::EndTry(depth) => {
-            Ok(end_round_by(labels, world, stack, jump, depth))
-        }
-        Work::EndBlock(s, depth) => end_block_by(alloc, labels, world, stack, jump, s, depth),
-        Work::EndHandler(s, own, depth) => pass_handler(labels, world, stack, jump, s, own, depth),
-        Work::EndCall(own, depth) => pass_call(labels, world, stack, jump, own, depth),
-        Work::EndNew(own, depth) => pass_construction(labels, world, stack, jump, own, depth),
+        Continuation::EndBranch(gives, depth) => end_branch_by(
+            labels, world, stack, jump, gives, depth,
+        ),
+        Continuation::EndRound(_, depth, _)
+        | Continuation::EndLabel(depth, _)
+        | Continuation::EndTry(depth) => { Ok(end_round_by(labels, world, stack, jump, depth)) }
+        Continuation::EndBlock(s, depth) => end_block_by(
+            alloc, labels, world, stack, jump, s, depth,
+        ),
+        Continuation::EndHandler(s, own, depth) => pass_handler(
+            labels, world, stack, jump, s, own, depth,
+        ),
+        Continuation::EndCall(own, depth) => pass_call(labels, world, stack, jump, own, depth),
+        Continuation::EndNew(own, depth) => pass_construction(
+            labels, world, stack, jump, own, depth,
+        ),
         other => pass_by(labels, world, stack, jump, other),
     }
 }
 
 /// It passes work without a frame of its own.
+#[inline(always)]
 pub(crate) fn pass_by<'p, L: Labels>(
     _labels: &L,
     _world: &World<L::Label>,
     stack: &mut Stack<'p, L::Label>,
     jump: Jump,
-    work: Work<'p>,
-) -> Result<Next<'p>, FlowFault<L::Label>>
-    requires standing { Standing L.made L.meaning _labels.now stack.old _world.now (owns work + 1) (scopes_of stack.old.tasks ++ scope_of work) (waiting stack.old.tasks) (next.Jumps jump) }
+    work: Continuation<'p>,
+) -> Result<Control<'p>, FlowFault<L::Label>>
+    requires standing { Invariant L.made L.meaning _labels.now stack.old _world.now (owns work + 1) (scopes_of stack.old.tasks ++ scope_of work) (waiting stack.old.tasks) (control.Jumps jump) }
     requires scope { scope_of work ≡ [] }
     requires passes { may_stay work ≡ false }
     ensures passes { (tables : Tables) (inputs : Given) (set : BuiltIns) (functions : List FunctionCode) (natives : List Steps) (value : Labelled L.Label) → drop (owns work.entry) stack.old.loose ≡ value ∷ [] → Passes L.made L.meaning _labels.now tables inputs set functions jump work.entry value natives natives stack.old stack.new _world.now _world.now result }
@@ -83,6 +94,7 @@ pub(crate) fn pass_by<'p, L: Labels>(
 }
 
 /// It comes to the end of a branch.
+#[inline(always)]
 fn end_branch_by<'p, L: Labels>(
     labels: &L,
     world: &mut World<L::Label>,
@@ -90,9 +102,9 @@ fn end_branch_by<'p, L: Labels>(
     jump: Jump,
     gives: bool,
     depth: usize,
-) -> Result<Next<'p>, FlowFault<L::Label>>
-    requires standing { Standing L.made L.meaning labels.now stack.old world.old 1 (scopes_of stack.old.tasks ++ depth ∷ []) (waiting stack.old.tasks) (next.Jumps jump) }
-    ensures passes { (tables : Tables) (inputs : Given) (set : BuiltIns) (functions : List FunctionCode) (natives : List Steps) (value : Labelled L.Label) → stack.old.loose ≡ value ∷ [] → Passes L.made L.meaning labels.now tables inputs set functions jump (work.EndBranch gives depth) value natives natives stack.old stack.new world.old world.new result }
+) -> Result<Control<'p>, FlowFault<L::Label>>
+    requires standing { Invariant L.made L.meaning labels.now stack.old world.old 1 (scopes_of stack.old.tasks ++ depth ∷ []) (waiting stack.old.tasks) (control.Jumps jump) }
+    ensures passes { (tables : Tables) (inputs : Given) (set : BuiltIns) (functions : List FunctionCode) (natives : List Steps) (value : Labelled L.Label) → stack.old.loose ≡ value ∷ [] → Passes L.made L.meaning labels.now tables inputs set functions jump (continuations.EndBranch gives depth) value natives natives stack.old stack.new world.old world.new result }
     ensures standing { IfOk result (StandsStill L.made L.meaning labels.now (waiting stack.old.tasks) stack.new world.new) }
     ensures adds { IfOk result (Adds 4 stack.old stack.new) }
     ensures stopped { IfErr result (IfStop (HasStop (L.made labels.now))) }
@@ -104,17 +116,18 @@ fn end_branch_by<'p, L: Labels>(
 }
 
 /// It comes to the end of a loop, of a turn, of a `switch`, of a labelled statement or of a `try` statement.
+#[inline(always)]
 fn end_round_by<'p, L: Labels>(
     labels: &L,
     world: &mut World<L::Label>,
     stack: &mut Stack<'p, L::Label>,
     jump: Jump,
     depth: usize,
-) -> Next<'p>
-    requires standing { Standing L.made L.meaning labels.now stack.old world.old 1 (scopes_of stack.old.tasks ++ depth ∷ []) (waiting stack.old.tasks) (next.Jumps jump) }
-    ensures round { (tables : Tables) (inputs : Given) (set : BuiltIns) (functions : List FunctionCode) (natives : List Steps) (value : Labelled L.Label) → stack.old.loose ≡ value ∷ [] → (turn : Bool) (of : Bor Stmt) → Passes L.made L.meaning labels.now tables inputs set functions jump (work.EndRound turn depth of) value natives natives stack.old stack.new world.old world.new (Ok result) }
-    ensures label { (tables : Tables) (inputs : Given) (set : BuiltIns) (functions : List FunctionCode) (natives : List Steps) (value : Labelled L.Label) → stack.old.loose ≡ value ∷ [] → (text : Bor (List ℕ)) → Passes L.made L.meaning labels.now tables inputs set functions jump (work.EndLabel depth text) value natives natives stack.old stack.new world.old world.new (Ok result) }
-    ensures tried { (tables : Tables) (inputs : Given) (set : BuiltIns) (functions : List FunctionCode) (natives : List Steps) (value : Labelled L.Label) → stack.old.loose ≡ value ∷ [] → Passes L.made L.meaning labels.now tables inputs set functions jump (work.EndTry depth) value natives natives stack.old stack.new world.old world.new (Ok result) }
+) -> Control<'p>
+    requires standing { Invariant L.made L.meaning labels.now stack.old world.old 1 (scopes_of stack.old.tasks ++ depth ∷ []) (waiting stack.old.tasks) (control.Jumps jump) }
+    ensures round { (tables : Tables) (inputs : Given) (set : BuiltIns) (functions : List FunctionCode) (natives : List Steps) (value : Labelled L.Label) → stack.old.loose ≡ value ∷ [] → (turn : Bool) (of : Bor Stmt) → Passes L.made L.meaning labels.now tables inputs set functions jump (continuations.EndRound turn depth of) value natives natives stack.old stack.new world.old world.new (Ok result) }
+    ensures label { (tables : Tables) (inputs : Given) (set : BuiltIns) (functions : List FunctionCode) (natives : List Steps) (value : Labelled L.Label) → stack.old.loose ≡ value ∷ [] → (text : Bor (List ℕ)) → Passes L.made L.meaning labels.now tables inputs set functions jump (continuations.EndLabel depth text) value natives natives stack.old stack.new world.old world.new (Ok result) }
+    ensures tried { (tables : Tables) (inputs : Given) (set : BuiltIns) (functions : List FunctionCode) (natives : List Steps) (value : Labelled L.Label) → stack.old.loose ≡ value ∷ [] → Passes L.made L.meaning labels.now tables inputs set functions jump (continuations.EndTry depth) value natives natives stack.old stack.new world.old world.new (Ok result) }
     ensures standing { StandsStill L.made L.meaning labels.now (waiting stack.old.tasks) stack.new world.new result }
     ensures adds { Adds 4 stack.old stack.new result }
     ensures grows { Grows world.old world.new }
@@ -125,6 +138,7 @@ fn end_round_by<'p, L: Labels>(
 }
 
 /// It comes to the end of the block of a `try` statement.
+#[inline(always)]
 fn end_block_by<'p, L: Labels>(
     alloc: Global,
     labels: &mut L,
@@ -133,9 +147,9 @@ fn end_block_by<'p, L: Labels>(
     jump: Jump,
     s: &'p Stmt,
     depth: usize,
-) -> Result<Next<'p>, FlowFault<L::Label>>
-    requires standing { Standing L.made L.meaning labels.old stack.old world.old 1 (scopes_of stack.old.tasks) (waiting stack.old.tasks) (next.Jumps jump) }
-    ensures passes { (tables : Tables) (inputs : Given) (set : BuiltIns) (functions : List FunctionCode) (natives : List Steps) (value : Labelled L.Label) → stack.old.loose ≡ value ∷ [] → Passes L.made L.meaning labels.new tables inputs set functions jump (work.EndBlock s.entry depth) value natives natives stack.old stack.new world.old world.new result }
+) -> Result<Control<'p>, FlowFault<L::Label>>
+    requires standing { Invariant L.made L.meaning labels.old stack.old world.old 1 (scopes_of stack.old.tasks) (waiting stack.old.tasks) (control.Jumps jump) }
+    ensures passes { (tables : Tables) (inputs : Given) (set : BuiltIns) (functions : List FunctionCode) (natives : List Steps) (value : Labelled L.Label) → stack.old.loose ≡ value ∷ [] → Passes L.made L.meaning labels.new tables inputs set functions jump (continuations.EndBlock s.entry depth) value natives natives stack.old stack.new world.old world.new result }
     ensures standing { IfOk result (StandsStill L.made L.meaning labels.new (waiting stack.old.tasks) stack.new world.new) }
     ensures adds { IfOk result (Adds 6 stack.old stack.new) }
     ensures stopped { IfErr result (IfStop (HasStop (L.made labels.new))) }

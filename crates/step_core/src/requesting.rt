@@ -6,14 +6,15 @@ ghost use Rattle.origin_labels.specs.Stores.{IsKept};
 ghost use Rattle.flow_policy.specs.Inputs.{IsGivenTo};
 ghost use Rattle.js_ast.specs.Functions.{FunctionCode};
 ghost use Rattle.es_meaning.specs.BuiltIns.{BuiltIns};
-ghost use Rattle.step_world.specs.Worlds.{Grows};
-ghost use Rattle.step_work.specs.declared.work.Next.TheVariants as next;
-ghost use Rattle.step_core.specs.Outlook.{ahead, outlook};
+ghost use Rattle.run_state.specs.Worlds.{Grows};
+ghost use Rattle.continuations.specs.declared.continuation.Control.TheVariants as control;
+ghost use Rattle.step_core.specs.RemainingRun.{ahead, remaining_run};
 ghost use Rattle.step_core.specs.Stepping.{IsAsked, Stepped, StandsBefore};
 
 use crate::progress::Progress;
 use crate::steps::{Advance, Ending, line_step};
 use channel_requests::Printed;
+use continuations::Control;
 use flow_frames::FlowFault;
 use flow_policy::{Inputs, Policy};
 use flow_text::OutOfMemory;
@@ -21,7 +22,6 @@ use native_protocol::Natives;
 use origin_labels::Labels;
 use std::alloc::Global;
 use step_requests::request;
-use step_work::Next;
 
 /// The built-in that runs asks for something, which costs a turn, and without one the run ends.
 pub(crate) fn request_next<'p, L: Labels, N: Natives>(
@@ -33,11 +33,11 @@ pub(crate) fn request_next<'p, L: Labels, N: Natives>(
     progress: &mut Progress<'p, L::Label, N::State>,
     count: u32,
 ) -> Result<Advance<'p, L::Label>, OutOfMemory>
-    requires standing { StandsBefore L.made L.meaning labels.old progress.old (next.Request count) }
+    requires standing { StandsBefore L.made L.meaning labels.old progress.old (control.Request count) }
     requires room { length policy.now.origins ≤ L.room labels.old }
     requires given { IsGivenTo policy.now inputs.now }
     requires positions { length progress.old.world.positions.items ≡ length policy.now.inputs }
-    ensures stepped { (set : BuiltIns) (functions : List FunctionCode) → IfOk result (Stepped L.made L.meaning labels.new policy.now inputs.now set functions (N.after natives.now) (N.asks natives.now) (λ reading. outlook policy.now inputs.now set functions (N.after natives.now) (N.asks natives.now) reading progress.old (next.Request count)) (ahead progress.old (next.Request count)) progress.new) }
+    ensures stepped { (set : BuiltIns) (functions : List FunctionCode) → IfOk result (Stepped L.made L.meaning labels.new policy.now inputs.now set functions (N.after natives.now) (N.asks natives.now) (λ reading. remaining_run policy.now inputs.now set functions (N.after natives.now) (N.asks natives.now) reading progress.old (control.Request count)) (ahead progress.old (control.Request count)) progress.new) }
     ensures grows { Grows progress.old.world progress.new.world }
     ensures kept { IsKept L.made L.meaning L.room L.firm labels.old labels.new }
 {
@@ -57,7 +57,7 @@ pub(crate) fn request_next<'p, L: Labels, N: Natives>(
 /// The step that a request is, with the line that it printed, or the rule that stopped it.
 fn asked_step<'p, T: Copy>(
     alloc: Global,
-    moved: Result<(Next<'p>, Option<Printed<T>>), FlowFault<T>>,
+    moved: Result<(Control<'p>, Option<Printed<T>>), FlowFault<T>>,
 ) -> Result<Advance<'p, T>, OutOfMemory>
     ensures { IfOk result (IsAsked moved.entry) }
 {

@@ -11,19 +11,20 @@ ghost use Rattle.js_values.specs.Readings.{read_value};
 ghost use Rattle.native_protocol.specs.declared.request.Answer.{Answer};
 ghost use Rattle.native_protocol.specs.declared.request.Request.{Request};
 ghost use Rattle.es_meaning.specs.BuiltIns.{BuiltIns, built_ins_of};
+ghost use Rattle.es_meaning.specs.Functions.{this_name};
 ghost use Rattle.flow_meaning.specs.Planned.{jumped};
 ghost use Rattle.function_table.specs.Tables.{table};
-ghost use Rattle.step_work.specs.Shapes.{jump_of};
-ghost use Rattle.step_world.specs.Worlds.{Grows};
-ghost use Rattle.step_work.specs.declared.work.Next.TheVariants as next;
-ghost use Rattle.step_work.specs.declared.work.Work.TheVariants as work;
+ghost use Rattle.continuations.specs.Shapes.{jump_of};
+ghost use Rattle.run_state.specs.Worlds.{Grows};
+ghost use Rattle.continuations.specs.declared.continuation.Control.TheVariants as control;
+ghost use Rattle.continuations.specs.declared.continuation.Continuation.TheVariants as continuation;
 ghost use Rattle.step_core.specs.Continuing.{answers, raises};
-ghost use Rattle.step_work.specs.Kept.{scope_of, scopes_of, waiting, waits};
-ghost use Rattle.step_work.specs.Loads.{weight};
-ghost use Rattle.step_work.specs.Pending.{owns, values_of};
-ghost use Rattle.step_core.specs.Outlook.{ahead, outlook};
-ghost use Rattle.step_work.specs.Standing.{Standing, given};
-ghost use Rattle.step_core.specs.Stepping.{Stepped, StandsBefore, begins_work, calls_function, makes_value, handed, completion_above, enters_part, outlook_after};
+ghost use Rattle.continuations.specs.Kept.{scope_of, scopes_of, waiting, waits};
+ghost use Rattle.continuations.specs.Loads.{weight};
+ghost use Rattle.continuations.specs.Pending.{owns, values_of};
+ghost use Rattle.step_core.specs.RemainingRun.{ahead, remaining_run};
+ghost use Rattle.continuations.specs.Invariant.{Invariant, given};
+ghost use Rattle.step_core.specs.Stepping.{Stepped, StandsBefore, begins_work, calls_function, makes_value, handed, completion_above, enters_part, remaining_run_after};
 
 use crate::entering::{begin_calling, begin_move, enter, make_value, present};
 use crate::leaving::leave;
@@ -33,17 +34,18 @@ use crate::requesting::request_next;
 use crate::resuming::{raise_on, resume};
 use crate::steps::{Advance, Ending, step_of, still_step};
 use crate::telling::{abandon, tell};
+use continuations::{Continuation, Control, Jump};
 use flow_policy::{Inputs, Policy};
-use flow_text::OutOfMemory;
+use flow_text::{OutOfMemory, Text};
 use function_table::Functions;
 use js_ast::{Expr, ExprKind, Stmt};
 use native_protocol::Natives;
 use origin_labels::Labels;
 use std::alloc::Global;
 use step_numbers::{assign, evaluate, finish};
-use step_work::{Jump, Next, Work};
 
 /// Does what is next. Want of memory ends the run, whatever is left of it.
+#[inline(always)]
 pub(crate) fn stepped<'p, L: Labels, N: Natives>(
     alloc: Global,
     labels: &mut L,
@@ -52,55 +54,88 @@ pub(crate) fn stepped<'p, L: Labels, N: Natives>(
     inputs: &Inputs,
     functions: &Functions<'p>,
     progress: &mut Progress<'p, L::Label, N::State>,
-    next: Next<'p>,
+    next: Control<'p>,
 ) -> Result<Advance<'p, L::Label>, OutOfMemory>
     requires standing { StandsBefore L.made L.meaning labels.old progress.old next }
     requires room { length policy.now.origins ≤ L.room labels.old }
     requires given { IsGivenTo policy.now inputs.now }
     requires positions { length progress.old.world.positions.items ≡ length policy.now.inputs }
-    ensures stepped { IfOk result (Stepped L.made L.meaning labels.new policy.now inputs.now (built_ins_of (N.entries natives.now) (N.begin natives.now) (N.after natives.now) (N.asks natives.now)) (table functions.now) (N.after natives.now) (N.asks natives.now) (λ reading. outlook policy.now inputs.now (built_ins_of (N.entries natives.now) (N.begin natives.now) (N.after natives.now) (N.asks natives.now)) (table functions.now) (N.after natives.now) (N.asks natives.now) reading progress.old next.entry) (ahead progress.old next.entry) progress.new) }
+    ensures stepped { IfOk result (Stepped L.made L.meaning labels.new policy.now inputs.now (built_ins_of (N.entries natives.now) (N.begin natives.now) (N.after natives.now) (N.asks natives.now)) (table functions.now) (N.after natives.now) (N.asks natives.now) (λ reading. remaining_run policy.now inputs.now (built_ins_of (N.entries natives.now) (N.begin natives.now) (N.after natives.now) (N.asks natives.now)) (table functions.now) (N.after natives.now) (N.asks natives.now) reading progress.old next.entry) (ahead progress.old next.entry) progress.new) }
     ensures grows { Grows progress.old.world progress.new.world }
     ensures kept { IsKept L.made L.meaning L.room L.firm labels.old labels.new }
 {
     match next {
-        Next::Leave(why) => leave(labels, progress, why),
-        Next::Value => go_on(alloc, labels, policy, progress, true),
-        Next::Done => go_on(alloc, labels, policy, progress, false),
-        Next::Jumps(jump) => jump_on(alloc, labels, progress, jump),
-        Next::Request(count) => {
+        Control::Leave(why) => leave(labels, progress, why),
+        Control::Value => go_on(alloc, labels, policy, progress, true),
+        Control::Done => go_on(alloc, labels, policy, progress, false),
+        Control::Jumps(jump) => jump_on(alloc, labels, progress, jump),
+        Control::Request(count) => {
             request_next(alloc, labels, natives, policy, inputs, progress, count)
         }
-        Next::Call(_) | Next::Construct(_) | Next::Convert(_) | Next::Compare => begin_call(
-            alloc, labels, natives, functions, progress, next,
-        ),
-        Next::Function(_) | Next::Object(_, _) => {
+        Control::Call(_) | Control::Construct(_) | Control::Convert(_) | Control::Compare =>
+            begin_call(alloc, labels, natives, functions, progress, next),
+        Control::Function(_) | Control::Object(_, _) => {
             begin_making(alloc, labels, functions, progress, next)
         }
-        Next::Expr(e) => begin_expr(alloc, labels, progress, e),
-        Next::Stmt(s) => begin_stmt(alloc, labels, progress, s),
-        Next::Use(_, _) | Next::Named(_, _) | Next::Turn(_) | Next::Visit(_, _) => {
+        Control::Expr(e) => begin_expr(alloc, labels, progress, e),
+        Control::Stmt(s) => begin_stmt(alloc, labels, progress, s),
+        Control::Use(_, _) | Control::Named(_, _) | Control::Turn(_) | Control::Visit(_, _) => {
             enter_part(alloc, labels, progress, next)
         }
-        Next::Null
-        | Next::Bool(_)
-        | Next::Number(_)
-        | Next::Text(_)
-        | Next::Name(_)
-        | Next::This
-        | Next::GiveVariable(_)
-        | Next::Keys(_)
-        | Next::Visits(_, _)
-        | Next::Variables(_)
-        | Next::Loop(_)
-        | Next::DoLoop(_)
-        | Next::Break(_, _)
-        | Next::Return
-        | Next::Labelled(_, _)
-        | Next::Try(_) => begin_work(alloc, labels, progress, next),
+        Control::Null
+        | Control::Bool(_)
+        | Control::Number(_)
+        | Control::Text(_)
+        | Control::Name(_)
+        | Control::This
+        | Control::GiveVariable(_)
+        | Control::Keys(_)
+        | Control::Visits(_, _)
+        | Control::Variables(_)
+        | Control::Loop(_)
+        | Control::DoLoop(_)
+        | Control::Break(_, _)
+        | Control::Return
+        | Control::Labelled(_, _)
+        | Control::Try(_) => begin_work(alloc, labels, functions.keys().this(), progress, next),
+    }
+}
+
+/// Steps until a line is printed or the run ends. Out of memory ends the run, whatever is left of it.
+#[inline(always)]
+pub(crate) fn run_on<'p, L: Labels, N: Natives>(
+    alloc: Global,
+    labels: &mut L,
+    natives: &N,
+    policy: &Policy,
+    inputs: &Inputs,
+    functions: &Functions<'p>,
+    progress: &mut Progress<'p, L::Label, N::State>,
+    first: Control<'p>,
+) -> Result<Advance<'p, L::Label>, OutOfMemory>
+    requires standing { StandsBefore L.made L.meaning labels.old progress.old first }
+    requires room { length policy.now.origins ≤ L.room labels.old }
+    requires given { IsGivenTo policy.now inputs.now }
+    requires positions { length progress.old.world.positions.items ≡ length policy.now.inputs }
+    ensures stepped { IfOk result (Stepped L.made L.meaning labels.new policy.now inputs.now (built_ins_of (N.entries natives.now) (N.begin natives.now) (N.after natives.now) (N.asks natives.now)) (table functions.now) (N.after natives.now) (N.asks natives.now) (λ reading. remaining_run policy.now inputs.now (built_ins_of (N.entries natives.now) (N.begin natives.now) (N.after natives.now) (N.asks natives.now)) (table functions.now) (N.after natives.now) (N.asks natives.now) reading progress.old first.entry) (ahead progress.old first.entry) progress.new) }
+    ensures grows { Grows progress.old.world progress.new.world }
+    ensures kept { IsKept L.made L.meaning L.room L.firm labels.old labels.new }
+{
+    let mut next = first;
+    'steps: loop {
+        progress.reserve()?;
+        let came = stepped(
+            alloc, labels, natives, policy, inputs, functions, progress, next,
+        )?;
+        match came {
+            Advance::Goes(further) => next = further,
+            halted => return Ok(halted),
+        }
     }
 }
 
 // A part gave a value or came to its end: the work goes on that waited for it, and without any the run is done.
+#[inline(always)]
 fn go_on<'p, L: Labels, S: Drop>(
     alloc: Global,
     labels: &mut L,
@@ -110,7 +145,7 @@ fn go_on<'p, L: Labels, S: Drop>(
 ) -> Result<Advance<'p, L::Label>, OutOfMemory>
     requires standing { StandsBefore L.made L.meaning labels.old progress.old (handed gave) }
     requires room { length policy.now.origins ≤ L.room labels.old }
-    ensures stepped { (inputs : Given) (set : BuiltIns) (functions : List FunctionCode) (tells : S → Answer → S) (asks : S → Request) → IfOk result (Stepped L.made L.meaning labels.new policy.now inputs set functions tells asks (λ reading. outlook policy.now inputs set functions tells asks reading progress.old (handed gave)) (ahead progress.old (handed gave)) progress.new) }
+    ensures stepped { (inputs : Given) (set : BuiltIns) (functions : List FunctionCode) (tells : S → Answer → S) (asks : S → Request) → IfOk result (Stepped L.made L.meaning labels.new policy.now inputs set functions tells asks (λ reading. remaining_run policy.now inputs set functions tells asks reading progress.old (handed gave)) (ahead progress.old (handed gave)) progress.new) }
     ensures grows { Grows progress.old.world progress.new.world }
     ensures kept { IsKept L.made L.meaning L.room L.firm labels.old labels.new }
 {
@@ -120,30 +155,32 @@ fn go_on<'p, L: Labels, S: Drop>(
     }
 }
 
-// Work that was taken goes on, or is a directive.
+// A continuation that was taken goes on, or is a directive.
+#[inline(always)]
 fn proceed<'p, L: Labels, S: Drop>(
     alloc: Global,
     labels: &mut L,
     policy: &Policy,
     progress: &mut Progress<'p, L::Label, S>,
-    work: Work<'p>,
+    work: Continuation<'p>,
     gave: bool,
 ) -> Result<Advance<'p, L::Label>, OutOfMemory>
-    requires standing { Standing L.made L.meaning labels.old progress.old.stack progress.old.world (owns work + given gave) (scopes_of progress.old.stack.tasks ++ scope_of work) (waiting progress.old.stack.tasks) next.Value }
+    requires standing { Invariant L.made L.meaning labels.old progress.old.stack progress.old.world (owns work + given gave) (scopes_of progress.old.stack.tasks ++ scope_of work) (waiting progress.old.stack.tasks) control.Value }
     requires natives { length progress.old.natives.states ≡ waiting progress.old.stack.tasks + waits work }
     requires room { length policy.now.origins ≤ L.room labels.old }
-    ensures stepped { (inputs : Given) (set : BuiltIns) (functions : List FunctionCode) (tells : S → Answer → S) (asks : S → Request) → IfOk result (Stepped L.made L.meaning labels.new policy.now inputs set functions tells asks (λ reading. outlook_after policy.now inputs set functions tells asks reading progress.old work.entry (completion_above policy.now inputs set functions tells asks reading progress.old work.entry)) (ahead progress.old next.Value + weight work.entry) progress.new) }
+    ensures stepped { (inputs : Given) (set : BuiltIns) (functions : List FunctionCode) (tells : S → Answer → S) (asks : S → Request) → IfOk result (Stepped L.made L.meaning labels.new policy.now inputs set functions tells asks (λ reading. remaining_run_after policy.now inputs set functions tells asks reading progress.old work.entry (completion_above policy.now inputs set functions tells asks reading progress.old work.entry)) (ahead progress.old control.Value + weight work.entry) progress.new) }
     ensures grows { Grows progress.old.world progress.new.world }
     ensures kept { IsKept L.made L.meaning L.room L.firm labels.old labels.new }
 {
     match work {
-        Work::Raise(e) => raised(alloc, labels, policy, progress, e, gave),
-        Work::Answered(count, to) => tell(labels, progress, count, to, gave),
+        Continuation::Raise(e) => raised(alloc, labels, policy, progress, e, gave),
+        Continuation::Answered(count, to) => tell(labels, progress, count, to, gave),
         other => resumed(alloc, labels, progress, other, gave),
     }
 }
 
 // A directive is obeyed.
+#[inline(always)]
 fn raised<'p, L: Labels, S: Drop>(
     alloc: Global,
     labels: &mut L,
@@ -152,10 +189,10 @@ fn raised<'p, L: Labels, S: Drop>(
     e: &'p Expr,
     gave: bool,
 ) -> Result<Advance<'p, L::Label>, OutOfMemory>
-    requires standing { Standing L.made L.meaning labels.old progress.old.stack progress.old.world (given gave) (scopes_of progress.old.stack.tasks) (waiting progress.old.stack.tasks) next.Value }
+    requires standing { Invariant L.made L.meaning labels.old progress.old.stack progress.old.world (given gave) (scopes_of progress.old.stack.tasks) (waiting progress.old.stack.tasks) control.Value }
     requires natives { length progress.old.natives.states ≡ waiting progress.old.stack.tasks }
     requires room { length policy.now.origins ≤ L.room labels.old }
-    ensures stepped { (inputs : Given) (set : BuiltIns) (functions : List FunctionCode) (tells : S → Answer → S) (asks : S → Request) → IfOk result (Stepped L.made L.meaning labels.new policy.now inputs set functions tells asks (λ reading. outlook_after policy.now inputs set functions tells asks reading progress.old (work.Raise e.entry) (completion_above policy.now inputs set functions tells asks reading progress.old (work.Raise e.entry))) (ahead progress.old next.Value + 1) progress.new) }
+    ensures stepped { (inputs : Given) (set : BuiltIns) (functions : List FunctionCode) (tells : S → Answer → S) (asks : S → Request) → IfOk result (Stepped L.made L.meaning labels.new policy.now inputs set functions tells asks (λ reading. remaining_run_after policy.now inputs set functions tells asks reading progress.old (continuation.Raise e.entry) (completion_above policy.now inputs set functions tells asks reading progress.old (continuation.Raise e.entry))) (ahead progress.old control.Value + 1) progress.new) }
     ensures grows { Grows progress.old.world progress.new.world }
     ensures kept { IsKept L.made L.meaning L.room L.firm labels.old labels.new }
 {
@@ -165,19 +202,20 @@ fn raised<'p, L: Labels, S: Drop>(
     still_step(moved)
 }
 
-// Work that was taken goes on.
+// A continuation that was taken goes on.
+#[inline(always)]
 fn resumed<'p, L: Labels, S: Drop>(
     alloc: Global,
     labels: &mut L,
     progress: &mut Progress<'p, L::Label, S>,
-    work: Work<'p>,
+    work: Continuation<'p>,
     gave: bool,
 ) -> Result<Advance<'p, L::Label>, OutOfMemory>
     requires obeys { raises work ≡ false }
     requires asks { answers work ≡ false }
-    requires standing { Standing L.made L.meaning labels.old progress.old.stack progress.old.world (owns work + given gave) (scopes_of progress.old.stack.tasks ++ scope_of work) (waiting progress.old.stack.tasks) next.Value }
+    requires standing { Invariant L.made L.meaning labels.old progress.old.stack progress.old.world (owns work + given gave) (scopes_of progress.old.stack.tasks ++ scope_of work) (waiting progress.old.stack.tasks) control.Value }
     requires natives { length progress.old.natives.states ≡ waiting progress.old.stack.tasks }
-    ensures stepped { (tables : Tables) (inputs : Given) (set : BuiltIns) (functions : List FunctionCode) (tells : S → Answer → S) (asks : S → Request) → IfOk result (Stepped L.made L.meaning labels.new tables inputs set functions tells asks (λ reading. outlook_after tables inputs set functions tells asks reading progress.old work.entry (completion_above tables inputs set functions tells asks reading progress.old work.entry)) (ahead progress.old next.Value + weight work.entry) progress.new) }
+    ensures stepped { (tables : Tables) (inputs : Given) (set : BuiltIns) (functions : List FunctionCode) (tells : S → Answer → S) (asks : S → Request) → IfOk result (Stepped L.made L.meaning labels.new tables inputs set functions tells asks (λ reading. remaining_run_after tables inputs set functions tells asks reading progress.old work.entry (completion_above tables inputs set functions tells asks reading progress.old work.entry)) (ahead progress.old control.Value + weight work.entry) progress.new) }
     ensures grows { Grows progress.old.world progress.new.world }
     ensures kept { IsKept L.made L.meaning L.room L.firm labels.old labels.new }
 {
@@ -188,14 +226,15 @@ fn resumed<'p, L: Labels, S: Drop>(
 }
 
 // A jump passes the work that waits next, or leaves the script where none waits.
+#[inline(always)]
 fn jump_on<'p, L: Labels, S: Drop>(
     alloc: Global,
     labels: &mut L,
     progress: &mut Progress<'p, L::Label, S>,
     jump: Jump,
 ) -> Result<Advance<'p, L::Label>, OutOfMemory>
-    requires standing { StandsBefore L.made L.meaning labels.old progress.old (next.Jumps jump) }
-    ensures stepped { (tables : Tables) (inputs : Given) (set : BuiltIns) (functions : List FunctionCode) (tells : S → Answer → S) (asks : S → Request) → IfOk result (Stepped L.made L.meaning labels.new tables inputs set functions tells asks (λ reading. outlook tables inputs set functions tells asks reading progress.old (next.Jumps jump)) (ahead progress.old (next.Jumps jump)) progress.new) }
+    requires standing { StandsBefore L.made L.meaning labels.old progress.old (control.Jumps jump) }
+    ensures stepped { (tables : Tables) (inputs : Given) (set : BuiltIns) (functions : List FunctionCode) (tells : S → Answer → S) (asks : S → Request) → IfOk result (Stepped L.made L.meaning labels.new tables inputs set functions tells asks (λ reading. remaining_run tables inputs set functions tells asks reading progress.old (control.Jumps jump)) (ahead progress.old (control.Jumps jump)) progress.new) }
     ensures grows { Grows progress.old.world progress.new.world }
     ensures kept { IsKept L.made L.meaning L.room L.firm labels.old labels.new }
 {
@@ -206,37 +245,39 @@ fn jump_on<'p, L: Labels, S: Drop>(
 }
 
 // A jump passes work that was taken.
+#[inline(always)]
 fn passed<'p, L: Labels, S: Drop>(
     alloc: Global,
     labels: &mut L,
     progress: &mut Progress<'p, L::Label, S>,
     jump: Jump,
-    work: Work<'p>,
+    work: Continuation<'p>,
 ) -> Result<Advance<'p, L::Label>, OutOfMemory>
-    requires standing { Standing L.made L.meaning labels.old progress.old.stack progress.old.world (owns work + 1) (scopes_of progress.old.stack.tasks ++ scope_of work) (waiting progress.old.stack.tasks) (next.Jumps jump) }
+    requires standing { Invariant L.made L.meaning labels.old progress.old.stack progress.old.world (owns work + 1) (scopes_of progress.old.stack.tasks ++ scope_of work) (waiting progress.old.stack.tasks) (control.Jumps jump) }
     requires natives { length progress.old.natives.states ≡ waiting progress.old.stack.tasks + waits work }
-    ensures stepped { (tables : Tables) (inputs : Given) (set : BuiltIns) (functions : List FunctionCode) (tells : S → Answer → S) (asks : S → Request) (value : Labelled L.Label) → drop (owns work.entry) progress.old.stack.loose ≡ value ∷ [] → IfOk result (Stepped L.made L.meaning labels.new tables inputs set functions tells asks (λ reading. outlook_after tables inputs set functions tells asks reading progress.old work.entry (jumped (jump_of jump (read_value reading value)))) (ahead progress.old (next.Jumps jump) + weight work.entry) progress.new) }
+    ensures stepped { (tables : Tables) (inputs : Given) (set : BuiltIns) (functions : List FunctionCode) (tells : S → Answer → S) (asks : S → Request) (value : Labelled L.Label) → drop (owns work.entry) progress.old.stack.loose ≡ value ∷ [] → IfOk result (Stepped L.made L.meaning labels.new tables inputs set functions tells asks (λ reading. remaining_run_after tables inputs set functions tells asks reading progress.old work.entry (jumped (jump_of jump (read_value reading value)))) (ahead progress.old (control.Jumps jump) + weight work.entry) progress.new) }
     ensures grows { Grows progress.old.world progress.new.world }
     ensures kept { IsKept L.made L.meaning L.room L.firm labels.old labels.new }
 {
     match work {
-        Work::Answered(count, to) => abandon(labels, progress, jump, count, to),
+        Continuation::Answered(count, to) => abandon(labels, progress, jump, count, to),
         other => pass_on(alloc, labels, progress, jump, other),
     }
 }
 
 // A jump passes work of no built-in.
+#[inline(always)]
 fn pass_on<'p, L: Labels, S: Drop>(
     alloc: Global,
     labels: &mut L,
     progress: &mut Progress<'p, L::Label, S>,
     jump: Jump,
-    work: Work<'p>,
+    work: Continuation<'p>,
 ) -> Result<Advance<'p, L::Label>, OutOfMemory>
     requires asks { answers work ≡ false }
-    requires standing { Standing L.made L.meaning labels.old progress.old.stack progress.old.world (owns work + 1) (scopes_of progress.old.stack.tasks ++ scope_of work) (waiting progress.old.stack.tasks) (next.Jumps jump) }
+    requires standing { Invariant L.made L.meaning labels.old progress.old.stack progress.old.world (owns work + 1) (scopes_of progress.old.stack.tasks ++ scope_of work) (waiting progress.old.stack.tasks) (control.Jumps jump) }
     requires natives { length progress.old.natives.states ≡ waiting progress.old.stack.tasks }
-    ensures stepped { (tables : Tables) (inputs : Given) (set : BuiltIns) (functions : List FunctionCode) (tells : S → Answer → S) (asks : S → Request) (value : Labelled L.Label) → drop (owns work.entry) progress.old.stack.loose ≡ value ∷ [] → IfOk result (Stepped L.made L.meaning labels.new tables inputs set functions tells asks (λ reading. outlook_after tables inputs set functions tells asks reading progress.old work.entry (jumped (jump_of jump (read_value reading value)))) (ahead progress.old (next.Jumps jump) + weight work.entry) progress.new) }
+    ensures stepped { (tables : Tables) (inputs : Given) (set : BuiltIns) (functions : List FunctionCode) (tells : S → Answer → S) (asks : S → Request) (value : Labelled L.Label) → drop (owns work.entry) progress.old.stack.loose ≡ value ∷ [] → IfOk result (Stepped L.made L.meaning labels.new tables inputs set functions tells asks (λ reading. remaining_run_after tables inputs set functions tells asks reading progress.old work.entry (jumped (jump_of jump (read_value reading value)))) (ahead progress.old (control.Jumps jump) + weight work.entry) progress.new) }
     ensures grows { Grows progress.old.world progress.new.world }
     ensures kept { IsKept L.made L.meaning L.room L.firm labels.old labels.new }
 {
@@ -252,14 +293,15 @@ fn pass_on<'p, L: Labels, S: Drop>(
 }
 
 // An expression is evaluated at once, or entered.
+#[inline(always)]
 fn begin_expr<'p, L: Labels, S: Drop>(
     alloc: Global,
     labels: &mut L,
     progress: &mut Progress<'p, L::Label, S>,
     e: &'p Expr,
 ) -> Result<Advance<'p, L::Label>, OutOfMemory>
-    requires standing { StandsBefore L.made L.meaning labels.old progress.old (next.Expr e) }
-    ensures stepped { (tables : Tables) (inputs : Given) (set : BuiltIns) (functions : List FunctionCode) (tells : S → Answer → S) (asks : S → Request) → IfOk result (Stepped L.made L.meaning labels.new tables inputs set functions tells asks (λ reading. outlook tables inputs set functions tells asks reading progress.old (next.Expr e.entry)) (ahead progress.old (next.Expr e.entry)) progress.new) }
+    requires standing { StandsBefore L.made L.meaning labels.old progress.old (control.Expr e) }
+    ensures stepped { (tables : Tables) (inputs : Given) (set : BuiltIns) (functions : List FunctionCode) (tells : S → Answer → S) (asks : S → Request) → IfOk result (Stepped L.made L.meaning labels.new tables inputs set functions tells asks (λ reading. remaining_run tables inputs set functions tells asks reading progress.old (control.Expr e.entry)) (ahead progress.old (control.Expr e.entry)) progress.new) }
     ensures grows { Grows progress.old.world progress.new.world }
     ensures kept { IsKept L.made L.meaning L.room L.firm labels.old labels.new }
 {
@@ -272,77 +314,81 @@ fn begin_expr<'p, L: Labels, S: Drop>(
 }
 
 // An expression of names and numbers comes to its value at once, and any other is entered.
+#[inline(always)]
 fn begin_value<'p, L: Labels, S: Drop>(
     alloc: Global,
     labels: &mut L,
     progress: &mut Progress<'p, L::Label, S>,
     e: &'p Expr,
 ) -> Result<Advance<'p, L::Label>, OutOfMemory>
-    requires standing { StandsBefore L.made L.meaning labels.old progress.old (next.Expr e) }
-    ensures stepped { (tables : Tables) (inputs : Given) (set : BuiltIns) (functions : List FunctionCode) (tells : S → Answer → S) (asks : S → Request) → IfOk result (Stepped L.made L.meaning labels.new tables inputs set functions tells asks (λ reading. outlook tables inputs set functions tells asks reading progress.old (next.Expr e.entry)) (ahead progress.old (next.Expr e.entry)) progress.new) }
+    requires standing { StandsBefore L.made L.meaning labels.old progress.old (control.Expr e) }
+    ensures stepped { (tables : Tables) (inputs : Given) (set : BuiltIns) (functions : List FunctionCode) (tells : S → Answer → S) (asks : S → Request) → IfOk result (Stepped L.made L.meaning labels.new tables inputs set functions tells asks (λ reading. remaining_run tables inputs set functions tells asks reading progress.old (control.Expr e.entry)) (ahead progress.old (control.Expr e.entry)) progress.new) }
     ensures grows { Grows progress.old.world progress.new.world }
     ensures kept { IsKept L.made L.meaning L.room L.firm labels.old labels.new }
 {
     let place = present(&progress.world, &progress.stack)?;
     let Some(found) = evaluate(labels, &progress.world, place, progress.turns, e) else {
-        return enter_part(alloc, labels, progress, Next::Expr(e));
+        return enter_part(alloc, labels, progress, Control::Expr(e));
     };
     progress.turns = found.turns;
     progress.stack.lay(found.value)?;
-    Ok(Advance::Goes(Next::Value))
+    Ok(Advance::Goes(Control::Value))
 }
 
 // An assignment of a number to a name is done at once, and any other is entered.
+#[inline(always)]
 fn begin_assignment<'p, L: Labels, S: Drop>(
     alloc: Global,
     labels: &mut L,
     progress: &mut Progress<'p, L::Label, S>,
     e: &'p Expr,
 ) -> Result<Advance<'p, L::Label>, OutOfMemory>
-    requires standing { StandsBefore L.made L.meaning labels.old progress.old (next.Expr e) }
-    ensures stepped { (tables : Tables) (inputs : Given) (set : BuiltIns) (functions : List FunctionCode) (tells : S → Answer → S) (asks : S → Request) → IfOk result (Stepped L.made L.meaning labels.new tables inputs set functions tells asks (λ reading. outlook tables inputs set functions tells asks reading progress.old (next.Expr e.entry)) (ahead progress.old (next.Expr e.entry)) progress.new) }
+    requires standing { StandsBefore L.made L.meaning labels.old progress.old (control.Expr e) }
+    ensures stepped { (tables : Tables) (inputs : Given) (set : BuiltIns) (functions : List FunctionCode) (tells : S → Answer → S) (asks : S → Request) → IfOk result (Stepped L.made L.meaning labels.new tables inputs set functions tells asks (λ reading. remaining_run tables inputs set functions tells asks reading progress.old (control.Expr e.entry)) (ahead progress.old (control.Expr e.entry)) progress.new) }
     ensures grows { Grows progress.old.world progress.new.world }
     ensures kept { IsKept L.made L.meaning L.room L.firm labels.old labels.new }
 {
     let place = present(&progress.world, &progress.stack)?;
     let Some(found) = assign(labels, &mut progress.world, place, progress.turns, e) else {
-        return enter_part(alloc, labels, progress, Next::Expr(e));
+        return enter_part(alloc, labels, progress, Control::Expr(e));
     };
     progress.turns = found.turns;
     progress.stack.lay(found.value)?;
-    Ok(Advance::Goes(Next::Value))
+    Ok(Advance::Goes(Control::Value))
 }
 
 // A statement that is such an assignment is done at once, and any other is entered.
+#[inline(always)]
 fn begin_stmt<'p, L: Labels, S: Drop>(
     alloc: Global,
     labels: &mut L,
     progress: &mut Progress<'p, L::Label, S>,
     s: &'p Stmt,
 ) -> Result<Advance<'p, L::Label>, OutOfMemory>
-    requires standing { StandsBefore L.made L.meaning labels.old progress.old (next.Stmt s) }
-    ensures stepped { (tables : Tables) (inputs : Given) (set : BuiltIns) (functions : List FunctionCode) (tells : S → Answer → S) (asks : S → Request) → IfOk result (Stepped L.made L.meaning labels.new tables inputs set functions tells asks (λ reading. outlook tables inputs set functions tells asks reading progress.old (next.Stmt s.entry)) (ahead progress.old (next.Stmt s.entry)) progress.new) }
+    requires standing { StandsBefore L.made L.meaning labels.old progress.old (control.Stmt s) }
+    ensures stepped { (tables : Tables) (inputs : Given) (set : BuiltIns) (functions : List FunctionCode) (tells : S → Answer → S) (asks : S → Request) → IfOk result (Stepped L.made L.meaning labels.new tables inputs set functions tells asks (λ reading. remaining_run tables inputs set functions tells asks reading progress.old (control.Stmt s.entry)) (ahead progress.old (control.Stmt s.entry)) progress.new) }
     ensures grows { Grows progress.old.world progress.new.world }
     ensures kept { IsKept L.made L.meaning L.room L.firm labels.old labels.new }
 {
     let place = present(&progress.world, &progress.stack)?;
     let Some(left) = finish(labels, &mut progress.world, place, progress.turns, s) else {
-        return enter_part(alloc, labels, progress, Next::Stmt(s));
+        return enter_part(alloc, labels, progress, Control::Stmt(s));
     };
     progress.turns = left;
-    Ok(Advance::Goes(Next::Done))
+    Ok(Advance::Goes(Control::Done))
 }
 
 // A part of the script is entered, which costs a turn, and without one the run ends.
+#[inline(always)]
 fn enter_part<'p, L: Labels, S: Drop>(
     alloc: Global,
     labels: &mut L,
     progress: &mut Progress<'p, L::Label, S>,
-    next: Next<'p>,
+    next: Control<'p>,
 ) -> Result<Advance<'p, L::Label>, OutOfMemory>
     requires enters { enters_part next ≡ true }
     requires standing { StandsBefore L.made L.meaning labels.old progress.old next }
-    ensures stepped { (tables : Tables) (inputs : Given) (set : BuiltIns) (functions : List FunctionCode) (tells : S → Answer → S) (asks : S → Request) → IfOk result (Stepped L.made L.meaning labels.new tables inputs set functions tells asks (λ reading. outlook tables inputs set functions tells asks reading progress.old next.entry) (ahead progress.old next.entry) progress.new) }
+    ensures stepped { (tables : Tables) (inputs : Given) (set : BuiltIns) (functions : List FunctionCode) (tells : S → Answer → S) (asks : S → Request) → IfOk result (Stepped L.made L.meaning labels.new tables inputs set functions tells asks (λ reading. remaining_run tables inputs set functions tells asks reading progress.old next.entry) (ahead progress.old next.entry) progress.new) }
     ensures grows { Grows progress.old.world progress.new.world }
     ensures kept { IsKept L.made L.meaning L.room L.firm labels.old labels.new }
 {
@@ -361,21 +407,25 @@ fn enter_part<'p, L: Labels, S: Drop>(
 }
 
 // A move that enters no part begins its work.
+#[inline(always)]
 fn begin_work<'p, L: Labels, S: Drop>(
     alloc: Global,
     labels: &mut L,
+    this_text: &Text,
     progress: &mut Progress<'p, L::Label, S>,
-    next: Next<'p>,
+    next: Control<'p>,
 ) -> Result<Advance<'p, L::Label>, OutOfMemory>
+    requires name { this_text.now ≡ this_name }
     requires begins { begins_work next ≡ true }
     requires standing { StandsBefore L.made L.meaning labels.old progress.old next }
-    ensures stepped { (tables : Tables) (inputs : Given) (set : BuiltIns) (functions : List FunctionCode) (tells : S → Answer → S) (asks : S → Request) → IfOk result (Stepped L.made L.meaning labels.new tables inputs set functions tells asks (λ reading. outlook tables inputs set functions tells asks reading progress.old next.entry) (ahead progress.old next.entry) progress.new) }
+    ensures stepped { (tables : Tables) (inputs : Given) (set : BuiltIns) (functions : List FunctionCode) (tells : S → Answer → S) (asks : S → Request) → IfOk result (Stepped L.made L.meaning labels.new tables inputs set functions tells asks (λ reading. remaining_run tables inputs set functions tells asks reading progress.old next.entry) (ahead progress.old next.entry) progress.new) }
     ensures grows { Grows progress.old.world progress.new.world }
     ensures kept { IsKept L.made L.meaning L.room L.firm labels.old labels.new }
 {
     let moved = begin_move(
         alloc,
         labels,
+        this_text,
         &mut progress.world,
         &mut progress.stack,
         next,
@@ -384,16 +434,17 @@ fn begin_work<'p, L: Labels, S: Drop>(
 }
 
 // A value is made of a function of the script, or of a literal.
+#[inline(always)]
 fn begin_making<'p, L: Labels, S: Drop>(
     alloc: Global,
     labels: &mut L,
     functions: &Functions<'p>,
     progress: &mut Progress<'p, L::Label, S>,
-    next: Next<'p>,
+    next: Control<'p>,
 ) -> Result<Advance<'p, L::Label>, OutOfMemory>
     requires makes { makes_value next ≡ true }
     requires standing { StandsBefore L.made L.meaning labels.old progress.old next }
-    ensures stepped { (tables : Tables) (inputs : Given) (set : BuiltIns) (tells : S → Answer → S) (asks : S → Request) → IfOk result (Stepped L.made L.meaning labels.new tables inputs set (table functions.now) tells asks (λ reading. outlook tables inputs set (table functions.now) tells asks reading progress.old next.entry) (ahead progress.old next.entry) progress.new) }
+    ensures stepped { (tables : Tables) (inputs : Given) (set : BuiltIns) (tells : S → Answer → S) (asks : S → Request) → IfOk result (Stepped L.made L.meaning labels.new tables inputs set (table functions.now) tells asks (λ reading. remaining_run tables inputs set (table functions.now) tells asks reading progress.old next.entry) (ahead progress.old next.entry) progress.new) }
     ensures grows { Grows progress.old.world progress.new.world }
     ensures kept { IsKept L.made L.meaning L.room L.firm labels.old labels.new }
 {
@@ -409,17 +460,18 @@ fn begin_making<'p, L: Labels, S: Drop>(
 }
 
 // A value is called, makes an object, or is converted.
+#[inline(always)]
 fn begin_call<'p, L: Labels, N: Natives>(
     alloc: Global,
     labels: &mut L,
     natives: &N,
     functions: &Functions<'p>,
     progress: &mut Progress<'p, L::Label, N::State>,
-    next: Next<'p>,
+    next: Control<'p>,
 ) -> Result<Advance<'p, L::Label>, OutOfMemory>
     requires calls { calls_function next ≡ true }
     requires standing { StandsBefore L.made L.meaning labels.old progress.old next }
-    ensures stepped { (tables : Tables) (inputs : Given) → IfOk result (Stepped L.made L.meaning labels.new tables inputs (built_ins_of (N.entries natives.now) (N.begin natives.now) (N.after natives.now) (N.asks natives.now)) (table functions.now) (N.after natives.now) (N.asks natives.now) (λ reading. outlook tables inputs (built_ins_of (N.entries natives.now) (N.begin natives.now) (N.after natives.now) (N.asks natives.now)) (table functions.now) (N.after natives.now) (N.asks natives.now) reading progress.old next.entry) (ahead progress.old next.entry) progress.new) }
+    ensures stepped { (tables : Tables) (inputs : Given) → IfOk result (Stepped L.made L.meaning labels.new tables inputs (built_ins_of (N.entries natives.now) (N.begin natives.now) (N.after natives.now) (N.asks natives.now)) (table functions.now) (N.after natives.now) (N.asks natives.now) (λ reading. remaining_run tables inputs (built_ins_of (N.entries natives.now) (N.begin natives.now) (N.after natives.now) (N.asks natives.now)) (table functions.now) (N.after natives.now) (N.asks natives.now) reading progress.old next.entry) (ahead progress.old next.entry) progress.new) }
     ensures grows { Grows progress.old.world progress.new.world }
     ensures kept { IsKept L.made L.meaning L.room L.firm labels.old labels.new }
 {

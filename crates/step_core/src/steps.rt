@@ -4,12 +4,12 @@ ghost use Rattle.std.specs.Prelude.{◌≡◌, IfOk};
 ghost use Rattle.step_core.specs.Stepping.{Prints, runs_one, step_of, still_step};
 
 use channel_requests::Printed;
+use continuations::Control;
 use flow_frames::{FlowFault, FlowStop};
 use flow_text::OutOfMemory;
 use js_values::Labelled;
+use run_state::Leaving;
 use std::alloc::Global;
-use step_work::Next;
-use step_world::Leaving;
 
 /// How a run ends.
 #[derive(Drop)]
@@ -41,16 +41,17 @@ pub enum Step<T> {
 #[derive(Drop)]
 pub(crate) enum Advance<'p, T> {
     /// It goes on with this.
-    Goes(Next<'p>),
+    Goes(Control<'p>),
     /// It printed a line, and goes on with this.
-    Line(Box<Printed<T>>, Next<'p>),
+    Line(Box<Printed<T>>, Control<'p>),
     /// The run ended.
     Ends(Ending<T>),
 }
 
 /// The step that a move is, or the rule that stopped it.
+#[inline(always)]
 pub(crate) fn step_of<'p, T>(
-    moved: Result<Next<'p>, FlowFault<T>>,
+    moved: Result<Control<'p>, FlowFault<T>>,
 ) -> Result<Advance<'p, T>, OutOfMemory>
     ensures { result ≡ step_of moved.entry }
 {
@@ -62,22 +63,24 @@ pub(crate) fn step_of<'p, T>(
 }
 
 /// The same of a move behind which no built-in runs: only what begins or tells one has it run next. That it is such a move isn't known here, and is looked at.
+#[inline(always)]
 pub(crate) fn still_step<'p, T>(
-    moved: Result<Next<'p>, FlowFault<T>>,
+    moved: Result<Control<'p>, FlowFault<T>>,
 ) -> Result<Advance<'p, T>, OutOfMemory>
     ensures { result ≡ still_step moved.entry }
 {
     match moved {
-        Ok(Next::Request(_)) => Err(OutOfMemory),
+        Ok(Control::Request(_)) => Err(OutOfMemory),
         other => step_of(other),
     }
 }
 
 /// The step that printed a line.
+#[inline(always)]
 pub(crate) fn line_step<'p, T: Copy>(
     alloc: Global,
     line: Printed<T>,
-    next: Next<'p>,
+    next: Control<'p>,
 ) -> Result<Advance<'p, T>, OutOfMemory>
     ensures { IfOk result (Prints line next.entry) }
 {
@@ -86,8 +89,9 @@ pub(crate) fn line_step<'p, T: Copy>(
 }
 
 /// A built-in is to run next.
-pub(crate) fn runs(next: Next<'_>) -> bool
+#[inline(always)]
+pub(crate) fn runs(next: Control<'_>) -> bool
     ensures { result ≡ runs_one next.entry }
 {
-    matches!(next, Next::Request(_))
+    matches!(next, Control::Request(_))
 }

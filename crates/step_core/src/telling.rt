@@ -11,23 +11,23 @@ ghost use Rattle.js_values.specs.Readings.{read_value};
 ghost use Rattle.native_protocol.specs.declared.request.Request.{Request};
 ghost use Rattle.es_meaning.specs.BuiltIns.{BuiltIns};
 ghost use Rattle.flow_meaning.specs.Planned.{jumped};
-ghost use Rattle.step_world.specs.Worlds.{Grows};
-ghost use Rattle.step_work.specs.declared.work.Next.TheVariants as next;
-ghost use Rattle.step_work.specs.declared.work.Work.TheVariants as work;
-ghost use Rattle.step_work.specs.Kept.{scopes_of, waiting};
-ghost use Rattle.step_work.specs.Shapes.{jump_of};
-ghost use Rattle.step_work.specs.Standing.{Standing, given};
-ghost use Rattle.step_core.specs.Outlook.{ahead};
-ghost use Rattle.step_core.specs.Stepping.{Stepped, completion_above, outlook_after};
+ghost use Rattle.run_state.specs.Worlds.{Grows};
+ghost use Rattle.continuations.specs.declared.continuation.Control.TheVariants as control;
+ghost use Rattle.continuations.specs.declared.continuation.Continuation.TheVariants as continuation;
+ghost use Rattle.continuations.specs.Kept.{scopes_of, waiting};
+ghost use Rattle.continuations.specs.Shapes.{jump_of};
+ghost use Rattle.continuations.specs.Invariant.{Invariant, given};
+ghost use Rattle.step_core.specs.RemainingRun.{ahead};
+ghost use Rattle.step_core.specs.Stepping.{Stepped, completion_above, remaining_run_after};
 
 use crate::passing::pass_by;
 use crate::progress::Progress;
 use crate::resuming::prepare;
 use crate::steps::{Advance, still_step};
+use continuations::{Continuation, Control, Jump, answered};
 use flow_text::OutOfMemory;
 use native_protocol::{Answer, Reg};
 use origin_labels::Labels;
-use step_work::{Jump, Next, Work, answered};
 
 /// A built-in that waited is told that what it asked for is done, and is to ask next.
 pub(crate) fn tell<'p, L: Labels, S: Drop>(
@@ -37,17 +37,22 @@ pub(crate) fn tell<'p, L: Labels, S: Drop>(
     to: Option<Reg>,
     gave: bool,
 ) -> Result<Advance<'p, L::Label>, OutOfMemory>
-    requires standing { Standing L.made L.meaning labels.now progress.old.stack progress.old.world (count + given gave) (scopes_of progress.old.stack.tasks) (waiting progress.old.stack.tasks) next.Value }
+    requires standing { Invariant L.made L.meaning labels.now progress.old.stack progress.old.world (count + given gave) (scopes_of progress.old.stack.tasks) (waiting progress.old.stack.tasks) control.Value }
     requires natives { length progress.old.natives.states ≡ waiting progress.old.stack.tasks + 1 }
-    ensures stepped { (tables : Tables) (inputs : Given) (set : BuiltIns) (functions : List FunctionCode) (tells : S → Answer → S) (asks : S → Request) → IfOk result (Stepped L.made L.meaning labels.now tables inputs set functions tells asks (λ reading. outlook_after tables inputs set functions tells asks reading progress.old (work.Answered count to) (completion_above tables inputs set functions tells asks reading progress.old (work.Answered count to))) (ahead progress.old next.Value + 1) progress.new) }
+    ensures stepped { (tables : Tables) (inputs : Given) (set : BuiltIns) (functions : List FunctionCode) (tells : S → Answer → S) (asks : S → Request) → IfOk result (Stepped L.made L.meaning labels.now tables inputs set functions tells asks (λ reading. remaining_run_after tables inputs set functions tells asks reading progress.old (continuation.Answered count to) (completion_above tables inputs set functions tells asks reading progress.old (continuation.Answered count to))) (ahead progress.old control.Value + 1) progress.new) }
     ensures grows { Grows progress.old.world progress.new.world }
 {
-    prepare(labels, &mut progress.stack, Work::Answered(count, to), gave)?;
-    let Next::Request(count) = answered(labels, &mut progress.stack, count, to)? else {
+    prepare(
+        labels,
+        &mut progress.stack,
+        Continuation::Answered(count, to),
+        gave,
+    )?;
+    let Control::Request(count) = answered(labels, &mut progress.stack, count, to)? else {
         return Err(OutOfMemory);
     };
     progress.natives.tell(Answer::Done);
-    Ok(Advance::Goes(Next::Request(count)))
+    Ok(Advance::Goes(Control::Request(count)))
 }
 
 /// A jump passes a built-in that waited: it is over.
@@ -58,9 +63,9 @@ pub(crate) fn abandon<'p, L: Labels, S: Drop>(
     count: u32,
     to: Option<Reg>,
 ) -> Result<Advance<'p, L::Label>, OutOfMemory>
-    requires standing { Standing L.made L.meaning labels.now progress.old.stack progress.old.world (count + 1) (scopes_of progress.old.stack.tasks ++ []) (waiting progress.old.stack.tasks) (next.Jumps jump) }
+    requires standing { Invariant L.made L.meaning labels.now progress.old.stack progress.old.world (count + 1) (scopes_of progress.old.stack.tasks ++ []) (waiting progress.old.stack.tasks) (control.Jumps jump) }
     requires natives { length progress.old.natives.states ≡ waiting progress.old.stack.tasks + 1 }
-    ensures stepped { (tables : Tables) (inputs : Given) (set : BuiltIns) (functions : List FunctionCode) (tells : S → Answer → S) (asks : S → Request) (value : Labelled L.Label) → drop count progress.old.stack.loose ≡ value ∷ [] → IfOk result (Stepped L.made L.meaning labels.now tables inputs set functions tells asks (λ reading. outlook_after tables inputs set functions tells asks reading progress.old (work.Answered count to) (jumped (jump_of jump (read_value reading value)))) (ahead progress.old (next.Jumps jump) + 1) progress.new) }
+    ensures stepped { (tables : Tables) (inputs : Given) (set : BuiltIns) (functions : List FunctionCode) (tells : S → Answer → S) (asks : S → Request) (value : Labelled L.Label) → drop count progress.old.stack.loose ≡ value ∷ [] → IfOk result (Stepped L.made L.meaning labels.now tables inputs set functions tells asks (λ reading. remaining_run_after tables inputs set functions tells asks reading progress.old (continuation.Answered count to) (jumped (jump_of jump (read_value reading value)))) (ahead progress.old (control.Jumps jump) + 1) progress.new) }
     ensures grows { Grows progress.old.world progress.new.world }
 {
     let moved = pass_by(
@@ -68,7 +73,7 @@ pub(crate) fn abandon<'p, L: Labels, S: Drop>(
         &progress.world,
         &mut progress.stack,
         jump,
-        Work::Answered(count, to),
+        Continuation::Answered(count, to),
     );
     progress.natives.pop();
     still_step(moved)

@@ -17,11 +17,11 @@ use Rattle.js_values.specs.Readings.{IsReading}
 use Rattle.js_values.proofs.ReadingLaws.{IsReading-earlier}
 use Rattle.es_meaning.specs.Outcomes.{Exit, Jumps, Ends}
 use Rattle.flow_meaning.specs.Scopes.{stopped, State, Jump, guard, reached, jump_to, jump, cut_to, Val}
-use Rattle.step_work.specs.Resuming.{with_frames}
-use Rattle.step_work.specs.Shapes.{jump_of}
-use Rattle.step_work.specs.declared.work.Jump.TheVariants as jumps
-use Rattle.step_work.specs.declared.work.Jump.{Jump as Kind}
-use Rattle.step_work.proofs.Reading.{read_frames}
+use Rattle.continuations.specs.Resuming.{with_frames}
+use Rattle.continuations.specs.Shapes.{jump_of}
+use Rattle.continuations.specs.declared.continuation.Jump.TheVariants as jumps
+use Rattle.continuations.specs.declared.continuation.Jump.{Jump as Kind}
+use Rattle.continuations.proofs.Reading.{read_frames}
 use Rattle.step_jumps.specs.Issuing.{Issues, SaysJump}
 
 -- ---- a jump, by rule W9

@@ -6,3 +6,11 @@ pub mod Words
 pub mod RaiseLaws
 pub mod OriginLaws
 pub mod Obeyed
+pub mod QuietLaws
+pub mod PlanLaws
+pub mod Comings
+pub mod StandLaws
+pub mod EndingLaws
+pub mod FinishLaws
+pub mod CatchLaws
+pub mod CallLaws

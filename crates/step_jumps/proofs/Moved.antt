@@ -29,25 +29,25 @@ use Rattle.js_ast.specs.Views.{view_name}
 use Rattle.std.specs.Borrow.{Bor}
 use Rattle.std.specs.Option.{option_map}
 use Rattle.flow_meaning.specs.Tracked.{jumps_to}
-use Rattle.step_work.specs.declared.work.Jump.TheVariants as jumps
-use Rattle.step_work.specs.declared.work.Work.TheVariants as work
+use Rattle.continuations.specs.declared.continuation.Jump.TheVariants as jumps
+use Rattle.continuations.specs.declared.continuation.Continuation.TheVariants as continuation
 use Rattle.flow_meaning.specs.Erased.{unlabelled}
 use Rattle.flow_meaning.specs.Planned.{Plan, as_plan, gave}
 use Rattle.flow_meaning.specs.Scopes.{LabelledLine, State, Val, stopped, jump}
-use Rattle.step_world.specs.declared.world.World.{World}
-use Rattle.step_world.specs.Worlds.{state_of}
-use Rattle.step_work.specs.declared.work.Jump.{Jump}
-use Rattle.step_work.specs.declared.work.Next.{Next}
-use Rattle.step_work.specs.declared.work.Next.TheVariants as next
-use Rattle.step_work.specs.Going.{Begins, ComesTo, here}
-use Rattle.step_work.specs.Kept.{Kept, kept_operands, operands_of, scopes_of, waiting}
-use Rattle.step_work.specs.Moving.{Moves}
-use Rattle.step_work.specs.Pending.{after, behind, first_or_undefined, next_plan, setting_above}
-use Rattle.step_work.specs.Resuming.{coming, with_frames}
-use Rattle.step_work.specs.Shapes.{jump_of}
-use Rattle.step_work.specs.Standing.{Standing, Framed, depths}
-use Rattle.step_work.proofs.Handed.{behind_end}
-use Rattle.step_work.specs.Settings.{Setting, setting_of}
+use Rattle.run_state.specs.declared.world.World.{World}
+use Rattle.run_state.specs.Worlds.{state_of}
+use Rattle.continuations.specs.declared.continuation.Jump.{Jump}
+use Rattle.continuations.specs.declared.continuation.Control.{Control}
+use Rattle.continuations.specs.declared.continuation.Control.TheVariants as control
+use Rattle.continuations.specs.Going.{Begins, ComesTo, here}
+use Rattle.continuations.specs.Kept.{Kept, kept_operands, operands_of, scopes_of, waiting}
+use Rattle.continuations.specs.Moving.{Moves}
+use Rattle.continuations.specs.Pending.{after, behind, first_or_undefined, next_plan, setting_above}
+use Rattle.continuations.specs.Resuming.{coming, with_frames}
+use Rattle.continuations.specs.Shapes.{jump_of}
+use Rattle.continuations.specs.Invariant.{Invariant, Framed, depths}
+use Rattle.continuations.proofs.Handed.{behind_end}
+use Rattle.continuations.specs.Settings.{Setting, setting_of}
 use Rattle.step_jumps.specs.Issuing.{Issues, IssuesAt, IsNothing}
 use Rattle.native_protocol.specs.Steps.{Steps}
 
@@ -61,7 +61,7 @@ module _ {X : Type 0} (P : X → Type 0) where
 
 module _ {S T : Type 0} (made : S → T → Type 0) (meaning : S → T → Label) (store : S) (tables : Tables) (inputs : Given) (set : BuiltIns) (functions : List FunctionCode) (natives : List Steps) where
   -- another plan that is equal
-  pub comes_as : (p q : (T → Label) → List LabelledLine → ℕ → Plan) (stack : Kept T) (world : World T) (result : Result Next (FlowFault T))
+  pub comes_as : (p q : (T → Label) → List LabelledLine → ℕ → Plan) (stack : Kept T) (world : World T) (result : Result Control (FlowFault T))
       → ((reading : T → Label) (told : List LabelledLine) (turns : ℕ) → IsReading made meaning store reading → p reading told turns ≡ q reading told turns)
       → ComesTo made meaning store tables inputs set functions natives p stack world result → ComesTo made meaning store tables inputs set functions natives q stack world result
   comes_as p q stack world result same comes = λ reading told turns is.
@@ -69,7 +69,7 @@ module _ {S T : Type 0} (made : S → T → Type 0) (meaning : S → T → Label
 
   module _ (j : Jump) (stack : Kept T) (world : World T) (frames : held.Kept T) where
     pub issued_goes : {X : Type 0} (x : X) → Issues made meaning store (jump_of j) world.frames.frames frames.frames (Ok x)
-        → IssuesAt made meaning store tables inputs set functions natives j stack world (record world { frames = frames }) (Ok (next.Jumps j))
+        → IssuesAt made meaning store tables inputs set functions natives j stack world (record world { frames = frames }) (Ok (control.Jumps j))
     issued_goes x issues = λ reading told turns is.
         let v = first_or_undefined (map (read_value reading) stack.loose) in
         sym (ap (λ o. behind tables inputs set functions reading stack.tasks (setting_of natives here) (as_plan One o)) (issues reading v (state_of reading world told turns) is))
@@ -84,13 +84,13 @@ module _ {S T : Type 0} (made : S → T → Type 0) (meaning : S → T → Label
     issued_fault X fault.OutOfMemory issues = λ reading told turns is. tt
 
     -- a `?` hands on the fault
-    pub issued_fails : (X : Type 0) (f : FlowFault T) (result : Result Next (FlowFault T)) → IsErrAnd result (λ e. e ≡ f) → Issues made meaning store {X = X} (jump_of j) world.frames.frames frames.frames (Err f)
+    pub issued_fails : (X : Type 0) (f : FlowFault T) (result : Result Control (FlowFault T)) → IsErrAnd result (λ e. e ≡ f) → Issues made meaning store {X = X} (jump_of j) world.frames.frames frames.frames (Err f)
         → IssuesAt made meaning store tables inputs set functions natives j stack world (record world { frames = frames }) result
     issued_fails X f (Ok x) is issues = absurd is
     issued_fails X f (Err e) is issues = subst (λ (g : FlowFault T). IssuesAt made meaning store tables inputs set functions natives j stack world (record world { frames = frames }) (Err g)) (sym is) (issued_fault X f issues)
 
   -- undefined was laid in front of a move that jumps, and the jump was issued
-  pub begins_laid : (j : Jump) (move : Next) (old middle : Kept T) (world_old world_new : World T) (result : Result Next (FlowFault T))
+  pub begins_laid : (j : Jump) (move : Control) (old middle : Kept T) (world_old world_new : World T) (result : Result Control (FlowFault T))
       → middle.tasks ≡ old.tasks → ((reading : T → Label) → IsReading made meaning store reading → first_or_undefined (map (read_value reading) middle.loose) ≡ unlabelled undefined)
       → ((vs : List Val) (s : State) → next_plan tables inputs set functions move vs (setting_above old.tasks (setting_of natives here)) s ≡ as_plan One (jump bottom (jump_of j (unlabelled undefined)) s))
       → IssuesAt made meaning store tables inputs set functions natives j middle world_old world_new result → Begins made meaning store tables inputs set functions natives natives old middle world_old world_new move result
@@ -105,22 +105,22 @@ module _ {S T : Type 0} (made : S → T → Type 0) (meaning : S → T → Label
       issues
 
   -- what a return comes to
-  pub returns_to : (to : ℕ) (e : Setting) → e.env.call ≡ to → (vs : List Val) (s : State) → next_plan tables inputs set functions next.Return vs e s ≡ as_plan One (jump bottom (jump_of (jumps.Returns to) (unlabelled undefined)) s)
+  pub returns_to : (to : ℕ) (e : Setting) → e.env.call ≡ to → (vs : List Val) (s : State) → next_plan tables inputs set functions control.Return vs e s ≡ as_plan One (jump bottom (jump_of (jumps.Returns to) (unlabelled undefined)) s)
   unfolding jumps_to
   returns_to to e aim vs s = ap (λ d. as_plan One (jump bottom (jump_of (jumps.Returns d) (unlabelled undefined)) s)) aim
 
-  pub returns_with : (to : ℕ) (e : Setting) → e.env.call ≡ to → (vs : List Val) (v : Val) (s : State) → as_plan One (jump bottom (jump_of (jumps.Returns to) v) s) ≡ after tables inputs set functions work.Return vs e (gave v) s
+  pub returns_with : (to : ℕ) (e : Setting) → e.env.call ≡ to → (vs : List Val) (v : Val) (s : State) → as_plan One (jump bottom (jump_of (jumps.Returns to) v) s) ≡ after tables inputs set functions continuation.Return vs e (gave v) s
   unfolding jumps_to jump_with
   returns_with to e aim vs v s = ap (λ d. as_plan One (jump bottom (jump_of (jumps.Returns d) v) s)) (sym aim)
 
   -- and what a break or a continue
   pub leaves_to : (turn : Bool) (label : Bor (Option Ident)) (count to : ℕ) (e : Setting) → find_around turn (text_of_label (view_name label.now)) e.env.around ≡ Some (count, to) → (vs : List Val) (s : State)
-      → next_plan tables inputs set functions (next.Break turn label) vs e s ≡ as_plan One (jump bottom (jump_of (jumps.Leaves count to) (unlabelled undefined)) s)
+      → next_plan tables inputs set functions (control.Break turn label) vs e s ≡ as_plan One (jump bottom (jump_of (jumps.Leaves count to) (unlabelled undefined)) s)
   unfolding jumps_to
   leaves_to turn label count to e aim vs s = ap (λ (o : Option (ℕ × ℕ)). as_plan One (jumps_to (option_map (λ f. (leaves f.0, f.1)) o) (unlabelled undefined) s)) aim
 
   pub leaves_nothing : (turn : Bool) (label : Bor (Option Ident)) (e : Setting) → find_around turn (text_of_label (view_name label.now)) e.env.around ≡ None → (vs us : List Val) (s : State)
-      → next_plan tables inputs set functions next.Done us e s ≡ next_plan tables inputs set functions (next.Break turn label) vs e s
+      → next_plan tables inputs set functions control.Done us e s ≡ next_plan tables inputs set functions (control.Break turn label) vs e s
   unfolding jumps_to
   leaves_nothing turn label e aim vs us s = ap (λ (o : Option (ℕ × ℕ)). as_plan One (jumps_to (option_map (λ f. (leaves f.0, f.1)) o) (unlabelled undefined) s)) (sym aim)
 
@@ -132,9 +132,9 @@ module _ {S T : Type 0} (made : S → T → Type 0) (meaning : S → T → Label
   -- ---- what still holds
 
   pub standing_issued : (room : S → ℕ) (firm : S → Bool) (old new : S) → IsKept made meaning room firm old new → (j : Jump) (stack : Kept T) (world : World T) (frames : held.Kept T)
-      → Standing made meaning old stack world 1 (scopes_of stack.tasks ++ []) (waiting stack.tasks) next.Value
+      → Invariant made meaning old stack world 1 (scopes_of stack.tasks ++ []) (waiting stack.tasks) control.Value
       → Belong made meaning new frames.frames → CatchByTry frames.frames → length frames.frames ≤ length world.frames.frames
-      → Standing made meaning new stack (record world { frames = frames }) 1 (scopes_of stack.tasks) (waiting stack.tasks) (next.Jumps j)
+      → Invariant made meaning new stack (record world { frames = frames }) 1 (scopes_of stack.tasks) (waiting stack.tasks) (control.Jumps j)
   standing_issued room firm old new kept j stack world frames stands belong catch fewer =
       let same = append-nil (scopes_of stack.tasks) in
       let all : length world.frames.frames ≡ suc (length (scopes_of stack.tasks)) = stands.frames ∙ ap (λ ds. suc (length ds)) same in
@@ -155,8 +155,8 @@ module _ {S T : Type 0} (made : S → T → Type 0) (meaning : S → T → Label
       }
 
   -- undefined was laid where no value lay, in front of a move that jumps
-  pub standing_laid : (store : S) (old new : Kept T) (world : World T) (move : Next) → ((frames scopes : ℕ) → Framed move frames scopes → frames ≡ suc scopes) → Standing made meaning store old world 0 (scopes_of old.tasks) (waiting old.tasks) move
-      → new.tasks ≡ old.tasks → IsNothing made meaning store new.loose → Standing made meaning store new world 1 (scopes_of new.tasks ++ []) (waiting new.tasks) next.Value
+  pub standing_laid : (store : S) (old new : Kept T) (world : World T) (move : Control) → ((frames scopes : ℕ) → Framed move frames scopes → frames ≡ suc scopes) → Invariant made meaning store old world 0 (scopes_of old.tasks) (waiting old.tasks) move
+      → new.tasks ≡ old.tasks → IsNothing made meaning store new.loose → Invariant made meaning store new world 1 (scopes_of new.tasks ++ []) (waiting new.tasks) control.Value
   standing_laid store old new world move whole stands tasks nothing =
       let same : scopes_of old.tasks ≡ scopes_of new.tasks ++ [] = ap scopes_of (sym tasks) ∙ sym (append-nil (scopes_of new.tasks)) in
       record {

@@ -28,19 +28,19 @@ use Rattle.flow_meaning.specs.Erased.{unlabelled}
 use Rattle.flow_meaning.specs.Planned.{Plan, Give, as_plan, asking, gave, planned}
 use Rattle.flow_meaning.specs.Scopes.{State, Val, Halt, Jump, stopped}
 use Rattle.flow_meaning.specs.Tracked.{named_origins, raised_by, raises}
-use Rattle.step_work.specs.declared.work.Reason.TheVariants as reason
-use Rattle.step_world.specs.declared.world.World.{World}
-use Rattle.step_world.specs.Worlds.{state_of}
-use Rattle.step_work.specs.declared.work.Next.{Next}
-use Rattle.step_work.specs.declared.work.Next.TheVariants as next
-use Rattle.step_work.specs.declared.work.Work.TheVariants as work
-use Rattle.step_work.specs.Going.{Resumes, here}
-use Rattle.step_work.specs.Kept.{Kept, kept_operands, scopes_of, waiting}
-use Rattle.step_work.specs.Pending.{after, behind, first_or_undefined, next_plan, setting_above}
-use Rattle.step_work.specs.Resuming.{with_frames}
-use Rattle.step_work.specs.Standing.{Standing, Framed, depths, running}
-use Rattle.step_work.proofs.Handed.{behind_end}
-use Rattle.step_work.specs.Settings.{Setting, setting_of, entrance}
+use Rattle.continuations.specs.declared.continuation.Reason.TheVariants as reason
+use Rattle.run_state.specs.declared.world.World.{World}
+use Rattle.run_state.specs.Worlds.{state_of}
+use Rattle.continuations.specs.declared.continuation.Control.{Control}
+use Rattle.continuations.specs.declared.continuation.Control.TheVariants as control
+use Rattle.continuations.specs.declared.continuation.Continuation.TheVariants as continuation
+use Rattle.continuations.specs.Going.{Resumes, here}
+use Rattle.continuations.specs.Kept.{Kept, kept_operands, scopes_of, waiting}
+use Rattle.continuations.specs.Pending.{after, behind, first_or_undefined, next_plan, setting_above}
+use Rattle.continuations.specs.Resuming.{with_frames}
+use Rattle.continuations.specs.Invariant.{Invariant, Framed, depths, running}
+use Rattle.continuations.proofs.Handed.{behind_end}
+use Rattle.continuations.specs.Settings.{Setting, setting_of, entrance}
 use Rattle.step_jumps.specs.Raising.{SaysRaised}
 use Rattle.step_jumps.proofs.Moved.{front_has, no_more}
 use Rattle.native_protocol.specs.Steps.{Steps}
@@ -48,10 +48,10 @@ use Rattle.native_protocol.specs.Steps.{Steps}
 module _ {S T : Type 0} (made : S → T → Type 0) (meaning : S → T → Label) where
   -- ---- what still holds
 
-  pub standing_obeyed : (room : S → ℕ) (firm : S → Bool) (old new : S) → IsKept made meaning room firm old new → (before after : Kept T) (world : World T) (frames : held.Kept T) (move : Next)
-      → ((n m : ℕ) → n ≡ suc m → Framed move n m) → running move ≡ 0 → Standing made meaning old before world 1 (scopes_of before.tasks ++ []) (waiting before.tasks) next.Value
+  pub standing_obeyed : (room : S → ℕ) (firm : S → Bool) (old new : S) → IsKept made meaning room firm old new → (before after : Kept T) (world : World T) (frames : held.Kept T) (move : Control)
+      → ((n m : ℕ) → n ≡ suc m → Framed move n m) → running move ≡ 0 → Invariant made meaning old before world 1 (scopes_of before.tasks ++ []) (waiting before.tasks) control.Value
       → after.tasks ≡ before.tasks → after.loose ≡ [] → Belong made meaning new frames.frames → CatchByTry frames.frames → length frames.frames ≡ length world.frames.frames
-      → Standing made meaning new after (record world { frames = frames }) 0 (scopes_of after.tasks) (waiting before.tasks) move
+      → Invariant made meaning new after (record world { frames = frames }) 0 (scopes_of after.tasks) (waiting before.tasks) move
   standing_obeyed room firm old new kept before after world frames move whole ready stands tasks none belong catch same =
       let pending : scopes_of before.tasks ++ [] ≡ scopes_of after.tasks = append-nil (scopes_of before.tasks) ∙ ap scopes_of (sym tasks) in
       record {
@@ -81,7 +81,7 @@ module _ (tables : Tables) (inputs : Given) (set : BuiltIns) (functions : List F
   no_directive upgrade e v s is = ap (λ u. behind_expression (planned tables inputs set functions) (entrance tables inputs set functions) (asking tables inputs set functions) u e v s) (sym is)
 
   pub unknown_origin : (upgrade : Option Upgrade) (u : Upgrade) (e : Setting) (v : Val) (s : State) → upgrade ≡ Some u → named_origins tables inputs u.names ≡ None
-      → next_plan tables inputs set functions (next.Leave reason.Origin) [] e s ≡ behind_expression (planned tables inputs set functions) (entrance tables inputs set functions) (asking tables inputs set functions) upgrade e.env v s
+      → next_plan tables inputs set functions (control.Leave reason.Origin) [] e s ≡ behind_expression (planned tables inputs set functions) (entrance tables inputs set functions) (asking tables inputs set functions) upgrade e.env v s
   unfolding behind_expression raised_by
   unknown_origin upgrade u e v s is none =
       sym (ap (λ n. as_plan One (raised_by tables inputs u.leaving (aimed 0 u.leaving e.env) n s)) none)
@@ -101,9 +101,9 @@ module _ (tables : Tables) (inputs : Given) (set : BuiltIns) (functions : List F
     obeys reading s = behind_expression (planned tables inputs set functions) (entrance tables inputs set functions) (asking tables inputs set functions) (upgrade_of (view_expr x.now)) (setting_above before.tasks (setting_of natives here)).env (first_or_undefined (map (read_value reading) (drop 0 before.loose))) s
 
     -- a move that doesn't look at values
-    pub obeyed_so : (after : Kept T) (move : Next) → ((vs : List Val) (e : Setting) (s : State) → next_plan tables inputs set functions move vs e s ≡ next_plan tables inputs set functions move [] e s)
+    pub obeyed_so : (after : Kept T) (move : Control) → ((vs : List Val) (e : Setting) (s : State) → next_plan tables inputs set functions move vs e s ≡ next_plan tables inputs set functions move [] e s)
         → after.tasks ≡ before.tasks → ((reading : T → Label) (s : State) → IsReading made meaning store reading → next_plan tables inputs set functions move [] (setting_above before.tasks (setting_of natives here)) s ≡ obeys reading s)
-        → Resumes made meaning store tables inputs set functions (work.Raise x) natives natives before after world world (Ok move)
+        → Resumes made meaning store tables inputs set functions (continuation.Raise x) natives natives before after world world (Ok move)
     obeyed_so after move blind tasks plans = λ reading told turns is.
         let s = state_of reading world told turns in
         ap (λ ts. behind tables inputs set functions reading ts (setting_of natives here) (next_plan tables inputs set functions move (map (read_value reading) after.loose) (setting_above ts (setting_of natives here)) s)) tasks
@@ -112,7 +112,7 @@ module _ (tables : Tables) (inputs : Given) (set : BuiltIns) (functions : List F
     module _ (frames : held.Kept T) (outcome : (T → Label) → State → Outcome Halt Jump (Unit {0}) State) (plans : (reading : T → Label) (s : State) → IsReading made meaning store reading → as_plan One (outcome reading s) ≡ obeys reading s) where
       pub obeyed_goes : {X : Type 0} (a : X) (after : Kept T) → after.tasks ≡ before.tasks
           → ((reading : T → Label) (s : State) → IsReading made meaning store reading → SaysRaised reading (outcome reading (with_frames reading world.frames.frames s)) (with_frames reading frames.frames s) (Ok a))
-          → Resumes made meaning store tables inputs set functions (work.Raise x) natives natives before after world (record world { frames = frames }) (Ok next.Done)
+          → Resumes made meaning store tables inputs set functions (continuation.Raise x) natives natives before after world (record world { frames = frames }) (Ok control.Done)
       obeyed_goes a after tasks says = λ reading told turns is.
           let s = state_of reading world told turns in
           ap (λ ts. behind tables inputs set functions reading ts (setting_of natives here) (Give (gave (unlabelled undefined)) (with_frames reading frames.frames s))) tasks
@@ -121,7 +121,7 @@ module _ (tables : Tables) (inputs : Given) (set : BuiltIns) (functions : List F
 
       obeyed_fault : (X : Type 0) (f : FlowFault T) (after : Kept T)
           → ((reading : T → Label) (s : State) → IsReading made meaning store reading → SaysRaised {X = X} reading (outcome reading (with_frames reading world.frames.frames s)) (with_frames reading frames.frames s) (Err f))
-          → Resumes made meaning store tables inputs set functions (work.Raise x) natives natives before after world (record world { frames = frames }) (Err f)
+          → Resumes made meaning store tables inputs set functions (continuation.Raise x) natives natives before after world (record world { frames = frames }) (Err f)
       obeyed_fault X (fault.Stop stop) after says = λ reading told turns is.
           let s = state_of reading world told turns in
           sym (behind_end tables inputs set functions reading before.tasks (setting_of natives here) (stopped stop.rule (reading stop.need) (reading stop.have)) (with_frames reading frames.frames s))
@@ -130,8 +130,8 @@ module _ (tables : Tables) (inputs : Given) (set : BuiltIns) (functions : List F
       obeyed_fault X fault.OutOfMemory after says = λ reading told turns is. tt
 
       -- a `?` hands on the fault
-      pub obeyed_fails : (X : Type 0) (f : FlowFault T) (after : Kept T) (result : Result Next (FlowFault T)) → IsErrAnd result (λ e. e ≡ f)
+      pub obeyed_fails : (X : Type 0) (f : FlowFault T) (after : Kept T) (result : Result Control (FlowFault T)) → IsErrAnd result (λ e. e ≡ f)
           → ((reading : T → Label) (s : State) → IsReading made meaning store reading → SaysRaised {X = X} reading (outcome reading (with_frames reading world.frames.frames s)) (with_frames reading frames.frames s) (Err f))
-          → Resumes made meaning store tables inputs set functions (work.Raise x) natives natives before after world (record world { frames = frames }) result
+          → Resumes made meaning store tables inputs set functions (continuation.Raise x) natives natives before after world (record world { frames = frames }) result
       obeyed_fails X f after (Ok a) is says = absurd is
-      obeyed_fails X f after (Err e) is says = subst (λ (h : FlowFault T). Resumes made meaning store tables inputs set functions (work.Raise x) natives natives before after world (record world { frames = frames }) (Err h)) (sym is) (obeyed_fault X f after says)
+      obeyed_fails X f after (Err e) is says = subst (λ (h : FlowFault T). Resumes made meaning store tables inputs set functions (continuation.Raise x) natives natives before after world (record world { frames = frames }) (Err h)) (sym is) (obeyed_fault X f after says)

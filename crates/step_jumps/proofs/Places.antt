@@ -2,9 +2,9 @@
 use Rattle.std.proofs.Common.{refl, ap, ◌≡◌, ℕ, Bool, List, [], ◌∷◌, Option}
 use Rattle.native_protocol.specs.Steps.{Steps}
 use Rattle.es_meaning.specs.Environments.{Env, find_around}
-use Rattle.step_work.specs.Going.{here}
-use Rattle.step_work.specs.Pending.{Task, env_above, setting_inside, setting_above}
-use Rattle.step_work.specs.Settings.{Setting, setting_of}
+use Rattle.continuations.specs.Going.{here}
+use Rattle.continuations.specs.Pending.{Task, env_above, setting_inside, setting_above}
+use Rattle.continuations.specs.Settings.{Setting, setting_of}
 
 env_of : {T : Type 0} → (tasks : List (Task T)) (e : Setting) → (setting_above tasks e).env ≡ env_above tasks e.env
 unfolding setting_above env_above

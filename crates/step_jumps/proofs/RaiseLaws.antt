@@ -21,8 +21,8 @@ use Rattle.es_meaning.specs.Environments.{Leaving}
 use Rattle.es_meaning.specs.Outcomes.{Exit, Goes, Ends}
 use Rattle.flow_meaning.specs.Scopes.{stopped, State, guard, frame_of, raise_frame}
 use Rattle.flow_meaning.specs.Tracked.{raises}
-use Rattle.step_work.specs.Resuming.{with_frames}
-use Rattle.step_work.proofs.Reading.{read_frames}
+use Rattle.continuations.specs.Resuming.{with_frames}
+use Rattle.continuations.proofs.Reading.{read_frames}
 use Rattle.step_jumps.specs.Raising.{SaysRaised}
 
 -- ---- a raise, by rule W10

@@ -1,12 +1,12 @@
 -- The frame that a jump reaches first is the one that a search for the innermost active Try frame gives, if that is inside the frame that the jump goes to.
-use Rattle.std.proofs.Common.{arith, refl, ap, ◌∙◌, ◌≡◌, ◌<◌, ◌≤◌, ◌+◌, ◌-◌, ℕ, zero, suc, Bool, true, false, List, [], ◌∷◌, map, drop, Some, if◌then◌else◌}
+use Rattle.std.proofs.Common.{arith, refl, ap, sym, ◌∙◌, ◌≡◌, ◌<◌, ◌≤◌, ◌+◌, ◌-◌, ℕ, zero, suc, Bool, true, false, List, [], ◌∷◌, map, drop, Some, if◌then◌else◌}
 use Rattle.std.specs.List.{slice_get}
 use Rattle.std.proofs.lemmas.Bool.{and_parts, false≢true}
 use Rattle.std.proofs.lemmas.Option.{none-some, same_Some}
 use Rattle.origin_labels.specs.Label.{Label}
 use Rattle.flow_frames.specs.declared.kind.Kind.{Kind}
 use Rattle.flow_frames.specs.declared.kind.Kind.TheVariants as kind
-use Rattle.flow_frames.specs.Frames.{Frame, Catches, IsTarget, catching, root}
+use Rattle.flow_frames.specs.Frames.{Frame, Catches, IsTargetAbove, caught_above, none_above}
 use Rattle.flow_frames.specs.Held.{Held, CatchByTry, seen_frame}
 use Rattle.flow_frames.specs.Kinds.{is_try}
 use Rattle.flow_meaning.specs.Scopes as scopes
@@ -78,16 +78,9 @@ active_catches reading (h ∷ frames) tries (suc k) f there active = active_catc
 
 -- ---- the frame
 
--- what catches stands inside the frame that the jump goes to
-pub reached_inside : {T : Type 0} (reading : T → Label) (frames : List (Held T)) (target to : ℕ) → CatchByTry frames → IsTarget (map (seen_frame reading) frames) target → to < target → reached to (map (seen_frame reading) frames) ≡ target
-reached_inside reading frames target to tries (root is none) lt = absurd (omega (arith, is, lt))
-reached_inside reading frames target to tries (catching c inner) lt =
-    let sum : suc to + (target - suc to) ≡ target = omega (arith, lt) in
-    last_from (suc to) (map (seen_frame reading) frames) (suc to) to target c.0 (omega (arith, lt)) (c.1, c.3, λ d g le there active. inner d (omega (arith, le)) (active_catches reading frames tries d g there active)) ∙ sum
-
--- none does
-pub reached_there : {T : Type 0} (reading : T → Label) (frames : List (Held T)) (target to : ℕ) → CatchByTry frames → IsTarget (map (seen_frame reading) frames) target → target ≤ to → reached to (map (seen_frame reading) frames) ≡ to
-reached_there reading frames target to tries (root is none) le =
-    none_behind (suc to) (map (seen_frame reading) frames) (suc to) to (λ d g from there active. none d (active_catches reading frames tries d g there active))
-reached_there reading frames target to tries (catching c inner) le =
-    none_behind (suc to) (map (seen_frame reading) frames) (suc to) to (λ d g from there active. inner d (omega (arith, le, from)) (active_catches reading frames tries d g there active))
+pub reached_above : {T : Type 0} (reading : T → Label) (frames : List (Held T)) (to depth : ℕ) → CatchByTry frames → IsTargetAbove (map (seen_frame reading) frames) to depth → reached to (map (seen_frame reading) frames) ≡ depth
+reached_above reading frames to depth tries (caught_above lt c inner) =
+    let sum : suc to + (depth - suc to) ≡ depth = omega (arith, lt) in
+    last_from (suc to) (map (seen_frame reading) frames) (suc to) to depth c.0 (omega (arith, lt)) (c.1, c.3, λ d g le there active. inner d (omega (arith, le)) (active_catches reading frames tries d g there active)) ∙ sum
+reached_above reading frames to depth tries (none_above is none) =
+    none_behind (suc to) (map (seen_frame reading) frames) (suc to) to (λ d g from there active. none d (omega (arith, from)) (active_catches reading frames tries d g there active)) ∙ sym is

@@ -16,16 +16,16 @@ use Rattle.es_meaning.specs.Outcomes.{Outcome, Jumps, Ends}
 use Rattle.es_meaning.specs.BuiltIns.{BuiltIns}
 use Rattle.flow_meaning.specs.Planned.{as_plan}
 use Rattle.flow_meaning.specs.Scopes.{Val, State, Halt, Jump, stopped, jump}
-use Rattle.step_world.specs.declared.world.World.{World}
-use Rattle.step_world.specs.Worlds.{state_of}
-use Rattle.step_work.specs.declared.work.Jump as work
-use Rattle.step_work.specs.declared.work.Next.{Next}
-use Rattle.step_work.specs.Going.{ComesTo, here}
-use Rattle.step_work.specs.Kept.{Kept}
-use Rattle.step_work.specs.Pending.{behind, first_or_undefined}
-use Rattle.step_work.specs.Resuming.{with_frames}
-use Rattle.step_work.specs.Shapes.{jump_of}
-use Rattle.step_work.specs.Settings.{setting_of}
+use Rattle.run_state.specs.declared.world.World.{World}
+use Rattle.run_state.specs.Worlds.{state_of}
+use Rattle.continuations.specs.declared.continuation.Jump as work
+use Rattle.continuations.specs.declared.continuation.Control.{Control}
+use Rattle.continuations.specs.Going.{ComesTo, here}
+use Rattle.continuations.specs.Kept.{Kept}
+use Rattle.continuations.specs.Pending.{behind, first_or_undefined}
+use Rattle.continuations.specs.Resuming.{with_frames}
+use Rattle.continuations.specs.Shapes.{jump_of}
+use Rattle.continuations.specs.Settings.{setting_of}
 use Rattle.native_protocol.specs.Steps.{Steps}
 
 -- what an answer says of an outcome: the jump goes on, or a rule stops the run. Want of memory says nothing
@@ -40,7 +40,7 @@ module _ {S T : Type 0} (made : S → T → Type 0) (meaning : S → T → Label
   Issues j old new result = (reading : T → Label) (v : Val) (s : State) → IsReading made meaning store reading → SaysJump reading (jump bottom (j v) (with_frames reading old s)) (j v) (with_frames reading new s) result
 
   -- a call comes to what pending work says of a jump whose value lies loose
-  abbrev pub IssuesAt : Tables → Given → BuiltIns → List FunctionCode → List Steps → work.Jump → Kept T → World T → World T → Result Next (FlowFault T) → Type 0
+  abbrev pub IssuesAt : Tables → Given → BuiltIns → List FunctionCode → List Steps → work.Jump → Kept T → World T → World T → Result Control (FlowFault T) → Type 0
   IssuesAt tables inputs set functions natives j stack old new = ComesTo made meaning store tables inputs set functions natives (λ reading told turns. behind tables inputs set functions reading stack.tasks (setting_of natives here) (as_plan One (jump bottom (jump_of j (first_or_undefined (map (read_value reading) stack.loose))) (state_of reading old told turns)))) stack new
 
   -- undefined lies alone, and depends on nothing

@@ -1,2 +1,5 @@
 pub mod Issuing
 pub mod Raising
+pub mod Parts
+pub mod Trying
+pub mod Calling

@@ -7,22 +7,22 @@ ghost use Rattle.flow_frames.specs.Held.{Belong, CatchByTry, seen_frame};
 ghost use Rattle.flow_frames.specs.Stops.{IfStop};
 ghost use Rattle.es_meaning.specs.Outcomes.{Exit};
 ghost use Rattle.flow_meaning.specs.Scopes.{Val, reached};
-ghost use Rattle.step_work.specs.Shapes.{jump_of};
-ghost use Rattle.step_work.specs.Stops.{HasStop};
+ghost use Rattle.continuations.specs.Shapes.{jump_of};
+ghost use Rattle.continuations.specs.Stops.{HasStop};
 ghost use Rattle.step_jumps.specs.Issuing.{Issues};
 
+use continuations::Jump;
 use flow_frames::{FlowFault, Frames, belonging_lasts};
 use origin_labels::Labels;
-use step_work::Jump;
 
 /// The depth of the frame that a jump reaches first which goes to the frame at a depth: what is thrown inside that is caught there.
 pub(crate) fn reached<T: Copy>(frames: &Frames<T>, to: usize) -> usize
     ensures reached { (reading : T → Label) → reached to (map (seen_frame reading) frames.now.frames) ≡ result }
     ensures catch { CatchByTry frames.now.frames }
 {
+    // that only Try frames catch
     let _count = frames.len();
-    let catching = frames.target();
-    if to < catching { catching } else { to }
+    frames.target_above(to)
 }
 
 /// The depth of the frame that a jump goes to.
@@ -62,7 +62,7 @@ fn jump_to<L: Labels>(
 }
 
 /// A jump that waited is issued again, or one that is new: it has no cause, and whatever value it takes along, the same frames are left.
-pub fn jump_again<L: Labels>(
+pub(crate) fn jump_again<L: Labels>(
     labels: &mut L,
     frames: &mut Frames<L::Label>,
     jump: Jump,

@@ -11,7 +11,7 @@ ghost use Rattle.step_jumps.specs.Raising.{is_space, leaving_by, parts_held, par
 use js_ast::{Expr, ExprKind};
 
 /// Of which jump a directive speaks.
-#[derive(Clone, Copy, Debug)]
+#[derive(Clone, Copy)]
 pub enum Spoken<'p> {
     /// A throw.
     Thrown,
@@ -22,14 +22,14 @@ pub enum Spoken<'p> {
 }
 
 /// A directive: the jump of which it speaks, and its list of origins.
-#[derive(Clone, Copy, Debug)]
+#[derive(Clone, Copy)]
 pub struct Directive<'p> {
     pub leaving: Spoken<'p>,
     pub list: &'p [u16],
 }
 
 /// The words of a directive behind `flow`.
-#[derive(Clone, Copy, Debug)]
+#[derive(Clone, Copy)]
 pub(crate) struct Words<'a> {
     /// What is raised.
     pub(crate) what: &'a [u16],

@@ -10,27 +10,27 @@ ghost use Rattle.js_ast.specs.Views.{view_name};
 ghost use Rattle.es_meaning.specs.Environments.{find_around};
 ghost use Rattle.es_meaning.specs.Evaluation.{text_of_label};
 ghost use Rattle.es_meaning.specs.BuiltIns.{BuiltIns};
-ghost use Rattle.step_world.specs.Worlds.{Grows};
-ghost use Rattle.step_work.specs.declared.work.Next.TheVariants as next;
-ghost use Rattle.step_work.specs.declared.work.Work.TheVariants as work;
-ghost use Rattle.step_work.specs.Going.{Begins, Resumes, here};
-ghost use Rattle.step_work.specs.Kept.{operands_of, scope_of, scopes_of, waiting};
-ghost use Rattle.step_work.specs.Loads.{Adds, lift, weight};
-ghost use Rattle.step_work.specs.Pending.{env_above, owns, values_of};
-ghost use Rattle.step_work.specs.Standing.{Standing};
-ghost use Rattle.step_work.specs.Stops.{HasStop};
+ghost use Rattle.run_state.specs.Worlds.{Grows};
+ghost use Rattle.continuations.specs.declared.continuation.Control.TheVariants as control;
+ghost use Rattle.continuations.specs.declared.continuation.Continuation.TheVariants as continuation;
+ghost use Rattle.continuations.specs.Going.{Begins, Resumes, here};
+ghost use Rattle.continuations.specs.Kept.{operands_of, scope_of, scopes_of, waiting};
+ghost use Rattle.continuations.specs.Loads.{Adds, lift, weight};
+ghost use Rattle.continuations.specs.Pending.{env_above, owns, values_of};
+ghost use Rattle.continuations.specs.Invariant.{Invariant};
+ghost use Rattle.continuations.specs.Stops.{HasStop};
 ghost use Rattle.step_jumps.specs.Issuing.{IsNothing, IssuesAt};
 ghost use Rattle.native_protocol.specs.Steps.{Steps};
 
 use crate::again::jump_again;
+use continuations::{Control, Jump, Stack};
 use flow_frames::FlowFault;
 use flow_text::OutOfMemory;
 use js_ast::Ident;
 use js_number::Primitive;
 use js_values::{Labelled, Value};
 use origin_labels::Labels;
-use step_work::{Jump, Next, Stack};
-use step_world::World;
+use run_state::World;
 
 /// A jump is issued whose value lies loose.
 fn issue<'p, L: Labels>(
@@ -38,10 +38,10 @@ fn issue<'p, L: Labels>(
     world: &mut World<L::Label>,
     stack: &Stack<'p, L::Label>,
     jump: Jump,
-) -> Result<Next<'p>, FlowFault<L::Label>>
-    requires standing { Standing L.made L.meaning labels.old stack.now world.old 1 (scopes_of stack.now.tasks ++ []) (waiting stack.now.tasks) next.Value }
+) -> Result<Control<'p>, FlowFault<L::Label>>
+    requires standing { Invariant L.made L.meaning labels.old stack.now world.old 1 (scopes_of stack.now.tasks ++ []) (waiting stack.now.tasks) control.Value }
     ensures issues { (tables : Tables) (inputs : Given) (set : BuiltIns) (functions : List FunctionCode) (natives : List Steps) → IssuesAt L.made L.meaning labels.new tables inputs set functions natives jump stack.now world.old world.new result }
-    ensures standing { IfOk result (λ move. Standing L.made L.meaning labels.new stack.now world.new (values_of move) (scopes_of stack.now.tasks) (waiting stack.now.tasks) move) }
+    ensures standing { IfOk result (λ move. Invariant L.made L.meaning labels.new stack.now world.new (values_of move) (scopes_of stack.now.tasks) (waiting stack.now.tasks) move) }
     ensures adds { IfOk result (Adds 4 stack.now stack.now) }
     ensures stopped { IfErr result (IfStop (HasStop (L.made labels.new))) }
     ensures grows { Grows world.old world.new }
@@ -49,7 +49,7 @@ fn issue<'p, L: Labels>(
 {
     let _stack = stack;
     jump_again(labels, &mut world.frames, jump)?;
-    Ok(Next::Jumps(jump))
+    Ok(Control::Jumps(jump))
 }
 
 /// `throw` (ECMA-262 12.13): its value goes to what catches it, or ends the run.
@@ -57,11 +57,11 @@ pub fn throw_value<'p, L: Labels>(
     labels: &mut L,
     world: &mut World<L::Label>,
     stack: &mut Stack<'p, L::Label>,
-) -> Result<Next<'p>, FlowFault<L::Label>>
-    requires standing { Standing L.made L.meaning labels.old stack.old world.old (owns work.Throw + 1) (scopes_of stack.old.tasks ++ scope_of work.Throw) (waiting stack.old.tasks) next.Value }
-    ensures resumes { (tables : Tables) (inputs : Given) (set : BuiltIns) (functions : List FunctionCode) (natives : List Steps) → Resumes L.made L.meaning labels.new tables inputs set functions work.Throw natives natives stack.old stack.new world.old world.new result }
-    ensures standing { IfOk result (λ move. Standing L.made L.meaning labels.new stack.new world.new (values_of move) (scopes_of stack.new.tasks) (waiting stack.old.tasks) move) }
-    ensures adds { IfOk result (Adds (weight work.Throw + 3) stack.old stack.new) }
+) -> Result<Control<'p>, FlowFault<L::Label>>
+    requires standing { Invariant L.made L.meaning labels.old stack.old world.old (owns continuation.Throw + 1) (scopes_of stack.old.tasks ++ scope_of continuation.Throw) (waiting stack.old.tasks) control.Value }
+    ensures resumes { (tables : Tables) (inputs : Given) (set : BuiltIns) (functions : List FunctionCode) (natives : List Steps) → Resumes L.made L.meaning labels.new tables inputs set functions continuation.Throw natives natives stack.old stack.new world.old world.new result }
+    ensures standing { IfOk result (λ move. Invariant L.made L.meaning labels.new stack.new world.new (values_of move) (scopes_of stack.new.tasks) (waiting stack.old.tasks) move) }
+    ensures adds { IfOk result (Adds (weight continuation.Throw + 3) stack.old stack.new) }
     ensures stopped { IfErr result (IfStop (HasStop (L.made labels.new))) }
     ensures grows { Grows world.old world.new }
     ensures kept { IsKept L.made L.meaning L.room L.firm labels.old labels.new }
@@ -75,12 +75,12 @@ pub fn return_value<'p, L: Labels>(
     world: &mut World<L::Label>,
     stack: &mut Stack<'p, L::Label>,
     to: usize,
-) -> Result<Next<'p>, FlowFault<L::Label>>
+) -> Result<Control<'p>, FlowFault<L::Label>>
     requires aim { (env_above stack.old.tasks here).call ≡ to }
-    requires standing { Standing L.made L.meaning labels.old stack.old world.old (owns work.Return + 1) (scopes_of stack.old.tasks ++ scope_of work.Return) (waiting stack.old.tasks) next.Value }
-    ensures resumes { (tables : Tables) (inputs : Given) (set : BuiltIns) (functions : List FunctionCode) (natives : List Steps) → Resumes L.made L.meaning labels.new tables inputs set functions work.Return natives natives stack.old stack.new world.old world.new result }
-    ensures standing { IfOk result (λ move. Standing L.made L.meaning labels.new stack.new world.new (values_of move) (scopes_of stack.new.tasks) (waiting stack.old.tasks) move) }
-    ensures adds { IfOk result (Adds (weight work.Return + 3) stack.old stack.new) }
+    requires standing { Invariant L.made L.meaning labels.old stack.old world.old (owns continuation.Return + 1) (scopes_of stack.old.tasks ++ scope_of continuation.Return) (waiting stack.old.tasks) control.Value }
+    ensures resumes { (tables : Tables) (inputs : Given) (set : BuiltIns) (functions : List FunctionCode) (natives : List Steps) → Resumes L.made L.meaning labels.new tables inputs set functions continuation.Return natives natives stack.old stack.new world.old world.new result }
+    ensures standing { IfOk result (λ move. Invariant L.made L.meaning labels.new stack.new world.new (values_of move) (scopes_of stack.new.tasks) (waiting stack.old.tasks) move) }
+    ensures adds { IfOk result (Adds (weight continuation.Return + 3) stack.old stack.new) }
     ensures stopped { IfErr result (IfStop (HasStop (L.made labels.new))) }
     ensures grows { Grows world.old world.new }
     ensures kept { IsKept L.made L.meaning L.room L.firm labels.old labels.new }
@@ -110,11 +110,11 @@ pub fn return_nothing<'p, L: Labels>(
     world: &mut World<L::Label>,
     stack: &mut Stack<'p, L::Label>,
     to: usize,
-) -> Result<Next<'p>, FlowFault<L::Label>>
+) -> Result<Control<'p>, FlowFault<L::Label>>
     requires aim { (env_above stack.old.tasks here).call ≡ to }
-    requires standing { Standing L.made L.meaning labels.old stack.old world.old (values_of next.Return) (scopes_of stack.old.tasks) (waiting stack.old.tasks) next.Return }
-    ensures begins { (tables : Tables) (inputs : Given) (set : BuiltIns) (functions : List FunctionCode) (natives : List Steps) → Begins L.made L.meaning labels.new tables inputs set functions natives natives stack.old stack.new world.old world.new next.Return result }
-    ensures standing { IfOk result (λ move. Standing L.made L.meaning labels.new stack.new world.new (values_of move) (scopes_of stack.new.tasks) (waiting stack.old.tasks) move) }
+    requires standing { Invariant L.made L.meaning labels.old stack.old world.old (values_of control.Return) (scopes_of stack.old.tasks) (waiting stack.old.tasks) control.Return }
+    ensures begins { (tables : Tables) (inputs : Given) (set : BuiltIns) (functions : List FunctionCode) (natives : List Steps) → Begins L.made L.meaning labels.new tables inputs set functions natives natives stack.old stack.new world.old world.new control.Return result }
+    ensures standing { IfOk result (λ move. Invariant L.made L.meaning labels.new stack.new world.new (values_of move) (scopes_of stack.new.tasks) (waiting stack.old.tasks) move) }
     ensures adds { IfOk result (Adds 4 stack.old stack.new) }
     ensures stopped { IfErr result (IfStop (HasStop (L.made labels.new))) }
     ensures grows { Grows world.old world.new }
@@ -132,18 +132,18 @@ pub fn leave_by<'p, L: Labels>(
     turn: bool,
     label: &'p Option<Ident>,
     aim: Option<(usize, usize)>,
-) -> Result<Next<'p>, FlowFault<L::Label>>
+) -> Result<Control<'p>, FlowFault<L::Label>>
     requires aim { aim ≡ find_around turn (text_of_label (view_name label.now)) (env_above stack.old.tasks here).around }
-    requires standing { Standing L.made L.meaning labels.old stack.old world.old (values_of (next.Break turn label)) (scopes_of stack.old.tasks) (waiting stack.old.tasks) (next.Break turn label) }
-    ensures begins { (tables : Tables) (inputs : Given) (set : BuiltIns) (functions : List FunctionCode) (natives : List Steps) → Begins L.made L.meaning labels.new tables inputs set functions natives natives stack.old stack.new world.old world.new (next.Break turn label.entry) result }
-    ensures standing { IfOk result (λ move. Standing L.made L.meaning labels.new stack.new world.new (values_of move) (scopes_of stack.new.tasks) (waiting stack.old.tasks) move) }
+    requires standing { Invariant L.made L.meaning labels.old stack.old world.old (values_of (control.Break turn label)) (scopes_of stack.old.tasks) (waiting stack.old.tasks) (control.Break turn label) }
+    ensures begins { (tables : Tables) (inputs : Given) (set : BuiltIns) (functions : List FunctionCode) (natives : List Steps) → Begins L.made L.meaning labels.new tables inputs set functions natives natives stack.old stack.new world.old world.new (control.Break turn label.entry) result }
+    ensures standing { IfOk result (λ move. Invariant L.made L.meaning labels.new stack.new world.new (values_of move) (scopes_of stack.new.tasks) (waiting stack.old.tasks) move) }
     ensures adds { IfOk result (Adds 4 stack.old stack.new) }
     ensures stopped { IfErr result (IfStop (HasStop (L.made labels.new))) }
     ensures grows { Grows world.old world.new }
     ensures kept { IsKept L.made L.meaning L.room L.firm labels.old labels.new }
 {
     let Some((count, to)) = aim else {
-        return Ok(Next::Done);
+        return Ok(Control::Done);
     };
     lay_nothing(labels, stack)?;
     issue(labels, world, stack, Jump::Leaves(count, to))

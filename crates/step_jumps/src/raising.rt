@@ -17,30 +17,30 @@ ghost use Rattle.es_meaning.specs.Outcomes.{Exit};
 ghost use Rattle.es_meaning.specs.BuiltIns.{BuiltIns};
 ghost use Rattle.flow_meaning.specs.Scopes.{State, frame_of, raise_frame};
 ghost use Rattle.flow_meaning.specs.Tracked.{named_origins, raises};
-ghost use Rattle.step_world.specs.Worlds.{Grows};
-ghost use Rattle.step_work.specs.declared.work.Next.TheVariants as next;
-ghost use Rattle.step_work.specs.declared.work.Work.TheVariants as work;
-ghost use Rattle.step_work.specs.Going.{Resumes, here};
-ghost use Rattle.step_work.specs.Kept.{scope_of, scopes_of, waiting};
-ghost use Rattle.step_work.specs.Loads.{Adds, weight};
-ghost use Rattle.step_work.specs.Pending.{env_above, owns, values_of};
-ghost use Rattle.step_work.specs.Resuming.{with_frames};
-ghost use Rattle.step_work.specs.Standing.{Standing};
-ghost use Rattle.step_work.specs.Stops.{HasStop};
+ghost use Rattle.run_state.specs.Worlds.{Grows};
+ghost use Rattle.continuations.specs.declared.continuation.Control.TheVariants as control;
+ghost use Rattle.continuations.specs.declared.continuation.Continuation.TheVariants as continuation;
+ghost use Rattle.continuations.specs.Going.{Resumes, here};
+ghost use Rattle.continuations.specs.Kept.{scope_of, scopes_of, waiting};
+ghost use Rattle.continuations.specs.Loads.{Adds, weight};
+ghost use Rattle.continuations.specs.Pending.{env_above, owns, values_of};
+ghost use Rattle.continuations.specs.Resuming.{with_frames};
+ghost use Rattle.continuations.specs.Invariant.{Invariant};
+ghost use Rattle.continuations.specs.Stops.{HasStop};
 ghost use Rattle.step_jumps.specs.Raising.{SaysRaised, leaving_by};
 ghost use Rattle.native_protocol.specs.Steps.{Steps};
 
 use crate::again::reached;
 use crate::directives::{Spoken, directive_of};
+use continuations::{Control, Reason, Stack};
 use flow_frames::{FlowFault, Frames, belonging_lasts};
 use flow_lists::{first_name, is_bare};
 use flow_policy::Policy;
 use flow_text::{OutOfMemory, Text};
 use js_ast::Expr;
 use origin_labels::{Labels, Origins};
+use run_state::World;
 use std::alloc::Global;
-use step_work::{Next, Reason, Stack};
-use step_world::World;
 
 /// A directive, behind its value, which is of no use (`directive_of` tells of which jump it speaks, and so in the frame at which depth such a jump would stop, if it has one): the origins that it names are joined to that frame's label.
 pub fn raise_by<'p, L: Labels>(
@@ -51,26 +51,26 @@ pub fn raise_by<'p, L: Labels>(
     policy: &Policy,
     e: &'p Expr,
     to: Option<usize>,
-) -> Result<Next<'p>, FlowFault<L::Label>>
+) -> Result<Control<'p>, FlowFault<L::Label>>
     requires aim { (upgrade : Upgrade) → upgrade_of (view_expr e.now) ≡ Some upgrade → to ≡ option_map (λ f. f.1) (aimed 0 upgrade.leaving (env_above stack.old.tasks here)) }
     requires room { length policy.now.origins ≤ L.room labels.old }
-    requires standing { Standing L.made L.meaning labels.old stack.old world.old (owns (work.Raise e) + 1) (scopes_of stack.old.tasks ++ scope_of (work.Raise e)) (waiting stack.old.tasks) next.Value }
-    ensures resumes { (inputs : Given) (set : BuiltIns) (functions : List FunctionCode) (natives : List Steps) → Resumes L.made L.meaning labels.new policy.now inputs set functions (work.Raise e.entry) natives natives stack.old stack.new world.old world.new result }
-    ensures standing { IfOk result (λ move. Standing L.made L.meaning labels.new stack.new world.new (values_of move) (scopes_of stack.new.tasks) (waiting stack.old.tasks) move) }
-    ensures adds { IfOk result (Adds (weight (work.Raise e.entry) + 3) stack.old stack.new) }
+    requires standing { Invariant L.made L.meaning labels.old stack.old world.old (owns (continuation.Raise e) + 1) (scopes_of stack.old.tasks ++ scope_of (continuation.Raise e)) (waiting stack.old.tasks) control.Value }
+    ensures resumes { (inputs : Given) (set : BuiltIns) (functions : List FunctionCode) (natives : List Steps) → Resumes L.made L.meaning labels.new policy.now inputs set functions (continuation.Raise e.entry) natives natives stack.old stack.new world.old world.new result }
+    ensures standing { IfOk result (λ move. Invariant L.made L.meaning labels.new stack.new world.new (values_of move) (scopes_of stack.new.tasks) (waiting stack.old.tasks) move) }
+    ensures adds { IfOk result (Adds (weight (continuation.Raise e.entry) + 3) stack.old stack.new) }
     ensures stopped { IfErr result (IfStop (HasStop (L.made labels.new))) }
     ensures grows { Grows world.old world.new }
     ensures kept { IsKept L.made L.meaning L.room L.firm labels.old labels.new }
 {
     stack.clear(1);
     let Some(directive) = directive_of(e) else {
-        return Ok(Next::Done);
+        return Ok(Control::Done);
     };
     let Some(label) = origins_in(alloc, labels, policy, directive.list)? else {
-        return Ok(Next::Leave(Reason::Origin));
+        return Ok(Control::Leave(Reason::Origin));
     };
     raise_at(labels, &mut world.frames, directive.leaving, to, label)?;
-    Ok(Next::Done)
+    Ok(Control::Done)
 }
 
 /// Raises the frame of which a directive speaks, if there is one.

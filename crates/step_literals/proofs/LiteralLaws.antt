@@ -39,24 +39,24 @@ use Rattle.flow_meaning.specs.Scopes.{Val, State, Halt, Jump, LabelledLine}
 use Rattle.flow_meaning.specs.Tracked.{act, make_function, make_object}
 use Rattle.step_objects.specs.declared.literals.LiteralPart.{LiteralPart}
 use Rattle.step_objects.specs.Literals.{keys_in, kind_of, values_in}
-use Rattle.step_world.specs.declared.world.World.{World}
-use Rattle.step_world.specs.Worlds.{state_of}
-use Rattle.step_work.specs.declared.objects.Part.TheVariants as part
-use Rattle.step_work.specs.declared.work.Next.{Next}
-use Rattle.step_work.specs.declared.work.Next.TheVariants as next
-use Rattle.step_work.specs.declared.work.Work.TheVariants as work
+use Rattle.run_state.specs.declared.world.World.{World}
+use Rattle.run_state.specs.Worlds.{state_of}
+use Rattle.continuations.specs.declared.objects.Part.TheVariants as part
+use Rattle.continuations.specs.declared.continuation.Control.{Control}
+use Rattle.continuations.specs.declared.continuation.Control.TheVariants as control
+use Rattle.continuations.specs.declared.continuation.Continuation.TheVariants as continuation
 use Rattle.js_number.specs.declared.primitive.Primitive.{Primitive}
 use Rattle.js_values.specs.declared.value.Value.TheVariants as value
-use Rattle.step_work.proofs.Handed.{laid_value}
-use Rattle.step_work.specs.Kept.{Kept}
-use Rattle.step_work.specs.Literals.{IsPart, literal_act, literal_from}
-use Rattle.step_work.specs.Moving.{BeginsAnywhere, following}
-use Rattle.step_work.specs.Pending.{Task, after, behind, next_plan, setting_above}
-use Rattle.step_work.specs.Settings.{Setting, entrance}
-use Rattle.step_work.proofs.Steps.{values_more}
-use Rattle.step_moves.specs.Moving.{Begun}
-use Rattle.step_moves.proofs.Begun.{moves_as}
-use Rattle.step_moves.proofs.Plans.{given_follows}
+use Rattle.continuations.proofs.Handed.{laid_value}
+use Rattle.continuations.specs.Kept.{Kept}
+use Rattle.continuations.specs.Literals.{IsPart, literal_act, literal_from}
+use Rattle.continuations.specs.Moving.{BeginsAnywhere, following}
+use Rattle.continuations.specs.Pending.{Task, after, behind, next_plan, setting_above}
+use Rattle.continuations.specs.Settings.{Setting, entrance}
+use Rattle.continuations.proofs.Steps.{values_more}
+use Rattle.step_references.specs.Moving.{Begun}
+use Rattle.step_references.proofs.Begun.{moves_as}
+use Rattle.step_references.proofs.Plans.{given_follows}
 use Rattle.step_literals.specs.Building.{AreParts, Building, Builds, Laid, Made, kind_in, part_in, parts_from}
 
 -- ---- parts beyond the values, and values beyond the parts, make nothing
@@ -164,14 +164,14 @@ parts_have made ps vs parts are all = all_values made parts (subst (All (HasValu
 -- ---- values that stand in the script
 
 pub begun_literal : {S T : Type 0} {made : S → T → Type 0} {meaning : S → T → Label} {store : S} (old new : Kept T) (v : Primitive) (label : T) → length old.loose ≡ 0 → new.tasks ≡ old.tasks → new.loose ≡ old.loose ++ record { value = value.Primitive v; label = label } ∷ [] → made store label → meaning store label ≡ bottom
-    → BeginsAnywhere made meaning store (λ tables inputs set functions e s. Give (gave ((planned tables inputs set functions).literal v)) s) old new next.Value
+    → BeginsAnywhere made meaning store (λ tables inputs set functions e s. Give (gave ((planned tables inputs set functions).literal v)) s) old new control.Value
 begun_literal old new v label none tasks laid m is tables inputs set functions reading e s read =
     laid_value old new (record { value = value.Primitive v; label = label }) none tasks laid tables inputs set functions reading e s
     ∙ ap (λ (l : Label). behind tables inputs set functions reading old.tasks e (Give (gave (record { value = value.Primitive v; label = l })) s)) (read.agrees label m ∙ is)
 
 -- a value is evaluated, and then those of the parts behind it
 pub value_as : (tables : Tables) (inputs : Given) (set : BuiltIns) (functions : List FunctionCode) (list : Bor (NodeList node.Property)) (count : ℕ) (x : Bor code.Expr) (vs : List Val) (f : Setting) (s : State) → IsPart (part.Value x) list.now count
-    → and_plan (next_plan tables inputs set functions (next.Expr x) [] f s) (after tables inputs set functions (work.Property list count) vs f) ≡ literal_from list.now count tables inputs set functions vs f s
+    → and_plan (next_plan tables inputs set functions (control.Expr x) [] f s) (after tables inputs set functions (continuation.Property list count) vs f) ≡ literal_from list.now count tables inputs set functions vs f s
 value_as tables inputs set functions list count x vs f s here = sym (here tables inputs set functions (literal_act list.now) vs f.env.place s)
 
 -- ---- the loop
@@ -198,7 +198,7 @@ module _ {S T : Type 0} {made : S → T → Type 0} {meaning : S → T → Label
   }
 
   -- what is done from a part on was to be done from the first on
-  pub builds_from : {store : S} {list : NodeList node.Property} {old middle new : Kept T} {world_old world_mid world_new : World T} {result : Result Next (FlowFault T)} (room : S → ℕ) (firm : S → Bool) (earlier : S) (count now : ℕ) → IsKept made meaning room firm earlier store → middle.tasks ≡ old.tasks
+  pub builds_from : {store : S} {list : NodeList node.Property} {old middle new : Kept T} {world_old world_mid world_new : World T} {result : Result Control (FlowFault T)} (room : S → ℕ) (firm : S → Bool) (earlier : S) (count now : ℕ) → IsKept made meaning room firm earlier store → middle.tasks ≡ old.tasks
       → Made made meaning earlier functions place list count now old.loose middle.loose world_old world_mid
       → Begun made meaning store (λ tables inputs set functions reading e. literal_from list now tables inputs set functions (map (read_value reading) middle.loose) e) middle new world_mid world_new result
       → Builds made meaning store functions place (λ tables inputs set reading e. literal_from list count tables inputs set functions (map (read_value reading) old.loose) e) old new world_old world_new result

@@ -24,13 +24,13 @@ use Rattle.step_objects.specs.declared.literals.LiteralPart.{LiteralPart}
 use Rattle.step_objects.specs.Literals.{keys_in}
 use Rattle.flow_meaning.specs.Planned.{Plan, asking, planned}
 use Rattle.flow_meaning.specs.Scopes.{State, LabelledLine}
-use Rattle.step_world.specs.declared.world.World.{World}
-use Rattle.step_world.specs.Worlds.{state_of}
-use Rattle.step_work.specs.declared.work.Next.{Next}
-use Rattle.step_work.specs.Kept.{Kept}
-use Rattle.step_work.specs.Moving.{Moves}
-use Rattle.step_work.specs.Pending.{behind, setting_above}
-use Rattle.step_work.specs.Settings.{Setting, entrance}
+use Rattle.run_state.specs.declared.world.World.{World}
+use Rattle.run_state.specs.Worlds.{state_of}
+use Rattle.continuations.specs.declared.continuation.Control.{Control}
+use Rattle.continuations.specs.Kept.{Kept}
+use Rattle.continuations.specs.Moving.{Moves}
+use Rattle.continuations.specs.Pending.{behind, setting_above}
+use Rattle.continuations.specs.Settings.{Setting, entrance}
 
 -- a plan with the functions of one table
 abbrev pub Building : Type 0 → Type 0
@@ -38,7 +38,7 @@ Building T = Tables → Given → BuiltIns → (T → Label) → Setting → Sta
 
 module _ {S T : Type 0} (made : S → T → Type 0) (meaning : S → T → Label) (store : S) (functions : List FunctionCode) (place : ℕ) where
   -- a call comes to what a plan says, in this record
-  pub record Builds (plan : Building T) (old new : Kept T) (world_old world_new : World T) (result : Result Next (FlowFault T)) : Type 0 where
+  pub record Builds (plan : Building T) (old new : Kept T) (world_old world_new : World T) (result : Result Control (FlowFault T)) : Type 0 where
     pub builds : (tables : Tables) (inputs : Given) (set : BuiltIns) (reading : T → Label) (e : Setting) (told : List LabelledLine) (turns : ℕ) → IsReading made meaning store reading → (setting_above old.tasks e).env.place ≡ place
         → Moves tables inputs set functions reading new e (state_of reading world_new told turns) (behind tables inputs set functions reading old.tasks e (plan tables inputs set reading (setting_above old.tasks e) (state_of reading world_old told turns))) result
 

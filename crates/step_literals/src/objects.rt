@@ -8,28 +8,28 @@ ghost use Rattle.js_ast.specs.Views.{view_function};
 ghost use Rattle.js_values.specs.Readings.{HasValue, read_value};
 ghost use Rattle.flow_meaning.specs.Planned.{planned};
 ghost use Rattle.function_table.specs.Tables.{table};
-ghost use Rattle.step_world.specs.Worlds.{Belongs, Grows};
-ghost use Rattle.step_work.specs.declared.objects.Part.TheVariants as part;
-ghost use Rattle.step_work.specs.declared.work.Next.TheVariants as next;
-ghost use Rattle.step_work.specs.Literals.{IsPart, literal_act, literal_from};
-ghost use Rattle.step_work.specs.Pending.{next_plan};
-ghost use Rattle.step_work.specs.Stops.{HasStop};
-ghost use Rattle.step_moves.specs.Moving.{Begun, Moved};
+ghost use Rattle.run_state.specs.Worlds.{Belongs, Grows};
+ghost use Rattle.continuations.specs.declared.objects.Part.TheVariants as part;
+ghost use Rattle.continuations.specs.declared.continuation.Control.TheVariants as control;
+ghost use Rattle.continuations.specs.Literals.{IsPart, literal_act, literal_from};
+ghost use Rattle.continuations.specs.Pending.{next_plan};
+ghost use Rattle.continuations.specs.Stops.{HasStop};
+ghost use Rattle.step_references.specs.Moving.{Begun, Moved};
 ghost use Rattle.step_literals.specs.Building.{Builds, Laid};
 
 use crate::parts::parts_of;
+use continuations::{Continuation, Control, Part, Stack, part_at};
 use flow_frames::FlowFault;
 use flow_text::OutOfMemory;
+use function_entry::make_function;
 use function_table::Functions;
 use js_ast::{Expr, Function, PropertyList};
 use js_values::{EnvId, Labelled, Value};
 use origin_labels::Labels;
+use run_state::World;
 use std::alloc::Global;
-use step_entries::make_function;
-use step_moves::settle;
 use step_objects::make_object;
-use step_work::{Next, Part, Stack, Work, part_at};
-use step_world::World;
+use step_references::hand_on;
 
 /// The parts of a literal from one on, behind the values of those before it: getters and setters are made up to a value, which is evaluated next, or up to the end.
 pub fn object<'p, L: Labels>(
@@ -41,11 +41,11 @@ pub fn object<'p, L: Labels>(
     at: EnvId,
     list: &'p PropertyList,
     count: u32,
-) -> Result<Next<'p>, FlowFault<L::Label>>
+) -> Result<Control<'p>, FlowFault<L::Label>>
     requires loose { length stack.old.loose ≡ count }
     requires made { All (HasValue (L.made labels.old)) stack.old.loose }
     requires belongs { Belongs L.made L.meaning labels.old world.old }
-    ensures goes_on { Builds L.made L.meaning labels.new (table functions.now) at.0 (λ tables inputs set reading e. next_plan tables inputs set (table functions.now) (next.Object list.entry count) (map (read_value reading) stack.old.loose) e) stack.old stack.new world.old world.new result }
+    ensures goes_on { Builds L.made L.meaning labels.new (table functions.now) at.0 (λ tables inputs set reading e. next_plan tables inputs set (table functions.now) (control.Object list.entry count) (map (read_value reading) stack.old.loose) e) stack.old stack.new world.old world.new result }
     ensures moved { IfOk result (Moved (L.made labels.new) 4 stack.old stack.new world.old world.new) }
     ensures stopped { IfErr result (IfStop (HasStop (L.made labels.new))) }
     ensures belongs { Belongs L.made L.meaning labels.new world.new }
@@ -103,15 +103,15 @@ fn begin_value<'p, L: Labels>(
     list: &'p PropertyList,
     count: u32,
     value: &'p Expr,
-) -> Result<Next<'p>, OutOfMemory>
+) -> Result<Control<'p>, OutOfMemory>
     requires loose { length stack.old.loose ≡ count }
     requires made { All (HasValue (L.made labels.now)) stack.old.loose }
     requires part { IsPart (part.Value value) list.now count }
     ensures goes_on { IfOk result (λ next. Begun L.made L.meaning labels.now (λ tables inputs set functions reading e. literal_from list.entry.now count tables inputs set functions (map (read_value reading) stack.old.loose) e) stack.old stack.new world.now world.now (Ok next)) }
     ensures moved { IfOk result (Moved (L.made labels.now) 4 stack.old stack.new world.now world.now) }
 {
-    stack.push(Work::Property(list, count))?;
-    Ok(Next::Expr(value))
+    stack.push(Continuation::Property(list, count))?;
+    Ok(Control::Expr(value))
 }
 
 /// The object of a literal with the values of all its parts.
@@ -122,7 +122,7 @@ fn build<'p, L: Labels>(
     stack: &mut Stack<'p, L::Label>,
     list: &'p PropertyList,
     count: u32,
-) -> Result<Next<'p>, FlowFault<L::Label>>
+) -> Result<Control<'p>, FlowFault<L::Label>>
     requires loose { length stack.old.loose ≡ count }
     requires made { All (HasValue (L.made labels.old)) stack.old.loose }
     requires belongs { Belongs L.made L.meaning labels.old world.old }
@@ -137,5 +137,5 @@ fn build<'p, L: Labels>(
     let parts = parts_of(alloc, list.items(), stack.loose(count))?;
     stack.clear(count);
     let answer = make_object(labels, world, parts);
-    settle(labels, stack, answer)
+    hand_on(labels, stack, answer)
 }

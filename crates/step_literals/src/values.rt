@@ -2,26 +2,26 @@
 
 ghost use Rattle.std.specs.Prelude.{◌≡◌, [], length, IfOk};
 ghost use Rattle.flow_meaning.specs.Planned.{Give, gave, planned};
-ghost use Rattle.step_work.specs.declared.work.Next.TheVariants as next;
-ghost use Rattle.step_work.specs.Pending.{next_plan};
-ghost use Rattle.step_work.specs.Loads.{Adds};
-ghost use Rattle.step_work.specs.Moving.{BeginsAnywhere, Rests};
+ghost use Rattle.continuations.specs.declared.continuation.Control.TheVariants as control;
+ghost use Rattle.continuations.specs.Pending.{next_plan};
+ghost use Rattle.continuations.specs.Loads.{Adds};
+ghost use Rattle.continuations.specs.Moving.{BeginsAnywhere, Rests};
 
+use continuations::{Control, Stack};
 use flow_text::{OutOfMemory, Text};
 use js_number::{Int, Primitive};
 use js_values::{Labelled, Value};
 use origin_labels::Labels;
 use std::alloc::Global;
-use step_work::{Next, Stack};
 
 /// A number that stands in the script.
 pub fn number<'p, L: Labels>(
     labels: &L,
     stack: &mut Stack<'p, L::Label>,
     n: &'p Int,
-) -> Result<Next<'p>, OutOfMemory>
+) -> Result<Control<'p>, OutOfMemory>
     requires loose { length stack.old.loose ≡ 0 }
-    ensures goes_on { IfOk result (BeginsAnywhere L.made L.meaning labels.now (λ tables inputs set functions e. next_plan tables inputs set functions (next.Number n.entry) [] e) stack.old stack.new) }
+    ensures goes_on { IfOk result (BeginsAnywhere L.made L.meaning labels.now (λ tables inputs set functions e. next_plan tables inputs set functions (control.Number n.entry) [] e) stack.old stack.new) }
     ensures rests { IfOk result (Rests (L.made labels.now) stack.old stack.new) }
     ensures adds { IfOk result (Adds 4 stack.old stack.new) }
 {
@@ -34,9 +34,9 @@ pub fn text<'p, L: Labels>(
     labels: &L,
     stack: &mut Stack<'p, L::Label>,
     units: &'p Text,
-) -> Result<Next<'p>, OutOfMemory>
+) -> Result<Control<'p>, OutOfMemory>
     requires loose { length stack.old.loose ≡ 0 }
-    ensures goes_on { IfOk result (BeginsAnywhere L.made L.meaning labels.now (λ tables inputs set functions e. next_plan tables inputs set functions (next.Text units.entry) [] e) stack.old stack.new) }
+    ensures goes_on { IfOk result (BeginsAnywhere L.made L.meaning labels.now (λ tables inputs set functions e. next_plan tables inputs set functions (control.Text units.entry) [] e) stack.old stack.new) }
     ensures rests { IfOk result (Rests (L.made labels.now) stack.old stack.new) }
     ensures adds { IfOk result (Adds 4 stack.old stack.new) }
 {
@@ -49,9 +49,9 @@ pub fn boolean<'p, L: Labels>(
     labels: &L,
     stack: &mut Stack<'p, L::Label>,
     b: bool,
-) -> Result<Next<'p>, OutOfMemory>
+) -> Result<Control<'p>, OutOfMemory>
     requires loose { length stack.old.loose ≡ 0 }
-    ensures goes_on { IfOk result (BeginsAnywhere L.made L.meaning labels.now (λ tables inputs set functions e. next_plan tables inputs set functions (next.Bool b) [] e) stack.old stack.new) }
+    ensures goes_on { IfOk result (BeginsAnywhere L.made L.meaning labels.now (λ tables inputs set functions e. next_plan tables inputs set functions (control.Bool b) [] e) stack.old stack.new) }
     ensures rests { IfOk result (Rests (L.made labels.now) stack.old stack.new) }
     ensures adds { IfOk result (Adds 4 stack.old stack.new) }
 {
@@ -62,9 +62,9 @@ pub fn boolean<'p, L: Labels>(
 pub fn null<'p, L: Labels>(
     labels: &L,
     stack: &mut Stack<'p, L::Label>,
-) -> Result<Next<'p>, OutOfMemory>
+) -> Result<Control<'p>, OutOfMemory>
     requires loose { length stack.old.loose ≡ 0 }
-    ensures goes_on { IfOk result (BeginsAnywhere L.made L.meaning labels.now (λ tables inputs set functions e. next_plan tables inputs set functions next.Null [] e) stack.old stack.new) }
+    ensures goes_on { IfOk result (BeginsAnywhere L.made L.meaning labels.now (λ tables inputs set functions e. next_plan tables inputs set functions control.Null [] e) stack.old stack.new) }
     ensures rests { IfOk result (Rests (L.made labels.now) stack.old stack.new) }
     ensures adds { IfOk result (Adds 4 stack.old stack.new) }
 {
@@ -76,7 +76,7 @@ fn literal<'p, L: Labels>(
     labels: &L,
     stack: &mut Stack<'p, L::Label>,
     value: Primitive,
-) -> Result<Next<'p>, OutOfMemory>
+) -> Result<Control<'p>, OutOfMemory>
     requires loose { length stack.old.loose ≡ 0 }
     ensures goes_on { IfOk result (BeginsAnywhere L.made L.meaning labels.now (λ tables inputs set functions e s. Give (gave ((planned tables inputs set functions).literal value)) s) stack.old stack.new) }
     ensures rests { IfOk result (Rests (L.made labels.now) stack.old stack.new) }
@@ -86,5 +86,5 @@ fn literal<'p, L: Labels>(
         value: Value::Primitive(value),
         label: labels.bottom(),
     })?;
-    Ok(Next::Value)
+    Ok(Control::Value)
 }

@@ -43,15 +43,15 @@ use Rattle.flow_meaning.specs.Tracked.{Reference, accessed, given, has_value, is
 use Rattle.flow_meaning.specs.Planned.{Ask, Give, a_stmt, a_use, an_expr, and_go, and_plan, as_plan, asking, completed, convert_by, enter_access, enter_putting, gave, meaning, perform, plan, planned, with_outcome, with_result}
 use Rattle.flow_meaning.proofs.Depth.{is_performed}
 use Rattle.flow_meaning.proofs.Performing.{perform_asked}
-use Rattle.step_world.specs.declared.world.World.{World}
-use Rattle.step_world.specs.Worlds.{Belongs, state_of}
-use Rattle.step_world.proofs.ActLaws.{Belongs-later, Grows-refl}
-use Rattle.step_names.proofs.ObjectLaws.{Belongs-heap, with_heap}
-use Rattle.step_names.proofs.PutLaws.{Belongs-records, put_done, with_records}
+use Rattle.run_state.specs.declared.world.World.{World}
+use Rattle.run_state.specs.Worlds.{Belongs, state_of}
+use Rattle.run_state.proofs.ActLaws.{Belongs-later, Grows-refl}
+use Rattle.property_access.proofs.ObjectLaws.{Belongs-heap, with_heap}
+use Rattle.property_access.proofs.PutLaws.{Belongs-records, put_done, with_records}
 use Rattle.js_values.proofs.ReadingLaws.{IsReading-earlier}
 use Rattle.step_values.specs.Converted.{converts}
-use Rattle.step_work.specs.Shapes.{step_of}
-use Rattle.step_work.specs.Settings.{entrance}
+use Rattle.continuations.specs.Shapes.{step_of}
+use Rattle.continuations.specs.Settings.{entrance}
 use Rattle.step_numbers.specs.Assigned.{Finishes, Gives, Puts, PutsAt, Rebinds}
 use Rattle.step_numbers.specs.Evaluated.{Evaluates, labelled_number}
 use Rattle.step_numbers.specs.Named.{IsNamed}

@@ -28,10 +28,10 @@ use Rattle.object_heap.specs.Acts as heap_acts
 use Rattle.object_heap.specs.Answers.{Acts}
 use Rattle.object_heap.specs.Formed.{own_in}
 use Rattle.object_heap.proofs.ReadLaws.{read_own}
-use Rattle.step_world.specs.declared.world.World.{World}
-use Rattle.step_world.specs.Worlds.{Belongs}
-use Rattle.step_names.proofs.NameLaws.{name_has}
-use Rattle.step_names.proofs.Reading.{read_bound_in, read_frames}
+use Rattle.run_state.specs.declared.world.World.{World}
+use Rattle.run_state.specs.Worlds.{Belongs}
+use Rattle.property_access.proofs.NameLaws.{name_has}
+use Rattle.property_access.proofs.Reading.{read_bound_in, read_frames}
 use Rattle.step_numbers.specs.Assigned.{changes, changes_at, changes_binding, changes_global, context_of, covers, written_in}
 use Rattle.step_numbers.specs.Evaluated.{global_in}
 use Rattle.step_numbers.proofs.GlobalLaws.{own_made, written_slot}

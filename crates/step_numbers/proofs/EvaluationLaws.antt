@@ -26,13 +26,13 @@ use Rattle.flow_meaning.specs.Tracked.{accessed, given, has_value, resolved}
 use Rattle.flow_meaning.specs.Planned.{Ask, Give, Part, Plan, an_expr, and_go, as_plan, asking, completed, enter_access, gave, meaning, perform, plan, planned, with_outcome, with_result}
 use Rattle.flow_meaning.proofs.Depth.{is_performed}
 use Rattle.flow_meaning.proofs.Performing.{perform_asked}
-use Rattle.step_world.specs.declared.world.World.{World}
-use Rattle.step_world.specs.Worlds.{state_of}
+use Rattle.run_state.specs.declared.world.World.{World}
+use Rattle.run_state.specs.Worlds.{state_of}
 use Rattle.step_values.specs.Converted.{converts, is_keyed}
 use Rattle.step_values.proofs.ConvertedLaws.{operands_as_they_are}
-use Rattle.step_work.specs.Shapes.{evaluates_both}
-use Rattle.step_work.proofs.Steps.{both_operands}
-use Rattle.step_work.specs.Settings.{entrance}
+use Rattle.continuations.specs.Shapes.{evaluates_both}
+use Rattle.continuations.proofs.Steps.{both_operands}
+use Rattle.continuations.specs.Settings.{entrance}
 use Rattle.step_numbers.specs.declared.evaluating.Counted.{Counted}
 use Rattle.step_numbers.specs.Evaluated.{Evaluates, labelled_number}
 use Rattle.step_numbers.specs.Named.{IsNamed}

@@ -24,7 +24,7 @@ use Rattle.js_values.specs.declared.value.Value.TheVariants as value
 use Rattle.js_values.specs.Chains.{beginning, onwards, chain_within}
 use Rattle.js_values.specs.Objects.{Object, Rows, number_of, own}
 use Rattle.js_values.specs.Readings.{HasHeap, HasObject, HasRecords, HasSlot, IsReading, read_heap, read_object, read_records, read_slot, read_value}
-use Rattle.js_values.specs.Records.{Record, bound_in, lookup}
+use Rattle.js_values.specs.Records.{Binding, Record, bound_in, lookup}
 use Rattle.js_values.specs.Walks.{Found, find, found_at, object_chain}
 use Rattle.js_values.proofs.ReadingLaws.{IsReading-earlier}
 use Rattle.object_heap.specs.declared.shape.Shape.{Shape}
@@ -38,17 +38,26 @@ use Rattle.es_meaning.specs.Outcomes.{Goes}
 use Rattle.es_meaning.specs.Plain.{in_record, on_global, place_beyond, place_from}
 use Rattle.flow_meaning.specs.Scopes.{State, Val}
 use Rattle.flow_meaning.specs.Tracked.{accessed, acted, found_globally, global_value, global_walk, has_value, held, is_element_of, is_put, named, of_name, put, put_by, put_named, put_on, put_value, resolved, walk_from}
-use Rattle.step_world.specs.declared.world.World.{World}
-use Rattle.step_world.specs.Worlds.{Belongs, state_of}
-use Rattle.step_names.specs.Elements.{element_in}
-use Rattle.step_names.proofs.NameLaws.{name_has, name_read}
-use Rattle.step_names.proofs.ObjectLaws.{with_heap}
-use Rattle.step_names.proofs.PlanLaws.{read_element}
-use Rattle.step_names.proofs.Reading.{read_frames, read_lookup}
+use Rattle.run_state.specs.declared.world.World.{World}
+use Rattle.run_state.specs.Worlds.{Belongs, state_of}
+use Rattle.property_access.specs.Elements.{element_in}
+use Rattle.property_access.proofs.NameLaws.{name_has, name_read}
+use Rattle.property_access.proofs.ObjectLaws.{with_heap}
+use Rattle.property_access.proofs.PlanLaws.{read_element}
+use Rattle.property_access.proofs.Reading.{read_frames, read_lookup}
 use Rattle.step_numbers.specs.declared.evaluating.Counted.{Counted}
 use Rattle.step_numbers.specs.Assigned.{Puts, PutsAt, array_in, if_data, is_array, slot_there, written_in}
 use Rattle.step_numbers.specs.Evaluated.{global_in, labelled_number}
 use Rattle.step_numbers.specs.Named.{IsHeld, IsNamed}
+
+-- the value of a binding that is found at a place
+pub value_bound : {T : Type 0} {found bound : Option (Binding (Labelled T))} {v : Labelled T} → found ≡ bound → option_map (λ b. b.value) found ≡ Some v → option_map (λ b. b.value) bound ≡ Some v
+value_bound same is = ap (option_map (λ b. b.value)) (sym same) ∙ is
+
+-- the number of a value that a name is bound to
+pub number_found : {T : Type 0} (result : Option (Counted T)) (v : Labelled T) (bound : Option (Labelled T)) → bound ≡ Some v → IfSome result (λ c. labelled_number c.number c.label ≡ v) → IfSome result (λ c. Some (labelled_number c.number c.label) ≡ bound)
+number_found None v bound is found = tt
+number_found (Some c) v bound is found = ap Some found ∙ sym is
 
 -- ---- an object that has a property itself
 

@@ -7,7 +7,7 @@ use Rattle.js_ast.specs.declared.operators.BinaryOperator.{BinaryOperator}
 use Rattle.js_ast.specs.declared.operators.BinaryOperator.TheVariants as binary_operator
 use Rattle.js_ast.specs.Trees as trees
 use Rattle.js_ast.specs.Trees.{Expr, Semi, Statement}
-use Rattle.step_world.specs.declared.world.World.{World}
+use Rattle.run_state.specs.declared.world.World.{World}
 use Rattle.step_numbers.specs.Assigned.{assigned_at, changes, counted_by, finished_at, given_by, if_changes, number_of, number_of_name}
 use Rattle.step_numbers.specs.Evaluated.{Left, and_left, combined_of, combines, left_with}
 

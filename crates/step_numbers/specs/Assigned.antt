@@ -28,9 +28,9 @@ use Rattle.js_values.specs.declared.property.Slot.{Slot}
 use Rattle.js_values.specs.Objects.{Object}
 use Rattle.object_heap.specs.Formed.{own_in}
 use Rattle.flow_meaning.specs.Tracked.{is_put, put_named, put_value, resolved}
-use Rattle.step_world.specs.declared.world.World.{World}
-use Rattle.step_world.specs.Worlds.{Belongs, Grows, state_of}
-use Rattle.step_work.specs.Shapes.{step_of}
+use Rattle.run_state.specs.declared.world.World.{World}
+use Rattle.run_state.specs.Worlds.{Belongs, Grows, state_of}
+use Rattle.continuations.specs.Shapes.{step_of}
 use Rattle.step_numbers.specs.Evaluated.{Left, and_left, combined_of, global_in, left_with, name_number, number_at}
 
 -- in the record with this number an expression comes to a value, with so many turns before it and so many behind it, and leaves another world: in each

@@ -29,8 +29,8 @@ use Rattle.es_meaning.specs.Outcomes.{Goes}
 use Rattle.es_meaning.specs.Start.{global_object}
 use Rattle.flow_meaning.specs.Scopes.{LabelledLine}
 use Rattle.flow_meaning.specs.Planned.{an_expr, meaning}
-use Rattle.step_world.specs.declared.world.World.{World}
-use Rattle.step_world.specs.Worlds.{state_of}
+use Rattle.run_state.specs.declared.world.World.{World}
+use Rattle.run_state.specs.Worlds.{state_of}
 
 -- the operators that compare two numbers
 abbrev pub compares : BinaryOperator → Bool

@@ -9,8 +9,8 @@ use Rattle.es_meaning.specs.Outcomes.{Goes}
 use Rattle.es_meaning.specs.Plain.{on_global}
 use Rattle.flow_meaning.specs.Scopes.{State, LabelledLine}
 use Rattle.flow_meaning.specs.Tracked.{accessed, global_walk, has_value, named, resolved}
-use Rattle.step_world.specs.declared.world.World.{World}
-use Rattle.step_world.specs.Worlds.{state_of}
+use Rattle.run_state.specs.declared.world.World.{World}
+use Rattle.run_state.specs.Worlds.{state_of}
 use Rattle.step_numbers.specs.Evaluated.{global_in}
 
 -- the name, looked for from this record on, has the value, and its reading changes nothing: in each reading that agrees with the store

@@ -15,8 +15,8 @@ ghost use Rattle.native_protocol.specs.declared.request.Seen.TheVariants as seen
 ghost use Rattle.object_heap.specs.Formed.{own_in};
 ghost use Rattle.es_meaning.specs.Evaluation.{operator_of};
 ghost use Rattle.es_meaning.specs.Operators.{binary_of, unary_of};
-ghost use Rattle.step_world.specs.Worlds.{Belongs};
-ghost use Rattle.step_work.specs.Shapes.{step_of};
+ghost use Rattle.run_state.specs.Worlds.{Belongs};
+ghost use Rattle.continuations.specs.Shapes.{step_of};
 ghost use Rattle.step_numbers.specs.Assigned.{Finishes, Gives, Puts, PutsAt, Rebinds, array_in, assigned_at, changes, changes_binding, changes_global, context_of, counted_by, finished_at, given_by, if_changes, is_array, name_in, slot_written, written_in};
 ghost use Rattle.es_meaning.specs.Plain.{in_record, on_global};
 ghost use Rattle.step_numbers.specs.Evaluated.{as_value, combined_of, global_in, labelled_number};
@@ -29,7 +29,7 @@ use js_ast::{AssignOperator, BinaryOperator, Expr, ExprKind, PostfixOperator, St
 use js_number::{Int, Primitive};
 use js_values::{Body, Class, EnvId, Labelled, Slot, Value};
 use origin_labels::Labels;
-use step_world::World;
+use run_state::World;
 
 /// Evaluates an expression in a record, where it gives a name a number that can be changed: what is assigned is made of names, numbers, parentheses and arithmetic, it isn't deep, and there are turns for it. Where that would throw, stop the run or want memory, it isn't done, and nothing but the store of labels changes.
 pub fn assign<L: Labels>(

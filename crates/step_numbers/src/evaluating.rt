@@ -1,18 +1,17 @@
 //! Expressions of names and numbers.
 
-ghost use Rattle.std.specs.Prelude.{◌≡◌, ◌<◌, ℕ, true, Ok, Some, IfSome, IsSome, length, slice_get};
+ghost use Rattle.std.specs.Prelude.{◌≡◌, ◌<◌, ℕ, true, Ok, Some, IfSome, length};
 ghost use Rattle.std.specs.Option.{option_map};
 ghost use Rattle.origin_labels.specs.Stores.{IsKept};
 ghost use Rattle.js_ast.specs.Trees as trees;
 ghost use Rattle.js_ast.specs.Views.{view_expr};
 ghost use Rattle.js_values.specs.declared.property.Body.TheVariants.{Data};
-ghost use Rattle.step_world.specs.Worlds.{Belongs};
-ghost use Rattle.js_values.specs.Records.{bound_in};
+ghost use Rattle.run_state.specs.Worlds.{Belongs};
 ghost use Rattle.js_number.specs.declared.primitive.Primitive.TheVariants as prims;
 ghost use Rattle.origin_labels.specs.Label.{union};
 ghost use Rattle.js_values.specs.declared.value.Value.TheVariants as value;
 ghost use Rattle.es_meaning.specs.Operators.{binary_of};
-ghost use Rattle.step_work.specs.Shapes.{evaluates_both};
+ghost use Rattle.continuations.specs.Shapes.{evaluates_both};
 ghost use Rattle.step_numbers.specs.Evaluated.{Evaluates, as_value, combined_of, global_in, labelled_number, left_with, name_number, number_at, number_held, number_of_body, number_of_value, truth_at, value_at};
 ghost use Rattle.object_heap.specs.Formed.{own_in};
 ghost use Rattle.step_numbers.specs.Named.{IsHeld, IsNamed};
@@ -23,7 +22,7 @@ use js_ast::{BinaryOperator, Expr, ExprKind};
 use js_number::{Int, Primitive};
 use js_values::{Body, EnvId, Labelled, ObjId, Value};
 use origin_labels::Labels;
-use step_world::World;
+use run_state::World;
 
 // The global object, with which a run starts.
 pub(crate) const GLOBAL: ObjId = ObjId(1);
@@ -200,20 +199,18 @@ pub(crate) fn named<L: Labels>(
     ensures left { IfSome result (λ c. c.turns ≡ turns) }
     ensures kept { IsKept L.made L.meaning L.room L.firm labels.old labels.new }
 {
-    match world.records.lookup(at, name) {
-        Some(e) => bound_number(world, e, turns, name),
+    match world.records.find(at, name) {
+        Some(place) => counted_value(world.records.read_at(place), turns),
         None => global_number(labels, world, turns, name),
     }
 }
 
-/// The number that a record binds a name to.
-fn bound_number<T: Copy>(world: &World<T>, e: EnvId, turns: u64, name: &Text) -> Option<Counted<T>>
-    requires { IsSome (bound_in name.now (slice_get world.now.records e.0)) }
-    ensures exact { option_map (λ c. (c.number, c.turns)) result ≡ left_with (number_of_value (option_map (λ b. b.value) (bound_in name.now (slice_get world.now.records e.0)))) turns }
-    ensures found { IfSome result (λ c. Some (labelled_number c.number c.label) ≡ option_map (λ b. b.value) (bound_in name.now (slice_get world.now.records e.0))) }
+/// The number that a value is.
+fn counted_value<T: Copy>(found: &Labelled<T>, turns: u64) -> Option<Counted<T>>
+    ensures exact { option_map (λ c. (c.number, c.turns)) result ≡ left_with (number_of_value (Some found.now)) turns }
+    ensures found { IfSome result (λ c. labelled_number c.number c.label ≡ found.now) }
     ensures left { IfSome result (λ c. c.turns ≡ turns) }
 {
-    let found = world.records.read(e, name);
     match &found.value {
         Value::Primitive(Primitive::Num(n)) => Some(Counted {
             number: *n,

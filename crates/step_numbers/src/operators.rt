@@ -4,7 +4,7 @@ ghost use Rattle.std.specs.Prelude.{◌≡◌, true, Ok, IfSome};
 ghost use Rattle.js_number.specs.declared.primitive.Primitive.TheVariants as prims;
 ghost use Rattle.js_values.specs.declared.value.Value.TheVariants as value;
 ghost use Rattle.es_meaning.specs.Operators.{binary_of};
-ghost use Rattle.step_work.specs.Shapes.{evaluates_both};
+ghost use Rattle.continuations.specs.Shapes.{evaluates_both};
 ghost use Rattle.step_numbers.specs.Evaluated.{combined_of, combines, compared_of, compares, in_numbers};
 
 use js_ast::BinaryOperator;

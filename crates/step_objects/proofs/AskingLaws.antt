@@ -22,12 +22,12 @@ use Rattle.es_meaning.specs.Operations.{has_key}
 use Rattle.es_meaning.specs.Outcomes.{Goes}
 use Rattle.es_meaning.specs.Plain.{key_text, is_found}
 use Rattle.flow_meaning.specs.Tracked.{act, has, truth_of}
-use Rattle.step_world.specs.declared.came.Came.{Came}
-use Rattle.step_world.specs.declared.came.Came.TheVariants as came
-use Rattle.step_world.specs.declared.came.Leaving.TheVariants as leaving
-use Rattle.step_world.specs.declared.world.World.{World}
-use Rattle.step_world.specs.Acts.{Acts}
-use Rattle.step_world.specs.Worlds.{state_of}
+use Rattle.run_state.specs.declared.outcome.Outcome.{Outcome}
+use Rattle.run_state.specs.declared.outcome.Outcome.TheVariants as outcome
+use Rattle.run_state.specs.declared.outcome.Leaving.TheVariants as leaving
+use Rattle.run_state.specs.declared.world.World.{World}
+use Rattle.run_state.specs.Acts.{Acts}
+use Rattle.run_state.specs.Worlds.{state_of}
 
 same_found : (a : Option ObjId) (b : Option (ℕ × Slot Label)) → number_of a ≡ option_map (λ f. f.0) b → is_found b ≡ is_some a
 same_found None None is = refl
@@ -44,16 +44,16 @@ found_later made meaning room firm old new kept heap o key found f = record {
 }
 
 module _ (tables : Tables) (inputs : Given) {S T : Type 0} (made : S → T → Type 0) (meaning : S → T → Label) (store : S) (w : World T) (key object : Labelled T) where
-  abbrev asks : Result (Came (Labelled T) T) (FlowFault T) → Type 0
+  abbrev asks : Result (Outcome (Labelled T) T) (FlowFault T) → Type 0
   asks result = Acts made meaning store (λ reading. read_value reading) (λ reading. act tables inputs has_key (read_value reading key ∷ read_value reading object ∷ [])) w w result
 
-  pub has_leaves : (p : Primitive) → object.value ≡ value.Primitive p → asks (Ok (came.Leaves leaving.Unbuilt))
+  pub has_leaves : (p : Primitive) → object.value ≡ value.Primitive p → asks (Ok (outcome.Leaves leaving.Unbuilt))
   unfolding act has
   has_leaves p is = record { says = λ reading read told turns. ap (λ v. has (union (reading key.label) (reading object.label)) (key_text key.value) v (state_of reading w told turns)) is }
 
   module _ (o : ObjId) (is : object.value ≡ value.Object o) (name : List ℕ) (named : name ≡ key_text key.value) (label depends : T) (found : Found T) (answer : Bool) where
     pub has_goes : Means made meaning store label (λ reading. union (reading key.label) (reading object.label)) → IsFound made meaning store w.heap o.0 name found → Means made meaning store depends (λ reading. union (reading label) (reading found.walk))
-        → answer ≡ is_some found.at → asks (Ok (came.Goes (record { value = value.Primitive (prims.Bool answer); label = depends })))
+        → answer ≡ is_some found.at → asks (Ok (outcome.Goes (record { value = value.Primitive (prims.Bool answer); label = depends })))
     unfolding act has
     has_goes labels walked joined answers = record {
       says = λ reading read told turns.

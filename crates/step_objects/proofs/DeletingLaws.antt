@@ -25,15 +25,15 @@ use Rattle.native_protocol.specs.declared.request.ErrorKind.TheVariants as kinds
 use Rattle.flow_meaning.specs.Scopes.{Val}
 use Rattle.flow_meaning.specs.Tracked as tracked
 use Rattle.flow_meaning.specs.Tracked.{remove, removed_in, removed_own, removed_if, acted, truth_of, throw_error}
-use Rattle.step_world.specs.declared.came.Came.{Came}
-use Rattle.step_world.specs.declared.came.Came.TheVariants as came
-use Rattle.step_world.specs.declared.came.Leaving.TheVariants as leaving
-use Rattle.step_world.specs.declared.world.World.{World}
-use Rattle.step_world.specs.Acts.{Acts}
-use Rattle.step_world.specs.Names.{property_of}
-use Rattle.step_world.specs.Worlds.{state_of}
-use Rattle.step_world.proofs.ActLaws.{Acts-as}
-use Rattle.step_names.proofs.HeldLaws.{own_there, structure_there}
+use Rattle.run_state.specs.declared.outcome.Outcome.{Outcome}
+use Rattle.run_state.specs.declared.outcome.Outcome.TheVariants as outcome
+use Rattle.run_state.specs.declared.outcome.Leaving.TheVariants as leaving
+use Rattle.run_state.specs.declared.world.World.{World}
+use Rattle.run_state.specs.Acts.{Acts}
+use Rattle.run_state.specs.Names.{property_of}
+use Rattle.run_state.specs.Worlds.{state_of}
+use Rattle.run_state.proofs.ActLaws.{Acts-as}
+use Rattle.property_access.proofs.HeldLaws.{own_there, structure_there}
 
 -- true, with a label
 abbrev pub yes_of : {T : Type 0} → T → Labelled T
@@ -43,12 +43,12 @@ module _ {S T : Type 0} (made : S → T → Type 0) (meaning : S → T → Label
   -- ---- the property of a base that a key names
 
   module _ (base key : Labelled T) where
-    pub deleting_leaves : (p : Primitive) → base.value ≡ value.Primitive p → Acts made meaning store (λ reading. read_value reading) (λ reading. remove (property_of (read_value reading base) (read_value reading key))) w w (Ok (came.Leaves leaving.Unbuilt))
+    pub deleting_leaves : (p : Primitive) → base.value ≡ value.Primitive p → Acts made meaning store (λ reading. read_value reading) (λ reading. remove (property_of (read_value reading base) (read_value reading key))) w w (Ok (outcome.Leaves leaving.Unbuilt))
     unfolding remove tracked.remove_property
     deleting_leaves p is = record { says = λ reading read told turns. ap (λ b. tracked.remove_property (union (reading base.label) (reading key.label)) b (key_text key.value) (state_of reading w told turns)) is }
 
     module _ (o : ObjId) (is : base.value ≡ value.Object o) (name : List ℕ) (named : name ≡ key_text key.value) (label : T) (means : Means made meaning store label (λ reading. union (reading base.label) (reading key.label))) where
-      pub deletes_member : (after : World T) (result : Result (Came (Labelled T) T) (FlowFault T)) → Acts made meaning store (λ reading. read_value reading) (λ reading. tracked.remove_property (reading label) (value.Object o) name) w after result
+      pub deletes_member : (after : World T) (result : Result (Outcome (Labelled T) T) (FlowFault T)) → Acts made meaning store (λ reading. read_value reading) (λ reading. tracked.remove_property (reading label) (value.Object o) name) w after result
           → Acts made meaning store (λ reading. read_value reading) (λ reading. remove (property_of (read_value reading base) (read_value reading key))) w after result
       unfolding remove
       deletes_member after result acts =
@@ -62,10 +62,10 @@ module _ {S T : Type 0} (made : S → T → Type 0) (meaning : S → T → Label
   -- ---- the property of an object
 
   module _ (o : ObjId) (key : List ℕ) (label : T) where
-    abbrev deletes : World T → Result (Came (Labelled T) T) (FlowFault T) → Type 0
+    abbrev deletes : World T → Result (Outcome (Labelled T) T) (FlowFault T) → Type 0
     deletes after result = Acts made meaning store (λ reading. read_value reading) (λ reading. tracked.remove_property (reading label) (value.Object o) key) w after result
 
-    pub no_object : (v : Labelled T) → v ≡ yes_of label → length w.heap ≤ o.0 → deletes w (Ok (came.Goes v))
+    pub no_object : (v : Labelled T) → v ≡ yes_of label → length w.heap ≤ o.0 → deletes w (Ok (outcome.Goes v))
     unfolding tracked.remove_property removed_in
     no_object v is past = record {
       says = λ reading read told turns.
@@ -75,7 +75,7 @@ module _ {S T : Type 0} (made : S → T → Type 0) (meaning : S → T → Label
     }
 
     pub no_property : (shape : Shape T) (depends : T) (v : Labelled T) → v ≡ yes_of depends → own_in key (slice_get w.heap o.0) ≡ None → IsShape (slice_get w.heap o.0) shape
-        → Means made meaning store depends (λ reading. union (reading label) (reading shape.structure)) → deletes w (Ok (came.Goes v))
+        → Means made meaning store depends (λ reading. union (reading label) (reading shape.structure)) → deletes w (Ok (outcome.Goes v))
     unfolding tracked.remove_property removed_in removed_own
     no_property shape depends v is none has means =
         let there = structure_there w.heap o.0 shape has in
@@ -88,7 +88,7 @@ module _ {S T : Type 0} (made : S → T → Type 0) (meaning : S → T → Label
               ∙ ap (λ (x : Labelled T). Goes (read_value reading x) s) (sym is);
         }
 
-    pub deletes_own : (slot : Slot T) (place : T) (after : World T) (result : Result (Came (Labelled T) T) (FlowFault T)) → own_in key (slice_get w.heap o.0) ≡ Some slot → Means made meaning store place (λ reading. union (reading label) (reading slot.existence))
+    pub deletes_own : (slot : Slot T) (place : T) (after : World T) (result : Result (Outcome (Labelled T) T) (FlowFault T)) → own_in key (slice_get w.heap o.0) ≡ Some slot → Means made meaning store place (λ reading. union (reading label) (reading slot.existence))
         → Acts made meaning store (λ reading. read_value reading) (λ reading. removed_if slot.marks.configurable (reading place) o.0 key) w after result → deletes after result
     unfolding tracked.remove_property removed_in removed_own
     deletes_own slot place after result has means acts =
@@ -103,7 +103,7 @@ module _ {S T : Type 0} (made : S → T → Type 0) (meaning : S → T → Label
 
   -- ---- a property that is there
 
-  module _ (o : ObjId) (key : List ℕ) (configurable : Bool) (place : T) (after : World T) (result : Result (Came (Labelled T) T) (FlowFault T)) where
+  module _ (o : ObjId) (key : List ℕ) (configurable : Bool) (place : T) (after : World T) (result : Result (Outcome (Labelled T) T) (FlowFault T)) where
     pub refuses : configurable ≡ false → Acts made meaning store (λ reading. read_value reading) (λ reading. throw_error {X = Val} kinds.TypeError (reading place)) w after result
         → Acts made meaning store (λ reading. read_value reading) (λ reading. removed_if configurable (reading place) o.0 key) w after result
     unfolding removed_if

@@ -27,12 +27,12 @@ use Rattle.native_protocol.specs.declared.request.ErrorKind.TheVariants as kinds
 use Rattle.flow_meaning.specs.Scopes.{Val}
 use Rattle.flow_meaning.specs.Tracked as tracked
 use Rattle.flow_meaning.specs.Tracked.{linked, linked_from, linked_to, is_instance, throw_error, truth_of}
-use Rattle.step_world.specs.declared.came.Came.{Came}
-use Rattle.step_world.specs.declared.came.Came.TheVariants as came
-use Rattle.step_world.specs.declared.world.World.{World}
-use Rattle.step_world.specs.Acts.{Acts}
-use Rattle.step_world.specs.Worlds.{state_of}
-use Rattle.step_world.proofs.ActLaws.{Acts-as}
+use Rattle.run_state.specs.declared.outcome.Outcome.{Outcome}
+use Rattle.run_state.specs.declared.outcome.Outcome.TheVariants as outcome
+use Rattle.run_state.specs.declared.world.World.{World}
+use Rattle.run_state.specs.Acts.{Acts}
+use Rattle.run_state.specs.Worlds.{state_of}
+use Rattle.run_state.proofs.ActLaws.{Acts-as}
 use Rattle.step_objects.specs.declared.instances.Linked.{Linked}
 use Rattle.step_objects.specs.Instances.{IsLinked}
 
@@ -158,7 +158,7 @@ linked_later made meaning room firm old new kept heap o proto l is = record {
 
 module _ {S T : Type 0} (made : S → T → Type 0) (meaning : S → T → Label) (store : S) (w : World T) where
   pub prototype_found : (o : ℕ) (proto : ObjId) (label depends : T) (l : Linked T) → IsLinked made meaning store w.heap o proto.0 l → Means made meaning store depends (λ reading. union (reading label) (reading l.links))
-      → Acts made meaning store (λ reading. read_value reading) (λ reading. is_instance (reading label) o (value.Object proto)) w w (Ok (came.Goes (record { value = value.Primitive (prims.Bool l.is); label = depends })))
+      → Acts made meaning store (λ reading. read_value reading) (λ reading. is_instance (reading label) o (value.Object proto)) w w (Ok (outcome.Goes (record { value = value.Primitive (prims.Bool l.is); label = depends })))
   unfolding is_instance
   prototype_found o proto label depends l is means = record {
     says = λ reading read told turns.
@@ -169,14 +169,14 @@ module _ {S T : Type 0} (made : S → T → Type 0) (meaning : S → T → Label
   -- ---- with its `prototype`
 
   module _ (o : ℕ) (label depends : T) (proto : Labelled T) (means : Means made meaning store depends (λ reading. union (reading label) (reading proto.label))) where
-    pub instance_refused : (after : World T) (result : Result (Came (Labelled T) T) (FlowFault T)) (p : Primitive) → proto.value ≡ value.Primitive p → Acts made meaning store (λ reading. read_value reading) (λ reading. throw_error {X = Val} kinds.TypeError (reading depends)) w after result
+    pub instance_refused : (after : World T) (result : Result (Outcome (Labelled T) T) (FlowFault T)) (p : Primitive) → proto.value ≡ value.Primitive p → Acts made meaning store (λ reading. read_value reading) (λ reading. throw_error {X = Val} kinds.TypeError (reading depends)) w after result
         → Acts made meaning store (λ reading. read_value reading) (λ reading. is_instance (union (reading label) (reading proto.label)) o proto.value) w after result
     unfolding is_instance
     instance_refused after result p is acts =
         Acts-as made meaning store (λ reading. read_value reading) (λ reading. throw_error {X = Val} kinds.TypeError (reading depends)) (λ reading. is_instance (union (reading label) (reading proto.label)) o proto.value) w after result
         (λ reading read told turns. ap₂ (λ l u. is_instance l o u (state_of reading w told turns)) (sym (means.is reading read)) is) acts
 
-    pub instance_among : (result : Result (Came (Labelled T) T) (FlowFault T)) (p : ObjId) → proto.value ≡ value.Object p → Acts made meaning store (λ reading. read_value reading) (λ reading. is_instance (reading depends) o (value.Object p)) w w result
+    pub instance_among : (result : Result (Outcome (Labelled T) T) (FlowFault T)) (p : ObjId) → proto.value ≡ value.Object p → Acts made meaning store (λ reading. read_value reading) (λ reading. is_instance (reading depends) o (value.Object p)) w w result
         → Acts made meaning store (λ reading. read_value reading) (λ reading. is_instance (union (reading label) (reading proto.label)) o proto.value) w w result
     instance_among result p is acts =
         Acts-as made meaning store (λ reading. read_value reading) (λ reading. is_instance (reading depends) o (value.Object p)) (λ reading. is_instance (union (reading label) (reading proto.label)) o proto.value) w w result

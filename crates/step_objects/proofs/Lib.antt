@@ -7,3 +7,6 @@ pub mod VisitingLaws
 pub mod ShapeLaws
 pub mod InstanceLaws
 pub mod TestLaws
+pub mod Following
+pub mod Ones
+pub mod Frames

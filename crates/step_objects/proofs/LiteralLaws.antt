@@ -43,14 +43,14 @@ use Rattle.es_meaning.specs.Start.{id, object_prototype}
 use Rattle.flow_meaning.specs.Scopes.{Val, L}
 use Rattle.flow_meaning.specs.Requested.{half_label, literal_object, part_slot, property_in, with_part, with_parts}
 use Rattle.flow_meaning.specs.Tracked.{act, make_object}
-use Rattle.step_world.specs.declared.came.Came.{Came}
-use Rattle.step_world.specs.declared.came.Came.TheVariants as came
-use Rattle.step_world.specs.declared.world.World.{World}
-use Rattle.step_world.specs.Acts.{Acts, HasAnswer}
-use Rattle.step_world.specs.Worlds.{state_of, Belongs}
-use Rattle.step_world.proofs.ActLaws.{Belongs-later}
-use Rattle.step_names.proofs.Reading.{read_frames}
-use Rattle.step_names.proofs.ObjectLaws.{with_heap}
+use Rattle.run_state.specs.declared.outcome.Outcome.{Outcome}
+use Rattle.run_state.specs.declared.outcome.Outcome.TheVariants as outcome
+use Rattle.run_state.specs.declared.world.World.{World}
+use Rattle.run_state.specs.Acts.{Acts, HasAnswer}
+use Rattle.run_state.specs.Worlds.{state_of, Belongs}
+use Rattle.run_state.proofs.ActLaws.{Belongs-later}
+use Rattle.property_access.proofs.Reading.{read_frames}
+use Rattle.property_access.proofs.ObjectLaws.{with_heap}
 use Rattle.prototype_walk.specs.Answers.{Means}
 use Rattle.step_objects.specs.declared.literals.Part as literals
 use Rattle.step_objects.specs.declared.literals.LiteralPart.{LiteralPart}
@@ -295,7 +295,7 @@ read_own_in reading key heap o = ap (own_in key) (slice_get-map (read_object rea
 
 module _ {S T : Type 0} (made : S → T → Type 0) (meaning : S → T → Label) (room : S → ℕ) (firm : S → Bool) (old new : S) (kept : IsKept made meaning room firm old new) (w : World T) (belongs : Belongs made meaning old w) where
   pub literal_made : (tables : Tables) (inputs : Given) (heap : List (Object T)) (ps : List (LiteralPart T)) (o : ObjId) (label none : T) → o.0 ≡ length w.heap → made old label → meaning old label ≡ context (seen meaning old w.frames.frames) → IsLiteral made meaning new w.heap heap label ps → made new none → meaning new none ≡ bottom
-      → Acts made meaning new (λ reading. read_value reading) (λ reading. act tables inputs (object_of (keys_in ps)) (values_in reading ps)) w (with_heap heap w) (Ok (came.Goes (record { value = value.Object o; label = none })))
+      → Acts made meaning new (λ reading. read_value reading) (λ reading. act tables inputs (object_of (keys_in ps)) (values_in reading ps)) w (with_heap heap w) (Ok (outcome.Goes (record { value = value.Object o; label = none })))
   unfolding act make_object
   literal_made tables inputs heap ps o label none number m is literal n empty = record {
     says = λ reading read told turns.
@@ -457,11 +457,11 @@ memory_handed_on (Ok x) f is want = tt
 memory_handed_on (Err e) f is want = is ∙ want
 
 module _ {S T X Y : Type 0} (made : S → T → Type 0) (meaning : S → T → Label) (store : S) (read : (T → Label) → X → Y) (does : (T → Label) → L Y) (old new : World T) (f : FlowFault T) (want : f ≡ fault.OutOfMemory) where
-  pub memory_acts : (result : Result (Came X T) (FlowFault T)) → IsErrAnd result (λ e. e ≡ f) → Acts made meaning store read does old new result
+  pub memory_acts : (result : Result (Outcome X T) (FlowFault T)) → IsErrAnd result (λ e. e ≡ f) → Acts made meaning store read does old new result
   memory_acts (Ok x) is = absurd is
   memory_acts (Err e) is = subst (λ (r : FlowFault T). Acts made meaning store read does old new (Err r)) (sym (is ∙ want)) (record { says = λ reading read told turns. tt })
 
-pub memory_answers : {X T : Type 0} (made : T → Type 0) (f : FlowFault T) (want : f ≡ fault.OutOfMemory) (has : X → Type 0) (result : Result (Came X T) (FlowFault T)) → IsErrAnd result (λ e. e ≡ f) → HasAnswer has made result
+pub memory_answers : {X T : Type 0} (made : T → Type 0) (f : FlowFault T) (want : f ≡ fault.OutOfMemory) (has : X → Type 0) (result : Result (Outcome X T) (FlowFault T)) → IsErrAnd result (λ e. e ≡ f) → HasAnswer has made result
 memory_answers made f want has (Ok x) is = absurd is
 memory_answers made f want has (Err e) is = subst (λ (r : FlowFault _). HasAnswer has made (Err r)) (sym (is ∙ want)) tt
 

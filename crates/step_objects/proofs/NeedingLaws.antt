@@ -12,19 +12,19 @@ use Rattle.flow_meaning.specs.Scopes.{Val}
 use Rattle.flow_policy.specs.Policies.{Tables}
 use Rattle.flow_policy.specs.Inputs.{Given}
 use Rattle.flow_meaning.specs.Tracked.{act, needed, throw_error}
-use Rattle.step_world.specs.declared.came.Came.{Came}
-use Rattle.step_world.specs.declared.came.Came.TheVariants as came
-use Rattle.step_world.specs.declared.world.World.{World}
-use Rattle.step_world.specs.Acts.{Acts}
-use Rattle.step_world.specs.Worlds.{state_of}
-use Rattle.step_world.proofs.ActLaws.{Acts-as}
+use Rattle.run_state.specs.declared.outcome.Outcome.{Outcome}
+use Rattle.run_state.specs.declared.outcome.Outcome.TheVariants as outcome
+use Rattle.run_state.specs.declared.world.World.{World}
+use Rattle.run_state.specs.Acts.{Acts}
+use Rattle.run_state.specs.Worlds.{state_of}
+use Rattle.run_state.proofs.ActLaws.{Acts-as}
 
 module _ {S T : Type 0} (made : S → T → Type 0) (meaning : S → T → Label) (store : S) (w : World T) (v : Labelled T) (holds : Bool) where
-  pub need_met : holds ≡ true → Acts made meaning store (λ reading. read_value reading) (λ reading. needed holds (read_value reading v)) w w (Ok (came.Goes v))
+  pub need_met : holds ≡ true → Acts made meaning store (λ reading. read_value reading) (λ reading. needed holds (read_value reading v)) w w (Ok (outcome.Goes v))
   unfolding needed
   need_met is = record { says = λ reading read told turns. ap (λ b. needed b (read_value reading v) (state_of reading w told turns)) is }
 
-  module _ (after : World T) (result : Result (Came (Labelled T) T) (FlowFault T)) where
+  module _ (after : World T) (result : Result (Outcome (Labelled T) T) (FlowFault T)) where
     pub need_failed : holds ≡ false → Acts made meaning store (λ reading. read_value reading) (λ reading. throw_error {X = Val} kinds.TypeError (reading v.label)) w after result
         → Acts made meaning store (λ reading. read_value reading) (λ reading. needed holds (read_value reading v)) w after result
     unfolding needed

@@ -28,14 +28,14 @@ use Rattle.es_meaning.specs.Outcomes.{Goes, ◌>>=◌}
 use Rattle.es_meaning.specs.Plain.{is_coercible}
 use Rattle.flow_meaning.specs.Scopes.{State, L, raise, innermost}
 use Rattle.flow_meaning.specs.Tracked.{key_list, with_list}
-use Rattle.step_world.specs.declared.came.Came.TheVariants as came
-use Rattle.step_world.specs.declared.came.Leaving.TheVariants as leaving
-use Rattle.step_world.specs.declared.world.World.{World}
-use Rattle.step_world.specs.Acts.{Acts}
-use Rattle.step_world.specs.Worlds.{state_of, Belongs}
-use Rattle.step_world.proofs.ActLaws.{Belongs-later}
-use Rattle.step_names.proofs.Reading.{read_frames}
-use Rattle.step_names.proofs.ThrowLaws.{with_frames}
+use Rattle.run_state.specs.declared.outcome.Outcome.TheVariants as outcome
+use Rattle.run_state.specs.declared.outcome.Leaving.TheVariants as leaving
+use Rattle.run_state.specs.declared.world.World.{World}
+use Rattle.run_state.specs.Acts.{Acts}
+use Rattle.run_state.specs.Worlds.{state_of, Belongs}
+use Rattle.run_state.proofs.ActLaws.{Belongs-later}
+use Rattle.property_access.proofs.Reading.{read_frames}
+use Rattle.property_access.proofs.ThrowLaws.{with_frames}
 use Rattle.step_objects.specs.Taking.{given_keys, taken, IsListed, AreHandedOn}
 
 -- ---- the act of the meaning
@@ -63,9 +63,6 @@ module _ {S T : Type 0} (made : S → T → Type 0) (meaning : S → T → Label
     belongs = m;
     is = λ reading read. ap₂ (λ (ks : List (List ℕ)) (l : Label). record { keys = ks; walk = l }) none (read.agrees list.walk m ∙ empty) ∙ sym (ap keys (no_chain reading heap o past));
   }
-
-  pub object_listed : (v : Value) (o : ObjId) (list : KeyList T) → v ≡ value.Object o → IsKeyList made meaning store heap o.0 list → IsListed made meaning store heap v (Some list)
-  object_listed v o list is along = record { belongs = along.belongs; is = λ reading read. ap Some (along.is reading read) ∙ sym (ap (key_list (read_heap reading heap)) is) }
 
   -- a primitive value that can have properties would be wrapped, and the others have none
   wrapped : (h : List (Object Label)) (p : Primitive) → is_coercible (value.Primitive p) ≡ true → None ≡ key_list h (value.Primitive p)
@@ -110,7 +107,7 @@ module _ {S T : Type 0} (made : S → T → Type 0) (meaning : S → T → Label
 -- ---- what taking them comes to
 
 module _ {S T : Type 0} (made : S → T → Type 0) (meaning : S → T → Label) (w : World T) (v : Labelled T) where
-  pub taking_leaves : (store : S) (list : Option (KeyList T)) → list ≡ None → IsListed made meaning store w.heap v.value list → Acts made meaning store (λ reading (ks : List (List ℕ)). ks) (λ reading. taken (read_value reading v)) w w (Ok (came.Leaves leaving.Wrapper))
+  pub taking_leaves : (store : S) (list : Option (KeyList T)) → list ≡ None → IsListed made meaning store w.heap v.value list → Acts made meaning store (λ reading (ks : List (List ℕ)). ks) (λ reading. taken (read_value reading v)) w w (Ok (outcome.Leaves leaving.Wrapper))
   unfolding taken given_keys
   taking_leaves store list none listed = record {
     says = λ reading read told turns.
@@ -121,7 +118,7 @@ module _ {S T : Type 0} (made : S → T → Type 0) (meaning : S → T → Label
   module _ (room : S → ℕ) (firm : S → Bool) (old new : S) (kept : IsKept made meaning room firm old new) (label : T) (frames : Kept T) where
     pub taking_goes : (list : KeyList T) (found : Option (KeyList T)) → found ≡ Some list → IsListed made meaning old w.heap v.value found → Means made meaning old label (λ reading. union (reading v.label) (reading list.walk))
         → Belong made meaning old w.frames.frames → Belong made meaning new frames.frames → seen meaning new frames.frames ≡ raised (seen meaning old w.frames.frames) (length w.frames.frames - 1) (meaning old label)
-        → Acts made meaning new (λ reading (ks : List (List ℕ)). ks) (λ reading. taken (read_value reading v)) w (with_frames frames w) (Ok (came.Goes list.keys))
+        → Acts made meaning new (λ reading (ks : List (List ℕ)). ks) (λ reading. taken (read_value reading v)) w (with_frames frames w) (Ok (outcome.Goes list.keys))
     unfolding taken given_keys raise
     taking_goes list found is listed means before after more = record {
       says = λ reading read told turns.

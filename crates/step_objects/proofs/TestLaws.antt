@@ -36,14 +36,14 @@ use Rattle.flow_meaning.specs.Scopes.{Val, State, Jump, LabelledLine, guard, jum
 use Rattle.flow_frames.specs.Held.{meant_at}
 use Rattle.flow_frames.specs.Rules.{jump_need}
 use Rattle.flow_meaning.specs.Tracked.{called_value, found_by, property_of, throw_error, truth_of, with_error, error_jump}
-use Rattle.step_world.specs.declared.came.Access.{Access}
-use Rattle.step_world.specs.declared.came.Came.{Came}
-use Rattle.step_world.specs.declared.came.Came.TheVariants as came
-use Rattle.step_world.specs.declared.world.World.{World}
-use Rattle.step_world.specs.Accesses.{IsAccess}
-use Rattle.step_world.specs.Acts.{Acts}
-use Rattle.step_world.specs.Worlds.{state_of}
-use Rattle.step_world.proofs.ActLaws.{Acts-as}
+use Rattle.run_state.specs.declared.outcome.Access.{Access}
+use Rattle.run_state.specs.declared.outcome.Outcome.{Outcome}
+use Rattle.run_state.specs.declared.outcome.Outcome.TheVariants as outcome
+use Rattle.run_state.specs.declared.world.World.{World}
+use Rattle.run_state.specs.Accesses.{IsAccess}
+use Rattle.run_state.specs.Acts.{Acts}
+use Rattle.run_state.specs.Worlds.{state_of}
+use Rattle.run_state.proofs.ActLaws.{Acts-as}
 use Rattle.step_objects.specs.declared.instances.Aimed.{Aimed}
 use Rattle.step_objects.specs.declared.instances.InstanceTest.{InstanceTest}
 use Rattle.step_objects.specs.declared.instances.InstanceTest.TheVariants as test
@@ -281,10 +281,10 @@ module _ {S T : Type 0} (made : S → T → Type 0) (meaning : S → T → Label
   }
 
 module _ {S T : Type 0} (made : S → T → Type 0) (meaning : S → T → Label) (store : S) (w : World T) (v f : Labelled T) where
-  abbrev begins : World T → Result (Came (InstanceTest T) T) (FlowFault T) → Type 0
+  abbrev begins : World T → Result (Outcome (InstanceTest T) T) (FlowFault T) → Type 0
   begins after result = Acts made meaning store (λ reading. read_test reading) (λ reading. tested (read_value reading v) (reading f.label) f.value) w after result
 
-  pub tested_primitive : (after : World T) (result : Result (Came (InstanceTest T) T) (FlowFault T)) (p : Primitive) → f.value ≡ value.Primitive p → Acts made meaning store (λ reading. read_test reading) (λ reading. throw_error {X = Test} kinds.TypeError (reading f.label)) w after result → begins after result
+  pub tested_primitive : (after : World T) (result : Result (Outcome (InstanceTest T) T) (FlowFault T)) (p : Primitive) → f.value ≡ value.Primitive p → Acts made meaning store (λ reading. read_test reading) (λ reading. throw_error {X = Test} kinds.TypeError (reading f.label)) w after result → begins after result
   unfolding tested
   tested_primitive after result p is acts =
       Acts-as made meaning store (λ reading. read_test reading) (λ reading. throw_error {X = Test} kinds.TypeError (reading f.label)) (λ reading. tested (read_value reading v) (reading f.label) f.value) w after result
@@ -298,13 +298,13 @@ module _ {S T : Type 0} (made : S → T → Type 0) (meaning : S → T → Label
         ap (λ u. tested (read_value reading v) (reading f.label) u s) object
         ∙ ap (λ t. tested_if t (read_value reading v) (reading f.label) o.0 s) (sym (is reading) ∙ so)
 
-    pub tested_other : (after : World T) (result : Result (Came (InstanceTest T) T) (FlowFault T)) → holds ≡ false → Acts made meaning store (λ reading. read_test reading) (λ reading. throw_error {X = Test} kinds.TypeError (reading f.label)) w after result → begins after result
+    pub tested_other : (after : World T) (result : Result (Outcome (InstanceTest T) T) (FlowFault T)) → holds ≡ false → Acts made meaning store (λ reading. read_test reading) (λ reading. throw_error {X = Test} kinds.TypeError (reading f.label)) w after result → begins after result
     unfolding tested_if
     tested_other after result failed acts =
         Acts-as made meaning store (λ reading. read_test reading) (λ reading. throw_error {X = Test} kinds.TypeError (reading f.label)) (λ reading. tested (read_value reading v) (reading f.label) f.value) w after result
         (λ reading read told turns. by_holds false failed reading told turns) acts
 
-    pub tested_function : (t : InstanceTest T) → holds ≡ true → IsTest made meaning store (λ reading. test_of (read_heap reading w.heap) (read_value reading v) (reading f.label) o.0) t → begins w (Ok (came.Goes t))
+    pub tested_function : (t : InstanceTest T) → holds ≡ true → IsTest made meaning store (λ reading. test_of (read_heap reading w.heap) (read_value reading v) (reading f.label) o.0) t → begins w (Ok (outcome.Goes t))
     unfolding tested_if
     tested_function t holds_true gives = record {
       says = λ reading read told turns. by_holds true holds_true reading told turns ∙ ap (λ (x : Test). Goes x (state_of reading w told turns)) (sym (gives.is reading read));

@@ -22,14 +22,14 @@ use Rattle.flow_meaning.specs.Scopes.{L, Val, raise}
 use Rattle.flow_policy.specs.Policies.{Tables}
 use Rattle.flow_policy.specs.Inputs.{Given}
 use Rattle.flow_meaning.specs.Tracked.{act}
-use Rattle.step_world.specs.declared.came.Came.{Came}
-use Rattle.step_world.specs.declared.came.Came.TheVariants as came
-use Rattle.step_world.specs.declared.came.Leaving.{Leaving}
-use Rattle.step_world.specs.declared.world.World.{World}
-use Rattle.step_world.specs.Acts.{Acts}
-use Rattle.step_world.specs.Worlds.{state_of}
-use Rattle.step_world.proofs.ActLaws.{Acts-as, Acts-throws, Acts-leaves, Acts-passes}
-use Rattle.step_names.proofs.ThrowLaws.{with_frames}
+use Rattle.run_state.specs.declared.outcome.Outcome.{Outcome}
+use Rattle.run_state.specs.declared.outcome.Outcome.TheVariants as outcome
+use Rattle.run_state.specs.declared.outcome.Leaving.{Leaving}
+use Rattle.run_state.specs.declared.world.World.{World}
+use Rattle.run_state.specs.Acts.{Acts}
+use Rattle.run_state.specs.Worlds.{state_of}
+use Rattle.run_state.proofs.ActLaws.{Acts-as, Acts-throws, Acts-leaves, Acts-passes}
+use Rattle.property_access.proofs.ThrowLaws.{with_frames}
 use Rattle.step_objects.specs.Taking.{Raises, still}
 use Rattle.step_objects.proofs.TakingLaws.{frames_raised}
 
@@ -45,7 +45,7 @@ module _ (tables : Tables) (inputs : Given) {S T : Type 0} (made : S → T → T
   abbrev key_with : Labelled T
   key_with = record { value = value.Primitive (Str text); label = none }
 
-  abbrev Asks : Result (Came (Labelled T) T) (FlowFault T) → Type 0
+  abbrev Asks : Result (Outcome (Labelled T) T) (FlowFault T) → Type 0
   Asks answer = Acts made meaning store (λ reading. read_value reading) (λ reading. act tables inputs has_key (read_value reading key_with ∷ read_value reading object ∷ [])) old new answer
 
   abbrev told_by : (T → Label) → L Val
@@ -55,29 +55,29 @@ module _ (tables : Tables) (inputs : Given) {S T : Type 0} (made : S → T → T
   raises v = raise v.label >>= λ u. ret (truth v.value)
 
   -- the key has no origin
-  asks_text : (answer : Result (Came (Labelled T) T) (FlowFault T)) → Asks answer → Acts made meaning store (λ reading. read_value reading) told_by old new answer
+  asks_text : (answer : Result (Outcome (Labelled T) T) (FlowFault T)) → Asks answer → Acts made meaning store (λ reading. read_value reading) told_by old new answer
   asks_text answer acts = Acts-as made meaning store (λ reading. read_value reading) (λ reading. act tables inputs has_key (read_value reading key_with ∷ read_value reading object ∷ [])) told_by old new answer
       (λ reading read told turns. ap₂ (λ (t : List ℕ) (l : Label). act tables inputs has_key (record { value = value.Primitive (Str t); label = l } ∷ read_value reading object ∷ []) (state_of reading old told turns)) (sym is) (sym (read.agrees none m ∙ empty))) acts
 
-  pub still_throws : (error : Labelled T) → Asks (Ok (came.Throws error)) → Acts made meaning store (λ reading (b : Bool). b) (λ reading. still tables inputs (read_value reading object) (key_text key)) old new (Ok (came.Throws error))
+  pub still_throws : (error : Labelled T) → Asks (Ok (outcome.Throws error)) → Acts made meaning store (λ reading (b : Bool). b) (λ reading. still tables inputs (read_value reading object) (key_text key)) old new (Ok (outcome.Throws error))
   unfolding still
-  still_throws error acts = Acts-throws made meaning store (λ reading. read_value reading) (λ reading (b : Bool). b) told_by (λ reading. raises) old new error (asks_text (Ok (came.Throws error)) acts)
+  still_throws error acts = Acts-throws made meaning store (λ reading. read_value reading) (λ reading (b : Bool). b) told_by (λ reading. raises) old new error (asks_text (Ok (outcome.Throws error)) acts)
 
-  pub still_leaves : (why : Leaving) → Asks (Ok (came.Leaves why)) → Acts made meaning store (λ reading (b : Bool). b) (λ reading. still tables inputs (read_value reading object) (key_text key)) old new (Ok (came.Leaves why))
+  pub still_leaves : (why : Leaving) → Asks (Ok (outcome.Leaves why)) → Acts made meaning store (λ reading (b : Bool). b) (λ reading. still tables inputs (read_value reading object) (key_text key)) old new (Ok (outcome.Leaves why))
   unfolding still
-  still_leaves why acts = Acts-leaves made meaning store (λ reading. read_value reading) (λ reading (b : Bool). b) told_by (λ reading. raises) old new why (asks_text (Ok (came.Leaves why)) acts)
+  still_leaves why acts = Acts-leaves made meaning store (λ reading. read_value reading) (λ reading (b : Bool). b) told_by (λ reading. raises) old new why (asks_text (Ok (outcome.Leaves why)) acts)
 
-  pub still_fails : (f : FlowFault T) (result : Result (Came Bool T) (FlowFault T)) → IsErrAnd result (λ e. e ≡ f) → Asks (Err f) → Acts made meaning store (λ reading (b : Bool). b) (λ reading. still tables inputs (read_value reading object) (key_text key)) old new result
+  pub still_fails : (f : FlowFault T) (result : Result (Outcome Bool T) (FlowFault T)) → IsErrAnd result (λ e. e ≡ f) → Asks (Err f) → Acts made meaning store (λ reading (b : Bool). b) (λ reading. still tables inputs (read_value reading object) (key_text key)) old new result
   unfolding still
   still_fails f result failed acts = Acts-passes made meaning store (λ reading. read_value reading) (λ reading (b : Bool). b) told_by (λ reading. raises) old new f result failed (asks_text (Err f) acts)
 
-  pub still_goes : (room : S → ℕ) (firm : S → Bool) (later : S) → IsKept made meaning room firm store later → (last : World T) (has : Labelled T) (b : Bool) → b ≡ truth has.value → Asks (Ok (came.Goes has)) → Raises made meaning later has.label new last
-      → Acts made meaning later (λ reading (b : Bool). b) (λ reading. still tables inputs (read_value reading object) (key_text key)) old last (Ok (came.Goes b))
+  pub still_goes : (room : S → ℕ) (firm : S → Bool) (later : S) → IsKept made meaning room firm store later → (last : World T) (has : Labelled T) (b : Bool) → b ≡ truth has.value → Asks (Ok (outcome.Goes has)) → Raises made meaning later has.label new last
+      → Acts made meaning later (λ reading (b : Bool). b) (λ reading. still tables inputs (read_value reading object) (key_text key)) old last (Ok (outcome.Goes b))
   unfolding still
   still_goes room firm later kept last has b same acts raised = record {
     says = λ reading read told turns.
         let earlier = IsReading-earlier made meaning room firm store later reading kept read in
-        ap (λ o. and_then o raises) ((asks_text (Ok (came.Goes has)) acts).says reading earlier told turns)
+        ap (λ o. and_then o raises) ((asks_text (Ok (outcome.Goes has)) acts).says reading earlier told turns)
         ∙ ap (λ o. and_then o (λ u. ret (truth has.value))) (raised.is reading told turns read)
         ∙ ap (λ (c : Bool). Goes c (state_of reading last told turns)) (sym same);
   }

@@ -20,7 +20,7 @@ use Rattle.flow_meaning.specs.Requested.{aim_of, is_function_in}
 use Rattle.flow_meaning.specs.Scopes.{Val, State, L}
 use Rattle.flow_meaning.specs.Tracked as tracked
 use Rattle.flow_meaning.specs.Tracked.{called_value, found_by, throw_error, truth_of}
-use Rattle.step_world.specs.Accesses.{HasAccess, read_access}
+use Rattle.run_state.specs.Accesses.{HasAccess, read_access}
 use Rattle.step_objects.specs.declared.instances.Aimed.{Aimed}
 use Rattle.step_objects.specs.declared.instances.InstanceTest.{InstanceTest}
 use Rattle.step_objects.specs.declared.instances.InstanceTest.TheVariants as test

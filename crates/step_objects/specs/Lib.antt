@@ -1,3 +1,6 @@
 pub mod Instances
 pub mod Literals
 pub mod Taking
+pub mod Standing
+pub mod Operated
+pub mod References

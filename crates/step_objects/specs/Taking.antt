@@ -20,8 +20,8 @@ use Rattle.es_meaning.specs.Operators.{truth}
 use Rattle.es_meaning.specs.Plain.{leaves_wrappers}
 use Rattle.flow_meaning.specs.Erased.{unlabelled}
 use Rattle.flow_meaning.specs.Scopes.{Val, State, L, LabelledLine, raise}
-use Rattle.step_world.specs.declared.world.World.{World}
-use Rattle.step_world.specs.Worlds.{state_of}
+use Rattle.run_state.specs.declared.world.World.{World}
+use Rattle.run_state.specs.Worlds.{state_of}
 use Rattle.flow_meaning.specs.Tracked.{labelled, act, ends, key_list}
 
 -- they raise the innermost frame by the label of the value and by that of the walk

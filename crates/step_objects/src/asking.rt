@@ -8,8 +8,8 @@ ghost use Rattle.js_values.specs.Readings.{HasValue, read_value};
 ghost use Rattle.prototype_walk.specs.Answers.{IsFound};
 ghost use Rattle.es_meaning.specs.Operations as operations;
 ghost use Rattle.flow_meaning.specs.Tracked.{act};
-ghost use Rattle.step_world.specs.Acts.{Acts, HasAnswer};
-ghost use Rattle.step_world.specs.Worlds.{Belongs};
+ghost use Rattle.run_state.specs.Acts.{Acts, HasAnswer};
+ghost use Rattle.run_state.specs.Worlds.{Belongs};
 
 use crate::parts::{join, key_of};
 use flow_frames::FlowFault;
@@ -18,8 +18,8 @@ use js_number::Primitive;
 use js_values::{Key, Labelled, ObjId, Value};
 use origin_labels::Labels;
 use prototype_walk::{Found, find};
+use run_state::{Leaving, Outcome, World};
 use std::alloc::Global;
-use step_world::{Came, Leaving, World};
 
 /// Whether an object or a prototype of it has a key (ECMA-262 8.12.6). The answer depends on the key, the object and the walk. A primitive value leaves the
 /// language: whoever calls has asked for an object.
@@ -29,7 +29,7 @@ pub fn has_key<T: Copy, L: Labels<Label = T>>(
     world: &World<T>,
     key: Labelled<T>,
     object: Labelled<T>,
-) -> Result<Came<Labelled<T>, T>, FlowFault<T>>
+) -> Result<Outcome<Labelled<T>, T>, FlowFault<T>>
     requires key { L.made labels.old key.label }
     requires object { L.made labels.old object.label }
     requires belongs { Belongs L.made L.meaning labels.old world.now }
@@ -39,14 +39,14 @@ pub fn has_key<T: Copy, L: Labels<Label = T>>(
     ensures kept { IsKept L.made L.meaning L.room L.firm labels.old labels.new }
 {
     let Value::Object(o) = object.value else {
-        return Ok(Came::Leaves(Leaving::Unbuilt));
+        return Ok(Outcome::Leaves(Leaving::Unbuilt));
     };
     let label = join(labels, key.label, object.label)?;
     let name = key_of(alloc, key.value)?;
     let found = find_key(labels, world, o, &name)?;
     let depends = join(labels, label, found.walk)?;
     let has = found.at.is_some();
-    Ok(Came::Goes(Labelled {
+    Ok(Outcome::Goes(Labelled {
         value: Value::Primitive(Primitive::Bool(has)),
         label: depends,
     }))

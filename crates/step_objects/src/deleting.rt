@@ -7,9 +7,9 @@ ghost use Rattle.js_number.specs.declared.primitive.Primitive.TheVariants as pri
 ghost use Rattle.js_values.specs.Readings.{HasValue, read_value};
 ghost use Rattle.object_heap.specs.Formed.{own_in};
 ghost use Rattle.flow_meaning.specs.Tracked.{remove, remove_property, removed_if};
-ghost use Rattle.step_world.specs.Acts.{Acts, HasAnswer};
-ghost use Rattle.step_world.specs.Names.{property_of};
-ghost use Rattle.step_world.specs.Worlds.{Belongs, Grows};
+ghost use Rattle.run_state.specs.Acts.{Acts, HasAnswer};
+ghost use Rattle.run_state.specs.Names.{property_of};
+ghost use Rattle.run_state.specs.Worlds.{Belongs, Grows};
 
 use crate::parts::{join, key_of};
 use flow_frames::FlowFault;
@@ -17,9 +17,9 @@ use js_number::Primitive;
 use js_values::{Key, Labelled, ObjId, Value};
 use native_protocol::ErrorKind;
 use origin_labels::Labels;
+use property_access::throw_error;
+use run_state::{Leaving, Outcome, World};
 use std::alloc::Global;
-use step_names::throw_error;
-use step_world::{Came, Leaving, World};
 
 /// Deletes the property of a base that a key names (ECMA-262 8.12.7), by rules W4 and W5. True where the object has none, which depends on its structure. One
 /// that can't be deleted throws a TypeError, as code is strict. The properties of primitive values aren't built yet.
@@ -29,7 +29,7 @@ pub fn remove_property<T: Copy, L: Labels<Label = T>>(
     world: &mut World<T>,
     base: &Labelled<T>,
     key: &Labelled<T>,
-) -> Result<Came<Labelled<T>, T>, FlowFault<T>>
+) -> Result<Outcome<Labelled<T>, T>, FlowFault<T>>
     requires base { L.made labels.old base.now.label }
     requires key { L.made labels.old key.now.label }
     requires belongs { Belongs L.made L.meaning labels.old world.old }
@@ -40,7 +40,7 @@ pub fn remove_property<T: Copy, L: Labels<Label = T>>(
     ensures kept { IsKept L.made L.meaning L.room L.firm labels.old labels.new }
 {
     let Value::Object(o) = base.value else {
-        return Ok(Came::Leaves(Leaving::Unbuilt));
+        return Ok(Outcome::Leaves(Leaving::Unbuilt));
     };
     let label = join(labels, base.label, key.label)?;
     let value = key.value.copy(alloc)?;
@@ -55,7 +55,7 @@ fn remove_from<T: Copy, L: Labels<Label = T>>(
     o: ObjId,
     key: &Key,
     label: T,
-) -> Result<Came<Labelled<T>, T>, FlowFault<T>>
+) -> Result<Outcome<Labelled<T>, T>, FlowFault<T>>
     requires label { L.made labels.old label }
     requires belongs { Belongs L.made L.meaning labels.old world.old }
     ensures acts { Acts L.made L.meaning labels.new (λ reading. read_value reading) (λ reading. remove_property (reading label) (value_kind.Object o) key.now) world.old world.new result }
@@ -65,12 +65,12 @@ fn remove_from<T: Copy, L: Labels<Label = T>>(
     ensures kept { IsKept L.made L.meaning L.room L.firm labels.old labels.new }
 {
     if o.0 >= world.heap.len() {
-        return Ok(Came::Goes(yes(label)));
+        return Ok(Outcome::Goes(yes(label)));
     }
     let Some(slot) = world.heap.own(o, key) else {
         let structure = world.heap.shape(o).structure;
         let depends = join(labels, label, structure)?;
-        return Ok(Came::Goes(yes(depends)));
+        return Ok(Outcome::Goes(yes(depends)));
     };
     let configurable = slot.marks.configurable;
     let place = join(labels, label, slot.existence)?;
@@ -85,7 +85,7 @@ fn remove_present<T: Copy, L: Labels<Label = T>>(
     key: &Key,
     configurable: bool,
     place: T,
-) -> Result<Came<Labelled<T>, T>, FlowFault<T>>
+) -> Result<Outcome<Labelled<T>, T>, FlowFault<T>>
     requires present { IsSome (own_in key.now (slice_get world.old.heap o.0)) }
     requires place { L.made labels.old place }
     requires belongs { Belongs L.made L.meaning labels.old world.old }
@@ -101,7 +101,7 @@ fn remove_present<T: Copy, L: Labels<Label = T>>(
     let context = world.frames.context(labels);
     let need = join(labels, context, place)?;
     world.heap.remove(labels, o, key, need)?;
-    Ok(Came::Goes(yes(place)))
+    Ok(Outcome::Goes(yes(place)))
 }
 
 /// True, with a label.

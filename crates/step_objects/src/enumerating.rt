@@ -5,8 +5,8 @@ ghost use Rattle.origin_labels.specs.Label.{bottom};
 ghost use Rattle.origin_labels.specs.Stores.{IsKept};
 ghost use Rattle.js_values.specs.Readings.{read_value};
 ghost use Rattle.prototype_walk.specs.Answers.{IsKeyList};
-ghost use Rattle.step_world.specs.Acts.{Acts, HasAnswer};
-ghost use Rattle.step_world.specs.Worlds.{Belongs, Grows};
+ghost use Rattle.run_state.specs.Acts.{Acts, HasAnswer};
+ghost use Rattle.run_state.specs.Worlds.{Belongs, Grows};
 ghost use Rattle.step_objects.specs.Taking.{taken, IsListed, AreHandedOn};
 
 use crate::needing::is_coercible;
@@ -16,8 +16,8 @@ use flow_text::OutOfMemory;
 use js_values::{KeyRow, Labelled, ObjId, Value};
 use origin_labels::Labels;
 use prototype_walk::{KeyList, keys};
+use run_state::{Leaving, Outcome, World};
 use std::alloc::Global;
-use step_world::{Came, Leaving, World};
 
 /// The keys that `for in` takes of a value (ECMA-262 12.6.4), none of undefined and null. They raise the innermost frame, which is the loop's, by the label of the
 /// value and by that of the whole enumeration. Other primitive values would be wrapped in objects, and leave the language.
@@ -26,7 +26,7 @@ pub fn keys_of<T: Copy, L: Labels<Label = T>>(
     labels: &mut L,
     world: &mut World<T>,
     value: Labelled<T>,
-) -> Result<Came<KeyRow, T>, FlowFault<T>>
+) -> Result<Outcome<KeyRow, T>, FlowFault<T>>
     requires value { L.made labels.old value.label }
     requires belongs { Belongs L.made L.meaning labels.old world.old }
     ensures acts { Acts L.made L.meaning labels.new (λ reading keys. keys) (λ reading. taken (read_value reading value)) world.old world.new result }
@@ -36,16 +36,16 @@ pub fn keys_of<T: Copy, L: Labels<Label = T>>(
     ensures kept { IsKept L.made L.meaning L.room L.firm labels.old labels.new }
 {
     let Some(list) = list_keys(alloc, labels, world, &value.value)? else {
-        return Ok(Came::Leaves(Leaving::Wrapper));
+        return Ok(Outcome::Leaves(Leaving::Wrapper));
     };
     let label = join(labels, value.label, list.walk)?;
     world.frames.raise_last(labels, label)?;
     let _depth = world.frames.len();
-    Ok(Came::Goes(list.keys))
+    Ok(Outcome::Goes(list.keys))
 }
 
 /// What `for in` does with the keys of a value is done with those that are taken.
-pub fn taking_keys()
+pub(crate) fn taking_keys()
     ensures { AreHandedOn }
 {}
 

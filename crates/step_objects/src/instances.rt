@@ -9,8 +9,8 @@ ghost use Rattle.es_meaning.specs.Functions.{is_function};
 ghost use Rattle.es_meaning.specs.Plain.{prototype_name};
 ghost use Rattle.flow_meaning.specs.Requested.{is_function_at};
 ghost use Rattle.flow_meaning.specs.Tracked.{is_instance};
-ghost use Rattle.step_world.specs.Acts.{Acts, HasAnswer};
-ghost use Rattle.step_world.specs.Worlds.{Belongs, Grows};
+ghost use Rattle.run_state.specs.Acts.{Acts, HasAnswer};
+ghost use Rattle.run_state.specs.Worlds.{Belongs, Grows};
 ghost use Rattle.step_objects.specs.Instances.{AreTested, HasTest, IsAimed, IsLinked, IsTest, bound_at, bound_in, read_test, test_of, tested};
 
 use crate::parts::join;
@@ -21,9 +21,9 @@ use js_values::{Class, Inner, Labelled, ObjId, Value};
 use native_protocol::ErrorKind;
 use object_heap::Heap;
 use origin_labels::Labels;
+use property_access::{get_of, throw_error};
+use run_state::{Access, Outcome, World};
 use std::alloc::Global;
-use step_names::{get_of, throw_error};
-use step_world::{Access, Came, World};
 
 // `prototype`
 const PROTOTYPE: [u16; 9] = [0x70, 0x72, 0x6f, 0x74, 0x6f, 0x74, 0x79, 0x70, 0x65];
@@ -61,7 +61,7 @@ pub fn instance<T: Copy, L: Labels<Label = T>>(
     world: &mut World<T>,
     value: &Labelled<T>,
     function: &Labelled<T>,
-) -> Result<Came<InstanceTest<T>, T>, FlowFault<T>>
+) -> Result<Outcome<InstanceTest<T>, T>, FlowFault<T>>
     requires value { L.made labels.old value.now.label }
     requires function { L.made labels.old function.now.label }
     requires belongs { Belongs L.made L.meaning labels.old world.old }
@@ -79,7 +79,7 @@ pub fn instance<T: Copy, L: Labels<Label = T>>(
         return throw_error(labels, world, ErrorKind::TypeError, function.label);
     }
     let test = test_of(alloc, labels, world, value, f, function.label)?;
-    Ok(Came::Goes(test))
+    Ok(Outcome::Goes(test))
 }
 
 /// What `instanceof` does up to the read is what the plan of the meaning does.
@@ -225,7 +225,7 @@ pub fn instance_of<T: Copy, L: Labels<Label = T>>(
     object: ObjId,
     label: T,
     proto: Labelled<T>,
-) -> Result<Came<Labelled<T>, T>, FlowFault<T>>
+) -> Result<Outcome<Labelled<T>, T>, FlowFault<T>>
     requires label { L.made labels.old label }
     requires proto { L.made labels.old proto.label }
     requires belongs { Belongs L.made L.meaning labels.old world.old }
@@ -249,7 +249,7 @@ fn has_prototype<T: Copy, L: Labels<Label = T>>(
     o: ObjId,
     proto: ObjId,
     label: T,
-) -> Result<Came<Labelled<T>, T>, FlowFault<T>>
+) -> Result<Outcome<Labelled<T>, T>, FlowFault<T>>
     requires label { L.made labels.old label }
     requires belongs { Belongs L.made L.meaning labels.old world.now }
     ensures acts { Acts L.made L.meaning labels.new (λ reading. read_value reading) (λ reading. is_instance (reading label) o.0 (kinds.Object proto)) world.now world.now result }
@@ -259,7 +259,7 @@ fn has_prototype<T: Copy, L: Labels<Label = T>>(
 {
     let linked = find_link(labels, world, o, proto)?;
     let depends = join(labels, label, linked.links)?;
-    Ok(Came::Goes(Labelled {
+    Ok(Outcome::Goes(Labelled {
         value: Value::Primitive(Primitive::Bool(linked.is)),
         label: depends,
     }))

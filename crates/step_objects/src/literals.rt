@@ -14,8 +14,8 @@ ghost use Rattle.es_meaning.specs.Definitions.{getter_in, setter_in};
 ghost use Rattle.es_meaning.specs.Operations as operations;
 ghost use Rattle.es_meaning.specs.Requested.{function_in, part_body, part_marks};
 ghost use Rattle.flow_meaning.specs.Tracked.{act};
-ghost use Rattle.step_world.specs.Acts.{Acts, HasAnswer};
-ghost use Rattle.step_world.specs.Worlds.{Belongs, Grows};
+ghost use Rattle.run_state.specs.Acts.{Acts, HasAnswer};
+ghost use Rattle.run_state.specs.Worlds.{Belongs, Grows};
 ghost use Rattle.step_objects.specs.Literals.{Does, IsLiteral, body_over, defined_on, keys_in, kind_of, label_over, redefined, values_in};
 
 use crate::parts::join;
@@ -24,7 +24,7 @@ use flow_text::OutOfMemory;
 use js_values::{Body, Class, Inner, Key, Labelled, Marks, ObjId, Value};
 use object_heap::Heap;
 use origin_labels::Labels;
-use step_world::{Came, World};
+use run_state::{Outcome, World};
 
 /// Object.prototype, with which a run starts (ECMA-262 15.2.4).
 const OBJECT_PROTOTYPE: ObjId = ObjId(0);
@@ -64,7 +64,7 @@ pub fn make_object<T: Copy, L: Labels<Label = T>>(
     labels: &mut L,
     world: &mut World<T>,
     parts: Vec<LiteralPart<T>>,
-) -> Result<Came<Labelled<T>, T>, FlowFault<T>>
+) -> Result<Outcome<Labelled<T>, T>, FlowFault<T>>
     requires parts { All (λ p. HasValue (L.made labels.old) p.value) parts.items }
     requires belongs { Belongs L.made L.meaning labels.old world.old }
     ensures acts { (tables : Tables) (inputs : Given) → Acts L.made L.meaning labels.new (λ reading. read_value reading) (λ reading. act tables inputs (operations.object_of (keys_in parts.items)) (values_in reading parts.items)) world.old world.new result }
@@ -78,7 +78,7 @@ pub fn make_object<T: Copy, L: Labels<Label = T>>(
     let heap = &mut world.heap;
     let o = heap.new_object(Class::Object, proto, context, context, Inner::Plain)?;
     define_all(labels, heap, o, context, parts)?;
-    Ok(Came::Goes(Labelled {
+    Ok(Outcome::Goes(Labelled {
         value: Value::Object(o),
         label: labels.bottom(),
     }))

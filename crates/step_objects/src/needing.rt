@@ -8,24 +8,24 @@ ghost use Rattle.js_values.specs.Readings.{HasValue, read_value};
 ghost use Rattle.es_meaning.specs.Operations as operations;
 ghost use Rattle.es_meaning.specs.Plain.{is_coercible};
 ghost use Rattle.flow_meaning.specs.Tracked.{act, needed};
-ghost use Rattle.step_world.specs.Acts.{Acts, HasAnswer};
-ghost use Rattle.step_world.specs.Worlds.{Belongs, Grows};
+ghost use Rattle.run_state.specs.Acts.{Acts, HasAnswer};
+ghost use Rattle.run_state.specs.Worlds.{Belongs, Grows};
 
 use flow_frames::FlowFault;
 use js_number::Primitive;
 use js_values::{Labelled, Value};
 use native_protocol::ErrorKind;
 use origin_labels::Labels;
-use step_names::throw_error;
+use property_access::throw_error;
+use run_state::{Outcome, World};
 use step_values::is_object;
-use step_world::{Came, World};
 
 /// The value, if it can have properties (ECMA-262 9.10). Undefined and null throw a TypeError, whose cause is the value's label.
 pub fn base_needed<T: Copy, L: Labels<Label = T>>(
     labels: &mut L,
     world: &mut World<T>,
     value: Labelled<T>,
-) -> Result<Came<Labelled<T>, T>, FlowFault<T>>
+) -> Result<Outcome<Labelled<T>, T>, FlowFault<T>>
     requires value { L.made labels.old value.label }
     requires belongs { Belongs L.made L.meaning labels.old world.old }
     ensures acts { (tables : Tables) (inputs : Given) → Acts L.made L.meaning labels.new (λ reading. read_value reading) (λ reading. act tables inputs operations.base_needed (read_value reading value ∷ [])) world.old world.new result }
@@ -43,7 +43,7 @@ pub fn object_needed<T: Copy, L: Labels<Label = T>>(
     labels: &mut L,
     world: &mut World<T>,
     value: Labelled<T>,
-) -> Result<Came<Labelled<T>, T>, FlowFault<T>>
+) -> Result<Outcome<Labelled<T>, T>, FlowFault<T>>
     requires value { L.made labels.old value.label }
     requires belongs { Belongs L.made L.meaning labels.old world.old }
     ensures acts { (tables : Tables) (inputs : Given) → Acts L.made L.meaning labels.new (λ reading. read_value reading) (λ reading. act tables inputs operations.object_needed (read_value reading value ∷ [])) world.old world.new result }
@@ -62,7 +62,7 @@ fn needed<T: Copy, L: Labels<Label = T>>(
     world: &mut World<T>,
     holds: bool,
     value: Labelled<T>,
-) -> Result<Came<Labelled<T>, T>, FlowFault<T>>
+) -> Result<Outcome<Labelled<T>, T>, FlowFault<T>>
     requires value { L.made labels.old value.label }
     requires belongs { Belongs L.made L.meaning labels.old world.old }
     ensures acts { Acts L.made L.meaning labels.new (λ reading. read_value reading) (λ reading. needed holds (read_value reading value)) world.old world.new result }
@@ -72,7 +72,7 @@ fn needed<T: Copy, L: Labels<Label = T>>(
     ensures kept { IsKept L.made L.meaning L.room L.firm labels.old labels.new }
 {
     if holds {
-        return Ok(Came::Goes(value));
+        return Ok(Outcome::Goes(value));
     }
     throw_error(labels, world, ErrorKind::TypeError, value.label)
 }

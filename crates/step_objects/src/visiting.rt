@@ -9,8 +9,8 @@ ghost use Rattle.js_values.specs.Readings.{IsReading, read_value};
 ghost use Rattle.es_meaning.specs.Outcomes.{Goes};
 ghost use Rattle.es_meaning.specs.Plain.{key_text};
 ghost use Rattle.flow_meaning.specs.Scopes.{LabelledLine, raise};
-ghost use Rattle.step_world.specs.Acts.{Acts, HasAnswer};
-ghost use Rattle.step_world.specs.Worlds.{Belongs, Grows, state_of};
+ghost use Rattle.run_state.specs.Acts.{Acts, HasAnswer};
+ghost use Rattle.run_state.specs.Worlds.{Belongs, Grows, state_of};
 ghost use Rattle.step_objects.specs.Taking.{Raises, still};
 
 use crate::asking::has_key;
@@ -20,9 +20,9 @@ use flow_text::OutOfMemory;
 use js_number::Primitive;
 use js_values::{Labelled, Value};
 use origin_labels::Labels;
+use run_state::{Outcome, World};
 use std::alloc::Global;
 use step_values::truth;
-use step_world::{Came, World};
 
 /// Whether an object or a prototype of it still has a key. The answer raises the innermost frame, the loop's, by its label.
 pub fn still_has<T: Copy, L: Labels<Label = T>>(
@@ -31,7 +31,7 @@ pub fn still_has<T: Copy, L: Labels<Label = T>>(
     world: &mut World<T>,
     object: &Labelled<T>,
     key: &Value,
-) -> Result<Came<bool, T>, FlowFault<T>>
+) -> Result<Outcome<bool, T>, FlowFault<T>>
     requires object { L.made labels.old object.now.label }
     requires belongs { Belongs L.made L.meaning labels.old world.old }
     ensures acts { (tables : Tables) (inputs : Given) → Acts L.made L.meaning labels.new (λ reading b. b) (λ reading. still tables inputs (read_value reading object.now) (key_text key.now)) world.old world.new result }
@@ -49,12 +49,12 @@ pub fn still_has<T: Copy, L: Labels<Label = T>>(
     let object = object.copy(alloc)?;
     let answer = has_key(alloc, labels, world, key, object)?;
     match answer {
-        Came::Goes(has) => {
+        Outcome::Goes(has) => {
             raise(labels, world, has.label)?;
-            Ok(Came::Goes(truth(&has.value)))
+            Ok(Outcome::Goes(truth(&has.value)))
         }
-        Came::Throws(error) => Ok(Came::Throws(error)),
-        Came::Leaves(why) => Ok(Came::Leaves(why)),
+        Outcome::Throws(error) => Ok(Outcome::Throws(error)),
+        Outcome::Leaves(why) => Ok(Outcome::Leaves(why)),
     }
 }
 

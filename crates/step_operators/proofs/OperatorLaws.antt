@@ -25,32 +25,32 @@ use Rattle.flow_meaning.specs.Scopes.{Val, Halt, Jump, State}
 use Rattle.flow_meaning.specs.Tracked.{Reference, act, is_instance, labelled}
 use Rattle.step_objects.specs.Instances.{AreTested, read_test, tested, tests_on}
 use Rattle.step_values.specs.Converted.{OperandAsItIs, converts, converts_operand, is_keyed}
-use Rattle.step_updates.specs.Operated.{AreOperated, operated, operated_by}
-use Rattle.step_world.specs.declared.came.Came.{Came}
-use Rattle.step_world.specs.declared.world.World.{World}
-use Rattle.step_world.specs.Acts.{HasAnswer}
-use Rattle.step_world.proofs.ActLaws.{HasAnswer-weaker}
-use Rattle.step_work.specs.declared.work.Next.{Next}
-use Rattle.step_work.specs.declared.work.Work.{Work}
-use Rattle.step_work.specs.Kept.{Kept}
-use Rattle.step_work.specs.declared.work.Counting.{Counting}
-use Rattle.step_work.specs.declared.work.Counting.TheVariants as counting
-use Rattle.step_work.specs.declared.work.Target.{Target}
-use Rattle.step_work.specs.declared.work.Work.TheVariants as work
-use Rattle.step_work.specs.Moving.{Planning, following}
-use Rattle.step_work.specs.Pending.{after, converted_left, next_plan, setting_inside}
-use Rattle.step_work.specs.Settings.{Setting, entrance}
-use Rattle.step_work.specs.Shapes.{target_of}
+use Rattle.step_objects.specs.Operated.{AreOperated, operated, operated_by}
+use Rattle.run_state.specs.declared.outcome.Outcome as machine
+use Rattle.run_state.specs.declared.world.World.{World}
+use Rattle.run_state.specs.Acts.{HasAnswer}
+use Rattle.run_state.proofs.ActLaws.{HasAnswer-weaker}
+use Rattle.continuations.specs.declared.continuation.Control.{Control}
+use Rattle.continuations.specs.declared.continuation.Continuation.{Continuation}
+use Rattle.continuations.specs.Kept.{Kept}
+use Rattle.continuations.specs.declared.continuation.Counting.{Counting}
+use Rattle.continuations.specs.declared.continuation.Counting.TheVariants as counting
+use Rattle.continuations.specs.declared.continuation.Target.{Target}
+use Rattle.continuations.specs.declared.continuation.Continuation.TheVariants as continuation
+use Rattle.continuations.specs.Moving.{Planning, following}
+use Rattle.continuations.specs.Pending.{after, converted_left, next_plan, setting_inside}
+use Rattle.continuations.specs.Settings.{Setting, entrance}
+use Rattle.continuations.specs.Shapes.{target_of}
 use Rattle.step_objects.specs.declared.instances.InstanceTest.TheVariants as test
 use Rattle.js_values.specs.declared.ids.ObjId.{ObjId}
 use Rattle.js_values.specs.declared.value.Value.TheVariants as value
-use Rattle.step_world.specs.declared.came.Access.{Access}
-use Rattle.step_world.specs.Accesses.{read_access}
-use Rattle.step_work.specs.declared.work.Next.TheVariants as next
-use Rattle.step_work.proofs.Handed.{laid_value}
-use Rattle.step_moves.specs.Moving.{Begun, Comes, Resumed, entering_access}
-use Rattle.step_moves.proofs.Begun.{begun_above, begun_pushed, behind_one, resumed}
-use Rattle.step_moves.proofs.Plans.{followed, given_follows, outcome_follows}
+use Rattle.run_state.specs.declared.outcome.Access.{Access}
+use Rattle.run_state.specs.Accesses.{read_access}
+use Rattle.continuations.specs.declared.continuation.Control.TheVariants as control
+use Rattle.continuations.proofs.Handed.{laid_value}
+use Rattle.step_references.specs.Moving.{Begun, Comes, Resumed, entering_access}
+use Rattle.step_references.proofs.Begun.{begun_above, begun_pushed, behind_one, resumed}
+use Rattle.step_references.proofs.Plans.{followed, given_follows, outcome_follows}
 use Rattle.step_operators.specs.Counting.{changed_by, given_by, numbered_by}
 
 -- a set of no built-ins, at which acts are looked at that depend on none
@@ -204,12 +204,12 @@ module _ (tables : Tables) (inputs : Given) (set : BuiltIns) (functions : List F
 
   -- ---- `++` and `--`
 
-  pub counted_as : (how : Counting) (o : BinaryOperator) (t : Target) (vs : List Val) (f : Setting) (v : Val) (s : State) → and_plan (O.primitive hint.Number v E s) (after tables inputs set functions (work.CountedNumber how o t) vs f) ≡ after tables inputs set functions (work.Counted how o t) vs f (gave v) s
+  pub counted_as : (how : Counting) (o : BinaryOperator) (t : Target) (vs : List Val) (f : Setting) (v : Val) (s : State) → and_plan (O.primitive hint.Number v E s) (after tables inputs set functions (continuation.CountedNumber how o t) vs f) ≡ after tables inputs set functions (continuation.Counted how o t) vs f (gave v) s
   unfolding prefix_value postfix_value
   counted_as counting.Prefix o t vs f v s = refl
   counted_as counting.Postfix o t vs f v s = refl
 
-  pub counted_is : (how : Counting) (o : BinaryOperator) (t : Target) (vs : List Val) (f : Setting) (v : Val) (s : State) → numbered_by how tables inputs set functions o (target_of t vs) v s ≡ after tables inputs set functions (work.CountedNumber how o t) vs f (gave v) s
+  pub counted_is : (how : Counting) (o : BinaryOperator) (t : Target) (vs : List Val) (f : Setting) (v : Val) (s : State) → numbered_by how tables inputs set functions o (target_of t vs) v s ≡ after tables inputs set functions (continuation.CountedNumber how o t) vs f (gave v) s
   counted_is counting.Prefix o t vs f v s = refl
   counted_is counting.Postfix o t vs f v s = refl
 
@@ -243,19 +243,19 @@ module _ (tables : Tables) (inputs : Given) (set : BuiltIns) (functions : List F
   applied_unary o v s = sym (given_follows (T.unary o v s))
 
 -- what an operator gives has the label of its operand
-pub unary_has : {T : Type 0} (made : T → Type 0) (l : T) (result : Result (Came (Labelled T) T) (FlowFault T)) → HasAnswer (λ v. v.label ≡ l) (λ label. label ≡ l) result → made l → HasAnswer (HasValue made) made result
+pub unary_has : {T : Type 0} (made : T → Type 0) (l : T) (result : Result (machine.Outcome (Labelled T) T) (FlowFault T)) → HasAnswer (λ v. v.label ≡ l) (λ label. label ≡ l) result → made l → HasAnswer (HasValue made) made result
 unary_has made l result same has = HasAnswer-weaker (λ v. v.label ≡ l) (HasValue made) (λ label. label ≡ l) made result (λ v is. subst made (sym is) has) (λ label is. subst made (sym is) has) same
 
 -- work that is resumed by further work
-module _ {S T : Type 0} {made : S → T → Type 0} {meaning : S → T → Label} {store : S} {w : Work} {old : Kept T} (between : List (Labelled T)) (popped : Labelled T) (top : old.loose ≡ between ++ popped ∷ []) (v : Work) (vs : List (Labelled T)) where
-  pub resumed_pushed : {new : Kept T} {world : World T} {move : Next} (loose : List (Labelled T)) → new ≡ record { tasks = old.tasks ++ (v, vs) ∷ []; loose = loose }
+module _ {S T : Type 0} {made : S → T → Type 0} {meaning : S → T → Label} {store : S} {w : Continuation} {old : Kept T} (between : List (Labelled T)) (popped : Labelled T) (top : old.loose ≡ between ++ popped ∷ []) (v : Continuation) (vs : List (Labelled T)) where
+  pub resumed_pushed : {new : Kept T} {world : World T} {move : Control} (loose : List (Labelled T)) → new ≡ record { tasks = old.tasks ++ (v, vs) ∷ []; loose = loose }
       → ((tables : Tables) (inputs : Given) (set : BuiltIns) (functions : List FunctionCode) (reading : T → Label) (f : Setting) (s : State) → IsReading made meaning store reading
       → and_plan (next_plan tables inputs set functions move (map (read_value reading) loose) (setting_inside v f) s) (after tables inputs set functions v (map (read_value reading) vs) f) ≡ after tables inputs set functions w (map (read_value reading) between) f (gave (read_value reading popped)) s)
       → Resumed made meaning store w old new world world (Ok move)
   resumed_pushed loose laid same =
       resumed {plan = λ tables inputs set functions reading f s. after tables inputs set functions w (map (read_value reading) between) f (gave (read_value reading popped)) s} {middle = old} between popped top refl (λ tables inputs set functions reading f s is. refl) (begun_pushed v vs loose laid same)
 
-  pub resumed_above : {p : Planning T} {middle new : Kept T} {world_old world_new : World T} {result : Result Next (FlowFault T)} → Begun made meaning store p middle new world_old world_new result → middle.tasks ≡ old.tasks ++ (v, vs) ∷ []
+  pub resumed_above : {p : Planning T} {middle new : Kept T} {world_old world_new : World T} {result : Result Control (FlowFault T)} → Begun made meaning store p middle new world_old world_new result → middle.tasks ≡ old.tasks ++ (v, vs) ∷ []
       → ((tables : Tables) (inputs : Given) (set : BuiltIns) (functions : List FunctionCode) (reading : T → Label) (f : Setting) (s : State) → IsReading made meaning store reading
       → and_plan (p tables inputs set functions reading (setting_inside v f) s) (after tables inputs set functions v (map (read_value reading) vs) f) ≡ after tables inputs set functions w (map (read_value reading) between) f (gave (read_value reading popped)) s)
       → Resumed made meaning store w old new world_old world_new result
@@ -265,12 +265,12 @@ module _ {S T : Type 0} {made : S → T → Type 0} {meaning : S → T → Label
 -- ---- `instanceof`: it has its answer, or it reads the `prototype`
 
 module _ {T : Type 0} where
-  pub answers_alone : {new : Kept T} (old : Kept T) (v : Labelled T) → length old.loose ≡ 0 → new.tasks ≡ old.tasks → new.loose ≡ old.loose ++ v ∷ [] → Comes (λ tables inputs set functions reading. tests_on functions (entrance tables inputs set functions) (read_test reading (test.Answered v))) old new next.Value
+  pub answers_alone : {new : Kept T} (old : Kept T) (v : Labelled T) → length old.loose ≡ 0 → new.tasks ≡ old.tasks → new.loose ≡ old.loose ++ v ∷ [] → Comes (λ tables inputs set functions reading. tests_on functions (entrance tables inputs set functions) (read_test reading (test.Answered v))) old new control.Value
   answers_alone {new} old v none tasks laid tables inputs set functions reading e s = laid_value old new v none tasks laid tables inputs set functions reading e s
 
-  pub reads_on : (old pushed new : Kept T) (move : Next) (o : ObjId) (label : T) (a : Access T) → pushed.tasks ≡ old.tasks ++ (work.InstanceTest, record { value = value.Object o; label = label } ∷ []) ∷ []
+  pub reads_on : (old pushed new : Kept T) (move : Control) (o : ObjId) (label : T) (a : Access T) → pushed.tasks ≡ old.tasks ++ (continuation.InstanceTest, record { value = value.Object o; label = label } ∷ []) ∷ []
       → Comes (λ tables inputs set functions reading. entering_access tables inputs set functions reading (read_access reading a)) pushed new move
       → Comes (λ tables inputs set functions reading. tests_on functions (entrance tables inputs set functions) (read_test reading (test.Reads o label a))) old new move
   reads_on old pushed new move o label a tasks comes tables inputs set functions reading e s =
       comes tables inputs set functions reading e s
-      ∙ behind_one tables inputs set functions reading old.tasks pushed.tasks work.InstanceTest (record { value = value.Object o; label = label } ∷ []) e (λ f. entering_access tables inputs set functions reading (read_access reading a) s) tasks
+      ∙ behind_one tables inputs set functions reading old.tasks pushed.tasks continuation.InstanceTest (record { value = value.Object o; label = label } ∷ []) e (λ f. entering_access tables inputs set functions reading (read_access reading a) s) tasks

@@ -9,9 +9,9 @@ use Rattle.es_meaning.specs.Evaluation.{assign_giving, assign_to, postfix_by, po
 use Rattle.flow_meaning.specs.Planned.{Plan, planned}
 use Rattle.flow_meaning.specs.Scopes.{Val, State}
 use Rattle.flow_meaning.specs.Tracked.{Reference}
-use Rattle.step_work.specs.declared.work.Counting.{Counting}
-use Rattle.step_work.specs.declared.work.Counting.TheVariants.{Prefix, Postfix}
-use Rattle.step_work.specs.Settings.{entrance}
+use Rattle.continuations.specs.declared.continuation.Counting.{Counting}
+use Rattle.continuations.specs.declared.continuation.Counting.TheVariants.{Prefix, Postfix}
+use Rattle.continuations.specs.Settings.{entrance}
 
 -- the old value as a number, and then that
 abbrev pub numbered_by : Counting → Tables → Given → BuiltIns → List FunctionCode → BinaryOperator → Reference → Val → State → Plan

@@ -7,21 +7,21 @@ ghost use Rattle.flow_frames.specs.Stops.{IfStop};
 ghost use Rattle.js_values.specs.Readings.{HasValue, read_value};
 ghost use Rattle.es_meaning.specs.Evaluation.{has_left};
 ghost use Rattle.flow_meaning.specs.Planned.{planned};
-ghost use Rattle.step_world.specs.Worlds.{Belongs, Grows};
-ghost use Rattle.step_work.specs.declared.work.Work.TheVariants as work;
-ghost use Rattle.step_work.specs.Stops.{HasStop};
-ghost use Rattle.step_moves.specs.Moving.{Begun, Moved, Resumed};
+ghost use Rattle.run_state.specs.Worlds.{Belongs, Grows};
+ghost use Rattle.continuations.specs.declared.continuation.Continuation.TheVariants as continuation;
+ghost use Rattle.continuations.specs.Stops.{HasStop};
+ghost use Rattle.step_references.specs.Moving.{Begun, Moved, Resumed};
 
+use continuations::{Control, Stack};
 use flow_frames::FlowFault;
 use js_ast::BinaryOperator;
 use js_values::Labelled;
 use origin_labels::Labels;
+use run_state::World;
 use std::alloc::Global;
-use step_moves::settle;
 use step_objects::has_key;
+use step_references::hand_on;
 use step_values::binary;
-use step_work::{Next, Stack};
-use step_world::World;
 
 /// An operator between two values as they are.
 pub(crate) fn apply<'p, L: Labels>(
@@ -32,7 +32,7 @@ pub(crate) fn apply<'p, L: Labels>(
     operator: BinaryOperator,
     left: Labelled<L::Label>,
     right: Labelled<L::Label>,
-) -> Result<Next<'p>, FlowFault<L::Label>>
+) -> Result<Control<'p>, FlowFault<L::Label>>
     requires loose { length stack.old.loose ≡ 0 }
     requires left { L.made labels.old left.label }
     requires right { L.made labels.old right.label }
@@ -45,7 +45,7 @@ pub(crate) fn apply<'p, L: Labels>(
     ensures kept { IsKept L.made L.meaning L.room L.firm labels.old labels.new }
 {
     let answer = binary(alloc, labels, operator, &left, &right);
-    settle(labels, stack, answer)
+    hand_on(labels, stack, answer)
 }
 
 /// Whether an object has a key.
@@ -56,7 +56,7 @@ pub(crate) fn contains<'p, L: Labels>(
     stack: &mut Stack<'p, L::Label>,
     key: Labelled<L::Label>,
     object: Labelled<L::Label>,
-) -> Result<Next<'p>, FlowFault<L::Label>>
+) -> Result<Control<'p>, FlowFault<L::Label>>
     requires loose { length stack.old.loose ≡ 0 }
     requires key { L.made labels.old key.label }
     requires object { L.made labels.old object.label }
@@ -69,7 +69,7 @@ pub(crate) fn contains<'p, L: Labels>(
     ensures kept { IsKept L.made L.meaning L.room L.firm labels.old labels.new }
 {
     let answer = has_key(alloc, labels, world, key, object);
-    settle(labels, stack, answer)
+    hand_on(labels, stack, answer)
 }
 
 /// Behind the conversion of both operands: the left one lies below the right one.
@@ -79,11 +79,11 @@ pub fn operate_converted<'p, L: Labels>(
     world: &mut World<L::Label>,
     stack: &mut Stack<'p, L::Label>,
     operator: BinaryOperator,
-) -> Result<Next<'p>, FlowFault<L::Label>>
+) -> Result<Control<'p>, FlowFault<L::Label>>
     requires loose { length stack.old.loose ≡ 2 }
     requires made { All (HasValue (L.made labels.old)) stack.old.loose }
     requires belongs { Belongs L.made L.meaning labels.old world.old }
-    ensures goes_on { Resumed L.made L.meaning labels.new (work.Operate operator) stack.old stack.new world.old world.new result }
+    ensures goes_on { Resumed L.made L.meaning labels.new (continuation.Operate operator) stack.old stack.new world.old world.new result }
     ensures moved { IfOk result (Moved (L.made labels.new) 4 stack.old stack.new world.old world.new) }
     ensures stopped { IfErr result (IfStop (HasStop (L.made labels.new))) }
     ensures belongs { Belongs L.made L.meaning labels.new world.new }
@@ -101,11 +101,11 @@ pub fn key_has<'p, L: Labels>(
     labels: &mut L,
     world: &mut World<L::Label>,
     stack: &mut Stack<'p, L::Label>,
-) -> Result<Next<'p>, FlowFault<L::Label>>
+) -> Result<Control<'p>, FlowFault<L::Label>>
     requires loose { length stack.old.loose ≡ 2 }
     requires made { All (HasValue (L.made labels.old)) stack.old.loose }
     requires belongs { Belongs L.made L.meaning labels.old world.old }
-    ensures goes_on { Resumed L.made L.meaning labels.new (work.KeyHas) stack.old stack.new world.old world.new result }
+    ensures goes_on { Resumed L.made L.meaning labels.new (continuation.KeyHas) stack.old stack.new world.old world.new result }
     ensures moved { IfOk result (Moved (L.made labels.new) 4 stack.old stack.new world.old world.new) }
     ensures stopped { IfErr result (IfStop (HasStop (L.made labels.new))) }
     ensures belongs { Belongs L.made L.meaning labels.new world.new }

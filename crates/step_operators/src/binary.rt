@@ -8,28 +8,27 @@ ghost use Rattle.js_values.specs.Readings.{HasValue, read_value};
 ghost use Rattle.es_meaning.specs.Operations.{Value};
 ghost use Rattle.es_meaning.specs.Evaluation.{binary_by, binary_values, conversion_of, has_right, keyed};
 ghost use Rattle.flow_meaning.specs.Planned.{planned};
-ghost use Rattle.step_world.specs.Worlds.{Belongs, Grows};
+ghost use Rattle.run_state.specs.Worlds.{Belongs, Grows};
 ghost use Rattle.js_ast.specs.declared.operators.BinaryOperator.TheVariants as operator;
-ghost use Rattle.step_work.specs.declared.work.Work.TheVariants as work;
-ghost use Rattle.step_work.specs.Pending.{converted_left};
-ghost use Rattle.step_work.specs.Settings.{entrance};
-ghost use Rattle.step_work.specs.Stops.{HasStop};
-ghost use Rattle.step_moves.specs.Moving.{Begun, Moved, Resumed};
+ghost use Rattle.continuations.specs.declared.continuation.Continuation.TheVariants as continuation;
+ghost use Rattle.continuations.specs.Pending.{converted_left};
+ghost use Rattle.continuations.specs.Settings.{entrance};
+ghost use Rattle.continuations.specs.Stops.{HasStop};
+ghost use Rattle.step_references.specs.Moving.{Begun, Moved, Resumed};
 
 use crate::applying::apply;
+use continuations::{Continuation, Control, Stack};
 use flow_frames::FlowFault;
 use flow_text::OutOfMemory;
 use js_ast::BinaryOperator;
 use js_values::Labelled;
 use native_protocol::Hint;
 use origin_labels::Labels;
+use run_state::World;
 use std::alloc::Global;
-use step_moves::{Went, go_on, settle};
-use step_objects::object_needed;
-use step_updates::{operated, operating};
+use step_objects::{object_needed, operated, operating};
+use step_references::{Went, go_on, hand_on};
 use step_values::{Conversion, conversion_of, converts};
-use step_work::{Next, Stack, Work};
-use step_world::World;
 
 /// An operator between the value of its left operand, which lies below, and that of its right one.
 pub fn binary_done<'p, L: Labels>(
@@ -38,11 +37,11 @@ pub fn binary_done<'p, L: Labels>(
     world: &mut World<L::Label>,
     stack: &mut Stack<'p, L::Label>,
     operator: BinaryOperator,
-) -> Result<Next<'p>, FlowFault<L::Label>>
+) -> Result<Control<'p>, FlowFault<L::Label>>
     requires loose { length stack.old.loose ≡ 2 }
     requires made { All (HasValue (L.made labels.old)) stack.old.loose }
     requires belongs { Belongs L.made L.meaning labels.old world.old }
-    ensures goes_on { Resumed L.made L.meaning labels.new (work.BinaryDone operator) stack.old stack.new world.old world.new result }
+    ensures goes_on { Resumed L.made L.meaning labels.new (continuation.BinaryDone operator) stack.old stack.new world.old world.new result }
     ensures moved { IfOk result (Moved (L.made labels.new) 8 stack.old stack.new world.old world.new) }
     ensures stopped { IfErr result (IfStop (HasStop (L.made labels.new))) }
     ensures belongs { Belongs L.made L.meaning labels.new world.new }
@@ -63,7 +62,7 @@ pub(crate) fn operate<'p, L: Labels>(
     operator: BinaryOperator,
     left: Labelled<L::Label>,
     right: Labelled<L::Label>,
-) -> Result<Next<'p>, FlowFault<L::Label>>
+) -> Result<Control<'p>, FlowFault<L::Label>>
     requires loose { length stack.old.loose ≡ 0 }
     requires left { L.made labels.old left.label }
     requires right { L.made labels.old right.label }
@@ -80,7 +79,7 @@ pub(crate) fn operate<'p, L: Labels>(
     } else {
         operating();
         let answer = operated(alloc, labels, world, operator, &left, &right);
-        settle(labels, stack, answer)
+        hand_on(labels, stack, answer)
     }
 }
 
@@ -93,7 +92,7 @@ fn convert_operands<'p, L: Labels>(
     operator: BinaryOperator,
     left: Labelled<L::Label>,
     right: Labelled<L::Label>,
-) -> Result<Next<'p>, FlowFault<L::Label>>
+) -> Result<Control<'p>, FlowFault<L::Label>>
     requires loose { length stack.old.loose ≡ 0 }
     requires left { L.made labels.old left.label }
     requires right { L.made labels.old right.label }
@@ -132,7 +131,7 @@ fn compare_left<'p, L: Labels>(
     operator: BinaryOperator,
     left: Labelled<L::Label>,
     right: Labelled<L::Label>,
-) -> Result<Next<'p>, OutOfMemory>
+) -> Result<Control<'p>, OutOfMemory>
     requires loose { length stack.old.loose ≡ 0 }
     requires left { L.made labels.now left.label }
     requires right { L.made labels.now right.label }
@@ -141,10 +140,10 @@ fn compare_left<'p, L: Labels>(
 {
     let kept = right.copy(alloc)?;
     stack.lay(kept)?;
-    stack.push(Work::ConvertedLeft(operator))?;
+    stack.push(Continuation::ConvertedLeft(operator))?;
     stack.lay(left)?;
     stack.lay(right)?;
-    Ok(Next::Compare)
+    Ok(Control::Compare)
 }
 
 /// The left operand is converted to a primitive value, and the right one waits.
@@ -156,7 +155,7 @@ fn convert_left<'p, L: Labels>(
     left: Labelled<L::Label>,
     right: Labelled<L::Label>,
     hint: Hint,
-) -> Result<Next<'p>, OutOfMemory>
+) -> Result<Control<'p>, OutOfMemory>
     requires loose { length stack.old.loose ≡ 0 }
     requires left { L.made labels.now left.label }
     requires right { L.made labels.now right.label }
@@ -164,9 +163,9 @@ fn convert_left<'p, L: Labels>(
     ensures moved { IfOk result (Moved (L.made labels.now) 8 stack.old stack.new world.now world.now) }
 {
     stack.lay(right)?;
-    stack.push(Work::ConvertedLeft(operator))?;
+    stack.push(Continuation::ConvertedLeft(operator))?;
     stack.lay(left)?;
-    Ok(Next::Convert(hint))
+    Ok(Control::Convert(hint))
 }
 
 /// `in`: the right value has to be an object, and then the left one is converted to a key.
@@ -176,7 +175,7 @@ fn need_object<'p, L: Labels>(
     stack: &mut Stack<'p, L::Label>,
     left: Labelled<L::Label>,
     right: Labelled<L::Label>,
-) -> Result<Next<'p>, FlowFault<L::Label>>
+) -> Result<Control<'p>, FlowFault<L::Label>>
     requires loose { length stack.old.loose ≡ 0 }
     requires left { L.made labels.old left.label }
     requires right { L.made labels.old right.label }
@@ -206,7 +205,7 @@ fn convert_key<'p, L: Labels>(
     stack: &mut Stack<'p, L::Label>,
     key: Labelled<L::Label>,
     object: Labelled<L::Label>,
-) -> Result<Next<'p>, OutOfMemory>
+) -> Result<Control<'p>, OutOfMemory>
     requires loose { length stack.old.loose ≡ 0 }
     requires key { L.made labels.now key.label }
     requires object { L.made labels.now object.label }
@@ -214,7 +213,7 @@ fn convert_key<'p, L: Labels>(
     ensures moved { IfOk result (Moved (L.made labels.now) 6 stack.old stack.new world.now world.now) }
 {
     stack.lay(object)?;
-    stack.push(Work::KeyHas)?;
+    stack.push(Continuation::KeyHas)?;
     stack.lay(key)?;
-    Ok(Next::Convert(Hint::String))
+    Ok(Control::Convert(Hint::String))
 }

@@ -7,25 +7,25 @@ ghost use Rattle.flow_frames.specs.Stops.{IfStop};
 ghost use Rattle.js_values.specs.Readings.{HasValue, read_value};
 ghost use Rattle.es_meaning.specs.Evaluation.{compared_left, conversion_of, number_left, primitive_left};
 ghost use Rattle.flow_meaning.specs.Planned.{planned};
-ghost use Rattle.step_world.specs.Worlds.{Belongs, Grows};
-ghost use Rattle.step_work.specs.declared.work.Work.TheVariants as work;
-ghost use Rattle.step_work.specs.Pending.{converted_left};
-ghost use Rattle.step_work.specs.Settings.{entrance};
-ghost use Rattle.step_work.specs.Stops.{HasStop};
-ghost use Rattle.step_moves.specs.Moving.{Begun, Moved, Resumed};
+ghost use Rattle.run_state.specs.Worlds.{Belongs, Grows};
+ghost use Rattle.continuations.specs.declared.continuation.Continuation.TheVariants as continuation;
+ghost use Rattle.continuations.specs.Pending.{converted_left};
+ghost use Rattle.continuations.specs.Settings.{entrance};
+ghost use Rattle.continuations.specs.Stops.{HasStop};
+ghost use Rattle.step_references.specs.Moving.{Begun, Moved, Resumed};
 
 use crate::applying::{apply, contains};
+use continuations::{Continuation, Control, Stack};
 use flow_frames::FlowFault;
 use flow_text::OutOfMemory;
 use js_ast::{BinaryOperator, UnaryOperator};
 use js_values::Labelled;
 use native_protocol::Hint;
 use origin_labels::Labels;
+use run_state::World;
 use std::alloc::Global;
-use step_moves::{Went, go_on};
+use step_references::{Went, go_on};
 use step_values::{Conversion, conversion_of, unary};
-use step_work::{Next, Stack, Work};
-use step_world::World;
 
 /// The left operand is converted: the right one, which lies below, is next.
 pub fn left_converted<'p, L: Labels>(
@@ -34,11 +34,11 @@ pub fn left_converted<'p, L: Labels>(
     world: &mut World<L::Label>,
     stack: &mut Stack<'p, L::Label>,
     operator: BinaryOperator,
-) -> Result<Next<'p>, FlowFault<L::Label>>
+) -> Result<Control<'p>, FlowFault<L::Label>>
     requires loose { length stack.old.loose ≡ 2 }
     requires made { All (HasValue (L.made labels.old)) stack.old.loose }
     requires belongs { Belongs L.made L.meaning labels.old world.old }
-    ensures goes_on { Resumed L.made L.meaning labels.new (work.ConvertedLeft operator) stack.old stack.new world.old world.new result }
+    ensures goes_on { Resumed L.made L.meaning labels.new (continuation.ConvertedLeft operator) stack.old stack.new world.old world.new result }
     ensures moved { IfOk result (Moved (L.made labels.new) 6 stack.old stack.new world.old world.new) }
     ensures stopped { IfErr result (IfStop (HasStop (L.made labels.new))) }
     ensures belongs { Belongs L.made L.meaning labels.new world.new }
@@ -59,7 +59,7 @@ fn convert_next<'p, L: Labels>(
     operator: BinaryOperator,
     left: Labelled<L::Label>,
     right: Labelled<L::Label>,
-) -> Result<Next<'p>, FlowFault<L::Label>>
+) -> Result<Control<'p>, FlowFault<L::Label>>
     requires loose { length stack.old.loose ≡ 0 }
     requires left { L.made labels.old left.label }
     requires right { L.made labels.old right.label }
@@ -95,7 +95,7 @@ fn compare_right<'p, L: Labels>(
     operator: BinaryOperator,
     left: Labelled<L::Label>,
     right: Labelled<L::Label>,
-) -> Result<Next<'p>, OutOfMemory>
+) -> Result<Control<'p>, OutOfMemory>
     requires loose { length stack.old.loose ≡ 0 }
     requires left { L.made labels.now left.label }
     requires right { L.made labels.now right.label }
@@ -104,10 +104,10 @@ fn compare_right<'p, L: Labels>(
 {
     let kept = left.copy(alloc)?;
     stack.lay(kept)?;
-    stack.push(Work::Operate(operator))?;
+    stack.push(Continuation::Operate(operator))?;
     stack.lay(right)?;
     stack.lay(left)?;
-    Ok(Next::Compare)
+    Ok(Control::Compare)
 }
 
 /// The right operand is converted to a primitive value, and the left one waits.
@@ -119,7 +119,7 @@ fn convert_right<'p, L: Labels>(
     left: Labelled<L::Label>,
     right: Labelled<L::Label>,
     hint: Hint,
-) -> Result<Next<'p>, OutOfMemory>
+) -> Result<Control<'p>, OutOfMemory>
     requires loose { length stack.old.loose ≡ 0 }
     requires left { L.made labels.now left.label }
     requires right { L.made labels.now right.label }
@@ -127,9 +127,9 @@ fn convert_right<'p, L: Labels>(
     ensures moved { IfOk result (Moved (L.made labels.now) 6 stack.old stack.new world.now world.now) }
 {
     stack.lay(left)?;
-    stack.push(Work::Operate(operator))?;
+    stack.push(Continuation::Operate(operator))?;
     stack.lay(right)?;
-    Ok(Next::Convert(hint))
+    Ok(Control::Convert(hint))
 }
 
 /// The left operand is taken as a number, before the right one is converted.
@@ -141,7 +141,7 @@ fn make_number<'p, L: Labels>(
     operator: BinaryOperator,
     left: Labelled<L::Label>,
     right: Labelled<L::Label>,
-) -> Result<Next<'p>, FlowFault<L::Label>>
+) -> Result<Control<'p>, FlowFault<L::Label>>
     requires loose { length stack.old.loose ≡ 0 }
     requires left { L.made labels.now left.label }
     requires right { L.made labels.now right.label }

@@ -5,27 +5,27 @@ ghost use Rattle.std.specs.List.{All};
 ghost use Rattle.origin_labels.specs.Stores.{IsKept};
 ghost use Rattle.flow_frames.specs.Stops.{IfStop};
 ghost use Rattle.js_values.specs.Readings.{HasValue, read_value};
-ghost use Rattle.step_updates.specs.References.{refers, HasReference};
-ghost use Rattle.step_world.specs.Worlds.{Belongs, Grows};
-ghost use Rattle.step_work.specs.declared.work.Work.TheVariants as work;
-ghost use Rattle.step_work.specs.Pending.{owns_target};
-ghost use Rattle.step_work.specs.Stops.{HasStop};
-ghost use Rattle.step_moves.specs.Moving.{Begun, Moved, Resumed};
+ghost use Rattle.step_objects.specs.References.{refers, HasReference};
+ghost use Rattle.run_state.specs.Worlds.{Belongs, Grows};
+ghost use Rattle.continuations.specs.declared.continuation.Continuation.TheVariants as continuation;
+ghost use Rattle.continuations.specs.Pending.{owns_target};
+ghost use Rattle.continuations.specs.Stops.{HasStop};
+ghost use Rattle.step_references.specs.Moving.{Begun, Moved, Resumed};
 ghost use Rattle.step_operators.specs.Counting.{changed_by, given_by, numbered_by};
 
 use crate::binary::operate;
+use continuations::{Continuation, Control, Counting, Stack, Target};
 use flow_frames::FlowFault;
 use flow_text::OutOfMemory;
 use js_ast::{BinaryOperator, UnaryOperator};
 use js_values::Labelled;
 use native_protocol::Hint;
 use origin_labels::Labels;
+use run_state::World;
 use std::alloc::Global;
-use step_moves::{Went, assign, assign_giving, go_on, take_reference};
-use step_updates::{Reference, one_more};
+use step_objects::{Reference, one_more};
+use step_references::{Went, assign, assign_giving, go_on, take_reference};
 use step_values::unary;
-use step_work::{Counting, Next, Stack, Target, Work};
-use step_world::World;
 
 /// The operand of a compound assignment, whose old value lies below: what the operator gives is assigned then.
 pub fn compound_done<'p, L: Labels>(
@@ -35,11 +35,11 @@ pub fn compound_done<'p, L: Labels>(
     stack: &mut Stack<'p, L::Label>,
     operator: BinaryOperator,
     target: Target<'p>,
-) -> Result<Next<'p>, FlowFault<L::Label>>
+) -> Result<Control<'p>, FlowFault<L::Label>>
     requires loose { length stack.old.loose ≡ owns_target target + 2 }
     requires made { All (HasValue (L.made labels.old)) stack.old.loose }
     requires belongs { Belongs L.made L.meaning labels.old world.old }
-    ensures goes_on { Resumed L.made L.meaning labels.new (work.CompoundDone operator target.entry) stack.old stack.new world.old world.new result }
+    ensures goes_on { Resumed L.made L.meaning labels.new (continuation.CompoundDone operator target.entry) stack.old stack.new world.old world.new result }
     ensures moved { IfOk result (Moved (L.made labels.new) 12 stack.old stack.new world.old world.new) }
     ensures stopped { IfErr result (IfStop (HasStop (L.made labels.new))) }
     ensures belongs { Belongs L.made L.meaning labels.new world.new }
@@ -48,7 +48,7 @@ pub fn compound_done<'p, L: Labels>(
 {
     let operand = stack.pop();
     let old = stack.pop();
-    stack.push(Work::AssignTo(target))?;
+    stack.push(Continuation::AssignTo(target))?;
     operate(alloc, labels, world, stack, operator, old, operand)
 }
 
@@ -60,16 +60,16 @@ pub fn counted<'p, L: Labels>(
     counting: Counting,
     operator: BinaryOperator,
     target: Target<'p>,
-) -> Result<Next<'p>, OutOfMemory>
+) -> Result<Control<'p>, OutOfMemory>
     requires loose { length stack.old.loose ≡ owns_target target + 1 }
     requires made { All (HasValue (L.made labels.now)) stack.old.loose }
-    ensures goes_on { IfOk result (λ next. Resumed L.made L.meaning labels.now (work.Counted counting operator target.entry) stack.old stack.new world.now world.now (Ok next)) }
+    ensures goes_on { IfOk result (λ next. Resumed L.made L.meaning labels.now (continuation.Counted counting operator target.entry) stack.old stack.new world.now world.now (Ok next)) }
     ensures moved { IfOk result (Moved (L.made labels.now) 9 stack.old stack.new world.now world.now) }
 {
     let value = stack.pop();
-    stack.push(Work::CountedNumber(counting, operator, target))?;
+    stack.push(Continuation::CountedNumber(counting, operator, target))?;
     stack.lay(value)?;
-    Ok(Next::Convert(Hint::Number))
+    Ok(Control::Convert(Hint::Number))
 }
 
 /// The same, converted: it is taken as a number, and then the reference is given one more or less.
@@ -81,11 +81,11 @@ pub fn counted_number<'p, L: Labels>(
     counting: Counting,
     operator: BinaryOperator,
     target: Target<'p>,
-) -> Result<Next<'p>, FlowFault<L::Label>>
+) -> Result<Control<'p>, FlowFault<L::Label>>
     requires loose { length stack.old.loose ≡ owns_target target + 1 }
     requires made { All (HasValue (L.made labels.old)) stack.old.loose }
     requires belongs { Belongs L.made L.meaning labels.old world.old }
-    ensures goes_on { Resumed L.made L.meaning labels.new (work.CountedNumber counting operator target.entry) stack.old stack.new world.old world.new result }
+    ensures goes_on { Resumed L.made L.meaning labels.new (continuation.CountedNumber counting operator target.entry) stack.old stack.new world.old world.new result }
     ensures moved { IfOk result (Moved (L.made labels.new) 7 stack.old stack.new world.old world.new) }
     ensures stopped { IfErr result (IfStop (HasStop (L.made labels.new))) }
     ensures belongs { Belongs L.made L.meaning labels.new world.new }
@@ -109,7 +109,7 @@ fn count<'p, L: Labels>(
     operator: BinaryOperator,
     reference: &Reference<'_, L::Label>,
     value: Labelled<L::Label>,
-) -> Result<Next<'p>, FlowFault<L::Label>>
+) -> Result<Control<'p>, FlowFault<L::Label>>
     requires loose { length stack.old.loose ≡ 0 }
     requires reference { HasReference (L.made labels.old) reference.now }
     requires value { L.made labels.old value.label }
@@ -141,7 +141,7 @@ fn change<'p, L: Labels>(
     operator: BinaryOperator,
     reference: &Reference<'_, L::Label>,
     old: Labelled<L::Label>,
-) -> Result<Next<'p>, FlowFault<L::Label>>
+) -> Result<Control<'p>, FlowFault<L::Label>>
     requires loose { length stack.old.loose ≡ 0 }
     requires reference { HasReference (L.made labels.old) reference.now }
     requires old { L.made labels.old old.label }
@@ -171,7 +171,7 @@ fn give<'p, L: Labels>(
     reference: &Reference<'_, L::Label>,
     old: Labelled<L::Label>,
     new: Labelled<L::Label>,
-) -> Result<Next<'p>, FlowFault<L::Label>>
+) -> Result<Control<'p>, FlowFault<L::Label>>
     requires loose { length stack.old.loose ≡ 0 }
     requires reference { HasReference (L.made labels.old) reference.now }
     requires old { L.made labels.old old.label }

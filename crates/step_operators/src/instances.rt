@@ -9,22 +9,22 @@ ghost use Rattle.es_meaning.specs.Evaluation.{instance_done};
 ghost use Rattle.es_meaning.specs.Plain.{object_or_default};
 ghost use Rattle.flow_meaning.specs.Planned.{gave, asking, end_instance, planned};
 ghost use Rattle.step_objects.specs.Instances.{HasTest, read_test, tests_on};
-ghost use Rattle.step_world.specs.declared.world.World.{World};
-ghost use Rattle.step_world.specs.Worlds.{Belongs, Grows};
-ghost use Rattle.step_work.specs.declared.work.Work.TheVariants as work;
-ghost use Rattle.step_work.specs.Settings.{entrance};
-ghost use Rattle.step_work.specs.Stops.{HasStop};
-ghost use Rattle.step_moves.specs.Moving.{Begun, Comes, Moved, Resumed};
+ghost use Rattle.run_state.specs.declared.world.World.{World};
+ghost use Rattle.run_state.specs.Worlds.{Belongs, Grows};
+ghost use Rattle.continuations.specs.declared.continuation.Continuation.TheVariants as continuation;
+ghost use Rattle.continuations.specs.Settings.{entrance};
+ghost use Rattle.continuations.specs.Stops.{HasStop};
+ghost use Rattle.step_references.specs.Moving.{Begun, Comes, Moved, Resumed};
 
+use continuations::{Continuation, Control, Stack};
 use flow_frames::FlowFault;
 use flow_text::OutOfMemory;
 use js_values::{Labelled, ObjId, Value};
 use origin_labels::Labels;
+use run_state::World;
 use std::alloc::Global;
-use step_moves::{Went, enter_access, go_on, settle};
 use step_objects::{InstanceTest, instance, instance_of, testing_instances};
-use step_work::{Next, Stack, Work};
-use step_world::World;
+use step_references::{Went, enter_access, go_on, hand_on};
 
 /// Object.prototype, with which a run starts (ECMA-262 15.2.4).
 const OBJECT_PROTOTYPE: ObjId = ObjId(0);
@@ -35,11 +35,11 @@ pub fn instance_done<'p, L: Labels>(
     labels: &mut L,
     world: &mut World<L::Label>,
     stack: &mut Stack<'p, L::Label>,
-) -> Result<Next<'p>, FlowFault<L::Label>>
+) -> Result<Control<'p>, FlowFault<L::Label>>
     requires loose { length stack.old.loose ≡ 2 }
     requires made { All (HasValue (L.made labels.old)) stack.old.loose }
     requires belongs { Belongs L.made L.meaning labels.old world.old }
-    ensures goes_on { Resumed L.made L.meaning labels.new (work.InstanceDone) stack.old stack.new world.old world.new result }
+    ensures goes_on { Resumed L.made L.meaning labels.new (continuation.InstanceDone) stack.old stack.new world.old world.new result }
     ensures moved { IfOk result (Moved (L.made labels.new) 7 stack.old stack.new world.old world.new) }
     ensures stopped { IfErr result (IfStop (HasStop (L.made labels.new))) }
     ensures belongs { Belongs L.made L.meaning labels.new world.new }
@@ -59,7 +59,7 @@ fn test<'p, L: Labels>(
     stack: &mut Stack<'p, L::Label>,
     left: Labelled<L::Label>,
     right: Labelled<L::Label>,
-) -> Result<Next<'p>, FlowFault<L::Label>>
+) -> Result<Control<'p>, FlowFault<L::Label>>
     requires loose { length stack.old.loose ≡ 0 }
     requires left { L.made labels.old left.label }
     requires right { L.made labels.old right.label }
@@ -88,7 +88,7 @@ fn read_prototype<'p, L: Labels>(
     labels: &L,
     stack: &mut Stack<'p, L::Label>,
     test: InstanceTest<L::Label>,
-) -> Result<Next<'p>, OutOfMemory>
+) -> Result<Control<'p>, OutOfMemory>
     requires loose { length stack.old.loose ≡ 0 }
     requires made { HasTest (L.made labels.now) test }
     ensures goes_on { IfOk result (Comes (λ tables inputs set functions reading. tests_on functions (entrance tables inputs set functions) (read_test reading test)) stack.old stack.new) }
@@ -97,7 +97,7 @@ fn read_prototype<'p, L: Labels>(
     match test {
         InstanceTest::Answered(value) => {
             stack.lay(value)?;
-            Ok(Next::Value)
+            Ok(Control::Value)
         }
         InstanceTest::Reads {
             object,
@@ -108,7 +108,7 @@ fn read_prototype<'p, L: Labels>(
                 value: Value::Object(object),
                 label,
             })?;
-            stack.push(Work::InstanceTest)?;
+            stack.push(Continuation::InstanceTest)?;
             let next = enter_access(labels, stack, prototype)?;
             Ok(next)
         }
@@ -120,11 +120,11 @@ pub fn instance_test<'p, L: Labels>(
     labels: &mut L,
     world: &mut World<L::Label>,
     stack: &mut Stack<'p, L::Label>,
-) -> Result<Next<'p>, FlowFault<L::Label>>
+) -> Result<Control<'p>, FlowFault<L::Label>>
     requires loose { length stack.old.loose ≡ 2 }
     requires made { All (HasValue (L.made labels.old)) stack.old.loose }
     requires belongs { Belongs L.made L.meaning labels.old world.old }
-    ensures goes_on { Resumed L.made L.meaning labels.new (work.InstanceTest) stack.old stack.new world.old world.new result }
+    ensures goes_on { Resumed L.made L.meaning labels.new (continuation.InstanceTest) stack.old stack.new world.old world.new result }
     ensures moved { IfOk result (Moved (L.made labels.new) 4 stack.old stack.new world.old world.new) }
     ensures stopped { IfErr result (IfStop (HasStop (L.made labels.new))) }
     ensures belongs { Belongs L.made L.meaning labels.new world.new }
@@ -143,7 +143,7 @@ fn look_up<'p, L: Labels>(
     stack: &mut Stack<'p, L::Label>,
     object: Labelled<L::Label>,
     proto: Labelled<L::Label>,
-) -> Result<Next<'p>, FlowFault<L::Label>>
+) -> Result<Control<'p>, FlowFault<L::Label>>
     requires loose { length stack.old.loose ≡ 0 }
     requires object { L.made labels.old object.label }
     requires proto { L.made labels.old proto.label }
@@ -157,7 +157,7 @@ fn look_up<'p, L: Labels>(
 {
     let number = object_in(&object.value);
     let answer = instance_of(labels, world, number, object.label, proto);
-    settle(labels, stack, answer)
+    hand_on(labels, stack, answer)
 }
 
 /// The object that a value is. No other is kept.

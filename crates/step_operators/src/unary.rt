@@ -6,23 +6,23 @@ ghost use Rattle.flow_frames.specs.Stops.{IfStop};
 ghost use Rattle.js_values.specs.Readings.{HasValue, read_value};
 ghost use Rattle.es_meaning.specs.Evaluation.{unary_by};
 ghost use Rattle.flow_meaning.specs.Planned.{planned};
-ghost use Rattle.step_world.specs.Worlds.{Belongs};
-ghost use Rattle.step_work.specs.declared.work.Work.TheVariants as work;
-ghost use Rattle.step_work.specs.Settings.{entrance};
-ghost use Rattle.step_work.specs.Stops.{HasStop};
-ghost use Rattle.step_moves.specs.Moving.{Begun, Moved, Resumed};
+ghost use Rattle.run_state.specs.Worlds.{Belongs};
+ghost use Rattle.continuations.specs.declared.continuation.Continuation.TheVariants as continuation;
+ghost use Rattle.continuations.specs.Settings.{entrance};
+ghost use Rattle.continuations.specs.Stops.{HasStop};
+ghost use Rattle.step_references.specs.Moving.{Begun, Moved, Resumed};
 
+use continuations::{Continuation, Control, Stack};
 use flow_frames::FlowFault;
 use flow_text::OutOfMemory;
 use js_ast::UnaryOperator;
 use js_values::Labelled;
 use native_protocol::Hint;
 use origin_labels::Labels;
+use run_state::World;
 use std::alloc::Global;
-use step_moves::settle;
+use step_references::hand_on;
 use step_values::{converts_operand, taking_operands, unary};
-use step_work::{Next, Stack, Work};
-use step_world::World;
 
 /// An operator in front of its operand's value, which is converted first where the operator takes an object as a number.
 pub fn unary_done<'p, L: Labels>(
@@ -31,10 +31,10 @@ pub fn unary_done<'p, L: Labels>(
     world: &World<L::Label>,
     stack: &mut Stack<'p, L::Label>,
     operator: UnaryOperator,
-) -> Result<Next<'p>, FlowFault<L::Label>>
+) -> Result<Control<'p>, FlowFault<L::Label>>
     requires loose { length stack.old.loose ≡ 1 }
     requires made { All (HasValue (L.made labels.now)) stack.old.loose }
-    ensures goes_on { Resumed L.made L.meaning labels.now (work.Unary operator) stack.old stack.new world.now world.now result }
+    ensures goes_on { Resumed L.made L.meaning labels.now (continuation.Unary operator) stack.old stack.new world.now world.now result }
     ensures moved { IfOk result (Moved (L.made labels.now) 6 stack.old stack.new world.now world.now) }
     ensures stopped { IfErr result (IfStop (HasStop (L.made labels.now))) }
 {
@@ -55,10 +55,10 @@ pub fn unary_converted<'p, L: Labels>(
     world: &World<L::Label>,
     stack: &mut Stack<'p, L::Label>,
     operator: UnaryOperator,
-) -> Result<Next<'p>, FlowFault<L::Label>>
+) -> Result<Control<'p>, FlowFault<L::Label>>
     requires loose { length stack.old.loose ≡ 1 }
     requires made { All (HasValue (L.made labels.now)) stack.old.loose }
-    ensures goes_on { Resumed L.made L.meaning labels.now (work.UnaryConverted operator) stack.old stack.new world.now world.now result }
+    ensures goes_on { Resumed L.made L.meaning labels.now (continuation.UnaryConverted operator) stack.old stack.new world.now world.now result }
     ensures moved { IfOk result (Moved (L.made labels.now) 4 stack.old stack.new world.now world.now) }
     ensures stopped { IfErr result (IfStop (HasStop (L.made labels.now))) }
 {
@@ -74,7 +74,7 @@ fn apply_unary<'p, L: Labels>(
     stack: &mut Stack<'p, L::Label>,
     operator: UnaryOperator,
     value: &Labelled<L::Label>,
-) -> Result<Next<'p>, FlowFault<L::Label>>
+) -> Result<Control<'p>, FlowFault<L::Label>>
     requires loose { length stack.old.loose ≡ 0 }
     requires value { L.made labels.now value.now.label }
     ensures goes_on { Begun L.made L.meaning labels.now (λ tables inputs set functions reading e. (planned tables inputs set functions).unary operator (read_value reading value.now)) stack.old stack.new world.now world.now result }
@@ -82,7 +82,7 @@ fn apply_unary<'p, L: Labels>(
     ensures stopped { IfErr result (IfStop (HasStop (L.made labels.now))) }
 {
     let answer = unary(alloc, world, operator, value);
-    settle(labels, stack, answer)
+    hand_on(labels, stack, answer)
 }
 
 /// The operand is converted to a primitive value.
@@ -92,13 +92,13 @@ fn convert_operand<'p, L: Labels>(
     stack: &mut Stack<'p, L::Label>,
     operator: UnaryOperator,
     value: Labelled<L::Label>,
-) -> Result<Next<'p>, OutOfMemory>
+) -> Result<Control<'p>, OutOfMemory>
     requires loose { length stack.old.loose ≡ 0 }
     requires value { L.made labels.now value.label }
     ensures goes_on { IfOk result (λ next. Begun L.made L.meaning labels.now (λ tables inputs set functions reading e. unary_by (planned tables inputs set functions) (entrance tables inputs set functions) Bool.true operator (read_value reading value)) stack.old stack.new world.now world.now (Ok next)) }
     ensures moved { IfOk result (Moved (L.made labels.now) 6 stack.old stack.new world.now world.now) }
 {
-    stack.push(Work::UnaryConverted(operator))?;
+    stack.push(Continuation::UnaryConverted(operator))?;
     stack.lay(value)?;
-    Ok(Next::Convert(Hint::Number))
+    Ok(Control::Convert(Hint::Number))
 }

@@ -23,21 +23,21 @@ use Rattle.property_requests.specs.declared.descriptor.Descriptor.{Descriptor}
 use Rattle.property_requests.specs.Defining as defining
 use Rattle.property_requests.specs.Defining.{HasDescriptor, HasGiven, given_in}
 use Rattle.property_requests.specs.Making.{arguments_of}
-use Rattle.step_world.specs.declared.came.Came.{Came}
-use Rattle.step_world.specs.declared.came.Came.TheVariants as came
-use Rattle.step_world.specs.declared.came.Leaving.{Leaving}
-use Rattle.step_world.specs.declared.world.World.{World}
-use Rattle.step_world.specs.Acts.{Acts}
-use Rattle.step_world.specs.Worlds.{state_of}
-use Rattle.step_world.proofs.ActLaws.{Acts-leaves, Acts-passes, Acts-then, Acts-throws}
-use Rattle.step_work.specs.Answering.{Reads, held_in}
+use Rattle.run_state.specs.declared.outcome.Outcome.{Outcome}
+use Rattle.run_state.specs.declared.outcome.Outcome.TheVariants as outcome
+use Rattle.run_state.specs.declared.outcome.Leaving.{Leaving}
+use Rattle.run_state.specs.declared.world.World.{World}
+use Rattle.run_state.specs.Acts.{Acts}
+use Rattle.run_state.specs.Worlds.{state_of}
+use Rattle.run_state.proofs.ActLaws.{Acts-leaves, Acts-passes, Acts-then, Acts-throws}
+use Rattle.continuations.specs.Answering.{Reads, held_in}
 use Rattle.step_requests.specs.Asked.{held_if, key_value, made_by, shape_of, with_base}
 use Rattle.step_requests.specs.Doing.{Holds, ReadsIf}
 use Rattle.step_requests.proofs.Held.{acts_if, acts_one}
 
 -- what is there at once
 pub at_once : {S T : Type 0} (made : S → T → Type 0) (meaning : S → T → Label) (store : S) (u : (T → Label) → Val) (v : Labelled T) (w : World T) → ((reading : T → Label) → IsReading made meaning store reading → read_value reading v ≡ u reading)
-    → Acts made meaning store (λ reading. read_value reading) (λ reading. ret (u reading)) w w (Ok (came.Goes v))
+    → Acts made meaning store (λ reading. read_value reading) (λ reading. ret (u reading)) w w (Ok (outcome.Goes v))
 at_once made meaning store u v w is = record { says = λ reading read told turns. ap (λ x. Goes x (state_of reading w told turns)) (sym (is reading read)) }
 
 -- a primitive value that depends on nothing
@@ -52,34 +52,34 @@ key_holds made meaning store key text none same m empty = record { has = m; is =
 -- ---- bases
 
 module _ {S T : Type 0} (made : S → T → Type 0) (meaning : S → T → Label) (room : S → ℕ) (firm : S → Bool) (tables : Tables) (inputs : Given) (registers : List (Labelled T)) (base : Reg) (v : Labelled T) (first second : S) (kept : IsKept made meaning room firm first second) (reads : Reads made meaning first base registers v) (old middle : World T) where
-  abbrev Needs : Result (Came (Labelled T) T) (FlowFault T) → Type 0
+  abbrev Needs : Result (Outcome (Labelled T) T) (FlowFault T) → Type 0
   Needs reply = Acts made meaning second (λ reading. read_value reading) (λ reading. act tables inputs operations.base_needed (read_value reading v ∷ [])) old middle reply
 
-  needs_held : (reply : Result (Came (Labelled T) T) (FlowFault T)) → Needs reply → Acts made meaning second (λ reading. read_value reading) (λ reading. act tables inputs operations.base_needed (held_in base (map (read_value reading) registers) ∷ [])) old middle reply
+  needs_held : (reply : Result (Outcome (Labelled T) T) (FlowFault T)) → Needs reply → Acts made meaning second (λ reading. read_value reading) (λ reading. act tables inputs operations.base_needed (held_in base (map (read_value reading) registers) ∷ [])) old middle reply
   needs_held reply acts = acts_one made meaning room firm first second kept (λ reading. read_value reading) registers old middle reply (λ reading u. act tables inputs operations.base_needed (u ∷ [])) base v reads acts
 
   abbrev held_base : (T → Label) → Val
   held_base reading = held_in base (map (read_value reading) registers)
 
-  pub based : {Z W : Type 0} (read_next : (T → Label) → Z → W) (next : (T → Label) → Val → L W) (third : S) → IsKept made meaning room firm second third → (new : World T) (holder : Labelled T) (result : Result (Came Z T) (FlowFault T))
-      → Needs (Ok (came.Goes holder)) → Acts made meaning third read_next (λ reading. next reading (read_value reading holder)) middle new result
+  pub based : {Z W : Type 0} (read_next : (T → Label) → Z → W) (next : (T → Label) → Val → L W) (third : S) → IsKept made meaning room firm second third → (new : World T) (holder : Labelled T) (result : Result (Outcome Z T) (FlowFault T))
+      → Needs (Ok (outcome.Goes holder)) → Acts made meaning third read_next (λ reading. next reading (read_value reading holder)) middle new result
       → Acts made meaning third read_next (λ reading. with_base tables inputs (held_base reading) (next reading)) old new result
   based read_next next third kept_third new holder result acts goes =
-      Acts-then made meaning room firm second third kept_third (λ reading. read_value reading) read_next (λ reading. act tables inputs operations.base_needed (held_base reading ∷ [])) next old middle new holder result (needs_held (Ok (came.Goes holder)) acts) goes
+      Acts-then made meaning room firm second third kept_third (λ reading. read_value reading) read_next (λ reading. act tables inputs operations.base_needed (held_base reading ∷ [])) next old middle new holder result (needs_held (Ok (outcome.Goes holder)) acts) goes
 
   module _ {Z W : Type 0} (read_next : (T → Label) → Z → W) (next : (T → Label) → Val → L W) where
-    pub based_throws : (error : Labelled T) → Needs (Ok (came.Throws error)) → Acts made meaning second read_next (λ reading. with_base tables inputs (held_base reading) (next reading)) old middle (Ok (came.Throws error))
-    based_throws error acts = Acts-throws made meaning second (λ reading. read_value reading) read_next (λ reading. act tables inputs operations.base_needed (held_base reading ∷ [])) next old middle error (needs_held (Ok (came.Throws error)) acts)
+    pub based_throws : (error : Labelled T) → Needs (Ok (outcome.Throws error)) → Acts made meaning second read_next (λ reading. with_base tables inputs (held_base reading) (next reading)) old middle (Ok (outcome.Throws error))
+    based_throws error acts = Acts-throws made meaning second (λ reading. read_value reading) read_next (λ reading. act tables inputs operations.base_needed (held_base reading ∷ [])) next old middle error (needs_held (Ok (outcome.Throws error)) acts)
 
-    pub based_leaves : (why : Leaving) → Needs (Ok (came.Leaves why)) → Acts made meaning second read_next (λ reading. with_base tables inputs (held_base reading) (next reading)) old middle (Ok (came.Leaves why))
-    based_leaves why acts = Acts-leaves made meaning second (λ reading. read_value reading) read_next (λ reading. act tables inputs operations.base_needed (held_base reading ∷ [])) next old middle why (needs_held (Ok (came.Leaves why)) acts)
+    pub based_leaves : (why : Leaving) → Needs (Ok (outcome.Leaves why)) → Acts made meaning second read_next (λ reading. with_base tables inputs (held_base reading) (next reading)) old middle (Ok (outcome.Leaves why))
+    based_leaves why acts = Acts-leaves made meaning second (λ reading. read_value reading) read_next (λ reading. act tables inputs operations.base_needed (held_base reading ∷ [])) next old middle why (needs_held (Ok (outcome.Leaves why)) acts)
 
-    pub based_passes : (f : FlowFault T) (result : Result (Came Z T) (FlowFault T)) → IsErrAnd result (λ e. e ≡ f) → Needs (Err f) → Acts made meaning second read_next (λ reading. with_base tables inputs (held_base reading) (next reading)) old middle result
+    pub based_passes : (f : FlowFault T) (result : Result (Outcome Z T) (FlowFault T)) → IsErrAnd result (λ e. e ≡ f) → Needs (Err f) → Acts made meaning second read_next (λ reading. with_base tables inputs (held_base reading) (next reading)) old middle result
     based_passes f result is acts = Acts-passes made meaning second (λ reading. read_value reading) read_next (λ reading. act tables inputs operations.base_needed (held_base reading ∷ [])) next old middle f result is (needs_held (Err f) acts)
 
 -- ---- definitions and new objects
 
-module _ {S T : Type 0} (made : S → T → Type 0) (meaning : S → T → Label) (room : S → ℕ) (firm : S → Bool) (earlier later : S) (kept : IsKept made meaning room firm earlier later) (tables : Tables) (inputs : Given) (registers : List (Labelled T)) (old new : World T) (reply : Result (Came (Labelled T) T) (FlowFault T)) where
+module _ {S T : Type 0} (made : S → T → Type 0) (meaning : S → T → Label) (room : S → ℕ) (firm : S → Bool) (earlier later : S) (kept : IsKept made meaning room firm earlier later) (tables : Tables) (inputs : Given) (registers : List (Labelled T)) (old new : World T) (reply : Result (Outcome (Labelled T) T) (FlowFault T)) where
   pub acts_define : (base : Reg) (b : Labelled T) (key : List ℕ) (marks : GivenMarks) (v g s : Option Reg) (d : Descriptor T) → d.marks ≡ marks
       → Reads made meaning earlier base registers b → ReadsIf made meaning earlier v registers d.value → ReadsIf made meaning earlier g registers d.get → ReadsIf made meaning earlier s registers d.set
       → Acts made meaning later (λ reading. read_value reading) (λ reading. act tables inputs (operations.define key d.marks (defining.shape_of d)) (read_value reading b ∷ given_in reading d.value ∷ given_in reading d.get ∷ given_in reading d.set ∷ [])) old new reply

@@ -29,20 +29,20 @@ use Rattle.property_requests.specs.Owning.{part_in}
 use Rattle.channel_requests.specs.declared.printing.Printed.{Printed}
 use Rattle.channel_requests.specs.Answers as channel_answers
 use Rattle.channel_requests.specs.Answers.{lines_behind, read_printed}
-use Rattle.step_world.specs.declared.came.Access.{Access}
-use Rattle.step_world.specs.declared.came.Came.{Came}
-use Rattle.step_world.specs.declared.came.Came.TheVariants as came
-use Rattle.step_world.specs.declared.came.Putting.{Putting}
-use Rattle.step_world.specs.declared.world.World.{World}
-use Rattle.step_world.specs.Accesses.{read_access, read_putting}
-use Rattle.step_world.specs.Acts.{Acts}
-use Rattle.step_world.specs.Worlds.{state_of}
-use Rattle.step_work.specs.Answering.{Reads, held_in, with_steps}
-use Rattle.step_work.specs.Pending.{behind}
-use Rattle.step_work.specs.Resuming.{coming}
-use Rattle.step_work.specs.Kept.{Kept}
-use Rattle.step_work.specs.Moving.{following}
-use Rattle.step_work.proofs.EndLaws.{read_raised}
+use Rattle.run_state.specs.declared.outcome.Access.{Access}
+use Rattle.run_state.specs.declared.outcome.Outcome as machine
+use Rattle.run_state.specs.declared.outcome.Outcome.TheVariants as outcome
+use Rattle.run_state.specs.declared.outcome.Putting.{Putting}
+use Rattle.run_state.specs.declared.world.World.{World}
+use Rattle.run_state.specs.Accesses.{read_access, read_putting}
+use Rattle.run_state.specs.Acts.{Acts}
+use Rattle.run_state.specs.Worlds.{state_of}
+use Rattle.continuations.specs.Answering.{Reads, held_in, with_steps}
+use Rattle.continuations.specs.Pending.{behind}
+use Rattle.continuations.specs.Resuming.{coming}
+use Rattle.continuations.specs.Kept.{Kept}
+use Rattle.continuations.specs.Moving.{following}
+use Rattle.continuations.proofs.EndLaws.{read_raised}
 use Rattle.step_requests.specs.declared.asked.Asked.{Asked}
 use Rattle.step_requests.specs.declared.asked.Asked.TheVariants as asked
 use Rattle.step_requests.specs.declared.asked.Effect.{Effect}
@@ -55,7 +55,7 @@ use Rattle.step_requests.proofs.Going.{asks_on}
 use Rattle.step_requests.proofs.Settled.{did, quiet_lines}
 
 module _ {S T : Type 0} (made : S → T → Type 0) (meaning : S → T → Label) (store : S) (tables : Tables) (inputs : Given) (old new : Kept T) (world_old world_new : World T) (result : Result (Moved T) (FlowFault T)) where
-  pub does_effect : (e : Effect) (to : Option Reg) (reply : Result (Came (Labelled T) T) (FlowFault T))
+  pub does_effect : (e : Effect) (to : Option Reg) (reply : Result (machine.Outcome (Labelled T) T) (FlowFault T))
       → Acts made meaning store (λ reading. read_value reading) (λ reading. effect_on tables inputs e (map (read_value reading) old.loose)) world_old world_new reply
       → Settles made meaning store (λ reading. read_value reading) (λ ts gs set functions reading. answered_to to) old new reply result
       → Does made meaning store (asked.Does e to) old new world_old world_new tables inputs result
@@ -64,7 +64,7 @@ module _ {S T : Type 0} (made : S → T → Type 0) (meaning : S → T → Label
       let d = did made meaning store (λ reading. read_value reading) (λ ts gs set functions reading. answered_to to) (λ reading vs. effect_on tables inputs e vs) tables inputs old new world_old world_new reply result acts settles in
       record { says = λ set functions reading f steps told turns is size. d.says set functions reading f steps told turns is size }
 
-  pub does_get : (base : Reg) (key : List ℕ) (to : Reg) (reply : Result (Came (Access T) T) (FlowFault T))
+  pub does_get : (base : Reg) (key : List ℕ) (to : Reg) (reply : Result (machine.Outcome (Access T) T) (FlowFault T))
       → Acts made meaning store (λ reading. read_access reading) (λ reading. got tables inputs (held_in base (map (read_value reading) old.loose)) key) world_old world_new reply
       → Settles made meaning store (λ reading. read_access reading) (λ ts gs set functions reading. entering_access ts gs set functions to) old new reply result
       → Does made meaning store (asked.Get base key to) old new world_old world_new tables inputs result
@@ -73,7 +73,7 @@ module _ {S T : Type 0} (made : S → T → Type 0) (meaning : S → T → Label
       let d = did made meaning store (λ reading. read_access reading) (λ ts gs set functions reading. entering_access ts gs set functions to) (λ reading vs. got tables inputs (held_in base vs) key) tables inputs old new world_old world_new reply result acts settles in
       record { says = λ set functions reading f steps told turns is size. d.says set functions reading f steps told turns is size }
 
-  pub does_own : (base : Reg) (key : List ℕ) (to : OwnRegisters) (reply : Result (Came (OwnProperty T) T) (FlowFault T))
+  pub does_own : (base : Reg) (key : List ℕ) (to : OwnRegisters) (reply : Result (machine.Outcome (OwnProperty T) T) (FlowFault T))
       → Acts made meaning store (λ reading. read_parts reading) (λ reading. owned_all tables inputs (held_in base (map (read_value reading) old.loose)) key) world_old world_new reply
       → Settles made meaning store (λ reading. read_parts reading) (λ ts gs set functions reading. giving_parts to) old new reply result
       → Does made meaning store (asked.Own base key to) old new world_old world_new tables inputs result
@@ -82,7 +82,7 @@ module _ {S T : Type 0} (made : S → T → Type 0) (meaning : S → T → Label
       let d = did made meaning store (λ reading. read_parts reading) (λ ts gs set functions reading. giving_parts to) (λ reading vs. owned_all tables inputs (held_in base vs) key) tables inputs old new world_old world_new reply result acts settles in
       record { says = λ set functions reading f steps told turns is size. d.says set functions reading f steps told turns is size }
 
-  pub does_throw : (from : Reg) (reply : Result (Came (Labelled T) T) (FlowFault T))
+  pub does_throw : (from : Reg) (reply : Result (machine.Outcome (Labelled T) T) (FlowFault T))
       → Acts made meaning store (λ reading. read_value reading) (λ reading. thrown_on (held_in from (map (read_value reading) old.loose))) world_old world_new reply
       → Settles made meaning store (λ reading. read_value reading) (λ ts gs set functions reading steps vs v. Give (gave v)) old new reply result
       → Does made meaning store (asked.Throw from) old new world_old world_new tables inputs result
@@ -91,7 +91,7 @@ module _ {S T : Type 0} (made : S → T → Type 0) (meaning : S → T → Label
       let d = did made meaning store (λ reading. read_value reading) (λ ts gs set functions reading steps vs v. Give (gave v)) (λ reading vs. thrown_on (held_in from vs)) tables inputs old new world_old world_new reply result acts settles in
       record { says = λ set functions reading f steps told turns is size. d.says set functions reading f steps told turns is size }
 
-  pub does_throw_new : (kind : ErrorKind) (reply : Result (Came (Labelled T) T) (FlowFault T))
+  pub does_throw_new : (kind : ErrorKind) (reply : Result (machine.Outcome (Labelled T) T) (FlowFault T))
       → Acts made meaning store (λ reading. read_value reading) (λ reading. throw_error {X = Val} kind bottom) world_old world_new reply
       → Settles made meaning store (λ reading. read_value reading) (λ ts gs set functions reading steps vs v. Give (gave v)) old new reply result
       → Does made meaning store (asked.ThrowNew kind) old new world_old world_new tables inputs result
@@ -101,7 +101,7 @@ module _ {S T : Type 0} (made : S → T → Type 0) (meaning : S → T → Label
       record { says = λ set functions reading f steps told turns is size. d.says set functions reading f steps told turns is size }
 
   -- a put gives the value that a register held in an earlier store
-  pub does_put : (room : S → ℕ) (firm : S → Bool) (earlier : S) → IsKept made meaning room firm earlier store → (base : Reg) (key : List ℕ) (from : Reg) (v : Labelled T) (reply : Result (Came (Putting T) T) (FlowFault T)) → Reads made meaning earlier from old.loose v
+  pub does_put : (room : S → ℕ) (firm : S → Bool) (earlier : S) → IsKept made meaning room firm earlier store → (base : Reg) (key : List ℕ) (from : Reg) (v : Labelled T) (reply : Result (machine.Outcome (Putting T) T) (FlowFault T)) → Reads made meaning earlier from old.loose v
       → Acts made meaning store (λ reading. read_putting reading) (λ reading. putting tables inputs (held_in base (map (read_value reading) old.loose)) key (read_value reading v)) world_old world_new reply
       → Settles made meaning store (λ reading. read_putting reading) (λ ts gs set functions reading. entering_putting ts gs set functions (read_value reading v)) old new reply result
       → Does made meaning store (asked.Put base key from) old new world_old world_new tables inputs result
@@ -125,7 +125,7 @@ module _ {S T : Type 0} (made : S → T → Type 0) (meaning : S → T → Label
   })
 
   -- a line is printed
-  pub does_print : (room : S → ℕ) (firm : S → Bool) (earlier : S) → IsKept made meaning room firm earlier store → world_new ≡ world_old → (channel from : Reg) (name v : Labelled T) (reply : Result (Came (Printed T) T) (FlowFault T))
+  pub does_print : (room : S → ℕ) (firm : S → Bool) (earlier : S) → IsKept made meaning room firm earlier store → world_new ≡ world_old → (channel from : Reg) (name v : Labelled T) (reply : Result (machine.Outcome (Printed T) T) (FlowFault T))
       → Reads made meaning earlier channel old.loose name → Reads made meaning earlier from old.loose v
       → channel_answers.Prints made meaning store tables (λ reading. act tables inputs operations.print_line (read_value reading name ∷ read_value reading v ∷ [])) world_old reply
       → SettlesPrinted made meaning store old new reply result
@@ -146,7 +146,7 @@ module _ {S T : Type 0} (made : S → T → Type 0) (meaning : S → T → Label
 -- ---- the four parts of an own property come from one call
 
 module _ {S T : Type 0} (made : S → T → Type 0) (meaning : S → T → Label) (store : S) (tables : Tables) (inputs : Given) (base : (T → Label) → Val) (key : List ℕ) (world_old world_new : World T) where
-  abbrev Each : Result (Came (OwnProperty T) T) (FlowFault T) → Type 0
+  abbrev Each : Result (machine.Outcome (OwnProperty T) T) (FlowFault T) → Type 0
   Each reply = (part : OwnPart) → Acts made meaning store (λ reading p. read_value reading (part_in part p)) (λ reading. owned tables inputs part (base reading) key) world_old world_new reply
 
   abbrev behind_setter : Val → Val → Val → Val → L OwnParts
@@ -161,9 +161,9 @@ module _ {S T : Type 0} (made : S → T → Type 0) (meaning : S → T → Label
   abbrev behind_marks : Val → Val → L OwnParts
   behind_marks b m = owned tables inputs own_value b key >>= behind_value b m
 
-  pub owns : (reply : Result (Came (OwnProperty T) T) (FlowFault T)) → IfOk reply (IfGoes (λ p. world_new ≡ world_old)) → Each reply
+  pub owns : (reply : Result (machine.Outcome (OwnProperty T) T) (FlowFault T)) → IfOk reply (IfGoes (λ p. world_new ≡ world_old)) → Each reply
       → Acts made meaning store (λ reading. read_parts reading) (λ reading. owned_all tables inputs (base reading) key) world_old world_new reply
-  owns (Ok (came.Goes p)) still each = record {
+  owns (Ok (outcome.Goes p)) still each = record {
     says = λ reading is told turns.
         let s = state_of reading world_old told turns in
         let t = state_of reading world_new told turns in
@@ -175,8 +175,8 @@ module _ {S T : Type 0} (made : S → T → Type 0) (meaning : S → T → Label
         ∙ ap (λ (o : Outcome Halt Jump Val State). and_then o (λ g. behind_getter b (read_value reading p.marks) (read_value reading p.value) g)) (again own_getter)
         ∙ ap (λ (o : Outcome Halt Jump Val State). and_then o (λ h. behind_setter (read_value reading p.marks) (read_value reading p.value) (read_value reading p.get) h)) (again own_setter);
   }
-  owns (Ok (came.Throws v)) still each = record { says = λ reading is told turns. ap (λ (o : Outcome Halt Jump Val State). and_then o (behind_marks (base reading))) ((each own_marks).says reading is told turns) }
-  owns (Ok (came.Leaves why)) still each = record { says = λ reading is told turns. ap (λ (o : Outcome Halt Jump Val State). and_then o (behind_marks (base reading))) ((each own_marks).says reading is told turns) }
+  owns (Ok (outcome.Throws v)) still each = record { says = λ reading is told turns. ap (λ (o : Outcome Halt Jump Val State). and_then o (behind_marks (base reading))) ((each own_marks).says reading is told turns) }
+  owns (Ok (outcome.Leaves why)) still each = record { says = λ reading is told turns. ap (λ (o : Outcome Halt Jump Val State). and_then o (behind_marks (base reading))) ((each own_marks).says reading is told turns) }
   owns (Err (fault.Stop stop)) still each = record { says = λ reading is told turns. ap (λ (o : Outcome Halt Jump Val State). and_then o (behind_marks (base reading))) ((each own_marks).says reading is told turns) }
   owns (Err fault.OutOfMemory) still each = record { says = λ reading is told turns. tt }
 

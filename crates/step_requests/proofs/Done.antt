@@ -17,18 +17,18 @@ use Rattle.flow_meaning.specs.Planned.{End, Give, call_value, construct_value, e
 use Rattle.flow_meaning.specs.Scopes.{Val, as_plain}
 use Rattle.flow_meaning.specs.Tracked.{has_getter, has_setter, has_value, is_put}
 use Rattle.property_requests.specs.declared.owning.OwnProperty.{OwnProperty}
-use Rattle.step_work.specs.declared.work.Next.{Next}
-use Rattle.step_work.specs.declared.work.Next.TheVariants as next
-use Rattle.step_work.specs.declared.work.Work.TheVariants as work
-use Rattle.step_work.specs.Answering.{Reads, Writes, held_in, written_in}
-use Rattle.step_work.specs.Kept.{Kept, kept_operands, operands_of, scopes_of, waiting}
-use Rattle.step_work.specs.Loads.{Adds, lift, load}
-use Rattle.step_work.specs.Moving as Moving
-use Rattle.step_work.specs.Resuming.{Begins}
-use Rattle.step_work.specs.Pending.{behind, next_plan, values_of}
-use Rattle.step_work.specs.Settings.{entrance}
-use Rattle.step_work.specs.Standing.{running}
-use Rattle.step_work.proofs.Handed.{gives_alone}
+use Rattle.continuations.specs.declared.continuation.Control.{Control}
+use Rattle.continuations.specs.declared.continuation.Control.TheVariants as control
+use Rattle.continuations.specs.declared.continuation.Continuation.TheVariants as continuation
+use Rattle.continuations.specs.Answering.{Reads, Writes, held_in, written_in}
+use Rattle.continuations.specs.Kept.{Kept, kept_operands, operands_of, scopes_of, waiting}
+use Rattle.continuations.specs.Loads.{Adds, lift, load}
+use Rattle.continuations.specs.Moving as Moving
+use Rattle.continuations.specs.Resuming.{Begins}
+use Rattle.continuations.specs.Pending.{behind, next_plan, values_of}
+use Rattle.continuations.specs.Settings.{entrance}
+use Rattle.continuations.specs.Invariant.{running}
+use Rattle.continuations.proofs.Handed.{gives_alone}
 use Rattle.step_requests.specs.declared.asked.Asked.TheVariants as asked
 use Rattle.step_requests.specs.declared.asked.OwnRegisters.{OwnRegisters}
 use Rattle.step_requests.specs.declared.moved.Moved.{Moved}
@@ -89,59 +89,59 @@ asks_rests made old new n a tasks size all = record {
 -- ---- functions are entered
 
 module _ {S T : Type 0} (made : S → T → Type 0) (meaning : S → T → Label) (store : S) (old new : Kept T) (count : ℕ) where
-  pub gives_getter : (to : Reg) (label : T) (function : ObjId) (this : Labelled T) → new.tasks ≡ old.tasks ++ (work.Answered count (Some to), old.loose) ∷ []
+  pub gives_getter : (to : Reg) (label : T) (function : ObjId) (this : Labelled T) → new.tasks ≡ old.tasks ++ (continuation.Answered count (Some to), old.loose) ∷ []
       → new.loose ≡ this ∷ record { value = value.Object function; label = label } ∷ []
-      → Gives made meaning store (λ tables inputs set functions reading steps vs. entering_access tables inputs set functions to steps vs (has_getter (reading label) function (read_value reading this))) old new (moved.Waits (next.Call 0))
+      → Gives made meaning store (λ tables inputs set functions reading steps vs. entering_access tables inputs set functions to steps vs (has_getter (reading label) function (read_value reading this))) old new (moved.Waits (control.Call 0))
   unfolding enter_access call_with
   gives_getter to label function this tasks loose = record {
     quiet = tt;
     says = λ tables inputs set functions reading e steps s is size.
-        waits_value tables inputs set functions reading old new count e steps s size to (next.Call 0)
+        waits_value tables inputs set functions reading old new count e steps s size to (control.Call 0)
         (call_value functions (reading label) (value.Object function) (read_value reading this) [] (entrance tables inputs set functions) s) tasks
-        (λ f. ap (λ vs. next_plan tables inputs set functions (next.Call 0) (map (read_value reading) vs) f s) loose);
+        (λ f. ap (λ vs. next_plan tables inputs set functions (control.Call 0) (map (read_value reading) vs) f s) loose);
   }
 
-  pub gives_setter : (label : T) (function : ObjId) (this v : Labelled T) → new.tasks ≡ old.tasks ++ (work.Answered count None, old.loose) ∷ []
+  pub gives_setter : (label : T) (function : ObjId) (this v : Labelled T) → new.tasks ≡ old.tasks ++ (continuation.Answered count None, old.loose) ∷ []
       → new.loose ≡ this ∷ record { value = value.Object function; label = label } ∷ v ∷ []
-      → Gives made meaning store (λ tables inputs set functions reading steps vs. entering_putting tables inputs set functions (read_value reading v) steps vs (has_setter (reading label) function (read_value reading this))) old new (moved.Waits (next.Call 1))
+      → Gives made meaning store (λ tables inputs set functions reading steps vs. entering_putting tables inputs set functions (read_value reading v) steps vs (has_setter (reading label) function (read_value reading this))) old new (moved.Waits (control.Call 1))
   unfolding enter_putting call_with
   gives_setter label function this v tasks loose = record {
     quiet = tt;
     says = λ tables inputs set functions reading e steps s is size.
-        waits_nothing tables inputs set functions reading old new count e steps s size (read_value reading v) (next.Call 1)
+        waits_nothing tables inputs set functions reading old new count e steps s size (read_value reading v) (control.Call 1)
         (call_value functions (reading label) (value.Object function) (read_value reading this) (read_value reading v ∷ []) (entrance tables inputs set functions) s) tasks
-        (λ f. ap (λ vs. next_plan tables inputs set functions (next.Call 1) (map (read_value reading) vs) f s) loose);
+        (λ f. ap (λ vs. next_plan tables inputs set functions (control.Call 1) (map (read_value reading) vs) f s) loose);
   }
 
-  pub gives_call : (callee own to : Reg) (list : List Reg) (f this : Labelled T) (args : List (Labelled T)) (n : ℕ) → new.tasks ≡ old.tasks ++ (work.Answered count (Some to), old.loose) ∷ []
+  pub gives_call : (callee own to : Reg) (list : List Reg) (f this : Labelled T) (args : List (Labelled T)) (n : ℕ) → new.tasks ≡ old.tasks ++ (continuation.Answered count (Some to), old.loose) ∷ []
       → new.loose ≡ this ∷ f ∷ args → Reads made meaning store callee old.loose f → Reads made meaning store own old.loose this → HeldIn made meaning store list old.loose args
-      → Gives made meaning store (λ tables inputs set functions reading. asked_plan tables inputs set functions (asked.Call callee own list to)) old new (moved.Waits (next.Call n))
+      → Gives made meaning store (λ tables inputs set functions reading. asked_plan tables inputs set functions (asked.Call callee own list to)) old new (moved.Waits (control.Call n))
   unfolding asked_plan call_with
   gives_call callee own to list f this args n tasks loose called owned given = record {
     quiet = tt;
     says = λ tables inputs set functions reading e steps s is size.
         let registers = map (read_value reading) old.loose in
         let plan = λ (u v : Val) (us : List Val). call_value functions u.label u.value v us (entrance tables inputs set functions) s in
-        waits_value tables inputs set functions reading old new count e steps s size to (next.Call n) (plan (held_in callee registers) (held_in own registers) (held_all list registers)) tasks
-        (λ g. ap (λ vs. next_plan tables inputs set functions (next.Call n) (map (read_value reading) vs) g s) loose
+        waits_value tables inputs set functions reading old new count e steps s size to (control.Call n) (plan (held_in callee registers) (held_in own registers) (held_all list registers)) tasks
+        (λ g. ap (λ vs. next_plan tables inputs set functions (control.Call n) (map (read_value reading) vs) g s) loose
         ∙ ap₂ (λ u v. plan u v (map (read_value reading) args)) (called reading is) (owned reading is) ∙ ap (plan (held_in callee registers) (held_in own registers)) (given reading is));
   }
 
-  pub gives_construction : (callee to : Reg) (list : List Reg) (f : Labelled T) (args : List (Labelled T)) (n : ℕ) → new.tasks ≡ old.tasks ++ (work.Answered count (Some to), old.loose) ∷ []
+  pub gives_construction : (callee to : Reg) (list : List Reg) (f : Labelled T) (args : List (Labelled T)) (n : ℕ) → new.tasks ≡ old.tasks ++ (continuation.Answered count (Some to), old.loose) ∷ []
       → new.loose ≡ f ∷ args → Reads made meaning store callee old.loose f → HeldIn made meaning store list old.loose args
-      → Gives made meaning store (λ tables inputs set functions reading. asked_plan tables inputs set functions (asked.Construct callee list to)) old new (moved.Waits (next.Construct n))
+      → Gives made meaning store (λ tables inputs set functions reading. asked_plan tables inputs set functions (asked.Construct callee list to)) old new (moved.Waits (control.Construct n))
   unfolding asked_plan call_with
   gives_construction callee to list f args n tasks loose called given = record {
     quiet = tt;
     says = λ tables inputs set functions reading e steps s is size.
         let registers = map (read_value reading) old.loose in
         let plan = λ (u : Val) (us : List Val). construct_value set functions u.label u.value us (entrance tables inputs set functions) s in
-        waits_value tables inputs set functions reading old new count e steps s size to (next.Construct n) (plan (held_in callee registers) (held_all list registers)) tasks
-        (λ g. ap (λ vs. next_plan tables inputs set functions (next.Construct n) (map (read_value reading) vs) g s) loose ∙ ap₂ plan (called reading is) (given reading is));
+        waits_value tables inputs set functions reading old new count e steps s size to (control.Construct n) (plan (held_in callee registers) (held_all list registers)) tasks
+        (λ g. ap (λ vs. next_plan tables inputs set functions (control.Construct n) (map (read_value reading) vs) g s) loose ∙ ap₂ plan (called reading is) (given reading is));
   }
 
 -- what is left of the pending work where a built-in waits
-pub waits_rests : {T : Type 0} (made : T → Type 0) (old middle new : Kept T) (move : Next) → middle.loose ≡ [] → new.tasks ≡ middle.tasks
+pub waits_rests : {T : Type 0} (made : T → Type 0) (old middle new : Kept T) (move : Control) → middle.loose ≡ [] → new.tasks ≡ middle.tasks
     → scopes_of middle.tasks ≡ scopes_of old.tasks ++ [] → waiting middle.tasks ≡ waiting old.tasks + 1 → operands_of middle ≡ operands_of old → load middle.tasks ≡ load old.tasks + 1
     → All (HasValue made) old.loose → All (HasValue made) new.loose → length new.loose ≡ values_of move → lift move ≤ 6 → running move ≡ 0 → Rests made old new (moved.Waits move)
 waits_rests made old middle new move none tasks scopes natives operands loads all more values low idle = record {
@@ -160,7 +160,7 @@ waits_rests made old middle new move none tasks scopes natives operands loads al
 
 module _ {S T : Type 0} (made : S → T → Type 0) (meaning : S → T → Label) (store : S) where
   pub gives_back : (from : Reg) (old new : Kept T) (v : Labelled T) → new.tasks ≡ old.tasks → new.loose ≡ v ∷ [] → Reads made meaning store from old.loose v
-      → Gives made meaning store (λ tables inputs set functions reading. asked_plan tables inputs set functions (asked.Return from)) old new (moved.Ends next.Value)
+      → Gives made meaning store (λ tables inputs set functions reading. asked_plan tables inputs set functions (asked.Return from)) old new (moved.Ends control.Value)
   unfolding asked_plan
   gives_back from old new v tasks lies reads = record {
     quiet = tt;
@@ -172,10 +172,10 @@ module _ {S T : Type 0} (made : S → T → Type 0) (meaning : S → T → Label
 
 -- the run leaves by a name
 module _ {T : Type 0} where
-  abbrev Leaving_by : List ℕ → Kept T → Kept T → Next → Type 0
+  abbrev Leaving_by : List ℕ → Kept T → Kept T → Control → Type 0
   Leaving_by name empty new move = Begins (λ tables inputs set functions e s. End (as_plain (left name)) s) empty new move
 
-  pub gives_leave : {S : Type 0} (made : S → T → Type 0) (meaning : S → T → Label) (store : S) (name : List ℕ) (old empty new : Kept T) (move : Next) → empty ≡ record { tasks = old.tasks; loose = [] } → Leaving_by name empty new move → Moving.Rests (made store) empty new move → Adds 0 empty new move
+  pub gives_leave : {S : Type 0} (made : S → T → Type 0) (meaning : S → T → Label) (store : S) (name : List ℕ) (old empty new : Kept T) (move : Control) → empty ≡ record { tasks = old.tasks; loose = [] } → Leaving_by name empty new move → Moving.Rests (made store) empty new move → Adds 0 empty new move
       → Gives made meaning store (λ tables inputs set functions reading. asked_plan tables inputs set functions (asked.Leave name)) old new (moved.Ends move)
   unfolding asked_plan
   gives_leave made meaning store name old empty new move is begins rests adds =
@@ -187,7 +187,7 @@ module _ {T : Type 0} where
             ∙ over tables inputs set functions reading old e steps (End (as_plain (left name)) s) size;
       }
 
-  pub leave_rests : (made : T → Type 0) (name : List ℕ) (old empty new : Kept T) (move : Next) → empty ≡ record { tasks = old.tasks; loose = [] } → Leaving_by name empty new move → Moving.Rests made empty new move → Adds 0 empty new move → Rests made old new (moved.Ends move)
+  pub leave_rests : (made : T → Type 0) (name : List ℕ) (old empty new : Kept T) (move : Control) → empty ≡ record { tasks = old.tasks; loose = [] } → Leaving_by name empty new move → Moving.Rests made empty new move → Adds 0 empty new move → Rests made old new (moved.Ends move)
   leave_rests made name old empty new move is begins leaves adds =
       let cleared : Kept T = record { tasks = old.tasks; loose = [] } in
       let goes = subst (λ k. Leaving_by name k new move) is begins in

@@ -14,19 +14,19 @@ use Rattle.es_meaning.specs.Evaluation.{answered_in, put_behind}
 use Rattle.es_meaning.specs.Operations.{One, Value}
 use Rattle.flow_meaning.specs.Planned.{Plan, Then, Give, Ask, End, a_request, and_plan, end_setter, with_result}
 use Rattle.flow_meaning.specs.Scopes.{Halt, State, Val}
-use Rattle.step_work.specs.declared.work.Next.{Next}
-use Rattle.step_work.specs.declared.work.Next.TheVariants as next
-use Rattle.step_work.specs.declared.work.Work.TheVariants as work
-use Rattle.step_work.specs.Answering.{with_steps}
-use Rattle.step_work.specs.Going.{here}
-use Rattle.step_work.specs.Kept.{Kept, waiting}
-use Rattle.step_work.specs.Pending.{Task, after_task, behind, next_plan, setting_above}
-use Rattle.step_work.specs.Resuming.{coming}
-use Rattle.step_work.specs.Settings.{Setting, outermost_steps, setting_of}
-use Rattle.step_work.specs.Standing.{running}
-use Rattle.step_work.proofs.Behind.{behind_more}
-use Rattle.step_work.proofs.Handed.{behind_end}
-use Rattle.step_work.proofs.RegisterLaws.{above_enough, behind_enough}
+use Rattle.continuations.specs.declared.continuation.Control.{Control}
+use Rattle.continuations.specs.declared.continuation.Control.TheVariants as control
+use Rattle.continuations.specs.declared.continuation.Continuation.TheVariants as continuation
+use Rattle.continuations.specs.Answering.{with_steps}
+use Rattle.continuations.specs.Going.{here}
+use Rattle.continuations.specs.Kept.{Kept, waiting}
+use Rattle.continuations.specs.Pending.{Task, after_task, behind, next_plan, setting_above}
+use Rattle.continuations.specs.Resuming.{coming}
+use Rattle.continuations.specs.Settings.{Setting, outermost_steps, setting_of}
+use Rattle.continuations.specs.Invariant.{running}
+use Rattle.continuations.proofs.Behind.{behind_more}
+use Rattle.continuations.proofs.Handed.{behind_end}
+use Rattle.continuations.proofs.RegisterLaws.{above_enough, behind_enough}
 use Rattle.step_requests.specs.Asked.{answered_to, asks}
 
 -- what follows a plan, and then something else
@@ -38,7 +38,7 @@ then_plan (End halt s) first second = refl
 module _ {T : Type 0} (tables : Tables) (inputs : Given) (set : BuiltIns) (functions : List FunctionCode) (reading : T → Label) where
   -- the innermost built-in asks next, with these steps left
   pub asks_on : (old new : Kept T) (n : ℕ) (e : Setting) (steps left : Steps) (vs : List Val) (s : State) → new.tasks ≡ old.tasks → map (read_value reading) new.loose ≡ vs → length e.natives ≡ waiting old.tasks
-      → coming tables inputs set functions reading new (next.Request n) (with_steps left e) s ≡ behind tables inputs set functions reading old.tasks (with_steps steps e) (asks left vs s)
+      → coming tables inputs set functions reading new (control.Request n) (with_steps left e) s ≡ behind tables inputs set functions reading old.tasks (with_steps steps e) (asks left vs s)
   asks_on old new n e steps left vs s tasks loose size =
       let x = with_steps left e in
       ap (λ ts. behind tables inputs set functions reading ts x (Ask (a_request (outermost_steps (setting_above ts x).natives) (map (read_value reading) new.loose)) s Give)) tasks
@@ -52,11 +52,11 @@ module _ {T : Type 0} (tables : Tables) (inputs : Given) (set : BuiltIns) (funct
   over old e steps p size = sym (behind_enough tables inputs set functions reading old.tasks e.natives (steps ∷ []) e.env p size)
 
   -- what waits for a value that goes into a register, and for what a setter gives, by the steps that come first
-  goes_in : (registers : List (Labelled T)) (count : ℕ) (to : Reg) (steps : Steps) (f : Setting) → f.natives ≡ steps ∷ [] → after_task tables inputs set functions reading (work.Answered count (Some to), registers) f ≡ with_result Value (answered_to (Some to) steps (map (read_value reading) registers))
+  goes_in : (registers : List (Labelled T)) (count : ℕ) (to : Reg) (steps : Steps) (f : Setting) → f.natives ≡ steps ∷ [] → after_task tables inputs set functions reading (continuation.Answered count (Some to), registers) f ≡ with_result Value (answered_to (Some to) steps (map (read_value reading) registers))
   unfolding answered_in
   goes_in registers count to steps f is = ap (λ ns. with_result Value (answered_to (Some to) (outermost_steps ns) (map (read_value reading) registers))) is
 
-  goes_by : (registers : List (Labelled T)) (count : ℕ) (v : Val) (steps : Steps) (f : Setting) → f.natives ≡ steps ∷ [] → after_task tables inputs set functions reading (work.Answered count None, registers) f ≡ (λ c t. and_plan (end_setter c t) (with_result One (λ u. answered_to None steps (map (read_value reading) registers) v)))
+  goes_by : (registers : List (Labelled T)) (count : ℕ) (v : Val) (steps : Steps) (f : Setting) → f.natives ≡ steps ∷ [] → after_task tables inputs set functions reading (continuation.Answered count None, registers) f ≡ (λ c t. and_plan (end_setter c t) (with_result One (λ u. answered_to None steps (map (read_value reading) registers) v)))
   unfolding put_behind
   goes_by registers count v steps f is = ap (λ ns. λ c t. and_plan (end_setter c t) (with_result One (λ u. answered_to None (outermost_steps ns) (map (read_value reading) registers) v))) is
 
@@ -65,26 +65,26 @@ module _ {T : Type 0} (tables : Tables) (inputs : Given) (set : BuiltIns) (funct
     registers : List Val
     registers = map (read_value reading) old.loose
 
-    waits_on : (to : Option Reg) (move : Next) (p : Plan) (k : Then) → new.tasks ≡ old.tasks ++ (work.Answered count to, old.loose) ∷ []
+    waits_on : (to : Option Reg) (move : Control) (p : Plan) (k : Then) → new.tasks ≡ old.tasks ++ (continuation.Answered count to, old.loose) ∷ []
         → ((f : Setting) → next_plan tables inputs set functions move (map (read_value reading) new.loose) f s ≡ p)
-        → ((f : Setting) → f.natives ≡ steps ∷ [] → after_task tables inputs set functions reading (work.Answered count to, old.loose) f ≡ k)
+        → ((f : Setting) → f.natives ≡ steps ∷ [] → after_task tables inputs set functions reading (continuation.Answered count to, old.loose) f ≡ k)
         → coming tables inputs set functions reading new move (with_steps steps e) s ≡ behind tables inputs set functions reading old.tasks (with_steps steps e) (and_plan p k)
     waits_on to move p k tasks comes follows =
         let x = with_steps steps e in
-        let w : Task T = (work.Answered count to, old.loose) in
+        let w : Task T = (continuation.Answered count to, old.loose) in
         ap (λ ts. behind tables inputs set functions reading ts x (next_plan tables inputs set functions move (map (read_value reading) new.loose) (setting_above ts x) s)) tasks
         ∙ ap (behind tables inputs set functions reading (old.tasks ++ w ∷ []) x) (comes (setting_above (old.tasks ++ w ∷ []) x))
         ∙ behind_more tables inputs set functions reading old.tasks w x p
         ∙ ap (λ (then : Then). behind tables inputs set functions reading old.tasks x (and_plan p then)) (follows (setting_above old.tasks x) (above_enough old.tasks e.natives (steps ∷ []) e.env size))
 
     -- a value goes into a register
-    pub waits_value : (to : Reg) (move : Next) (p : Plan) → new.tasks ≡ old.tasks ++ (work.Answered count (Some to), old.loose) ∷ []
+    pub waits_value : (to : Reg) (move : Control) (p : Plan) → new.tasks ≡ old.tasks ++ (continuation.Answered count (Some to), old.loose) ∷ []
         → ((f : Setting) → next_plan tables inputs set functions move (map (read_value reading) new.loose) f s ≡ p)
         → coming tables inputs set functions reading new move (with_steps steps e) s ≡ behind tables inputs set functions reading old.tasks (with_steps steps e) (and_plan p (with_result Value (answered_to (Some to) steps (map (read_value reading) old.loose))))
     waits_value to move p tasks comes = waits_on (Some to) move p (with_result Value (answered_to (Some to) steps (map (read_value reading) old.loose))) tasks comes (goes_in old.loose count to steps)
 
     -- what a setter gives goes nowhere
-    pub waits_nothing : (v : Val) (move : Next) (p : Plan) → new.tasks ≡ old.tasks ++ (work.Answered count None, old.loose) ∷ []
+    pub waits_nothing : (v : Val) (move : Control) (p : Plan) → new.tasks ≡ old.tasks ++ (continuation.Answered count None, old.loose) ∷ []
         → ((f : Setting) → next_plan tables inputs set functions move (map (read_value reading) new.loose) f s ≡ p)
         → coming tables inputs set functions reading new move (with_steps steps e) s ≡ behind tables inputs set functions reading old.tasks (with_steps steps e) (and_plan (and_plan p end_setter) (with_result One (λ u. answered_to None steps (map (read_value reading) old.loose) v)))
     waits_nothing v move p tasks comes =
@@ -115,13 +115,13 @@ any_set = record { entries = []; begins = λ which argc construct. throws_type_e
 abbrev any_state : State
 any_state = record { frames = []; heap = []; records = []; positions = []; lines = []; turns = 0 }
 
-never : {T : Type 0} (new : Kept T) (count : ℕ) (halt : Halt) → coming no_tables [] any_set [] (λ l. bottom) new (next.Request count) (setting_of [] here) any_state ≡ End halt any_state → ⊥
+never : {T : Type 0} (new : Kept T) (count : ℕ) (halt : Halt) → coming no_tables [] any_set [] (λ l. bottom) new (control.Request count) (setting_of [] here) any_state ≡ End halt any_state → ⊥
 unfolding IsAsk
-never new count halt is = subst IsAsk is (behind_asks no_tables [] any_set [] (λ l. bottom) new.tasks (setting_of [] here) (next_plan no_tables [] any_set [] (next.Request count) (map (read_value (λ l. bottom)) new.loose) (setting_above new.tasks (setting_of [] here)) any_state) tt)
+never new count halt is = subst IsAsk is (behind_asks no_tables [] any_set [] (λ l. bottom) new.tasks (setting_of [] here) (next_plan no_tables [] any_set [] (control.Request count) (map (read_value (λ l. bottom)) new.loose) (setting_above new.tasks (setting_of [] here)) any_state) tt)
 
-pub leaves_idle : {T : Type 0} (old new : Kept T) (move : Next) (halt : Halt)
+pub leaves_idle : {T : Type 0} (old new : Kept T) (move : Control) (halt : Halt)
     → ((tables : Tables) (inputs : Given) (set : BuiltIns) (functions : List FunctionCode) (reading : T → Label) (e : Setting) (s : State) → coming tables inputs set functions reading new move e s ≡ behind tables inputs set functions reading old.tasks e (End halt s))
     → running move ≡ 0
-leaves_idle old new (next.Request count) halt goes =
+leaves_idle old new (control.Request count) halt goes =
     absurd (never new count halt (goes no_tables [] any_set [] (λ l. bottom) (setting_of [] here) any_state ∙ behind_end no_tables [] any_set [] (λ l. bottom) old.tasks (setting_of [] here) halt any_state))
 leaves_idle old new move halt goes = refl

@@ -12,18 +12,18 @@ use Rattle.js_values.specs.Readings.{HasValue, read_value}
 use Rattle.js_values.proofs.ReadingLaws.{All-weaker, IsReading-earlier}
 use Rattle.native_protocol.specs.declared.registers.Reg.{Reg}
 use Rattle.flow_meaning.specs.Scopes.{L, Val}
-use Rattle.step_world.specs.declared.came.Came.{Came}
-use Rattle.step_world.specs.declared.world.World.{World}
-use Rattle.step_world.specs.Acts.{Acts, HasAnswer}
-use Rattle.step_world.specs.Worlds.{state_of}
-use Rattle.step_world.proofs.ActLaws.{Acts-as, HasAnswer-weaker}
-use Rattle.step_work.specs.Answering.{Reads, held_in}
+use Rattle.run_state.specs.declared.outcome.Outcome.{Outcome}
+use Rattle.run_state.specs.declared.world.World.{World}
+use Rattle.run_state.specs.Acts.{Acts, HasAnswer}
+use Rattle.run_state.specs.Worlds.{state_of}
+use Rattle.run_state.proofs.ActLaws.{Acts-as, HasAnswer-weaker}
+use Rattle.continuations.specs.Answering.{Reads, held_in}
 use Rattle.step_requests.specs.Asked.{held_all, held_if}
 use Rattle.property_requests.specs.Defining.{given_in}
 use Rattle.step_requests.specs.Doing.{HeldIn, Holds, ReadsIf}
 
 -- an answer is of labels of a store, whatever else it is
-pub any_answer : {X T : Type 0} (has : X → Type 0) (made : T → Type 0) (reply : Result (Came X T) (FlowFault T)) → HasAnswer has made reply → HasAnswer (λ x. Unit {0}) made reply
+pub any_answer : {X T : Type 0} (has : X → Type 0) (made : T → Type 0) (reply : Result (Outcome X T) (FlowFault T)) → HasAnswer has made reply → HasAnswer (λ x. Unit {0}) made reply
 any_answer has made reply answer = HasAnswer-weaker has (λ x. Unit {0}) made made reply (λ x h. tt) (λ l m. m) answer
 
 module _ {S T : Type 0} (made : S → T → Type 0) (meaning : S → T → Label) (room : S → ℕ) (firm : S → Bool) (earlier later : S) (kept : IsKept made meaning room firm earlier later) where
@@ -35,7 +35,7 @@ module _ {S T : Type 0} (made : S → T → Type 0) (meaning : S → T → Label
   label_later label m = (kept.labels label m).0
 
   -- an act on values that registers hold is one on registers
-  module _ {X Y : Type 0} (read : (T → Label) → X → Y) (registers : List (Labelled T)) (old new : World T) (result : Result (Came X T) (FlowFault T)) where
+  module _ {X Y : Type 0} (read : (T → Label) → X → Y) (registers : List (Labelled T)) (old new : World T) (result : Result (Outcome X T) (FlowFault T)) where
     pub acts_one : (f : (T → Label) → Val → L Y) (from : Reg) (v : Labelled T) → Reads made meaning earlier from registers v
         → Acts made meaning later read (λ reading. f reading (read_value reading v)) old new result
         → Acts made meaning later read (λ reading. f reading (held_in from (map (read_value reading) registers))) old new result

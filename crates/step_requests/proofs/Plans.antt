@@ -16,9 +16,9 @@ use Rattle.es_meaning.specs.Outcomes.{Outcome, Goes, Jumps, Ends, and_then}
 use Rattle.flow_meaning.specs.Planned.{Plan, Give, a_request, and_plan, as_plan, gave, with_outcome, with_result, planned, asking, plan, enter_access, enter_putting}
 use Rattle.flow_meaning.specs.Scopes.{Halt, Jump, L, State, Val, raise}
 use Rattle.flow_meaning.specs.Tracked.{act, accessed, of_property, put_value, remove, throw_error}
-use Rattle.step_work.specs.Answering.{held_in}
-use Rattle.step_work.specs.Moving.{following}
-use Rattle.step_work.specs.Settings.{entrance}
+use Rattle.continuations.specs.Answering.{held_in}
+use Rattle.continuations.specs.Moving.{following}
+use Rattle.continuations.specs.Settings.{entrance}
 use Rattle.step_requests.specs.declared.asked.Effect.{Effect}
 use Rattle.step_requests.specs.declared.asked.Effect.TheVariants as effect
 use Rattle.step_requests.specs.Asked.{OwnParts, asked_of, asked_plan, effect_on, giving_parts, owned, owned_all, key_value, thrown_on, answered_to}

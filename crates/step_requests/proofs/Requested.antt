@@ -13,16 +13,16 @@ use Rattle.native_protocol.specs.Steps.{Steps}
 use Rattle.es_meaning.specs.Environments.{Env}
 use Rattle.flow_meaning.specs.Scopes.{LabelledLine}
 use Rattle.channel_requests.specs.declared.printing.Printed.{Printed}
-use Rattle.step_world.specs.declared.world.World.{World}
-use Rattle.step_world.specs.Worlds.{state_of}
+use Rattle.run_state.specs.declared.world.World.{World}
+use Rattle.run_state.specs.Worlds.{state_of}
 use Rattle.step_natives.specs.States.{States, waiting_steps, running_steps}
-use Rattle.step_work.specs.declared.work.Next.{Next}
-use Rattle.step_work.specs.declared.work.Next.TheVariants as next
-use Rattle.step_work.specs.Kept.{Kept, waiting}
-use Rattle.step_work.specs.Pending.{behind, values_of}
-use Rattle.step_work.specs.Resuming.{coming}
-use Rattle.step_work.specs.Settings.{setting_of}
-use Rattle.step_work.specs.Standing.{running}
+use Rattle.continuations.specs.declared.continuation.Control.{Control}
+use Rattle.continuations.specs.declared.continuation.Control.TheVariants as control
+use Rattle.continuations.specs.Kept.{Kept, waiting}
+use Rattle.continuations.specs.Pending.{behind, values_of}
+use Rattle.continuations.specs.Resuming.{coming}
+use Rattle.continuations.specs.Settings.{setting_of}
+use Rattle.continuations.specs.Invariant.{running}
 use Rattle.step_requests.specs.declared.moved.Moved.{Moved}
 use Rattle.step_requests.specs.declared.moved.Moved.TheVariants as moved
 use Rattle.step_requests.specs.Asked.{asked_of, asked_plan}
@@ -32,8 +32,8 @@ use Rattle.step_requests.specs.Requesting.{Requests, Rests, ends_one, printed_by
 use Rattle.step_requests.proofs.Plans.{request_is}
 
 -- where no built-in runs, all wait
-pub idle_steps : {S : Type 0} (after : S → Answer → S) (asks : S → Request) (natives : States S) (move : Next) → running move ≡ 0 → steps_now after asks natives move ≡ waiting_steps after asks natives
-idle_steps after asks natives (next.Request count) idle = absurd (omega (arith, idle))
+pub idle_steps : {S : Type 0} (after : S → Answer → S) (asks : S → Request) (natives : States S) (move : Control) → running move ≡ 0 → steps_now after asks natives move ≡ waiting_steps after asks natives
+idle_steps after asks natives (control.Request count) idle = absurd (omega (arith, idle))
 idle_steps after asks natives move idle = refl
 
 module _ {T : Type 0} where
@@ -57,7 +57,7 @@ module _ {T : Type 0} where
   quiet_prints made channels (moved.Ends move) quiet = tt
 
   -- the built-ins that wait or run
-  pub rests_left : (made : T → Type 0) (old new : Kept T) (before middle after : ℕ) (m : Moved T) (move : Next) → Doing.Rests made old new m → move ≡ next_of m
+  pub rests_left : (made : T → Type 0) (old new : Kept T) (before middle after : ℕ) (m : Moved T) (move : Control) → Doing.Rests made old new m → move ≡ next_of m
       → before ≡ waiting old.tasks + 1 → middle ≡ before → after ≡ middle - ends_one m → Rests made old new after move
   rests_left made old new before middle after m move rests is runs same left = record {
     values = rests.values ∙ ap values_of (sym is);
@@ -76,7 +76,7 @@ module _ {S T X : Type 0} (made : S → T → Type 0) (meaning : S → T → Lab
     (states_old states_middle : States X) (old new : Kept T) (world_old world_new : World T) (request : Request)
     (asked : (front : List Steps) (steps : Steps) → running_steps after asks states_old ≡ front ++ steps ∷ [] → request ≡ steps []) where
   -- it goes on
-  pub requested : (states_new : States X) (m : Moved T) (result : Next × Option (Printed T)) → waiting_steps after asks states_middle ≡ running_steps after asks states_old
+  pub requested : (states_new : States X) (m : Moved T) (result : Control × Option (Printed T)) → waiting_steps after asks states_middle ≡ running_steps after asks states_old
       → Does made meaning store (asked_of request) old new world_old world_new tables inputs (Ok m)
       → ((front : List Steps) (steps : Steps) → waiting_steps after asks states_middle ≡ front ++ steps ∷ [] → steps_now after asks states_new (next_of m) ≡ steps_left m steps front)
       → result.0 ≡ next_of m → result.1 ≡ printed_by m
@@ -96,7 +96,7 @@ module _ {S T X : Type 0} (made : S → T → Type 0) (meaning : S → T → Lab
   }
 
   -- it fails
-  pub request_fails : (states_new : States X) (f : FlowFault T) (result : Result (Next × Option (Printed T)) (FlowFault T)) → Does made meaning store (asked_of request) old new world_old world_new tables inputs (Err f) → IsErrAnd result (λ g. g ≡ f)
+  pub request_fails : (states_new : States X) (f : FlowFault T) (result : Result (Control × Option (Printed T)) (FlowFault T)) → Does made meaning store (asked_of request) old new world_old world_new tables inputs (Err f) → IsErrAnd result (λ g. g ≡ f)
       → Requests made meaning store tables inputs after asks states_old states_new old new world_old world_new result
   request_fails states_new f (Ok m) does is = absurd is
   request_fails states_new f (Err g) does is = subst (λ (h : FlowFault T). Requests made meaning store tables inputs after asks states_old states_new old new world_old world_new (Err h)) (sym is) (failed f does)

@@ -7,9 +7,9 @@ use Rattle.js_ast.specs.declared.operators.BinaryOperator.TheVariants.{StrictEqu
 use Rattle.es_meaning.specs.Operations as operations
 use Rattle.flow_meaning.specs.Scopes.{L, State, Val}
 use Rattle.flow_meaning.specs.Tracked.{act, accessed, of_property, put_value, remove}
-use Rattle.step_work.specs.Answering.{held_in}
-use Rattle.step_updates.specs.Standing.{FramesStand}
-use Rattle.step_updates.proofs.Frames.{accessed_stands, act_stands, binary_stands, put_stands, remove_stands, then_stands}
+use Rattle.continuations.specs.Answering.{held_in}
+use Rattle.step_objects.specs.Standing.{FramesStand}
+use Rattle.step_objects.proofs.Frames.{accessed_stands, act_stands, binary_stands, put_stands, remove_stands, then_stands}
 use Rattle.step_requests.specs.declared.asked.Effect.{Effect}
 use Rattle.step_requests.specs.declared.asked.Effect.TheVariants as effect
 use Rattle.step_requests.specs.Asked.{effect_on, got, key_value, putting, with_base}

@@ -20,15 +20,15 @@ use Rattle.es_meaning.specs.Outcomes.{Jumps, Ends}
 use Rattle.native_protocol.specs.declared.request.ErrorKind.{ErrorKind}
 use Rattle.flow_meaning.specs.Tracked.{throw_error}
 use Rattle.flow_meaning.specs.Scopes.{stopped, State, Jump, Val, guard, reached, jump_to, jump, cut_to}
-use Rattle.step_world.specs.declared.came.Came.{Came}
-use Rattle.step_world.specs.declared.came.Came.TheVariants as came
-use Rattle.step_world.specs.declared.world.World.{World}
-use Rattle.step_world.specs.Acts.{Acts, thrown}
-use Rattle.step_world.specs.Worlds.{state_of, Belongs}
-use Rattle.step_world.proofs.ActLaws.{Acts-as}
-use Rattle.step_names.proofs.Reading.{read_frames}
-use Rattle.step_names.proofs.Reaching.{reached_is}
-use Rattle.step_updates.specs.Standing.{FramesStand}
+use Rattle.run_state.specs.declared.outcome.Outcome.{Outcome}
+use Rattle.run_state.specs.declared.outcome.Outcome.TheVariants as outcome
+use Rattle.run_state.specs.declared.world.World.{World}
+use Rattle.run_state.specs.Acts.{Acts, thrown}
+use Rattle.run_state.specs.Worlds.{state_of, Belongs}
+use Rattle.run_state.proofs.ActLaws.{Acts-as}
+use Rattle.property_access.proofs.Reading.{read_frames}
+use Rattle.property_access.proofs.Reaching.{reached_is}
+use Rattle.step_objects.specs.Standing.{FramesStand}
 use Rattle.step_requests.specs.Asked.{thrown_on}
 
 -- ---- a jump, by rule W9
@@ -69,7 +69,7 @@ module _ {S T : Type 0} (made : S → T → Type 0) (meaning : S → T → Label
 
   -- the frames inside the one that it goes to are left
   pub throw_goes : {X Y : Type 0} (read : (T → Label) → X → Y) (frames : Kept T) → frames.frames ≡ take (depth + 1) w.frames.frames → Broken false
-      → Acts made meaning new read (λ reading. jump {X = Y} (reading cause) (thrown reading v)) w (with_frames frames w) (Ok (came.Throws v))
+      → Acts made meaning new read (λ reading. jump {X = Y} (reading cause) (thrown reading v)) w (with_frames frames w) (Ok (outcome.Throws v))
   throw_goes read frames left holds = record {
     says = λ reading is told turns.
         let s = state_of reading w told turns in
@@ -93,7 +93,7 @@ module _ {S T : Type 0} (made : S → T → Type 0) (meaning : S → T → Label
   }
 
   -- a call that fails so, with the same fault, and with frames that are the same
-  pub throw_fails : {X Y : Type 0} (read : (T → Label) → X → Y) (frames : Kept T) (f : FlowFault T) (result : Result (Came X T) (FlowFault T)) → frames ≡ w.frames → IfStop (Breaks made meaning new w.frames.frames depth W9 (jump_need (seen meaning old w.frames.frames) depth (meaning old cause)) (meant_at (seen meaning old w.frames.frames) depth)) f → IsErrAnd result (λ e. e ≡ f)
+  pub throw_fails : {X Y : Type 0} (read : (T → Label) → X → Y) (frames : Kept T) (f : FlowFault T) (result : Result (Outcome X T) (FlowFault T)) → frames ≡ w.frames → IfStop (Breaks made meaning new w.frames.frames depth W9 (jump_need (seen meaning old w.frames.frames) depth (meaning old cause)) (meant_at (seen meaning old w.frames.frames) depth)) f → IsErrAnd result (λ e. e ≡ f)
       → Acts made meaning new read (λ reading. jump {X = Y} (reading cause) (thrown reading v)) w (with_frames frames w) result
   throw_fails read frames f (Ok x) same breaks is = absurd is
   throw_fails read frames (fault.Stop stop) (Err e) same breaks is =
@@ -104,7 +104,7 @@ module _ {S T : Type 0} (made : S → T → Type 0) (meaning : S → T → Label
 
 -- ---- by the cause that depends on nothing
 
-pub without_cause : {S T : Type 0} (made : S → T → Type 0) (meaning : S → T → Label) (store : S) (none : T) (v : Labelled T) (old new : World T) (result : Result (Came (Labelled T) T) (FlowFault T)) → made store none → meaning store none ≡ bottom
+pub without_cause : {S T : Type 0} (made : S → T → Type 0) (meaning : S → T → Label) (store : S) (none : T) (v : Labelled T) (old new : World T) (result : Result (Outcome (Labelled T) T) (FlowFault T)) → made store none → meaning store none ≡ bottom
     → Acts made meaning store (λ reading. read_value reading) (λ reading. jump (reading none) (thrown reading v)) old new result
     → Acts made meaning store (λ reading. read_value reading) (λ reading. thrown_on (read_value reading v)) old new result
 without_cause made meaning store none v old new result m empty acts =
@@ -131,7 +131,7 @@ module _ {S T : Type 0} (made : S → T → Type 0) (meaning : S → T → Label
   later_bottom none m empty = (kept.labels none m).1 ∙ empty
 
   -- an error whose cause depends on nothing
-  pub error_bottom : (kind : ErrorKind) (none : T) → made earlier none → meaning earlier none ≡ bottom → (old new : World T) (reply : Result (Came (Labelled T) T) (FlowFault T))
+  pub error_bottom : (kind : ErrorKind) (none : T) → made earlier none → meaning earlier none ≡ bottom → (old new : World T) (reply : Result (Outcome (Labelled T) T) (FlowFault T))
       → Acts made meaning later (λ reading. read_value reading) (λ reading. throw_error {X = Val} kind (reading none)) old new reply
       → Acts made meaning later (λ reading. read_value reading) (λ reading. throw_error {X = Val} kind bottom) old new reply
   error_bottom kind none m empty old new reply acts =

@@ -25,9 +25,9 @@ use Rattle.flow_meaning.specs.Planned.{Enters, Plan, Give, Ask, End, a_request, 
 use Rattle.flow_meaning.specs.Scopes.{L, State, Val, as_plain, jump, raised_in}
 use Rattle.flow_meaning.specs.Tracked as tracked
 use Rattle.flow_meaning.specs.Tracked.{Access, Putting, accessed, given, of_property, put_value, remove, seen, throw_error}
-use Rattle.step_work.specs.Answering.{held_in, written_in}
-use Rattle.step_work.specs.Moving.{following}
-use Rattle.step_work.specs.Settings.{entrance}
+use Rattle.continuations.specs.Answering.{held_in, written_in}
+use Rattle.continuations.specs.Moving.{following}
+use Rattle.continuations.specs.Settings.{entrance}
 use Rattle.step_requests.specs.declared.asked.Asked.{Asked}
 use Rattle.step_requests.specs.declared.asked.Asked.TheVariants as asked
 use Rattle.step_requests.specs.declared.asked.OwnRegisters.{OwnRegisters}

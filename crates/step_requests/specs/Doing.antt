@@ -21,30 +21,30 @@ use Rattle.channel_requests.specs.Answers.{HasPrinted, line_of, lines_behind, re
 use Rattle.property_requests.specs.Defining.{HasGiven, given_in}
 use Rattle.property_requests.specs.declared.owning.OwnProperty.{OwnProperty}
 use Rattle.channel_requests.specs.declared.printing.Printed.{Printed}
-use Rattle.step_world.specs.declared.came.Came.{Came}
-use Rattle.step_world.specs.declared.came.Came.TheVariants as came
-use Rattle.step_world.specs.declared.came.Leaving.{Leaving}
-use Rattle.step_world.specs.Names.{leaving_name}
-use Rattle.step_world.specs.declared.world.World.{World}
-use Rattle.step_world.specs.Acts.{Says}
-use Rattle.step_world.specs.Worlds.{state_of}
-use Rattle.step_work.specs.declared.work.Jump.TheVariants as jump
-use Rattle.step_work.specs.declared.work.Next.{Next}
-use Rattle.step_work.specs.declared.work.Next.TheVariants as next
-use Rattle.step_work.specs.Answering.{with_steps}
-use Rattle.step_work.specs.Kept.{Kept, kept_operands, operands_of, scopes_of, waiting}
-use Rattle.step_work.specs.Loads.{Adds}
-use Rattle.step_work.specs.Moving as Moving
-use Rattle.step_work.specs.Moving.{Stands, following}
-use Rattle.step_work.specs.Pending.{behind, values_of}
-use Rattle.step_work.specs.Resuming.{Begins, coming}
-use Rattle.step_work.specs.Settings.{Setting}
-use Rattle.step_work.specs.Standing.{running}
+use Rattle.run_state.specs.declared.outcome.Outcome as acts
+use Rattle.run_state.specs.declared.outcome.Outcome.TheVariants as outcomes
+use Rattle.run_state.specs.declared.outcome.Leaving.{Leaving}
+use Rattle.run_state.specs.Names.{leaving_name}
+use Rattle.run_state.specs.declared.world.World.{World}
+use Rattle.run_state.specs.Acts.{Says}
+use Rattle.run_state.specs.Worlds.{state_of}
+use Rattle.continuations.specs.declared.continuation.Jump.TheVariants as jump
+use Rattle.continuations.specs.declared.continuation.Control.{Control}
+use Rattle.continuations.specs.declared.continuation.Control.TheVariants as control
+use Rattle.continuations.specs.Answering.{with_steps}
+use Rattle.continuations.specs.Kept.{Kept, kept_operands, operands_of, scopes_of, waiting}
+use Rattle.continuations.specs.Loads.{Adds}
+use Rattle.continuations.specs.Moving as Moving
+use Rattle.continuations.specs.Moving.{Stands, following}
+use Rattle.continuations.specs.Pending.{behind, values_of}
+use Rattle.continuations.specs.Resuming.{Begins, coming}
+use Rattle.continuations.specs.Settings.{Setting}
+use Rattle.continuations.specs.Invariant.{running}
 use Rattle.step_requests.specs.declared.asked.Asked.{Asked}
 use Rattle.step_requests.specs.declared.moved.Moved.{Moved}
 use Rattle.step_requests.specs.declared.moved.Moved.TheVariants as moved
-use Rattle.step_requests.specs.declared.settling.Went.{Went}
-use Rattle.step_requests.specs.declared.settling.Went.TheVariants as went
+use Rattle.step_requests.specs.declared.handing_on.Went.{Went}
+use Rattle.step_requests.specs.declared.handing_on.Went.TheVariants as went
 use Rattle.step_requests.specs.Asked.{OwnParts, answered_to, asked_plan, held_all, held_if}
 
 -- a plan, by a reading of labels, the steps of the built-in and its registers
@@ -57,9 +57,9 @@ DoingWith T Y = Tables → Given → BuiltIns → List FunctionCode → (T → L
 
 module _ {T : Type 0} where
   -- the next move
-  abbrev pub next_of : Moved T → Next
-  next_of (moved.Asks count answer) = next.Request count
-  next_of (moved.Prints count line) = next.Request count
+  abbrev pub next_of : Moved T → Control
+  next_of (moved.Asks count answer) = control.Request count
+  next_of (moved.Prints count line) = control.Request count
   next_of (moved.Waits move) = move
   next_of (moved.Ends move) = move
 
@@ -119,16 +119,16 @@ module _ {T : Type 0} where
   abbrev pub cleared : Kept T → Kept T
   cleared stack = record { tasks = stack.tasks; loose = [] }
 
-  pub record Left (made : T → Type 0) (why : Leaving) (old new : Kept T) (move : Next) : Type 0 where
+  pub record Left (made : T → Type 0) (why : Leaving) (old new : Kept T) (move : Control) : Type 0 where
     pub goes_on : Begins (λ tables inputs set functions e s. End (as_plain (left (leaving_name why))) s) (cleared old) new move
     pub rests : Moving.Rests made (cleared old) new move
     pub adds : Adds 0 (cleared old) new move
 
   -- an act went on with what it gave, and the stack is as it was; or it threw, and what it threw lies there alone; or it left
-  abbrev pub Parts : {X : Type 0} → (T → Type 0) → Kept T → Kept T → Result (Came X T) (FlowFault T) → Result (Went X) (FlowFault T) → Type 0
-  Parts made old new (Ok (came.Goes x)) (Ok (went.On y)) = (x ≡ y) × (new ≡ old)
-  Parts made old new (Ok (came.Throws v)) (Ok (went.Off move)) = (move ≡ next.Jumps jump.Throws) × (new ≡ record { tasks = old.tasks; loose = v ∷ [] })
-  Parts made old new (Ok (came.Leaves why)) (Ok (went.Off move)) = Left made why old new move
+  abbrev pub Parts : {X : Type 0} → (T → Type 0) → Kept T → Kept T → Result (acts.Outcome X T) (FlowFault T) → Result (Went X) (FlowFault T) → Type 0
+  Parts made old new (Ok (outcomes.Goes x)) (Ok (went.On y)) = (x ≡ y) × (new ≡ old)
+  Parts made old new (Ok (outcomes.Throws v)) (Ok (went.Off move)) = (move ≡ control.Jumps jump.Throws) × (new ≡ record { tasks = old.tasks; loose = v ∷ [] })
+  Parts made old new (Ok (outcomes.Leaves why)) (Ok (went.Off move)) = Left made why old new move
   Parts made old new (Ok answer) (Ok other) = ⊥
   Parts made old new (Ok answer) (Err f) = f ≡ fault.OutOfMemory
   Parts made old new (Err f) (Ok other) = ⊥
@@ -170,13 +170,13 @@ module _ {S T : Type 0} (made : S → T → Type 0) (meaning : S → T → Label
         → coming tables inputs set functions reading new (next_of m) (setting_behind m steps e) s ≡ behind tables inputs set functions reading old.tasks (with_steps steps e) (plan tables inputs set functions reading steps (map (read_value reading) old.loose) s)
 
   -- what an act came to is handed on, behind what is done with it
-  pub record Settles {X Y : Type 0} (read : (T → Label) → X → Y) (k : DoingWith T Y) (old new : Kept T) (came : Result (Came X T) (FlowFault T)) (result : Result (Moved T) (FlowFault T)) : Type 0 where
+  pub record Settles {X Y : Type 0} (read : (T → Label) → X → Y) (k : DoingWith T Y) (old new : Kept T) (came : Result (acts.Outcome X T) (FlowFault T)) (result : Result (Moved T) (FlowFault T)) : Type 0 where
     pub says : (tables : Tables) (inputs : Given) (set : BuiltIns) (functions : List FunctionCode) (reading : T → Label) (e : Setting) (steps : Steps) (w : World T) (told : List LabelledLine) (turns : ℕ) (outcome : Outcome Halt Jump Y State) → IsReading made meaning store reading → length e.natives ≡ waiting old.tasks
         → Says (read reading) reading outcome (state_of reading w told turns) came
         → Goes tables inputs set functions reading new steps e w told turns (behind tables inputs set functions reading old.tasks (with_steps steps e) (following outcome (k tables inputs set functions reading steps (map (read_value reading) old.loose)))) result
 
   -- and of an act that prints
-  pub record SettlesPrinted (old new : Kept T) (came : Result (Came (Printed T) T) (FlowFault T)) (result : Result (Moved T) (FlowFault T)) : Type 0 where
+  pub record SettlesPrinted (old new : Kept T) (came : Result (acts.Outcome (Printed T) T) (FlowFault T)) (result : Result (Moved T) (FlowFault T)) : Type 0 where
     pub says : (tables : Tables) (inputs : Given) (set : BuiltIns) (functions : List FunctionCode) (reading : T → Label) (e : Setting) (steps : Steps) (w : World T) (told : List LabelledLine) (turns : ℕ) (outcome : Outcome Halt Jump Val State) → IsReading made meaning store reading → length e.natives ≡ waiting old.tasks
         → Says (read_printed reading) reading outcome (state_of reading w (lines_behind tables reading told came) turns) came
         → Goes tables inputs set functions reading new steps e w told turns (behind tables inputs set functions reading old.tasks (with_steps steps e) (following outcome (answered_to None steps (map (read_value reading) old.loose)))) result

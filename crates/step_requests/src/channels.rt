@@ -5,20 +5,20 @@ ghost use Rattle.std.specs.List.{All};
 ghost use Rattle.origin_labels.specs.Stores.{IsKept};
 ghost use Rattle.flow_policy.specs.Inputs.{Given, IsGivenTo};
 ghost use Rattle.js_values.specs.Readings.{HasValue, read_value};
-ghost use Rattle.step_world.specs.Acts.{Acts, HasAnswer};
-ghost use Rattle.step_world.specs.Worlds.{Belongs, Grows};
+ghost use Rattle.run_state.specs.Acts.{Acts, HasAnswer};
+ghost use Rattle.run_state.specs.Worlds.{Belongs, Grows};
 ghost use Rattle.step_requests.specs.Asked.{effect_on};
 ghost use Rattle.step_requests.specs.declared.asked.Effect.TheVariants as effect;
 
 use channel_requests::{join_label, raise_existence, raise_structure, read_line};
+use continuations::{Stack, read_register};
 use flow_frames::FlowFault;
 use flow_policy::{Inputs, Policy};
 use js_values::{Key, Labelled};
 use native_protocol::Reg;
 use origin_labels::{Labels, OriginList};
+use run_state::{Outcome, World};
 use std::alloc::Global;
-use step_work::{Stack, read_register};
-use step_world::{Came, World};
 
 /// The next line of the input channel that a register names.
 pub(crate) fn read<'p, L: Labels>(
@@ -30,7 +30,7 @@ pub(crate) fn read<'p, L: Labels>(
     stack: &Stack<'p, L::Label>,
     count: u32,
     name: Reg,
-) -> Result<Came<Labelled<L::Label>, L::Label>, FlowFault<L::Label>>
+) -> Result<Outcome<Labelled<L::Label>, L::Label>, FlowFault<L::Label>>
     requires loose { length stack.now.loose ≡ count }
     requires made { All (HasValue (L.made labels.old)) stack.now.loose }
     requires belongs { Belongs L.made L.meaning labels.old world.old }
@@ -57,7 +57,7 @@ pub(crate) fn label<'p, L: Labels>(
     count: u32,
     from: Reg,
     origins: &OriginList,
-) -> Result<Came<Labelled<L::Label>, L::Label>, FlowFault<L::Label>>
+) -> Result<Outcome<Labelled<L::Label>, L::Label>, FlowFault<L::Label>>
     requires loose { length stack.now.loose ≡ count }
     requires made { All (HasValue (L.made labels.old)) stack.now.loose }
     requires belongs { Belongs L.made L.meaning labels.old world.old }
@@ -82,7 +82,7 @@ pub(crate) fn structure<'p, L: Labels>(
     count: u32,
     base: Reg,
     origins: &OriginList,
-) -> Result<Came<Labelled<L::Label>, L::Label>, FlowFault<L::Label>>
+) -> Result<Outcome<Labelled<L::Label>, L::Label>, FlowFault<L::Label>>
     requires loose { length stack.now.loose ≡ count }
     requires made { All (HasValue (L.made labels.old)) stack.now.loose }
     requires belongs { Belongs L.made L.meaning labels.old world.old }
@@ -108,7 +108,7 @@ pub(crate) fn existence<'p, L: Labels>(
     base: Reg,
     key: &Key,
     origins: &OriginList,
-) -> Result<Came<Labelled<L::Label>, L::Label>, FlowFault<L::Label>>
+) -> Result<Outcome<Labelled<L::Label>, L::Label>, FlowFault<L::Label>>
     requires loose { length stack.now.loose ≡ count }
     requires made { All (HasValue (L.made labels.old)) stack.now.loose }
     requires belongs { Belongs L.made L.meaning labels.old world.old }

@@ -10,17 +10,18 @@ ghost use Rattle.origin_labels.specs.Label.{Label};
 ghost use Rattle.js_values.specs.declared.value.Value.TheVariants as value;
 ghost use Rattle.js_values.specs.Readings.{HasValue, read_heap};
 ghost use Rattle.flow_meaning.specs.Tracked.{seen};
-ghost use Rattle.step_world.specs.Worlds.{Belongs, Grows};
-ghost use Rattle.step_work.specs.Stops.{HasStop};
+ghost use Rattle.run_state.specs.Worlds.{Belongs, Grows};
+ghost use Rattle.continuations.specs.Stops.{HasStop};
 ghost use Rattle.step_requests.specs.Doing.{Does, Leaves, IsQuiet, Prints};
 ghost use Rattle.step_requests.specs.declared.asked.Asked.TheVariants as asked;
 
 use crate::asked::{Effect, OwnRegisters};
 use crate::effects::perform;
+use crate::handing_on::{hand_on, hand_on_access, hand_on_own, hand_on_printed, hand_on_putting};
 use crate::moved::Moved;
 use crate::properties::{got, putting};
-use crate::settling::{settle, settle_access, settle_own, settle_printed, settle_putting};
 use channel_requests::print_line;
+use continuations::{Stack, read_register};
 use flow_frames::FlowFault;
 use flow_policy::{Inputs, Policy};
 use flow_text::OutOfMemory;
@@ -30,9 +31,8 @@ use native_protocol::{Answer, Reg, Seen};
 use object_heap::Heap;
 use origin_labels::Labels;
 use property_requests::own_property;
+use run_state::World;
 use std::alloc::Global;
-use step_work::{Stack, read_register};
-use step_world::World;
 
 /// An effect, whose value goes into a register, if one is named.
 pub(crate) fn do_effect<'p, L: Labels>(
@@ -61,7 +61,7 @@ pub(crate) fn do_effect<'p, L: Labels>(
     ensures kept { IsKept L.made L.meaning L.room L.firm labels.old labels.new }
 {
     let came = perform(alloc, labels, world, policy, inputs, stack, count, effect);
-    settle(labels, stack, count, to, came)
+    hand_on(labels, stack, count, to, came)
 }
 
 /// A property is read (ECMA-262 8.12.3).
@@ -87,7 +87,7 @@ pub(crate) fn get<'p, L: Labels>(
     ensures kept { IsKept L.made L.meaning L.room L.firm labels.old labels.new }
 {
     let came = got(alloc, labels, world, stack, count, base, key);
-    settle_access(labels, stack, count, to, came)
+    hand_on_access(labels, stack, count, to, came)
 }
 
 /// A property is put (ECMA-262 8.12.5).
@@ -115,7 +115,7 @@ pub(crate) fn put<'p, L: Labels>(
     let value = read_register(alloc, labels, stack, count, from)?;
     let given = value.copy(alloc)?;
     let came = putting(alloc, labels, world, stack, count, base, key, given);
-    settle_putting(labels, stack, count, value, came)
+    hand_on_putting(labels, stack, count, value, came)
 }
 
 /// What is known of an own property (ECMA-262 8.12.1).
@@ -142,7 +142,7 @@ pub(crate) fn own<'p, L: Labels>(
 {
     let base = read_register(alloc, labels, stack, count, base)?;
     let came = own_property(alloc, labels, world, &base, key);
-    settle_own(labels, stack, count, to, came)
+    hand_on_own(labels, stack, count, to, came)
 }
 
 /// A line on an output channel.
@@ -171,7 +171,7 @@ pub(crate) fn print<'p, L: Labels>(
     let name = read_register(alloc, labels, stack, count, name)?;
     let value = read_register(alloc, labels, stack, count, from)?;
     let came = print_line(alloc, labels, world, policy, &name, &value);
-    settle_printed(labels, stack, count, came)
+    hand_on_printed(labels, stack, count, came)
 }
 
 /// What can be seen of a value.

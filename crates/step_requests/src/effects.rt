@@ -5,8 +5,8 @@ ghost use Rattle.std.specs.List.{All};
 ghost use Rattle.origin_labels.specs.Stores.{IsKept};
 ghost use Rattle.flow_policy.specs.Inputs.{Given, IsGivenTo};
 ghost use Rattle.js_values.specs.Readings.{HasValue, read_value};
-ghost use Rattle.step_world.specs.Acts.{Acts, HasAnswer};
-ghost use Rattle.step_world.specs.Worlds.{Belongs, Grows};
+ghost use Rattle.run_state.specs.Acts.{Acts, HasAnswer};
+ghost use Rattle.run_state.specs.Worlds.{Belongs, Grows};
 ghost use Rattle.step_requests.specs.Asked.{effect_on};
 
 use crate::asked::Effect;
@@ -14,13 +14,13 @@ use crate::channels::{existence, label, read, structure};
 use crate::making::{copy, make, same};
 use crate::objects::{bound, define, extensible, keys, make_object, prevent, proto};
 use crate::properties::{delete, has};
+use continuations::Stack;
 use flow_frames::FlowFault;
 use flow_policy::{Inputs, Policy};
 use js_values::Labelled;
 use origin_labels::Labels;
+use run_state::{Outcome, World};
 use std::alloc::Global;
-use step_work::Stack;
-use step_world::{Came, World};
 
 /// What an effect comes to.
 pub(crate) fn perform<'p, L: Labels>(
@@ -32,7 +32,7 @@ pub(crate) fn perform<'p, L: Labels>(
     stack: &Stack<'p, L::Label>,
     count: u32,
     effect: Effect,
-) -> Result<Came<Labelled<L::Label>, L::Label>, FlowFault<L::Label>>
+) -> Result<Outcome<Labelled<L::Label>, L::Label>, FlowFault<L::Label>>
     requires loose { length stack.now.loose ≡ count }
     requires made { All (HasValue (L.made labels.old)) stack.now.loose }
     requires belongs { Belongs L.made L.meaning labels.old world.old }

@@ -9,26 +9,26 @@ ghost use Rattle.flow_frames.specs.Stops.{IfStop};
 ghost use Rattle.js_values.specs.Readings.{HasValue, read_value};
 ghost use Rattle.flow_meaning.specs.Planned.{Give, gave};
 ghost use Rattle.step_requests.specs.Asked.{thrown_on};
-ghost use Rattle.step_updates.specs.Standing.{StandsBy};
-ghost use Rattle.step_world.specs.Acts.{Acts, HasAnswer};
-ghost use Rattle.step_world.specs.declared.world.World.{World};
-ghost use Rattle.step_world.specs.Worlds.{Belongs, Grows};
-ghost use Rattle.step_work.specs.Stops.{HasStop};
+ghost use Rattle.step_objects.specs.Standing.{StandsBy};
+ghost use Rattle.run_state.specs.Acts.{Acts, HasAnswer};
+ghost use Rattle.run_state.specs.declared.world.World.{World};
+ghost use Rattle.run_state.specs.Worlds.{Belongs, Grows};
+ghost use Rattle.continuations.specs.Stops.{HasStop};
 ghost use Rattle.step_requests.specs.Doing.{Does, Leaves, IsQuiet, Settles};
 ghost use Rattle.step_requests.specs.declared.asked.Asked.TheVariants as asked;
 
+use crate::handing_on::{Went, go_on};
 use crate::moved::Moved;
-use crate::settling::{Went, go_on};
+use continuations::{Control, Stack, leave_by, read_register};
 use flow_frames::FlowFault;
 use flow_text::Text;
 use js_number::Primitive;
 use js_values::{Labelled, Value};
 use native_protocol::{ErrorKind, Reg};
 use origin_labels::Labels;
+use property_access::throw_error;
+use run_state::{Leaving, Outcome, World};
 use std::alloc::Global;
-use step_names::throw_error;
-use step_work::{Next, Stack, leave_by, read_register};
-use step_world::{Came, Leaving, World};
 
 /// It gives what a register holds.
 pub(crate) fn give_back<'p, L: Labels>(
@@ -54,7 +54,7 @@ pub(crate) fn give_back<'p, L: Labels>(
     let value = read_register(alloc, labels, stack, count, from)?;
     stack.clear(count as usize);
     stack.lay(value)?;
-    Ok(Moved::Ends(Next::Value))
+    Ok(Moved::Ends(Control::Value))
 }
 
 /// It throws what a register holds.
@@ -79,7 +79,7 @@ pub(crate) fn throw<'p, L: Labels>(
 {
     let value = read_register(alloc, labels, stack, count, from)?;
     let came = throw_value(labels, world, value);
-    settle_end(labels, stack, count, came)
+    hand_on_end(labels, stack, count, came)
 }
 
 /// Throws a value, which depends on nothing but the present context, by rule W9: the frames inside the one that catches it are left.
@@ -87,7 +87,7 @@ fn throw_value<L: Labels>(
     labels: &mut L,
     world: &mut World<L::Label>,
     value: Labelled<L::Label>,
-) -> Result<Came<Labelled<L::Label>, L::Label>, FlowFault<L::Label>>
+) -> Result<Outcome<Labelled<L::Label>, L::Label>, FlowFault<L::Label>>
     requires value { L.made labels.old value.label }
     requires belongs { Belongs L.made L.meaning labels.old world.old }
     ensures acts { Acts L.made L.meaning labels.new (λ reading. read_value reading) (λ reading. thrown_on (read_value reading value)) world.old world.new result }
@@ -99,15 +99,15 @@ fn throw_value<L: Labels>(
     let none = labels.bottom();
     let target = world.frames.target();
     world.frames.jump(labels, target, none)?;
-    Ok(Came::Throws(value))
+    Ok(Outcome::Throws(value))
 }
 
 /// What comes behind a throw.
-fn settle_end<'p, L: Labels>(
+fn hand_on_end<'p, L: Labels>(
     labels: &L,
     stack: &mut Stack<'p, L::Label>,
     count: u32,
-    came: Result<Came<Labelled<L::Label>, L::Label>, FlowFault<L::Label>>,
+    came: Result<Outcome<Labelled<L::Label>, L::Label>, FlowFault<L::Label>>,
 ) -> Result<Moved<'p, L::Label>, FlowFault<L::Label>>
     requires loose { length stack.old.loose ≡ count }
     requires made { All (HasValue (L.made labels.now)) stack.old.loose }
@@ -122,7 +122,7 @@ fn settle_end<'p, L: Labels>(
         Went::On(value) => {
             stack.clear(count as usize);
             stack.lay(value)?;
-            Ok(Moved::Ends(Next::Value))
+            Ok(Moved::Ends(Control::Value))
         }
         Went::Off(next) => Ok(Moved::Ends(next)),
     }
@@ -151,7 +151,7 @@ pub(crate) fn throw_new<'p, L: Labels>(
     let _alloc = alloc;
     let none = labels.bottom();
     let came = throw_error(labels, world, kind, none);
-    settle_end(labels, stack, count, came)
+    hand_on_end(labels, stack, count, came)
 }
 
 /// The run leaves by a name.

@@ -5,19 +5,19 @@ ghost use Rattle.std.specs.List.{All};
 ghost use Rattle.js_values.specs.declared.value.Value.TheVariants as kinds;
 ghost use Rattle.js_values.specs.Readings.{HasValue, read_value};
 ghost use Rattle.flow_meaning.specs.Tracked.{has_getter, has_setter};
-ghost use Rattle.step_work.specs.declared.work.Work.TheVariants as work;
-ghost use Rattle.step_work.specs.Answering.{Reads};
+ghost use Rattle.continuations.specs.declared.continuation.Continuation.TheVariants as continuation;
+ghost use Rattle.continuations.specs.Answering.{Reads};
 ghost use Rattle.step_requests.specs.Asked.{asked_plan, entering_access, entering_putting};
 ghost use Rattle.step_requests.specs.Doing.{Gives, HeldIn, IsQuiet, Rests};
 ghost use Rattle.step_requests.specs.declared.asked.Asked.TheVariants as asked;
 
 use crate::moved::Moved;
+use continuations::{Continuation, Control, Stack, read_register};
 use flow_text::OutOfMemory;
 use js_values::{Labelled, ObjId, Value};
 use native_protocol::{Reg, RegList};
 use origin_labels::Labels;
 use std::alloc::Global;
-use step_work::{Next, Stack, Work, read_register};
 
 /// A function as a value.
 fn called<T>(function: ObjId, label: T) -> Labelled<T>
@@ -47,10 +47,10 @@ pub(crate) fn enter_getter<'p, L: Labels>(
     ensures quiet { IfOk result IsQuiet }
     ensures rests { IfOk result (Rests (L.made _labels.now) stack.old stack.new) }
 {
-    stack.push(Work::Answered(count, Some(to)))?;
+    stack.push(Continuation::Answered(count, Some(to)))?;
     stack.lay(this)?;
     stack.lay(called(function, label))?;
-    Ok(Moved::Waits(Next::Call(0)))
+    Ok(Moved::Waits(Control::Call(0)))
 }
 
 /// A setter is called with a value.
@@ -72,11 +72,11 @@ pub(crate) fn enter_setter<'p, L: Labels>(
     ensures quiet { IfOk result IsQuiet }
     ensures rests { IfOk result (Rests (L.made _labels.now) stack.old stack.new) }
 {
-    stack.push(Work::Answered(count, None))?;
+    stack.push(Continuation::Answered(count, None))?;
     stack.lay(this)?;
     stack.lay(called(function, label))?;
     stack.lay(value)?;
-    Ok(Moved::Waits(Next::Call(1)))
+    Ok(Moved::Waits(Control::Call(1)))
 }
 
 /// What registers hold.
@@ -162,11 +162,11 @@ pub(crate) fn call<'p, L: Labels>(
     let this = read_register(alloc, labels, stack, count, this)?;
     let args = read_registers(alloc, labels, stack, count, args.items())?;
     let given = count_of(&args)?;
-    stack.push(Work::Answered(count, Some(to)))?;
+    stack.push(Continuation::Answered(count, Some(to)))?;
     stack.lay(this)?;
     stack.lay(callee)?;
     lay_all(alloc, stack, &args)?;
-    Ok(Moved::Waits(Next::Call(given)))
+    Ok(Moved::Waits(Control::Call(given)))
 }
 
 /// A value constructs.
@@ -188,8 +188,8 @@ pub(crate) fn construct<'p, L: Labels>(
     let callee = read_register(alloc, labels, stack, count, callee)?;
     let args = read_registers(alloc, labels, stack, count, args.items())?;
     let given = count_of(&args)?;
-    stack.push(Work::Answered(count, Some(to)))?;
+    stack.push(Continuation::Answered(count, Some(to)))?;
     stack.lay(callee)?;
     lay_all(alloc, stack, &args)?;
-    Ok(Moved::Waits(Next::Construct(given)))
+    Ok(Moved::Waits(Control::Construct(given)))
 }

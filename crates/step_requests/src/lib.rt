@@ -7,11 +7,11 @@ mod doing;
 mod effects;
 mod ends;
 mod entering;
+mod handing_on;
 mod making;
 mod moved;
 mod objects;
 mod properties;
 mod requesting;
-mod settling;
 
 pub use requesting::request;

@@ -6,29 +6,29 @@ ghost use Rattle.origin_labels.specs.Stores.{IsKept};
 ghost use Rattle.flow_policy.specs.Policies.{Tables};
 ghost use Rattle.flow_policy.specs.Inputs.{Given};
 ghost use Rattle.js_values.specs.Readings.{HasValue, read_value};
-ghost use Rattle.step_world.specs.Acts.{Acts, HasAnswer};
-ghost use Rattle.step_world.specs.Worlds.{Belongs, Grows};
+ghost use Rattle.run_state.specs.Acts.{Acts, HasAnswer};
+ghost use Rattle.run_state.specs.Worlds.{Belongs, Grows};
 ghost use Rattle.flow_meaning.specs.Scopes.{Val};
 ghost use Rattle.step_requests.specs.Asked.{effect_on};
 ghost use Rattle.step_requests.specs.declared.asked.Effect.TheVariants as effect;
 
+use continuations::{Stack, read_register};
 use flow_frames::FlowFault;
 use js_ast::BinaryOperator;
 use js_number::Primitive;
 use js_values::{Labelled, Value};
 use native_protocol::Reg;
 use origin_labels::Labels;
+use run_state::{Outcome, World};
 use std::alloc::Global;
 use step_values::binary;
-use step_work::{Stack, read_register};
-use step_world::{Came, World};
 
 /// A primitive value, which depends on nothing.
 pub(crate) fn make<L: Labels>(
     labels: &mut L,
     world: &mut World<L::Label>,
     value: Primitive,
-) -> Result<Came<Labelled<L::Label>, L::Label>, FlowFault<L::Label>>
+) -> Result<Outcome<Labelled<L::Label>, L::Label>, FlowFault<L::Label>>
     requires belongs { Belongs L.made L.meaning labels.old world.old }
     ensures acts { (tables : Tables) (inputs : Given) (registers : List Val) → Acts L.made L.meaning labels.new (λ reading. read_value reading) (λ reading. effect_on tables inputs (effect.Make value) registers) world.old world.new result }
     ensures made { HasAnswer (HasValue (L.made labels.new)) (L.made labels.new) result }
@@ -37,7 +37,7 @@ pub(crate) fn make<L: Labels>(
     ensures kept { IsKept L.made L.meaning L.room L.firm labels.old labels.new }
 {
     let _state = &*world;
-    Ok(Came::Goes(Labelled {
+    Ok(Outcome::Goes(Labelled {
         value: Value::Primitive(value),
         label: labels.bottom(),
     }))
@@ -51,7 +51,7 @@ pub(crate) fn copy<'p, L: Labels>(
     stack: &Stack<'p, L::Label>,
     count: u32,
     from: Reg,
-) -> Result<Came<Labelled<L::Label>, L::Label>, FlowFault<L::Label>>
+) -> Result<Outcome<Labelled<L::Label>, L::Label>, FlowFault<L::Label>>
     requires loose { length stack.now.loose ≡ count }
     requires made { All (HasValue (L.made labels.old)) stack.now.loose }
     requires belongs { Belongs L.made L.meaning labels.old world.old }
@@ -62,7 +62,7 @@ pub(crate) fn copy<'p, L: Labels>(
     ensures kept { IsKept L.made L.meaning L.room L.firm labels.old labels.new }
 {
     let value = read_register(alloc, labels, stack, count, from)?;
-    Ok(Came::Goes(value))
+    Ok(Outcome::Goes(value))
 }
 
 /// Whether two values are equal by `===` (ECMA-262 11.9.6).
@@ -74,7 +74,7 @@ pub(crate) fn same<'p, L: Labels>(
     count: u32,
     a: Reg,
     b: Reg,
-) -> Result<Came<Labelled<L::Label>, L::Label>, FlowFault<L::Label>>
+) -> Result<Outcome<Labelled<L::Label>, L::Label>, FlowFault<L::Label>>
     requires loose { length stack.now.loose ≡ count }
     requires made { All (HasValue (L.made labels.old)) stack.now.loose }
     requires belongs { Belongs L.made L.meaning labels.old world.old }

@@ -1,8 +1,8 @@
 //! How a run goes on behind a request.
 
 use channel_requests::Printed;
+use continuations::Control;
 use native_protocol::Answer;
-use step_work::Next;
 
 /// What comes behind a request: the built-in, which has so many registers, asks next and is told an answer, perhaps behind a line that it printed; it waits for
 /// what was entered; or it is over.
@@ -10,6 +10,6 @@ use step_work::Next;
 pub(crate) enum Moved<'p, T> {
     Asks(u32, Answer),
     Prints(u32, Printed<T>),
-    Waits(Next<'p>),
-    Ends(Next<'p>),
+    Waits(Control<'p>),
+    Ends(Control<'p>),
 }

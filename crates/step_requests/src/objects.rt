@@ -6,13 +6,14 @@ ghost use Rattle.origin_labels.specs.Stores.{IsKept};
 ghost use Rattle.flow_policy.specs.Policies.{Tables};
 ghost use Rattle.flow_policy.specs.Inputs.{Given};
 ghost use Rattle.js_values.specs.Readings.{HasValue, read_value};
-ghost use Rattle.step_world.specs.Acts.{Acts, HasAnswer};
-ghost use Rattle.step_world.specs.Worlds.{Belongs, Grows};
+ghost use Rattle.run_state.specs.Acts.{Acts, HasAnswer};
+ghost use Rattle.run_state.specs.Worlds.{Belongs, Grows};
 ghost use Rattle.step_requests.specs.Asked.{effect_on};
 ghost use Rattle.step_requests.specs.Doing.{ReadsIf};
 ghost use Rattle.step_requests.specs.declared.asked.Effect.TheVariants as effect;
 
 use crate::entering::read_registers;
+use continuations::{Stack, read_register};
 use flow_frames::FlowFault;
 use flow_text::OutOfMemory;
 use js_values::{Class, Key, Labelled};
@@ -22,9 +23,8 @@ use property_requests::{
     Descriptor, bind, define_property, is_extensible, new_object, own_keys, prevent_extensions,
     prototype_of_object,
 };
+use run_state::{Outcome, World};
 use std::alloc::Global;
-use step_work::{Stack, read_register};
-use step_world::{Came, World};
 
 /// The own keys, as a new array.
 pub(crate) fn keys<'p, L: Labels>(
@@ -35,7 +35,7 @@ pub(crate) fn keys<'p, L: Labels>(
     count: u32,
     base: Reg,
     all: bool,
-) -> Result<Came<Labelled<L::Label>, L::Label>, FlowFault<L::Label>>
+) -> Result<Outcome<Labelled<L::Label>, L::Label>, FlowFault<L::Label>>
     requires loose { length stack.now.loose ≡ count }
     requires made { All (HasValue (L.made labels.old)) stack.now.loose }
     requires belongs { Belongs L.made L.meaning labels.old world.old }
@@ -58,7 +58,7 @@ pub(crate) fn proto<'p, L: Labels>(
     stack: &Stack<'p, L::Label>,
     count: u32,
     base: Reg,
-) -> Result<Came<Labelled<L::Label>, L::Label>, FlowFault<L::Label>>
+) -> Result<Outcome<Labelled<L::Label>, L::Label>, FlowFault<L::Label>>
     requires loose { length stack.now.loose ≡ count }
     requires made { All (HasValue (L.made labels.old)) stack.now.loose }
     requires belongs { Belongs L.made L.meaning labels.old world.old }
@@ -80,7 +80,7 @@ pub(crate) fn extensible<'p, L: Labels>(
     stack: &Stack<'p, L::Label>,
     count: u32,
     base: Reg,
-) -> Result<Came<Labelled<L::Label>, L::Label>, FlowFault<L::Label>>
+) -> Result<Outcome<Labelled<L::Label>, L::Label>, FlowFault<L::Label>>
     requires loose { length stack.now.loose ≡ count }
     requires made { All (HasValue (L.made labels.old)) stack.now.loose }
     requires belongs { Belongs L.made L.meaning labels.old world.old }
@@ -102,7 +102,7 @@ pub(crate) fn prevent<'p, L: Labels>(
     stack: &Stack<'p, L::Label>,
     count: u32,
     base: Reg,
-) -> Result<Came<Labelled<L::Label>, L::Label>, FlowFault<L::Label>>
+) -> Result<Outcome<Labelled<L::Label>, L::Label>, FlowFault<L::Label>>
     requires loose { length stack.now.loose ≡ count }
     requires made { All (HasValue (L.made labels.old)) stack.now.loose }
     requires belongs { Belongs L.made L.meaning labels.old world.old }
@@ -150,7 +150,7 @@ pub(crate) fn define<'p, L: Labels>(
     value: Option<Reg>,
     get: Option<Reg>,
     set: Option<Reg>,
-) -> Result<Came<Labelled<L::Label>, L::Label>, FlowFault<L::Label>>
+) -> Result<Outcome<Labelled<L::Label>, L::Label>, FlowFault<L::Label>>
     requires loose { length stack.now.loose ≡ count }
     requires made { All (HasValue (L.made labels.old)) stack.now.loose }
     requires belongs { Belongs L.made L.meaning labels.old world.old }
@@ -182,7 +182,7 @@ pub(crate) fn make_object<'p, L: Labels>(
     count: u32,
     class: Class,
     proto: Option<Reg>,
-) -> Result<Came<Labelled<L::Label>, L::Label>, FlowFault<L::Label>>
+) -> Result<Outcome<Labelled<L::Label>, L::Label>, FlowFault<L::Label>>
     requires loose { length stack.now.loose ≡ count }
     requires made { All (HasValue (L.made labels.old)) stack.now.loose }
     requires belongs { Belongs L.made L.meaning labels.old world.old }
@@ -206,7 +206,7 @@ pub(crate) fn bound<'p, L: Labels>(
     target: Reg,
     this: Reg,
     args: &RegList,
-) -> Result<Came<Labelled<L::Label>, L::Label>, FlowFault<L::Label>>
+) -> Result<Outcome<Labelled<L::Label>, L::Label>, FlowFault<L::Label>>
     requires loose { length stack.now.loose ≡ count }
     requires made { All (HasValue (L.made labels.old)) stack.now.loose }
     requires belongs { Belongs L.made L.meaning labels.old world.old }

@@ -6,25 +6,25 @@ ghost use Rattle.origin_labels.specs.Stores.{IsKept};
 ghost use Rattle.flow_policy.specs.Policies.{Tables};
 ghost use Rattle.flow_policy.specs.Inputs.{Given};
 ghost use Rattle.js_values.specs.Readings.{HasValue, read_value};
-ghost use Rattle.step_world.specs.Accesses.{HasAccess, HasPutting, read_access, read_putting};
-ghost use Rattle.step_world.specs.Acts.{Acts, HasAnswer};
-ghost use Rattle.step_world.specs.Worlds.{Belongs, Grows};
+ghost use Rattle.run_state.specs.Accesses.{HasAccess, HasPutting, read_access, read_putting};
+ghost use Rattle.run_state.specs.Acts.{Acts, HasAnswer};
+ghost use Rattle.run_state.specs.Worlds.{Belongs, Grows};
 ghost use Rattle.step_requests.specs.Asked.{effect_on, got, key_value, putting};
 ghost use Rattle.step_requests.specs.Doing.{Holds};
-ghost use Rattle.step_work.specs.Answering.{held_in};
+ghost use Rattle.continuations.specs.Answering.{held_in};
 ghost use Rattle.step_requests.specs.declared.asked.Effect.TheVariants as effect;
 
+use continuations::{Stack, read_register};
 use flow_frames::FlowFault;
 use flow_text::OutOfMemory;
 use js_number::Primitive;
 use js_values::{Key, Labelled, Value};
 use native_protocol::Reg;
 use origin_labels::Labels;
+use property_access::{get_property, put_property};
+use run_state::{Access, Outcome, Putting, World};
 use std::alloc::Global;
-use step_names::{get_property, put_property};
 use step_objects::{base_needed, has_key, remove_property};
-use step_work::{Stack, read_register};
-use step_world::{Access, Came, Putting, World};
 
 /// Whether an object or one along its prototypes has a key (ECMA-262 8.12.6).
 pub(crate) fn has<'p, L: Labels>(
@@ -35,7 +35,7 @@ pub(crate) fn has<'p, L: Labels>(
     count: u32,
     base: Reg,
     key: &Key,
-) -> Result<Came<Labelled<L::Label>, L::Label>, FlowFault<L::Label>>
+) -> Result<Outcome<Labelled<L::Label>, L::Label>, FlowFault<L::Label>>
     requires loose { length stack.now.loose ≡ count }
     requires made { All (HasValue (L.made labels.old)) stack.now.loose }
     requires belongs { Belongs L.made L.meaning labels.old world.old }
@@ -48,12 +48,12 @@ pub(crate) fn has<'p, L: Labels>(
     let base = read_register(alloc, labels, stack, count, base)?;
     let came = base_needed(labels, world, base)?;
     match came {
-        Came::Goes(base) => {
+        Outcome::Goes(base) => {
             let key = key_value(alloc, labels, key)?;
             has_key(alloc, labels, world, key, base)
         }
-        Came::Throws(error) => Ok(Came::Throws(error)),
-        Came::Leaves(why) => Ok(Came::Leaves(why)),
+        Outcome::Throws(error) => Ok(Outcome::Throws(error)),
+        Outcome::Leaves(why) => Ok(Outcome::Leaves(why)),
     }
 }
 
@@ -81,7 +81,7 @@ pub(crate) fn delete<'p, L: Labels>(
     count: u32,
     base: Reg,
     key: &Key,
-) -> Result<Came<Labelled<L::Label>, L::Label>, FlowFault<L::Label>>
+) -> Result<Outcome<Labelled<L::Label>, L::Label>, FlowFault<L::Label>>
     requires loose { length stack.now.loose ≡ count }
     requires made { All (HasValue (L.made labels.old)) stack.now.loose }
     requires belongs { Belongs L.made L.meaning labels.old world.old }
@@ -94,12 +94,12 @@ pub(crate) fn delete<'p, L: Labels>(
     let base = read_register(alloc, labels, stack, count, base)?;
     let came = base_needed(labels, world, base)?;
     match came {
-        Came::Goes(base) => {
+        Outcome::Goes(base) => {
             let key = key_value(alloc, labels, key)?;
             remove_property(alloc, labels, world, &base, &key)
         }
-        Came::Throws(error) => Ok(Came::Throws(error)),
-        Came::Leaves(why) => Ok(Came::Leaves(why)),
+        Outcome::Throws(error) => Ok(Outcome::Throws(error)),
+        Outcome::Leaves(why) => Ok(Outcome::Leaves(why)),
     }
 }
 
@@ -112,7 +112,7 @@ pub(crate) fn got<'p, L: Labels>(
     count: u32,
     base: Reg,
     key: &Key,
-) -> Result<Came<Access<L::Label>, L::Label>, FlowFault<L::Label>>
+) -> Result<Outcome<Access<L::Label>, L::Label>, FlowFault<L::Label>>
     requires loose { length stack.now.loose ≡ count }
     requires made { All (HasValue (L.made labels.old)) stack.now.loose }
     requires belongs { Belongs L.made L.meaning labels.old world.old }
@@ -125,12 +125,12 @@ pub(crate) fn got<'p, L: Labels>(
     let base = read_register(alloc, labels, stack, count, base)?;
     let came = base_needed(labels, world, base)?;
     match came {
-        Came::Goes(base) => {
+        Outcome::Goes(base) => {
             let key = key_value(alloc, labels, key)?;
             get_property(alloc, labels, world, &base, &key)
         }
-        Came::Throws(error) => Ok(Came::Throws(error)),
-        Came::Leaves(why) => Ok(Came::Leaves(why)),
+        Outcome::Throws(error) => Ok(Outcome::Throws(error)),
+        Outcome::Leaves(why) => Ok(Outcome::Leaves(why)),
     }
 }
 
@@ -144,7 +144,7 @@ pub(crate) fn putting<'p, L: Labels>(
     base: Reg,
     key: &Key,
     value: Labelled<L::Label>,
-) -> Result<Came<Putting<L::Label>, L::Label>, FlowFault<L::Label>>
+) -> Result<Outcome<Putting<L::Label>, L::Label>, FlowFault<L::Label>>
     requires loose { length stack.now.loose ≡ count }
     requires made { All (HasValue (L.made labels.old)) stack.now.loose }
     requires belongs { Belongs L.made L.meaning labels.old world.old }
@@ -158,11 +158,11 @@ pub(crate) fn putting<'p, L: Labels>(
     let base = read_register(alloc, labels, stack, count, base)?;
     let came = base_needed(labels, world, base)?;
     match came {
-        Came::Goes(base) => {
+        Outcome::Goes(base) => {
             let key = key_value(alloc, labels, key)?;
             put_property(alloc, labels, world, &base, &key, value)
         }
-        Came::Throws(error) => Ok(Came::Throws(error)),
-        Came::Leaves(why) => Ok(Came::Leaves(why)),
+        Outcome::Throws(error) => Ok(Outcome::Throws(error)),
+        Outcome::Leaves(why) => Ok(Outcome::Leaves(why)),
     }
 }

@@ -7,15 +7,15 @@ ghost use Rattle.flow_policy.specs.Policies.{Tables};
 ghost use Rattle.flow_policy.specs.Inputs.{Given, IsGivenTo};
 ghost use Rattle.flow_frames.specs.Stops.{IfStop};
 ghost use Rattle.js_values.specs.Readings.{HasValue};
-ghost use Rattle.step_world.specs.Worlds.{Belongs, Grows};
-ghost use Rattle.step_work.specs.Stops.{HasStop};
+ghost use Rattle.run_state.specs.Worlds.{Belongs, Grows};
+ghost use Rattle.continuations.specs.Stops.{HasStop};
 ghost use Rattle.step_requests.specs.Doing.{Does, IsIdle, IsPrinted, IsQuiet, Leaves, Prints, next_of};
 ghost use Rattle.step_requests.specs.Requesting.{Requests, Rests, ends_one, printed_by, steps_left, steps_now};
 ghost use Rattle.native_protocol.specs.Steps.{Steps};
 ghost use Rattle.step_natives.specs.States.{waiting_steps};
-ghost use Rattle.step_work.specs.Kept.{waiting};
-ghost use Rattle.step_work.specs.Loads.{Adds};
-ghost use Rattle.step_work.specs.Moving.{Stands};
+ghost use Rattle.continuations.specs.Kept.{waiting};
+ghost use Rattle.continuations.specs.Loads.{Adds};
+ghost use Rattle.continuations.specs.Moving.{Stands};
 ghost use Rattle.step_requests.specs.declared.asked.Asked.TheVariants as asked;
 
 use crate::asked::{Asked, asked_of};
@@ -24,14 +24,14 @@ use crate::ends::{give_back, leave, throw, throw_new};
 use crate::entering::{call, construct};
 use crate::moved::Moved;
 use channel_requests::Printed;
+use continuations::{Control, Stack};
 use flow_frames::FlowFault;
 use flow_policy::{Inputs, Policy};
 use native_protocol::{Answer, Natives, Reg, RegList};
 use origin_labels::Labels;
+use run_state::World;
 use std::alloc::Global;
 use step_natives::NativeStates;
-use step_work::{Next, Stack};
-use step_world::World;
 
 /// What the built-in that runs asks for next is done. A line that it prints is handed out beside the next move.
 pub fn request<'p, L: Labels, N: Natives>(
@@ -44,7 +44,7 @@ pub fn request<'p, L: Labels, N: Natives>(
     states: &mut NativeStates<N::State>,
     stack: &mut Stack<'p, L::Label>,
     count: u32,
-) -> Result<(Next<'p>, Option<Printed<L::Label>>), FlowFault<L::Label>>
+) -> Result<(Control<'p>, Option<Printed<L::Label>>), FlowFault<L::Label>>
     requires loose { length stack.old.loose ≡ count }
     requires made { All (HasValue (L.made labels.old)) stack.old.loose }
     requires belongs { Belongs L.made L.meaning labels.old world.old }
@@ -65,15 +65,15 @@ pub fn request<'p, L: Labels, N: Natives>(
     let wanted = states.next(alloc, natives)?;
     let asked = asked_of(wanted);
     let moved = do_asked(alloc, labels, world, policy, inputs, stack, count, asked)?;
-    Ok(hand_on(natives, states, moved))
+    Ok(tell_states(natives, states, moved))
 }
 
 /// The states of the built-ins behind a request, and the next move.
-fn hand_on<'p, T, N: Natives>(
+fn tell_states<'p, T, N: Natives>(
     _natives: &N,
     states: &mut NativeStates<N::State>,
     moved: Moved<'p, T>,
-) -> (Next<'p>, Option<Printed<T>>)
+) -> (Control<'p>, Option<Printed<T>>)
     requires some { 0 < length states.old.states }
     requires idle { IsIdle moved }
     ensures next { result.0 ≡ next_of moved.entry }
@@ -84,11 +84,11 @@ fn hand_on<'p, T, N: Natives>(
     match moved {
         Moved::Asks(count, answer) => {
             states.tell(answer);
-            (Next::Request(count), None)
+            (Control::Request(count), None)
         }
         Moved::Prints(count, line) => {
             states.tell(Answer::Done);
-            (Next::Request(count), Some(line))
+            (Control::Request(count), Some(line))
         }
         Moved::Waits(next) => (next, None),
         Moved::Ends(next) => {

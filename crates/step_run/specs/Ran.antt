@@ -13,7 +13,7 @@ use Rattle.flow_meaning.specs.Tracked.{Run, tracked_run}
 use Rattle.low_equal.specs.Declared.{IsDeclared}
 use Rattle.low_equal.specs.Laws.{IsFinishedBy}
 use Rattle.low_equal.specs.Observed.{seen_lines}
-use Rattle.step_world.specs.Names.{leaving_name}
+use Rattle.run_state.specs.Names.{leaving_name}
 use Rattle.step_run.specs.declared.ending.Show.{Show}
 use Rattle.step_run.specs.declared.ending.Ending as code
 use Rattle.step_run.specs.declared.ending.Ending.TheVariants as ending

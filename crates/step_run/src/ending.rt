@@ -3,7 +3,7 @@
 use flow_frames::Rule;
 use flow_text::Text;
 use origin_labels::OriginList;
-use step_world::Leaving;
+use run_state::Leaving;
 
 /// How a run ends.
 #[derive(Drop)]

@@ -1,17 +1,15 @@
 //! Lines go to a sink as they are printed.
 
-ghost use Rattle.std.specs.Prelude.{◌≡◌, ◌≤◌, ◌<◌, false, Err, IfOk, List, [], length};
+ghost use Rattle.std.specs.Prelude.{◌≡◌, ◌≤◌, ◌<◌, false, Err, IfOk, [], length};
 ghost use Rattle.origin_labels.specs.Label.{Label};
 ghost use Rattle.origin_labels.specs.Stores.{IsKept};
 ghost use Rattle.flow_io.specs.Files.{Rose};
 ghost use Rattle.js_values.specs.Readings.{IsReading};
 ghost use Rattle.es_meaning.specs.BuiltIns.{built_ins_of};
 ghost use Rattle.flow_meaning.specs.Laws.{performed_run};
-ghost use Rattle.flow_meaning.specs.Scopes.{LabelledLine};
-ghost use Rattle.step_requests.specs.Doing.{IsPrinted};
-ghost use Rattle.step_work.specs.Stops.{HasStop};
+ghost use Rattle.continuations.specs.Stops.{HasStop};
 ghost use Rattle.channel_requests.specs.Answers.{line_of};
-ghost use Rattle.step_core.specs.Machines.{Comes, IfOn, IfPrinted, IfStopped, Runs, ahead, comes_to, ending_of};
+ghost use Rattle.step_core.specs.Machines.{IfStopped, Runs, comes_to, ending_of};
 ghost use Rattle.step_run.specs.Puts.{PutsLine, PutsRun, is_cut_by_write};
 
 use crate::ending::Show;
@@ -54,7 +52,7 @@ pub(crate) fn put_lines<'p, L: Labels, N: Natives, K: Sink>(
 {
     only_adds::<L, N>();
     'steps: loop {
-        let Ok(came) = go_on(labels, natives, machine) else {
+        let Ok(came) = machine.advance(labels, natives) else {
             return Err(Cut::OutOfMemory);
         };
         match came {
@@ -66,26 +64,6 @@ pub(crate) fn put_lines<'p, L: Labels, N: Natives, K: Sink>(
             Step::Ends(ending) => return Ok(ending),
         }
     }
-}
-
-/// Makes the room for a step, and takes it.
-fn go_on<'p, L: Labels, N: Natives>(
-    labels: &mut L,
-    natives: &N,
-    machine: &mut Machine<'p, L::Label, N::State>,
-) -> Result<Step<L::Label>, OutOfMemory>
-    requires runs { Runs L.made L.meaning L.room labels.old machine.old }
-    ensures comes { IfOk result (λ s. (reading : L.Label → Label) (told : List LabelledLine) → IsReading L.made L.meaning labels.new reading → Comes (built_ins_of (N.entries natives.now) (N.begin natives.now) (N.after natives.now) (N.asks natives.now)) (N.after natives.now) (N.asks natives.now) reading machine.new told (comes_to (built_ins_of (N.entries natives.now) (N.begin natives.now) (N.after natives.now) (N.asks natives.now)) (N.after natives.now) (N.asks natives.now) reading machine.old told) s) }
-    ensures runs { IfOk result (IfOn (Runs L.made L.meaning L.room labels.new machine.new)) }
-    ensures lowers { IfOk result (IfOn (ahead machine.new < ahead machine.old)) }
-    ensures printed { IfOk result (IfPrinted (IsPrinted (L.made labels.new) (length machine.old.policy.now.outputs))) }
-    ensures stopped { IfOk result (IfStopped (HasStop (L.made labels.new))) }
-    ensures policy { IfOk result (λ s. machine.new.policy ≡ machine.old.policy) }
-    ensures kept { IsKept L.made L.meaning L.room L.firm labels.old labels.new }
-{
-    machine.reserve()?;
-    let came = machine.step(labels, natives)?;
-    Ok(came)
 }
 
 /// Puts a line, if it is shown.

@@ -8,7 +8,7 @@ ghost use Rattle.es_meaning.specs.Outcomes.{threw, halted};
 ghost use Rattle.es_meaning.specs.Start.{shown};
 ghost use Rattle.flow_meaning.specs.Erased.{erased_heap};
 ghost use Rattle.flow_meaning.specs.Scopes as meaning;
-ghost use Rattle.step_work.specs.Stops.{HasStop};
+ghost use Rattle.continuations.specs.Stops.{HasStop};
 ghost use Rattle.step_core.specs.declared.steps.Step.TheVariants.{Ends};
 ghost use Rattle.step_core.specs.Machines.{IfStopped, ending_of};
 ghost use Rattle.native_protocol.specs.declared.request.Answer.{Answer};

@@ -1,1 +1,11 @@
+mod EntryLaws
+mod FirstObjectLaws
+mod HolderLaws
+mod NameLaws
+mod StartedLaws
+mod EnteredLaws
+mod EnterLaws
+mod DeclaredLaws
+mod Names
+mod VariableLaws
 mod StartLaws

@@ -24,8 +24,8 @@ use Rattle.es_meaning.specs.BuiltIns.{BuiltIns}
 use Rattle.es_meaning.specs.Plain.{first_heap, outermost}
 use Rattle.flow_meaning.specs.Erased.{labelled_by, labelled_values, made_inner, made_rows, made_objects, unlabelled_heap}
 use Rattle.flow_meaning.specs.Tracked.{start}
-use Rattle.step_world.specs.declared.world.World.{World}
-use Rattle.step_world.specs.Worlds.{state_of, Belongs}
+use Rattle.run_state.specs.declared.world.World.{World}
+use Rattle.run_state.specs.Worlds.{state_of, Belongs}
 use Rattle.plain_heap.specs.PlainObjects.{PlainObjects, values_with, inner_with, slot_with, rows_with, object_with, objects_with}
 use Rattle.plain_heap.specs.Started.{IsStarted}
 use Rattle.plain_heap.proofs.ReadLaws.{read_with, has_objects, length_with}

@@ -10,9 +10,10 @@ ghost use Rattle.es_meaning.specs.BuiltIns.{built_ins_of};
 ghost use Rattle.es_meaning.specs.Plain.{may_declare, outermost};
 ghost use Rattle.flow_meaning.specs.Tracked.{start};
 ghost use Rattle.function_table.specs.Tables.{table};
-ghost use Rattle.step_world.specs.Worlds.{Belongs, state_of};
+ghost use Rattle.run_state.specs.Worlds.{Belongs, state_of};
 ghost use Rattle.step_start.specs.First.{global_with};
 
+use crate::entering::script_objects;
 use env_records::Envs;
 use flow_frames::Frames;
 use flow_policy::Policy;
@@ -23,9 +24,8 @@ use js_values::{Labelled, Value};
 use native_protocol::Natives;
 use origin_labels::Labels;
 use plain_heap::{GLOBAL_OBJECT, text_of};
-use start_script::script_objects;
+use run_state::World;
 use std::alloc::Global;
-use step_world::World;
 
 /// What a run holds when it begins, and whether the script may declare its functions: where it may not, no statement is evaluated.
 #[derive(Drop)]

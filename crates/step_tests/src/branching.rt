@@ -4,6 +4,7 @@ ghost use Rattle.flow_frames.specs.Held.{Belong};
 ghost use Rattle.js_values.specs.Readings.{HasValue};
 
 use crate::told::holds;
+use continuations::{Control, Round, Stack};
 use flow_frames::{Frames, Kind};
 use flow_text::{OutOfMemory, Text};
 use js_ast::{Expr, ExprKind, Stmt, StmtKind};
@@ -12,7 +13,7 @@ use js_values::{Labelled, Value};
 use origin_labels::{Labels, Masks};
 use std::alloc::Global;
 use std::test::*;
-use step_work::*;
+use step_control::{and_right, choose_stmt, choose_stmts, end_branch_value, or_right, tested};
 
 fn name(alloc: Global, spelling: &str) -> Result<Expr, OutOfMemory> {
     let text = Text::spelled(alloc, spelling)?;
@@ -60,7 +61,7 @@ fn logical<L: Labels>(
     } else {
         or_right(labels, &mut frames, &mut stack, right)?
     };
-    Ok((matches!(next, Next::Expr(_)), frames.len()))
+    Ok((matches!(next, Control::Expr(_)), frames.len()))
 }
 
 // The left operand, whether the operator is `&&`, and whether the right operand is evaluated.
@@ -92,11 +93,15 @@ fn is_secret<L: Labels>(labels: &L, frames: &Frames<L::Label>) -> bool
 }
 
 // Whether a statement is evaluated next, how many frames there are, and whether origin 0 decides it.
-fn inside<L: Labels>(labels: &L, frames: &Frames<L::Label>, next: Next<'_>) -> (bool, usize, bool)
+fn inside<L: Labels>(
+    labels: &L,
+    frames: &Frames<L::Label>,
+    next: Control<'_>,
+) -> (bool, usize, bool)
     requires { Belong L.made L.meaning labels.now frames.now.frames }
 {
     let is_secret = is_secret(labels, frames);
-    (matches!(next, Next::Stmt(_)), frames.len(), is_secret)
+    (matches!(next, Control::Stmt(_)), frames.len(), is_secret)
 }
 
 // What comes of a part that a value with this label chose.
@@ -147,7 +152,7 @@ fn ended<L: Labels>(
     if frames.len() != 2 {
         return Err(OutOfMemory);
     }
-    let Next::Value = end_branch_value(labels, &mut frames, &mut stack, 1)? else {
+    let Control::Value = end_branch_value(labels, &mut frames, &mut stack, 1)? else {
         return Err(OutOfMemory);
     };
     let value = only_value(&*labels, &mut stack);
@@ -169,7 +174,7 @@ fn asked<L: Labels>(
     let mut stack = one_value(alloc, &*labels, holds, secret)?;
     let next = tested(labels, &mut frames, &mut stack, round)?;
     let is_secret = is_secret(labels, &frames);
-    Ok((matches!(next, Next::Turn(_)), is_secret))
+    Ok((matches!(next, Control::Turn(_)), is_secret))
 }
 
 fn chooses(alloc: Global) -> Result<bool, OutOfMemory> {

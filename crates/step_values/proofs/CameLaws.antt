@@ -11,11 +11,11 @@ use Rattle.js_values.proofs.ReadingLaws.{IsReading-earlier}
 use Rattle.es_meaning.specs.Operators.{Given}
 use Rattle.flow_meaning.specs.Scopes.{State, Val, L, LabelledLine}
 use Rattle.flow_meaning.specs.Tracked.{given}
-use Rattle.step_world.specs.declared.came.Came.{Came}
-use Rattle.step_world.specs.declared.came.Came.TheVariants as came
-use Rattle.step_world.specs.declared.world.World.{World}
-use Rattle.step_world.specs.Acts.{Says, Acts, Computes, HasAnswer}
-use Rattle.step_world.specs.Worlds.{state_of}
+use Rattle.run_state.specs.declared.outcome.Outcome.{Outcome}
+use Rattle.run_state.specs.declared.outcome.Outcome.TheVariants as outcome
+use Rattle.run_state.specs.declared.world.World.{World}
+use Rattle.run_state.specs.Acts.{Says, Acts, Computes, HasAnswer}
+use Rattle.run_state.specs.Worlds.{state_of}
 use Rattle.step_values.specs.declared.refusal.Refusal.{Refusal}
 use Rattle.step_values.specs.declared.refusal.Refusal.TheVariants as refusal
 use Rattle.step_values.specs.Answers.{Answers, came_of}
@@ -36,7 +36,7 @@ came_made made label (Err refusal.OutOfMemory) m = tt
 
 -- ---- a call that comes to this does an act that gives it
 
-pub came_computes : {T : Type 0} (act : (T → Label) → L Val) (world : World T) (label : T) (answer : Result Primitive Refusal) (gives : Given) (result : Result (Came (Labelled T) T) (FlowFault T))
+pub came_computes : {T : Type 0} (act : (T → Label) → L Val) (world : World T) (label : T) (answer : Result Primitive Refusal) (gives : Given) (result : Result (Outcome (Labelled T) T) (FlowFault T))
     → ((reading : T → Label) (told : List LabelledLine) (turns : ℕ) → act reading (state_of reading world told turns) ≡ given (reading label) gives (state_of reading world told turns))
     → Answers answer gives → result ≡ came_of label answer → Computes (λ reading. read_value reading) act world result
 came_computes act world label answer gives result does is e =
@@ -50,7 +50,7 @@ module _ {S T : Type 0} (made : S → T → Type 0) (meaning : S → T → Label
       let earlier = IsReading-earlier made meaning room firm old new reading kept read in
       read.agrees label has ∙ is ∙ sym (ap₂ union (earlier.agrees a has_a) (earlier.agrees b has_b))
 
-  pub came_acts : (old new : S) (act : (T → Label) → L Val) (world : World T) (a b label : T) (answer : Result Primitive Refusal) (gives : Given) (result : Result (Came (Labelled T) T) (FlowFault T))
+  pub came_acts : (old new : S) (act : (T → Label) → L Val) (world : World T) (a b label : T) (answer : Result Primitive Refusal) (gives : Given) (result : Result (Outcome (Labelled T) T) (FlowFault T))
       → ((reading : T → Label) (s : State) → act reading s ≡ given (union (reading a) (reading b)) gives s)
       → IsKept made meaning room firm old new → made old a → made old b → made new label → meaning new label ≡ union (meaning old a) (meaning old b)
       → Answers answer gives → result ≡ came_of label answer → Acts made meaning new (λ reading. read_value reading) act world world result
@@ -62,9 +62,9 @@ module _ {S T : Type 0} (made : S → T → Type 0) (meaning : S → T → Label
       }
 
 -- an answer that hands on no label but one has what holds of that one
-pub label_belongs : {T : Type 0} (made : T → Type 0) (label : T) (result : Result (Came (Labelled T) T) (FlowFault T)) → made label → HasAnswer (λ v. v.label ≡ label) (λ l. l ≡ label) result → HasAnswer (HasValue made) made result
-label_belongs made label (Ok (came.Goes v)) m is = subst made (sym is) m
-label_belongs made label (Ok (came.Throws v)) m is = subst made (sym is) m
-label_belongs made label (Ok (came.Leaves why)) m is = tt
+pub label_belongs : {T : Type 0} (made : T → Type 0) (label : T) (result : Result (Outcome (Labelled T) T) (FlowFault T)) → made label → HasAnswer (λ v. v.label ≡ label) (λ l. l ≡ label) result → HasAnswer (HasValue made) made result
+label_belongs made label (Ok (outcome.Goes v)) m is = subst made (sym is) m
+label_belongs made label (Ok (outcome.Throws v)) m is = subst made (sym is) m
+label_belongs made label (Ok (outcome.Leaves why)) m is = tt
 label_belongs made label (Err (fault.Stop stop)) m is = (subst made (sym is.0) m, subst made (sym is.1) m)
 label_belongs made label (Err fault.OutOfMemory) m is = tt

@@ -8,10 +8,10 @@ use Rattle.js_number.specs.declared.sum.AddFault.TheVariants as faults
 use Rattle.js_values.specs.declared.value.Value.TheVariants as value
 use Rattle.js_values.specs.declared.value.Labelled.{Labelled}
 use Rattle.es_meaning.specs.Operators.{Given}
-use Rattle.step_world.specs.declared.came.Came.{Came}
-use Rattle.step_world.specs.declared.came.Came.TheVariants as came
-use Rattle.step_world.specs.declared.came.Leaving.TheVariants as leaving
-use Rattle.step_world.specs.Names.{leaving_name}
+use Rattle.run_state.specs.declared.outcome.Outcome.{Outcome}
+use Rattle.run_state.specs.declared.outcome.Outcome.TheVariants as outcome
+use Rattle.run_state.specs.declared.outcome.Leaving.TheVariants as leaving
+use Rattle.run_state.specs.Names.{leaving_name}
 use Rattle.step_values.specs.declared.refusal.Refusal.{Refusal}
 use Rattle.step_values.specs.declared.refusal.Refusal.TheVariants as refusal
 
@@ -28,7 +28,7 @@ refusal_of faults.LeftString = refusal.Leaves leaving.String
 refusal_of faults.OutOfMemory = refusal.OutOfMemory
 
 -- what a run comes to by an answer: the value has this label
-abbrev pub came_of : {T : Type 0} → T → Result Primitive Refusal → Result (Came (Labelled T) T) (FlowFault T)
-came_of label (Ok v) = Ok (came.Goes (record { value = value.Primitive v; label = label }))
-came_of label (Err (refusal.Leaves why)) = Ok (came.Leaves why)
+abbrev pub came_of : {T : Type 0} → T → Result Primitive Refusal → Result (Outcome (Labelled T) T) (FlowFault T)
+came_of label (Ok v) = Ok (outcome.Goes (record { value = value.Primitive v; label = label }))
+came_of label (Err (refusal.Leaves why)) = Ok (outcome.Leaves why)
 came_of label (Err refusal.OutOfMemory) = Err fault.OutOfMemory

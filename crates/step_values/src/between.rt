@@ -15,8 +15,8 @@ use crate::refusal::Refusal;
 use js_ast::BinaryOperator;
 use js_number::Primitive;
 use js_values::Value;
+use run_state::Leaving;
 use std::alloc::Global;
-use step_world::Leaving;
 
 /// An operator between two values.
 #[tactic(auto, unfolding(es_meaning::specs::Operators::binary_of))]

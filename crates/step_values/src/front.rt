@@ -13,8 +13,8 @@ use js_ast::UnaryOperator;
 use js_number::{Primitive, bit_not, negate, to_boolean, to_number};
 use js_values::{Class, ObjId, Value};
 use object_heap::Heap;
+use run_state::Leaving;
 use std::alloc::Global;
-use step_world::Leaving;
 
 /// An operator in front of a value as it is.
 #[tactic(auto, unfolding(es_meaning::specs::Operators::unary_of))]

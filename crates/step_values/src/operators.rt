@@ -8,7 +8,7 @@ ghost use Rattle.js_ast.specs.Functions.{FunctionCode};
 ghost use Rattle.js_values.specs.Readings.{HasValue, read_value};
 ghost use Rattle.es_meaning.specs.BuiltIns.{BuiltIns};
 ghost use Rattle.flow_meaning.specs.Tracked.{labelled};
-ghost use Rattle.step_world.specs.Acts.{Acts, Computes, HasAnswer};
+ghost use Rattle.run_state.specs.Acts.{Acts, Computes, HasAnswer};
 ghost use Rattle.step_values.specs.Answers.{came_of};
 ghost use Rattle.step_values.specs.Converted.{OperandAsItIs, OperandsAsTheyAre};
 
@@ -20,8 +20,8 @@ use js_ast::{BinaryOperator, UnaryOperator};
 use js_number::Primitive;
 use js_values::{Labelled, Value};
 use origin_labels::Labels;
+use run_state::{Outcome, World};
 use std::alloc::Global;
-use step_world::{Came, World};
 
 /// An operator in front of a value as it is.
 pub fn unary<T: Copy>(
@@ -29,7 +29,7 @@ pub fn unary<T: Copy>(
     world: &World<T>,
     operator: UnaryOperator,
     value: &Labelled<T>,
-) -> Result<Came<Labelled<T>, T>, FlowFault<T>>
+) -> Result<Outcome<Labelled<T>, T>, FlowFault<T>>
     ensures computes { (tables : Tables) (inputs : Given) (set : BuiltIns) (functions : List FunctionCode) → Computes (λ reading. read_value reading) (λ reading. (labelled tables inputs set functions).unary operator (read_value reading value.now)) world.now result }
     ensures label { HasAnswer (λ v. v.label ≡ value.now.label) (λ label. label ≡ value.now.label) result }
 {
@@ -52,7 +52,7 @@ pub fn binary<L: Labels>(
     operator: BinaryOperator,
     left: &Labelled<L::Label>,
     right: &Labelled<L::Label>,
-) -> Result<Came<Labelled<L::Label>, L::Label>, FlowFault<L::Label>>
+) -> Result<Outcome<Labelled<L::Label>, L::Label>, FlowFault<L::Label>>
     requires left { L.made labels.old left.now.label }
     requires right { L.made labels.old right.now.label }
     ensures acts { (tables : Tables) (inputs : Given) (set : BuiltIns) (functions : List FunctionCode) (world : World L.Label) → Acts L.made L.meaning labels.new (λ reading. read_value reading) (λ reading. (labelled tables inputs set functions).binary operator (read_value reading left.now) (read_value reading right.now)) world world result }
@@ -67,15 +67,15 @@ pub fn binary<L: Labels>(
 fn came<T: Copy>(
     label: T,
     answer: Result<Primitive, Refusal>,
-) -> Result<Came<Labelled<T>, T>, FlowFault<T>>
+) -> Result<Outcome<Labelled<T>, T>, FlowFault<T>>
     ensures { result ≡ came_of label answer }
 {
     match answer {
-        Ok(value) => Ok(Came::Goes(Labelled {
+        Ok(value) => Ok(Outcome::Goes(Labelled {
             value: Value::Primitive(value),
             label,
         })),
-        Err(Refusal::Leaves(why)) => Ok(Came::Leaves(why)),
+        Err(Refusal::Leaves(why)) => Ok(Outcome::Leaves(why)),
         Err(Refusal::OutOfMemory) => Err(FlowFault::OutOfMemory),
     }
 }

@@ -2,13 +2,13 @@
 
 ghost use Rattle.std.specs.Prelude.{◌≡◌};
 ghost use Rattle.js_number.specs.declared.sum.AddFault.TheVariants as faults;
-ghost use Rattle.step_world.specs.declared.came.Leaving.TheVariants as leaving;
+ghost use Rattle.run_state.specs.declared.outcome.Leaving.TheVariants as leaving;
 ghost use Rattle.step_values.specs.declared.refusal.Refusal.TheVariants as refusal;
 ghost use Rattle.step_values.specs.Answers.{refusal_of};
 
 use flow_text::OutOfMemory;
 use js_number::{AddFault, LeftNumbers};
-use step_world::Leaving;
+use run_state::Leaving;
 
 /// Why an operator gives no value.
 #[derive(Drop)]

@@ -5,9 +5,9 @@ use Rattle.flow_frames.specs.Frames.{context}
 use Rattle.flow_frames.specs.Held.{seen_frame}
 use Rattle.js_values.specs.Readings.{read_value}
 use Rattle.object_heap.specs.Acts as heap_acts
-use Rattle.step_world.specs.declared.came.Came.TheVariants as came
-use Rattle.step_world.proofs.ActLaws.{Belongs-later}
-use Rattle.step_names.proofs.ObjectLaws.{with_heap, Belongs-heap, heap_done, heap_refused}
+use Rattle.run_state.specs.declared.outcome.Outcome.TheVariants as outcome
+use Rattle.run_state.proofs.ActLaws.{Belongs-later}
+use Rattle.property_access.proofs.ObjectLaws.{with_heap, Belongs-heap, heap_done, heap_refused}
 use Rattle.channel_requests.specs.Raising.{nothing}
 use Rattle.channel_requests.proofs.MeansLaws.{means_itself, means_later, means_joined}
 use Rattle.channel_requests.proofs.ObjectRaises.{raises_nothing, existence_raised, existence_has, existence_some}
@@ -50,7 +50,7 @@ returns-in_err-raise_existence-clause-belongs g c = Belongs-heap g.L.Labels.made
 
 pub returns-clause-acts : goal.returns-clause-acts
 returns-clause-acts g c =
-    existence_raised g.L.Labels.made g.L.Labels.meaning c.raise_existence.new.labels c.args.world.now c.args.o.0 c.args.label c.args.origins c.in_ok-need.need c.undefined-2.result c.undefined-2.ensures (with_heap c.raise_existence.new.self c.args.world.now) (Ok (came.Goes c.undefined-2.result))
+    existence_raised g.L.Labels.made g.L.Labels.meaning c.raise_existence.new.labels c.args.world.now c.args.o.0 c.args.label c.args.origins c.in_ok-need.need c.undefined-2.result c.undefined-2.ensures (with_heap c.raise_existence.new.self c.args.world.now) (Ok (outcome.Goes c.undefined-2.result))
     c.args.key.now c.in-Some.existence c.in_ok-place.place c.in-Some.ensures
     (means_later g.L.Labels.made g.L.Labels.meaning g.L.Labels.room g.L.Labels.firm c.join.new.self c.raise_existence.new.labels (IsKept-trans _ _ _ _ _ _ _ c.need_of.ensures.kept c.raise_existence.ensures.kept) c.in_ok-place.place (λ reading. union (reading c.args.label) (reading c.in-Some.existence))
     (means_joined g.L.Labels.made g.L.Labels.meaning g.L.Labels.room g.L.Labels.firm c.args.labels.now c.join.new.self c.join.ensures.kept c.args.label c.in-Some.existence c.in_ok-place.place _ _ (means_itself g.L.Labels.made g.L.Labels.meaning c.args.labels.now c.args.label c.requires.label)

@@ -5,9 +5,9 @@ use Rattle.flow_frames.specs.Frames.{context}
 use Rattle.flow_frames.specs.Held.{seen_frame}
 use Rattle.js_values.specs.Readings.{read_value}
 use Rattle.object_heap.specs.Acts as heap_acts
-use Rattle.step_world.specs.declared.came.Came.TheVariants as came
-use Rattle.step_world.proofs.ActLaws.{Belongs-later}
-use Rattle.step_names.proofs.ObjectLaws.{with_heap, Belongs-heap, heap_done, heap_refused}
+use Rattle.run_state.specs.declared.outcome.Outcome.TheVariants as outcome
+use Rattle.run_state.proofs.ActLaws.{Belongs-later}
+use Rattle.property_access.proofs.ObjectLaws.{with_heap, Belongs-heap, heap_done, heap_refused}
 use Rattle.channel_requests.specs.Raising.{nothing}
 use Rattle.channel_requests.proofs.MeansLaws.{means_later}
 use Rattle.channel_requests.proofs.ObjectRaises.{raises_nowhere, structure_raised}
@@ -33,7 +33,7 @@ returns-in_err-raise_structure-clause-belongs g c = Belongs-heap g.L.Labels.made
 
 pub returns-clause-acts : goal.returns-clause-acts
 returns-clause-acts g c =
-    structure_raised g.L.Labels.made g.L.Labels.meaning c.raise_structure.new.labels c.args.world.now c.args.o.0 c.args.label c.args.origins c.in_ok-need.need c.undefined-2.result c.undefined-2.ensures (with_heap c.raise_structure.new.self c.args.world.now) (Ok (came.Goes c.undefined-2.result))
+    structure_raised g.L.Labels.made g.L.Labels.meaning c.raise_structure.new.labels c.args.world.now c.args.o.0 c.args.label c.args.origins c.in_ok-need.need c.undefined-2.result c.undefined-2.ensures (with_heap c.raise_structure.new.self c.args.world.now) (Ok (outcome.Goes c.undefined-2.result))
     (means_later g.L.Labels.made g.L.Labels.meaning g.L.Labels.room g.L.Labels.firm c.need_of.new.labels c.raise_structure.new.labels c.raise_structure.ensures.kept c.in_ok-need.need (λ reading. union (context (map (seen_frame reading) c.args.world.now.frames.frames)) (reading c.args.label)) c.in_ok-need.ensures.means)
     (heap_done g.L.Labels.made g.L.Labels.meaning c.raise_structure.new.labels c.args.world.now (λ reading. read_value reading) c.undefined-2.result (λ reading. heap_acts.raise_structure c.args.o.0 (reading c.in_ok-need.need) (reading c.args.origins)) c.raise_structure.new.self
     c.raise_structure.result c.in_ok-raise_structure.was c.raise_structure.ensures.acts)

@@ -2,7 +2,7 @@ use Rattle.std.proofs.Common.{◌≡◌, ◌∙◌, ap, sym, List, ℕ, length, 
 use Rattle.std.specs.Vec.{with_items}
 use Rattle.std.proofs.lemmas.List.{with_items_is}
 use Rattle.es_meaning.specs.Plain.{positions_behind, line_at}
-use Rattle.step_world.specs.Worlds.{state_of}
+use Rattle.run_state.specs.Worlds.{state_of}
 use Rattle.channel_requests.proofs.AnswerLaws.{channel_here, read_leaves, read_stops, read_goes}
 use Rattle.channel_requests.proofs.WorldLaws.{belongs_later}
 use Rattle.channel_requests.proofs.reading.read_line.Goals as goal

@@ -1,4 +1,4 @@
-use Rattle.std.proofs.Common.{rules, subst}
+use Rattle.std.proofs.Common.{rules, subst, ap, ◌∙◌, ◌++◌, ◌∷◌, []}
 use Rattle.js_scan.specs.Found.{FindsElement}
 use Rattle.js_scan.proofs.Steps.{read_start, separator_turn, lexeme_turn, fault_turn, read_whole, ahead, less_left}
 use Rattle.js_scan.proofs.scanning.tokens_of.Goals as goal
@@ -19,11 +19,11 @@ elements-preserved-in-Separator c = (separator_turn c.args.units.now c.elements.
 
 pub elements-smaller : goal.elements-smaller
 elements-smaller c = less_left c.args.units.now c.push.new.self.items c.elements.state c.after-state.result (lexeme_turn c.args.units.now c.elements.tokens.items c.push.new.self.items c.elements.state c.after-state.result c.in-Lexeme.token c.elements.invariant
-    (subst (λ x. FindsElement c.elements.state (ahead c.args.units.now c.elements.state) x) c.in-Lexeme.is c.in_ok-length.ensures) c.in_ok-push-in-Lexeme.ensures.items c.after-state.ensures)
+    (subst (λ x. FindsElement c.elements.state (ahead c.args.units.now c.elements.state) x) c.in-Lexeme.is c.in_ok-length.ensures) (c.in_ok-push-in-Lexeme.ensures.items ∙ ap (λ t. c.elements.tokens.items ++ t ∷ []) c.in_ok-token-in-Lexeme.ensures) c.after-state.ensures)
 
 pub elements-preserved : goal.elements-preserved
 elements-preserved c = (lexeme_turn c.args.units.now c.elements.tokens.items c.push.new.self.items c.elements.state c.after-state.result c.in-Lexeme.token c.elements.invariant
-    (subst (λ x. FindsElement c.elements.state (ahead c.args.units.now c.elements.state) x) c.in-Lexeme.is c.in_ok-length.ensures) c.in_ok-push-in-Lexeme.ensures.items c.after-state.ensures).read
+    (subst (λ x. FindsElement c.elements.state (ahead c.args.units.now c.elements.state) x) c.in-Lexeme.is c.in_ok-length.ensures) (c.in_ok-push-in-Lexeme.ensures.items ∙ ap (λ t. c.elements.tokens.items ++ t ∷ []) c.in_ok-token-in-Lexeme.ensures) c.after-state.ensures).read
 
 pub returns-clause-tokens : goal.returns-clause-tokens
 returns-clause-tokens c = read_whole c.args.units.now c.elements.tokens.items c.elements.state c.elements.invariant c.elements-test.false

@@ -2,8 +2,8 @@ use Rattle.std.proofs.Common.{refl, length, subst}
 use Rattle.origin_labels.proofs.StoreLaws.{IsKept-trans}
 use Rattle.flow_frames.proofs.StandingLaws.{Belong-kept}
 use Rattle.js_values.proofs.ReadingLaws.{HasHeap-kept}
-use Rattle.step_world.proofs.ActLaws.{Belongs-later}
-use Rattle.step_names.proofs.MeansLaws.{means_later}
+use Rattle.run_state.proofs.ActLaws.{Belongs-later}
+use Rattle.property_access.proofs.MeansLaws.{means_later}
 use Rattle.std.specs.List.{slice_get}
 use Rattle.js_values.specs.Readings.{read_inner}
 use Rattle.es_meaning.specs.Requested.{bound_count}

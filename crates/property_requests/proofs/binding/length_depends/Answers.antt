@@ -1,4 +1,4 @@
-use Rattle.step_names.proofs.MeansLaws.{means_later}
+use Rattle.property_access.proofs.MeansLaws.{means_later}
 use Rattle.property_requests.proofs.MeansLaws.{means_itself, means_union}
 use Rattle.property_requests.proofs.binding.length_depends.Goals as goal
 

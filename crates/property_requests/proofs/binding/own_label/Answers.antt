@@ -1,7 +1,7 @@
 use Rattle.std.proofs.Common.{sym, ap, ◌∙◌}
 use Rattle.std.specs.List.{slice_get}
 use Rattle.object_heap.specs.Formed.{own_in}
-use Rattle.step_names.proofs.HeldLaws.{own_has}
+use Rattle.property_access.proofs.HeldLaws.{own_has}
 use Rattle.property_requests.proofs.BindingLaws.{known_absent, known_present_in}
 use Rattle.property_requests.proofs.binding.own_label.Goals as goal
 

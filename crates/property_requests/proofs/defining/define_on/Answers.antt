@@ -2,8 +2,8 @@ use Rattle.std.proofs.Common.{arith, ◌≤◌, length, sym, ◌∙◌}
 use Rattle.origin_labels.proofs.StoreLaws.{IsKept-trans}
 use Rattle.js_values.specs.Readings.{read_value}
 use Rattle.es_meaning.specs.Operations.{Value}
-use Rattle.step_world.proofs.ActLaws.{Belongs-later}
-use Rattle.step_names.proofs.MeansLaws.{means_later}
+use Rattle.run_state.proofs.ActLaws.{Belongs-later}
+use Rattle.property_access.proofs.MeansLaws.{means_later}
 use Rattle.property_requests.proofs.DefiningLaws.{defines_nowhere, defines_array, defines_there}
 use Rattle.property_requests.proofs.DescriptorLaws.{descriptor_later}
 use Rattle.property_requests.proofs.defining.define_on.Goals as goal

@@ -1,10 +1,10 @@
 use Rattle.std.proofs.Common.{sym, ◌∙◌}
 use Rattle.std.specs.List.{slice_get}
 use Rattle.object_heap.specs.Formed.{own_in}
-use Rattle.step_world.proofs.ActLaws.{Belongs-later}
+use Rattle.run_state.proofs.ActLaws.{Belongs-later}
 use Rattle.property_requests.proofs.ChangingLaws.{change_later, change_has}
 use Rattle.property_requests.proofs.DefiningLaws.{present_refused, present_changed}
-use Rattle.step_names.proofs.HeldLaws.{own_has}
+use Rattle.property_access.proofs.HeldLaws.{own_has}
 use Rattle.property_requests.proofs.HeldLaws.{unwrapped}
 use Rattle.property_requests.proofs.defining.define_present.Goals as goal
 

@@ -1,6 +1,6 @@
 use Rattle.js_values.specs.Readings.{HasValue}
 use Rattle.origin_labels.proofs.StoreLaws.{IsKept-trans}
-use Rattle.step_world.proofs.ActLaws.{Grows-trans}
+use Rattle.run_state.proofs.ActLaws.{Grows-trans}
 use Rattle.property_requests.proofs.ChangingLaws.{marks_fail, body_fails, both_set, faults_has}
 use Rattle.property_requests.proofs.DescriptorLaws.{body_later}
 use Rattle.property_requests.proofs.defining.redefine.Goals as goal

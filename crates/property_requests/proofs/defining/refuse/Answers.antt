@@ -2,8 +2,8 @@ use Rattle.std.specs.List.{slice_get}
 use Rattle.js_values.specs.Readings.{read_value}
 use Rattle.object_heap.specs.Formed.{own_in}
 use Rattle.es_meaning.specs.Operations.{Value}
-use Rattle.step_world.proofs.ActLaws.{Belongs-later}
-use Rattle.step_names.proofs.MeansLaws.{means_later}
+use Rattle.run_state.proofs.ActLaws.{Belongs-later}
+use Rattle.property_access.proofs.MeansLaws.{means_later}
 use Rattle.property_requests.proofs.DefiningLaws.{refused_for}
 use Rattle.property_requests.proofs.defining.refuse.Goals as goal
 

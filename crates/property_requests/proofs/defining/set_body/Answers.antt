@@ -4,9 +4,9 @@ use Rattle.origin_labels.proofs.StoreLaws.{IsKept-trans}
 use Rattle.flow_frames.specs.Frames.{context}
 use Rattle.flow_frames.specs.Held.{seen_frame}
 use Rattle.object_heap.specs.Acts as heap_acts
-use Rattle.step_world.proofs.ActLaws.{Belongs-later}
-use Rattle.step_names.proofs.MeansLaws.{means_later}
-use Rattle.step_names.proofs.ObjectLaws.{with_heap, Belongs-heap, heap_done, heap_refused}
+use Rattle.run_state.proofs.ActLaws.{Belongs-later}
+use Rattle.property_access.proofs.MeansLaws.{means_later}
+use Rattle.property_access.proofs.ObjectLaws.{with_heap, Belongs-heap, heap_done, heap_refused}
 use Rattle.property_requests.specs.Finding.{went}
 use Rattle.property_requests.proofs.ChangingLaws.{body_is_set, body_stays, went_refused}
 use Rattle.property_requests.proofs.defining.set_body.Goals as goal

@@ -5,9 +5,9 @@ use Rattle.flow_frames.specs.Frames.{context}
 use Rattle.flow_frames.specs.Held.{seen_frame}
 use Rattle.flow_frames.proofs.StandingLaws.{Belong-kept}
 use Rattle.object_heap.specs.Acts as heap_acts
-use Rattle.step_world.proofs.ActLaws.{Belongs-later}
-use Rattle.step_names.proofs.MeansLaws.{means_later}
-use Rattle.step_names.proofs.ObjectLaws.{with_heap, Belongs-heap, heap_done, heap_refused}
+use Rattle.run_state.proofs.ActLaws.{Belongs-later}
+use Rattle.property_access.proofs.MeansLaws.{means_later}
+use Rattle.property_access.proofs.ObjectLaws.{with_heap, Belongs-heap, heap_done, heap_refused}
 use Rattle.property_requests.specs.Finding.{went}
 use Rattle.property_requests.proofs.ChangingLaws.{marks_set, present_still, went_refused}
 use Rattle.property_requests.proofs.defining.set_marks.Goals as goal

@@ -1,5 +1,5 @@
 use Rattle.origin_labels.specs.Label.{union}
-use Rattle.step_names.proofs.MeansLaws.{means_later}
+use Rattle.property_access.proofs.MeansLaws.{means_later}
 use Rattle.property_requests.specs.Defining.{given_in}
 use Rattle.property_requests.proofs.MeansLaws.{means_union}
 use Rattle.property_requests.proofs.descriptor.given_label.Goals as goal

@@ -1,5 +1,5 @@
 use Rattle.std.proofs.Common.{arith, ◌≤◌, length}
-use Rattle.step_names.proofs.HeldLaws.{structure_has}
+use Rattle.property_access.proofs.HeldLaws.{structure_has}
 use Rattle.property_requests.proofs.ExtendingLaws.{extensible_nowhere, extensible_found}
 use Rattle.property_requests.proofs.extending.extensible_in.Goals as goal
 

@@ -3,7 +3,7 @@ use Rattle.std.specs.List.{slice_get}
 use Rattle.js_values.specs.Readings.{read_value}
 use Rattle.es_meaning.specs.Operations.{Value}
 use Rattle.flow_meaning.specs.Tracked.{act, extensible_in}
-use Rattle.step_world.proofs.ActLaws.{Belongs-later}
+use Rattle.run_state.proofs.ActLaws.{Belongs-later}
 use Rattle.property_requests.proofs.FindingLaws.{base_throws, base_finds}
 use Rattle.property_requests.proofs.extending.is_extensible.Goals as goal
 

@@ -5,10 +5,10 @@ use Rattle.flow_frames.specs.Frames.{context}
 use Rattle.flow_frames.specs.Held.{seen_frame}
 use Rattle.js_values.specs.Readings.{read_value}
 use Rattle.object_heap.specs.Acts as heap_acts
-use Rattle.step_world.specs.declared.came.Came.TheVariants as came
-use Rattle.step_world.proofs.ActLaws.{Belongs-later}
-use Rattle.step_names.proofs.MeansLaws.{means_later}
-use Rattle.step_names.proofs.ObjectLaws.{with_heap, Belongs-heap, heap_done, heap_refused}
+use Rattle.run_state.specs.declared.outcome.Outcome.TheVariants as outcome
+use Rattle.run_state.proofs.ActLaws.{Belongs-later}
+use Rattle.property_access.proofs.MeansLaws.{means_later}
+use Rattle.property_access.proofs.ObjectLaws.{with_heap, Belongs-heap, heap_done, heap_refused}
 use Rattle.property_requests.specs.Finding.{nothing}
 use Rattle.property_requests.proofs.ExtendingLaws.{prevents_nowhere, prevents}
 use Rattle.property_requests.proofs.extending.prevent.Goals as goal
@@ -33,7 +33,7 @@ returns-in_err-prevent_extensions-clause-belongs g c = Belongs-heap g.L.Labels.m
 
 pub returns-clause-acts : goal.returns-clause-acts
 returns-clause-acts g c =
-    prevents g.L.Labels.made g.L.Labels.meaning c.prevent_extensions.new.labels c.args.world.now c.args.o.0 c.args.label c.undefined-2.result c.undefined-2.ensures c.in_ok-need.need (with_heap c.prevent_extensions.new.self c.args.world.now) (Ok (came.Goes c.undefined-2.result))
+    prevents g.L.Labels.made g.L.Labels.meaning c.prevent_extensions.new.labels c.args.world.now c.args.o.0 c.args.label c.undefined-2.result c.undefined-2.ensures c.in_ok-need.need (with_heap c.prevent_extensions.new.self c.args.world.now) (Ok (outcome.Goes c.undefined-2.result))
     (means_later g.L.Labels.made g.L.Labels.meaning g.L.Labels.room g.L.Labels.firm c.need_of.new.labels c.prevent_extensions.new.labels c.prevent_extensions.ensures.kept c.in_ok-need.need (λ reading. union (context (map (seen_frame reading) c.args.world.now.frames.frames)) (reading c.args.label)) c.in_ok-need.ensures.means)
     (heap_done g.L.Labels.made g.L.Labels.meaning c.prevent_extensions.new.labels c.args.world.now (λ reading. read_value reading) c.undefined-2.result (λ reading. heap_acts.prevent_extensions c.args.o.0 (reading c.in_ok-need.need)) c.prevent_extensions.new.self
     c.prevent_extensions.result c.in_ok-prevent_extensions.was c.prevent_extensions.ensures.acts)

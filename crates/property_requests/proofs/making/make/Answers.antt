@@ -1,6 +1,6 @@
 use Rattle.std.proofs.Common.{refl}
-use Rattle.step_world.proofs.ActLaws.{Belongs-later}
-use Rattle.step_names.proofs.MeansLaws.{need_means}
+use Rattle.run_state.proofs.ActLaws.{Belongs-later}
+use Rattle.property_access.proofs.MeansLaws.{need_means}
 use Rattle.property_requests.proofs.MakingLaws.{object_made, belongs_made, belongs_same}
 use Rattle.property_requests.proofs.MeansLaws.{means_bottom, means_context}
 use Rattle.property_requests.proofs.making.make.Goals as goal

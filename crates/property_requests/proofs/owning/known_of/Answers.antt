@@ -1,6 +1,6 @@
 use Rattle.std.proofs.Common.{arith, ◌≤◌, ◌<◌, length, sym}
-use Rattle.step_names.proofs.MeansLaws.{means_later}
-use Rattle.step_names.proofs.HeldLaws.{own_has}
+use Rattle.property_access.proofs.MeansLaws.{means_later}
+use Rattle.property_access.proofs.HeldLaws.{own_has}
 use Rattle.property_requests.proofs.OwningLaws.{known_nowhere, known_absent, known_present, nothing_has, parts_has}
 use Rattle.property_requests.proofs.owning.known_of.Goals as goal
 

@@ -2,7 +2,7 @@ use Rattle.std.proofs.Common.{refl}
 use Rattle.js_values.specs.Readings.{read_value}
 use Rattle.es_meaning.specs.Operations.{Value}
 use Rattle.flow_meaning.specs.Tracked.{act, own_property_in}
-use Rattle.step_world.proofs.ActLaws.{Belongs-later}
+use Rattle.run_state.proofs.ActLaws.{Belongs-later}
 use Rattle.std.specs.List.{slice_get}
 use Rattle.property_requests.specs.Owning.{part_in}
 use Rattle.property_requests.proofs.FindingLaws.{base_throws, base_finds}

@@ -1,5 +1,5 @@
 use Rattle.std.proofs.Common.{refl}
-use Rattle.step_names.proofs.MeansLaws.{need_means}
+use Rattle.property_access.proofs.MeansLaws.{need_means}
 use Rattle.property_requests.proofs.parts.need_of.Goals as goal
 
 pub returns-clause-means : goal.returns-clause-means

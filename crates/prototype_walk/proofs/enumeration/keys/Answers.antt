@@ -9,7 +9,7 @@ along-init g c = record {
   there = c.requires.there;
   walk = c.bottom-walk.ensures.made;
   kept = IsKept-refl _ _ _ _ _;
-  comes = enumerates_first g.L.Labels.made g.L.Labels.meaning c.args.heap.now c.args.o.0 c.args.labels.now c.bottom-walk.result c.new-met.result c.new-keys.result c.new-met.ensures c.new-keys.ensures c.bottom-walk.ensures.made c.bottom-walk.ensures.meaning;
+  comes = enumerates_first g.L.Labels.made g.L.Labels.meaning c.args.heap.now c.args.o.0 c.args.labels.now c.bottom-walk.result c.new-met.result.keys c.new-keys.result c.new-met.ensures.empty c.new-keys.ensures c.bottom-walk.ensures.made c.bottom-walk.ensures.meaning;
 }
 
 pub pass-requires-clause-structure : goal.pass-requires-clause-structure
@@ -36,13 +36,13 @@ along-preserved g c = record {
   walk = c.in_ok-walk-2.ensures.means.belongs;
   kept = IsKept-trans _ _ _ _ _ _ _ c.along.invariant.kept (IsKept-trans _ _ _ _ _ _ _ c.in_ok-walk.ensures.kept c.in_ok-walk-2.ensures.kept);
   comes = keys_on g.L.Labels.made g.L.Labels.meaning g.L.Labels.room g.L.Labels.firm c.args.heap.now c.len-count.ensures.formed c.args.o.0 c.along.labels c.pass.new.labels c.join_existences.new.labels c.in_ok-walk.ensures.kept c.in_ok-walk-2.ensures.kept
-      c.along.at.0 c.along.met c.along.keys c.meet.new.met c.take_fresh.new.keys c.along.walk c.in_ok-walk.walk c.in_ok-walk-2.walk c.shape-shape.result c.shape-shape.ensures c.along.invariant.comes
+      c.along.at.0 c.along.met.keys c.along.keys c.meet.new.met.keys c.take_fresh.new.keys c.along.walk c.in_ok-walk.walk c.in_ok-walk-2.walk c.shape-shape.result c.shape-shape.ensures c.along.invariant.comes
       c.in_ok-meet.ensures c.in_ok-take_fresh.ensures c.in_ok-walk.ensures.means c.in_ok-walk-2.ensures.means c.in-Some.proto c.in-Some.is;
 }
 
 pub returns-in-None-clause-keys : goal.returns-in-None-clause-keys
 returns-in-None-clause-keys g c =
     keys_end g.L.Labels.made g.L.Labels.meaning g.L.Labels.room g.L.Labels.firm c.args.heap.now c.len-count.ensures.formed c.args.o.0 c.along.labels c.pass.new.labels c.join_existences.new.labels c.in_ok-walk.ensures.kept c.in_ok-walk-2.ensures.kept
-    c.along.at.0 c.along.met c.along.keys c.meet.new.met c.take_fresh.new.keys c.along.walk c.in_ok-walk.walk c.in_ok-walk-2.walk c.shape-shape.result c.shape-shape.ensures c.along.invariant.comes
+    c.along.at.0 c.along.met.keys c.along.keys c.meet.new.met.keys c.take_fresh.new.keys c.along.walk c.in_ok-walk.walk c.in_ok-walk-2.walk c.shape-shape.result c.shape-shape.ensures c.along.invariant.comes
     c.in_ok-meet.ensures c.in_ok-take_fresh.ensures c.in_ok-walk.ensures.means c.in_ok-walk-2.ensures.means c.in-None.is
     (λ reading read. IsLabel-read g.L.Labels.made g.L.Labels.meaning c.join_existences.new.labels reading c.in_ok-walk-2.walk g.met.L.Labels.rising read c.in_ok-walk-2.ensures.means.belongs)

@@ -9,7 +9,7 @@ invariant-along g l = record {
   there : l.at.0 < length l.heap;
   walk : g.L.Labels.made l.labels l.walk;
   kept : IsKept g.L.Labels.made g.L.Labels.meaning g.L.Labels.room g.L.Labels.firm l.fn.labels l.labels;
-  comes : Enumerates g.L.Labels.made g.L.Labels.meaning l.labels l.heap l.fn.o.0 l.at.0 l.met l.keys l.walk;
+  comes : Enumerates g.L.Labels.made g.L.Labels.meaning l.labels l.heap l.fn.o.0 l.at.0 l.met.keys l.keys l.walk;
 }
 
 abbrev pub decreases-along : goal.decreases-along

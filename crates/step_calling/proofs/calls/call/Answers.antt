@@ -5,14 +5,14 @@ use Rattle.flow_meaning.specs.Planned.{call_by}
 use Rattle.function_table.specs.Tables.{table}
 use Rattle.js_values.specs.Readings.{HasValue}
 use Rattle.step_natives.specs.States.{waiting_steps}
-use Rattle.step_work.specs.Kept.{kept_operands}
-use Rattle.step_work.specs.Settings.{entrance}
-use Rattle.step_work.specs.Shapes.{nth}
+use Rattle.continuations.specs.Kept.{kept_operands}
+use Rattle.continuations.specs.Settings.{entrance}
+use Rattle.continuations.specs.Shapes.{nth}
 use Rattle.step_calling.specs.Calling.{lying}
 use Rattle.step_calling.proofs.CalleeLaws.{call_begins, refused_begins}
 use Rattle.step_calling.proofs.NativeLaws.{quiet_comes}
-use Rattle.step_converting.specs.Framed.{steps_behind}
-use Rattle.step_converting.proofs.ValueLists.{leading_has}
+use Rattle.step_natives.specs.Framed.{steps_behind}
+use Rattle.step_natives.proofs.ValueLists.{leading_has}
 use Rattle.step_calling.proofs.calls.call.Goals as goal
 
 pub call_function-requires-clause-label : goal.call_function-requires-clause-label

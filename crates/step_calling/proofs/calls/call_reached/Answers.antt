@@ -5,11 +5,11 @@ use Rattle.flow_meaning.specs.Planned.{call_by}
 use Rattle.function_table.specs.Callees.{callee_of}
 use Rattle.function_table.specs.Tables.{table}
 use Rattle.step_natives.specs.States.{waiting_steps}
-use Rattle.step_work.specs.Settings.{entrance}
-use Rattle.step_work.specs.Shapes.{nth}
+use Rattle.continuations.specs.Settings.{entrance}
+use Rattle.continuations.specs.Shapes.{nth}
 use Rattle.step_calling.specs.Calling.{CallsBy, lying}
 use Rattle.step_calling.proofs.NativeLaws.{native_so, quiet_comes}
-use Rattle.step_converting.specs.Framed.{steps_behind}
+use Rattle.step_natives.specs.Framed.{steps_behind}
 use Rattle.step_calling.proofs.calls.call_reached.Goals as goal
 
 pub returns-in-Some-clause-calls : goal.returns-in-Some-clause-calls

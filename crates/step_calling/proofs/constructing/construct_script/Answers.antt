@@ -7,15 +7,15 @@ use Rattle.js_values.specs.Readings.{HasValue, read_value}
 use Rattle.js_values.proofs.ReadingLaws.{IsReading-earlier}
 use Rattle.flow_meaning.specs.Tracked.{with_call}
 use Rattle.function_table.specs.Tables.{table}
-use Rattle.step_world.proofs.ActLaws.{Belongs-later}
-use Rattle.step_entries.specs.Changing.{Changes}
-use Rattle.step_work.specs.declared.work.Work.TheVariants as work
-use Rattle.step_work.specs.Kept.{kept_operands, operands_of}
+use Rattle.run_state.proofs.ActLaws.{Belongs-later}
+use Rattle.function_entry.specs.Changing.{Changes}
+use Rattle.continuations.specs.declared.continuation.Continuation.TheVariants as continuation
+use Rattle.continuations.specs.Kept.{kept_operands, operands_of}
 use Rattle.step_calling.proofs.CallLaws.{script_constructs}
 use Rattle.step_calling.proofs.ReachLaws.{map_drop}
 use Rattle.step_calling.proofs.StandingLaws.{stands_entered}
-use Rattle.step_converting.proofs.FrameLaws.{values_kept}
-use Rattle.step_converting.proofs.ValueLists.{one_has, rest_has, rest_whole}
+use Rattle.step_natives.proofs.FrameLaws.{values_kept}
+use Rattle.step_natives.proofs.ValueLists.{one_has, rest_has, rest_whole}
 use Rattle.step_calling.proofs.constructing.construct_script.Goals as goal
 
 pub fresh-requires-clause-belongs : goal.fresh-requires-clause-belongs
@@ -63,7 +63,7 @@ returns-clause-standing g c =
     (IsKept-trans g.L.Labels.made g.L.Labels.meaning g.L.Labels.room g.L.Labels.firm c.prototype_of.new.labels c.fresh.new.labels c.enter.new.labels c.fresh.ensures.kept c.enter.ensures.kept) in
     let more : length c.args.world.now.records ≤ length c.enter.new.world.records = omega (arith, c.fresh.ensures.grows.records, c.enter.ensures.grows.records) in
     stands_entered made g.L.Labels.meaning g.L.Labels.room g.L.Labels.firm c.args.labels.now c.enter.new.labels kept kind.Call c.args.stack.now c.args.world.now c.args.count c.args.depth c.args._label c.requires.begun
-    c.enter.new.world c.in_ok-own.ensures.belongs more c.lay.new.self c.push.new.self c.begin_body.new.stack (work.EndNew c.in_ok-own.own c.args.depth) c.in_ok-next.next (c.enter.ensures.frames ∙ c.fresh.ensures.frames) refl refl c.in_ok-next.ensures.quiet
+    c.enter.new.world c.in_ok-own.ensures.belongs more c.lay.new.self c.push.new.self c.begin_body.new.stack (continuation.EndNew c.in_ok-own.own c.args.depth) c.in_ok-next.next (c.enter.ensures.frames ∙ c.fresh.ensures.frames) refl refl c.in_ok-next.ensures.quiet
     (c.lay.ensures.tasks ∙ c.clear.ensures.tasks)
     (subst (All P) (sym (c.in_ok-lay.ensures.laid ∙ ap (λ vs. vs ++ c.reference.result ∷ []) c.clear.ensures.none)) (one_has P c.reference.result c.reference.ensures.made))
     c.in_ok-push.ensures.scopes c.in_ok-push.ensures.natives c.in_ok-push.ensures.operands c.in_ok-next.ensures.keeps

@@ -5,13 +5,13 @@ use Rattle.flow_meaning.specs.Planned.{construct_by}
 use Rattle.function_table.specs.Tables.{table}
 use Rattle.js_values.specs.Readings.{HasValue}
 use Rattle.step_natives.specs.States.{waiting_steps}
-use Rattle.step_work.specs.Kept.{kept_operands}
-use Rattle.step_work.specs.Settings.{entrance}
+use Rattle.continuations.specs.Kept.{kept_operands}
+use Rattle.continuations.specs.Settings.{entrance}
 use Rattle.step_calling.specs.Calling.{lying}
 use Rattle.step_calling.proofs.CalleeLaws.{construction_begins, no_construction_begins}
 use Rattle.step_calling.proofs.NativeLaws.{quiet_comes}
-use Rattle.step_converting.specs.Framed.{steps_behind}
-use Rattle.step_converting.proofs.ValueLists.{leading_has}
+use Rattle.step_natives.specs.Framed.{steps_behind}
+use Rattle.step_natives.proofs.ValueLists.{leading_has}
 use Rattle.step_calling.proofs.constructions.construct.Goals as goal
 
 pub construct_function-requires-clause-label : goal.construct_function-requires-clause-label

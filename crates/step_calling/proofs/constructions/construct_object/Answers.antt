@@ -3,10 +3,10 @@ use Rattle.function_table.specs.Callees.{callee_of}
 use Rattle.function_table.specs.Tables.{table}
 use Rattle.js_values.proofs.ReadingLaws.{IsReading-earlier}
 use Rattle.step_natives.specs.States.{waiting_steps}
-use Rattle.step_world.proofs.ActLaws.{Belongs-later}
+use Rattle.run_state.proofs.ActLaws.{Belongs-later}
 use Rattle.step_calling.proofs.CalleeLaws.{reached_constructs}
 use Rattle.step_calling.proofs.StandingLaws.{stands_reached}
-use Rattle.step_converting.specs.Framed.{steps_behind}
+use Rattle.step_natives.specs.Framed.{steps_behind}
 use Rattle.step_calling.proofs.constructions.construct_object.Goals as goal
 
 pub construct_reached-requires-clause-standing : goal.construct_reached-requires-clause-standing

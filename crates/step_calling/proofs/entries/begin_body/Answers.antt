@@ -1,5 +1,5 @@
 use Rattle.std.proofs.Common.{ap, subst, ◌∙◌}
-use Rattle.step_work.specs.Standing.{given}
+use Rattle.continuations.specs.Invariant.{given}
 use Rattle.step_calling.specs.Calling.{StartsBody}
 use Rattle.step_calling.proofs.entries.begin_body.Goals as goal
 

@@ -5,14 +5,14 @@ use Rattle.js_ast.specs.Views.{view_function}
 use Rattle.js_values.specs.Readings.{HasValue, read_value}
 use Rattle.flow_meaning.specs.Tracked.{with_call}
 use Rattle.function_table.specs.Tables.{table}
-use Rattle.step_entries.specs.Changing.{Changes}
-use Rattle.step_work.specs.declared.work.Work.TheVariants as work
-use Rattle.step_work.specs.Kept.{kept_operands}
-use Rattle.step_work.specs.Shapes.{nth}
+use Rattle.function_entry.specs.Changing.{Changes}
+use Rattle.continuations.specs.declared.continuation.Continuation.TheVariants as continuation
+use Rattle.continuations.specs.Kept.{kept_operands}
+use Rattle.continuations.specs.Shapes.{nth}
 use Rattle.step_calling.proofs.CallLaws.{script_called}
 use Rattle.step_calling.proofs.ReachLaws.{map_drop}
 use Rattle.step_calling.proofs.StandingLaws.{stands_entered}
-use Rattle.step_converting.proofs.ValueLists.{leading_has, none_has, rest_has, rest_whole}
+use Rattle.step_natives.proofs.ValueLists.{leading_has, none_has, rest_has, rest_whole}
 use Rattle.step_calling.proofs.entries.enter_script.Goals as goal
 
 pub enter-requires-clause-this : goal.enter-requires-clause-this
@@ -38,5 +38,5 @@ pub returns-clause-standing : goal.returns-clause-standing
 returns-clause-standing g c =
     let P = HasValue (g.L.Labels.made c.enter.new.labels) in
     stands_entered g.L.Labels.made g.L.Labels.meaning g.L.Labels.room g.L.Labels.firm c.args.labels.now c.enter.new.labels c.enter.ensures.kept kind.Call c.args.stack.now c.args.world.now c.args.count c.args.depth c.args._label c.requires.begun
-    c.enter.new.world c.in_ok-own.ensures.belongs c.enter.ensures.grows.records c.clear.new.self c.push.new.self c.begin_body.new.stack (work.EndCall c.in_ok-own.own c.args.depth) c.in_ok-next.next c.enter.ensures.frames refl refl c.in_ok-next.ensures.quiet
+    c.enter.new.world c.in_ok-own.ensures.belongs c.enter.ensures.grows.records c.clear.new.self c.push.new.self c.begin_body.new.stack (continuation.EndCall c.in_ok-own.own c.args.depth) c.in_ok-next.next c.enter.ensures.frames refl refl c.in_ok-next.ensures.quiet
     c.clear.ensures.tasks (subst (All P) (sym c.clear.ensures.none) (none_has P)) c.in_ok-push.ensures.scopes c.in_ok-push.ensures.natives c.in_ok-push.ensures.operands c.in_ok-next.ensures.keeps

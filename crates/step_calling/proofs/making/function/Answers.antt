@@ -1,10 +1,10 @@
 use Rattle.std.proofs.Common.{ap, refl, ◌∙◌}
 use Rattle.js_ast.specs.Views.{view_function}
 use Rattle.function_table.specs.Tables.{table}
-use Rattle.step_work.specs.declared.work.Next.TheVariants as next
-use Rattle.step_work.specs.Going.{here}
-use Rattle.step_work.specs.Settings.{setting_of}
-use Rattle.step_work.proofs.Handed.{lies_alone}
+use Rattle.continuations.specs.declared.continuation.Control.TheVariants as control
+use Rattle.continuations.specs.Going.{here}
+use Rattle.continuations.specs.Settings.{setting_of}
+use Rattle.continuations.proofs.Handed.{lies_alone}
 use Rattle.step_calling.proofs.CalleeLaws.{place_above}
 use Rattle.step_calling.proofs.CallLaws.{function_begins}
 use Rattle.step_calling.proofs.StandingLaws.{stands_valued}
@@ -12,7 +12,7 @@ use Rattle.step_calling.proofs.making.function.Goals as goal
 
 pub returns-clause-begins : goal.returns-clause-begins
 returns-clause-begins g c tables inputs set ns =
-    function_begins g.L.Labels.made g.L.Labels.meaning c.make_function.new.labels tables inputs set (table c.args.functions.now) ns (next.Function c.args.f) (view_function c.args.f.now) c.args.place c.in_ok-made.made c.reference.result
+    function_begins g.L.Labels.made g.L.Labels.meaning c.make_function.new.labels tables inputs set (table c.args.functions.now) ns (control.Function c.args.f) (view_function c.args.f.now) c.args.place c.in_ok-made.made c.reference.result
     c.args.stack.now c.lay.new.self c.args.world.now c.make_function.new.world (λ vs e s. refl) (ap (λ e. e.place) (place_above c.args.stack.now.tasks (setting_of ns here)) ∙ c.requires.place) c.in_ok-made.ensures.gives
     c.reference.ensures.value (λ reading read. read.agrees c.reference.result.label c.reference.ensures.made ∙ c.reference.ensures.empty) c.lay.ensures.tasks
     (lies_alone c.args.stack.now c.lay.new.self c.reference.result c.requires.standing.values c.in_ok-lay.ensures.laid)

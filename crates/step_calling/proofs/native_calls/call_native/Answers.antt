@@ -1,9 +1,9 @@
 use Rattle.std.proofs.Common.{arith, length, ◌-◌, ◌∙◌, ◌≡◌, ◌≤◌}
 use Rattle.es_meaning.specs.BuiltIns.{built_ins_of}
-use Rattle.step_work.specs.Kept.{scopes_of}
+use Rattle.continuations.specs.Kept.{scopes_of}
 use Rattle.step_calling.proofs.NativeLaws.{native_calls}
-use Rattle.step_converting.proofs.ConvertingLaws.{steps_size}
-use Rattle.step_converting.proofs.FrameLaws.{waits_so}
+use Rattle.step_natives.proofs.ConvertingLaws.{steps_size}
+use Rattle.step_natives.proofs.FrameLaws.{waits_so}
 use Rattle.step_calling.proofs.native_calls.call_native.Goals as goal
 
 pub returns-clause-calls : goal.returns-clause-calls

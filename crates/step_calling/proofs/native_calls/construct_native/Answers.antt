@@ -4,7 +4,7 @@ use Rattle.flow_meaning.specs.Planned.{construct_by}
 use Rattle.es_meaning.specs.Functions.{of_built_in}
 use Rattle.std.proofs.Common.{drop}
 use Rattle.step_natives.specs.States.{waiting_steps}
-use Rattle.step_work.specs.Settings.{entrance}
+use Rattle.continuations.specs.Settings.{entrance}
 use Rattle.step_calling.specs.Calling.{lying}
 use Rattle.step_calling.proofs.NativeLaws.{quiet_comes}
 use Rattle.step_calling.proofs.native_calls.construct_native.Goals as goal

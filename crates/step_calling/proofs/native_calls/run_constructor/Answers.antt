@@ -2,11 +2,11 @@ use Rattle.std.proofs.Common.{arith, ap, length, sym, ◌-◌, ◌∙◌, ◌≡
 use Rattle.js_values.specs.declared.value.Labelled.{Labelled}
 use Rattle.es_meaning.specs.BuiltIns.{built_ins_of}
 use Rattle.es_meaning.specs.Plain.{undefined}
-use Rattle.step_work.specs.Kept.{scopes_of, waiting}
+use Rattle.continuations.specs.Kept.{scopes_of, waiting}
 use Rattle.step_calling.proofs.NativeLaws.{native_constructs}
 use Rattle.step_calling.proofs.StandingLaws.{stands_below}
-use Rattle.step_converting.proofs.ConvertingLaws.{steps_size}
-use Rattle.step_converting.proofs.FrameLaws.{waits_so}
+use Rattle.step_natives.proofs.ConvertingLaws.{steps_size}
+use Rattle.step_natives.proofs.FrameLaws.{waits_so}
 use Rattle.step_calling.proofs.native_calls.run_constructor.Goals as goal
 
 pub begin_native-requires-clause-standing : goal.begin_native-requires-clause-standing

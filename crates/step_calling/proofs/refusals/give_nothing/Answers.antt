@@ -2,8 +2,8 @@ use Rattle.std.proofs.Common.{arith, refl, ap, ◌∙◌, ◌-◌, [], ◌∷◌
 use Rattle.flow_frames.specs.declared.kind.Kind.TheVariants as kind
 use Rattle.js_values.specs.declared.value.Labelled.{Labelled}
 use Rattle.es_meaning.specs.Plain.{undefined}
-use Rattle.step_work.specs.declared.work.Next.TheVariants as next
-use Rattle.step_work.proofs.EndLaws.{label_has}
+use Rattle.continuations.specs.declared.continuation.Control.TheVariants as control
+use Rattle.continuations.proofs.EndLaws.{label_has}
 use Rattle.step_calling.proofs.CallLaws.{nothing_given}
 use Rattle.step_calling.proofs.StandingLaws.{stands_laid}
 use Rattle.step_calling.proofs.refusals.give_nothing.Goals as goal
@@ -30,6 +30,6 @@ returns-clause-standing g c =
       records = begun.belongs.records;
       started = begun.belongs.started;
     })
-    (omega arith) c.lay.new.self out next.Value (c.lay.ensures.tasks ∙ c.clear.ensures.tasks) (c.in_ok-lay.ensures.laid ∙ ap (λ vs. vs ++ out ∷ []) c.clear.ensures.none)
+    (omega arith) c.lay.new.self out control.Value (c.lay.ensures.tasks ∙ c.clear.ensures.tasks) (c.in_ok-lay.ensures.laid ∙ ap (λ vs. vs ++ out ∷ []) c.clear.ensures.none)
     (label_has (made store) c.args.world.now.frames.frames (length c.args.world.now.frames.frames - 1) c.pop-label.result begun.belongs.frames.labels c.pop-label.ensures.label) refl refl
     (omega (arith, c.pop-label.ensures.length, begun.frames, begun.deep))

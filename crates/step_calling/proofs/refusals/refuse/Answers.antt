@@ -1,10 +1,10 @@
 use Rattle.std.proofs.Common.{arith, sym, ap, subst, length}
 use Rattle.js_values.proofs.ReadingLaws.{IsReading-earlier}
 use Rattle.es_meaning.specs.Operations.{One}
-use Rattle.step_work.specs.declared.work.Next.{Next}
-use Rattle.step_work.specs.Kept.{scopes_of}
-use Rattle.step_work.specs.Pending.{values_of}
-use Rattle.step_work.specs.Standing.{Framed, running}
+use Rattle.continuations.specs.declared.continuation.Control.{Control}
+use Rattle.continuations.specs.Kept.{scopes_of}
+use Rattle.continuations.specs.Pending.{values_of}
+use Rattle.continuations.specs.Invariant.{Framed, running}
 use Rattle.step_calling.proofs.CallLaws.{error_is, error_made, error_of, frame_left, is_throw, refused, refused_passes}
 use Rattle.step_calling.proofs.StandingLaws.{stands_laid}
 use Rattle.step_calling.proofs.refusals.refuse.Goals as goal
@@ -38,4 +38,4 @@ returns-clause-standing g c =
     let few = frame_left made meaning new c.args.labels.now (λ reading read. IsReading-earlier made meaning g.L.Labels.room g.L.Labels.firm c.args.labels.now new reading c.throw_error.ensures.kept read) c.args._kind c.requires.kind c.args.stack.now c.args.world.now c.throw_error.new.world c.args.count c.args._depth c.args.label answer c.requires.begun acts throws in
     stands_laid made meaning g.L.Labels.room g.L.Labels.firm c.args.labels.now new c.throw_error.ensures.kept c.args._kind c.args.stack.now c.args.world.now c.args.count c.args._depth c.args.label c.requires.begun c.throw_error.new.world c.throw_error.ensures.belongs c.throw_error.ensures.grows.records
     c.thrown.new.stack (error_of made meaning new answer throws) c.in_ok-next.next c.in_ok-next.ensures.tasks (c.in_ok-next.ensures.lies (error_of made meaning new answer throws) (error_is made meaning new answer throws)) (error_made made meaning new answer throws c.in_ok-answer.ensures.made) (ap values_of c.in_ok-next.ensures.jumps) (ap running c.in_ok-next.ensures.jumps)
-    (subst (λ (m : Next). Framed m (length c.throw_error.new.world.frames.frames) (length (scopes_of c.args.stack.now.tasks))) (sym c.in_ok-next.ensures.jumps) (omega (arith, few, c.requires.begun.deep)))
+    (subst (λ (m : Control). Framed m (length c.throw_error.new.world.frames.frames) (length (scopes_of c.args.stack.now.tasks))) (sym c.in_ok-next.ensures.jumps) (omega (arith, few, c.requires.begun.deep)))

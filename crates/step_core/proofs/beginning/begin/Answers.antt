@@ -6,14 +6,14 @@ use Rattle.es_meaning.specs.Evaluation.{statements}
 use Rattle.flow_meaning.specs.Laws.{performed_run}
 use Rattle.flow_meaning.specs.Planned.{planned, asking, perform, meaning}
 use Rattle.flow_meaning.specs.Tracked.{tracked_run}
-use Rattle.step_world.specs.Worlds.{state_of}
-use Rattle.step_work.specs.Going.{here}
-use Rattle.step_work.specs.Kept.{scopes_of}
-use Rattle.step_work.specs.Pending.{values_of}
-use Rattle.step_work.specs.Resuming.{Begins, coming}
-use Rattle.step_work.specs.Settings.{setting_of}
-use Rattle.step_converting.specs.Framed.{steps_at}
-use Rattle.step_work.specs.Standing.{Standing}
+use Rattle.run_state.specs.Worlds.{state_of}
+use Rattle.continuations.specs.Going.{here}
+use Rattle.continuations.specs.Kept.{scopes_of}
+use Rattle.continuations.specs.Pending.{values_of}
+use Rattle.continuations.specs.Resuming.{Begins, coming}
+use Rattle.continuations.specs.Settings.{setting_of}
+use Rattle.step_natives.specs.Framed.{steps_at}
+use Rattle.continuations.specs.Invariant.{Invariant}
 use Rattle.step_core.proofs.StepLaws.{begun_statements, runs_none, starts}
 use Rattle.step_core.proofs.StartLaws.{begun_alone, none_waits, not_false, standing_begun}
 use Rattle.step_core.proofs.beginning.begin.Goals as goal
@@ -43,5 +43,5 @@ pub returns-clause-standing : goal.returns-clause-standing
 returns-clause-standing g c =
     let move = c.in_ok-next.next in
     let stack = c.begin_statements.new.stack in
-    subst (λ n. Standing g.L.Labels.made g.L.Labels.meaning c.args.labels.now stack c.in_ok-started.started.world (values_of move) (scopes_of stack.tasks) n move) (sym (ap length c.new-states.ensures))
+    subst (λ n. Invariant g.L.Labels.made g.L.Labels.meaning c.args.labels.now stack c.in_ok-started.started.world (values_of move) (scopes_of stack.tasks) n move) (sym (ap length c.new-states.ensures))
     (standing_begun c.new-stack.result stack move c.new-stack.ensures g.L.Labels.made g.L.Labels.meaning c.args.labels.now c.in_ok-started.started.world c.in_ok-next.ensures.keeps c.in_ok-started.ensures.belongs c.in_ok-started.ensures.alone c.in_ok-started.ensures.records (runs_none move (sym c.if-runs.ensures)))

@@ -5,7 +5,7 @@ use Rattle.es_meaning.specs.Operations.{Value}
 use Rattle.native_protocol.specs.declared.request.ErrorKind.TheVariants as kinds
 use Rattle.flow_meaning.specs.Scopes.{Val}
 use Rattle.flow_meaning.specs.Tracked.{throw_error}
-use Rattle.step_world.specs.Worlds.{state_of}
+use Rattle.run_state.specs.Worlds.{state_of}
 use Rattle.step_core.proofs.beginning.thrown.Goals as goal
 
 pub returns-in-Ok-Throws-clause-throws : goal.returns-in-Ok-Throws-clause-throws

@@ -1,9 +1,9 @@
 use Rattle.std.proofs.Common.{refl, arith}
 use Rattle.js_values.specs.Readings.{HasValue}
-use Rattle.step_work.specs.declared.work.Next.TheVariants as next
-use Rattle.step_work.specs.Kept.{kept_operands, scopes_of}
-use Rattle.step_work.specs.Going.{here}
-use Rattle.step_work.specs.Settings.{setting_of}
+use Rattle.continuations.specs.declared.continuation.Control.TheVariants as control
+use Rattle.continuations.specs.Kept.{kept_operands, scopes_of}
+use Rattle.continuations.specs.Going.{here}
+use Rattle.continuations.specs.Settings.{setting_of}
 use Rattle.step_core.proofs.Begun.{lowers}
 use Rattle.step_core.proofs.Parts.{behind_all}
 use Rattle.step_core.proofs.Stood.{standing_acts, standing_whole}
@@ -18,7 +18,7 @@ returns-clause-begins g c tables inputs set functions natives reading told turns
 pub returns-clause-standing : goal.returns-clause-standing
 returns-clause-standing g c =
     standing_acts g.L.Labels.made g.L.Labels.meaning g.L.Labels.room g.L.Labels.firm c.args.labels.now c.take_keys.new.labels c.take_keys.ensures.kept c.args.stack.now c.take_keys.new.stack c.args.world.now c.take_keys.new.world c.take_keys.result
-    (standing_whole g.L.Labels.made g.L.Labels.meaning c.args.labels.now c.args.stack.now c.args.world.now (scopes_of c.args.stack.now.tasks) (next.Keys c.args.enumeration) (λ frames scopes whole. whole) refl c.requires.standing) c.take_keys.ensures.rests c.take_keys.ensures.stands c.take_keys.ensures.belongs c.take_keys.ensures.grows
+    (standing_whole g.L.Labels.made g.L.Labels.meaning c.args.labels.now c.args.stack.now c.args.world.now (scopes_of c.args.stack.now.tasks) (control.Keys c.args.enumeration) (λ frames scopes whole. whole) refl c.requires.standing) c.take_keys.ensures.rests c.take_keys.ensures.stands c.take_keys.ensures.belongs c.take_keys.ensures.grows
 
 pub returns-clause-lowers : goal.returns-clause-lowers
-returns-clause-lowers g c = lowers c.args.stack.now c.take_keys.new.stack (next.Keys c.args.enumeration) 5 c.take_keys.result (omega arith) c.take_keys.ensures.adds
+returns-clause-lowers g c = lowers c.args.stack.now c.take_keys.new.stack (control.Keys c.args.enumeration) 5 c.take_keys.result (omega arith) c.take_keys.ensures.adds

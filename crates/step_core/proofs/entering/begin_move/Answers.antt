@@ -1,5 +1,5 @@
 use Rattle.std.proofs.Common.{sym, subst}
-use Rattle.step_work.specs.Going.{Begins}
+use Rattle.continuations.specs.Going.{Begins}
 use Rattle.step_core.proofs.entering.begin_move.Goals as goal
 
 pub returns-in-Null-clause-begins : goal.returns-in-Null-clause-begins

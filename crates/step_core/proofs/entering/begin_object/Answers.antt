@@ -1,9 +1,9 @@
 use Rattle.std.proofs.Common.{refl, arith}
 use Rattle.js_values.specs.Readings.{HasValue}
-use Rattle.step_work.specs.declared.work.Next.TheVariants as next
-use Rattle.step_work.specs.Going.{here}
-use Rattle.step_work.specs.Kept.{kept_operands, scopes_of}
-use Rattle.step_work.specs.Settings.{setting_of}
+use Rattle.continuations.specs.declared.continuation.Control.TheVariants as control
+use Rattle.continuations.specs.Going.{here}
+use Rattle.continuations.specs.Kept.{kept_operands, scopes_of}
+use Rattle.continuations.specs.Settings.{setting_of}
 use Rattle.step_core.proofs.Continued.{place_present}
 use Rattle.step_core.proofs.Moves.{lowers_moved, standing_moved}
 use Rattle.step_core.proofs.Parts.{behind_all}
@@ -19,7 +19,7 @@ returns-clause-begins g c tables inputs set natives reading told turns read = c.
 pub returns-clause-standing : goal.returns-clause-standing
 returns-clause-standing g c =
     standing_moved g.L.Labels.made g.L.Labels.meaning g.L.Labels.room g.L.Labels.firm c.args.labels.now c.object.new.labels c.object.ensures.kept 4 c.args.stack.now c.object.new.stack c.args.world.now c.object.new.world c.object.result
-    (standing_whole g.L.Labels.made g.L.Labels.meaning c.args.labels.now c.args.stack.now c.args.world.now (scopes_of c.args.stack.now.tasks) (next.Object c.args.list c.args.count) (λ frames scopes whole. whole) refl c.requires.standing) c.object.ensures.moved c.object.ensures.belongs c.object.ensures.grows
+    (standing_whole g.L.Labels.made g.L.Labels.meaning c.args.labels.now c.args.stack.now c.args.world.now (scopes_of c.args.stack.now.tasks) (control.Object c.args.list c.args.count) (λ frames scopes whole. whole) refl c.requires.standing) c.object.ensures.moved c.object.ensures.belongs c.object.ensures.grows
 
 pub returns-clause-lowers : goal.returns-clause-lowers
-returns-clause-lowers g c = lowers_moved (g.L.Labels.made c.object.new.labels) 4 c.args.stack.now c.object.new.stack c.args.world.now c.object.new.world (next.Object c.args.list c.args.count) c.object.result (omega arith) c.object.ensures.moved
+returns-clause-lowers g c = lowers_moved (g.L.Labels.made c.object.new.labels) 4 c.args.stack.now c.object.new.stack c.args.world.now c.object.new.world (control.Object c.args.list c.args.count) c.object.result (omega arith) c.object.ensures.moved

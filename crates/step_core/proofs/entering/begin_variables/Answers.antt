@@ -1,12 +1,12 @@
 use Rattle.std.proofs.Common.{refl, arith}
-use Rattle.step_work.specs.declared.work.Next.TheVariants as next
-use Rattle.step_work.specs.Kept.{scopes_of}
-use Rattle.step_work.specs.Going.{here}
-use Rattle.step_work.specs.Settings.{setting_of}
+use Rattle.continuations.specs.declared.continuation.Control.TheVariants as control
+use Rattle.continuations.specs.Kept.{scopes_of}
+use Rattle.continuations.specs.Going.{here}
+use Rattle.continuations.specs.Settings.{setting_of}
 use Rattle.step_core.proofs.Continued.{place_present}
 use Rattle.step_core.proofs.Moves.{lowers_moved, standing_moved}
 use Rattle.step_core.proofs.Stood.{standing_whole}
-use Rattle.step_world.proofs.ActLaws.{Grows-refl}
+use Rattle.run_state.proofs.ActLaws.{Grows-refl}
 use Rattle.step_core.proofs.entering.begin_variables.Goals as goal
 
 pub returns-clause-begins : goal.returns-clause-begins
@@ -15,7 +15,7 @@ returns-clause-begins g c tables inputs set functions natives reading told turns
 pub returns-clause-standing : goal.returns-clause-standing
 returns-clause-standing g c =
     standing_moved g.L.Labels.made g.L.Labels.meaning g.L.Labels.room g.L.Labels.firm c.args.labels.now c.declare.new.labels c.declare.ensures.kept 4 c.args.stack.now c.declare.new.stack c.args.world.now c.args.world.now c.declare.result
-    (standing_whole g.L.Labels.made g.L.Labels.meaning c.args.labels.now c.args.stack.now c.args.world.now (scopes_of c.args.stack.now.tasks) (next.Variables c.args.list) (λ frames scopes whole. whole) refl c.requires.standing) c.declare.ensures.moved c.declare.ensures.belongs (Grows-refl c.args.world.now)
+    (standing_whole g.L.Labels.made g.L.Labels.meaning c.args.labels.now c.args.stack.now c.args.world.now (scopes_of c.args.stack.now.tasks) (control.Variables c.args.list) (λ frames scopes whole. whole) refl c.requires.standing) c.declare.ensures.moved c.declare.ensures.belongs (Grows-refl c.args.world.now)
 
 pub returns-clause-lowers : goal.returns-clause-lowers
-returns-clause-lowers g c = lowers_moved (g.L.Labels.made c.declare.new.labels) 4 c.args.stack.now c.declare.new.stack c.args.world.now c.args.world.now (next.Variables c.args.list) c.declare.result (omega arith) c.declare.ensures.moved
+returns-clause-lowers g c = lowers_moved (g.L.Labels.made c.declare.new.labels) 4 c.args.stack.now c.declare.new.stack c.args.world.now c.args.world.now (control.Variables c.args.list) c.declare.result (omega arith) c.declare.ensures.moved

@@ -2,10 +2,10 @@ use Rattle.std.proofs.Common.{sym, subst, ◌≡◌, map, Some}
 use Rattle.origin_labels.specs.Label.{Label}
 use Rattle.js_values.specs.Readings.{read_value}
 use Rattle.flow_meaning.specs.Planned.{Part}
-use Rattle.step_work.specs.Pending.{setting_above}
+use Rattle.continuations.specs.Pending.{setting_above}
 use Rattle.step_core.specs.Going.{Enters, part_in}
-use Rattle.step_work.specs.Going.{here}
-use Rattle.step_work.specs.Settings.{setting_of}
+use Rattle.continuations.specs.Going.{here}
+use Rattle.continuations.specs.Settings.{setting_of}
 use Rattle.step_core.proofs.entering.enter.Goals as goal
 
 pub returns-in-Expr-clause-enters : goal.returns-in-Expr-clause-enters

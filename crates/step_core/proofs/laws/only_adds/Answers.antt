@@ -1,11 +1,11 @@
 use Rattle.std.proofs.Common.{map}
 use Rattle.function_table.specs.Tables.{table}
 use Rattle.js_values.specs.Readings.{read_value}
-use Rattle.step_converting.specs.Framed.{steps_at}
-use Rattle.step_world.specs.Worlds.{state_of}
-use Rattle.step_work.specs.Going.{here}
-use Rattle.step_work.specs.Pending.{setting_above}
-use Rattle.step_work.specs.Settings.{setting_of}
+use Rattle.step_natives.specs.Framed.{steps_at}
+use Rattle.run_state.specs.Worlds.{state_of}
+use Rattle.continuations.specs.Going.{here}
+use Rattle.continuations.specs.Pending.{setting_above}
+use Rattle.continuations.specs.Settings.{setting_of}
 use Rattle.step_core.proofs.Adding.{adds_lines}
 use Rattle.step_core.proofs.laws.only_adds.Goals as goal
 

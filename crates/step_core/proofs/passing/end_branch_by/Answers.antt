@@ -1,12 +1,12 @@
-use Rattle.step_work.specs.Kept.{waiting}
-use Rattle.step_work.specs.declared.work.Work.TheVariants as work
+use Rattle.continuations.specs.Kept.{waiting}
+use Rattle.continuations.specs.declared.continuation.Continuation.TheVariants as continuation
 use Rattle.step_core.proofs.Begun.{comes_passed_in}
 use Rattle.step_core.proofs.Stood.{standing_left}
 use Rattle.step_core.proofs.passing.end_branch_by.Goals as goal
 
 pub returns-clause-passes : goal.returns-clause-passes
 returns-clause-passes g c tables inputs set functions natives value alone =
-    comes_passed_in g.L.Labels.made g.L.Labels.meaning c.args.labels.now tables inputs set functions natives c.args.jump (work.EndBranch c.args.gives c.args.depth) value c.args.stack.now c.pass_branch.new.stack
+    comes_passed_in g.L.Labels.made g.L.Labels.meaning c.args.labels.now tables inputs set functions natives c.args.jump (continuation.EndBranch c.args.gives c.args.depth) value c.args.stack.now c.pass_branch.new.stack
     c.args.world.now c.pass_branch.new.frames c.in_ok-next.next c.in_ok-next.ensures.goes_on alone
 
 pub returns-clause-standing : goal.returns-clause-standing

@@ -1,4 +1,4 @@
-use Rattle.step_work.specs.Kept.{waiting}
+use Rattle.continuations.specs.Kept.{waiting}
 use Rattle.step_core.proofs.Begun.{comes_passed}
 use Rattle.step_core.proofs.Stood.{standing_passed}
 use Rattle.step_core.proofs.passing.pass_by.Goals as goal

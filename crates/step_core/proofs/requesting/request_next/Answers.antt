@@ -1,6 +1,6 @@
 use Rattle.std.proofs.Common.{◌-◌, length}
 use Rattle.js_values.specs.Readings.{HasValue}
-use Rattle.step_work.specs.Kept.{kept_operands}
+use Rattle.continuations.specs.Kept.{kept_operands}
 use Rattle.step_core.proofs.Asking.{asked_steps, unasked}
 use Rattle.step_core.proofs.Parts.{behind_all}
 use Rattle.step_core.proofs.Requested.{asked_standing}

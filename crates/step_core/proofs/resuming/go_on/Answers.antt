@@ -2,13 +2,13 @@ use Rattle.std.proofs.Common.{refl, sym, arith, ◌+◌}
 use Rattle.origin_labels.proofs.StoreLaws.{IsKept-refl}
 use Rattle.js_values.specs.Readings.{HasValue}
 use Rattle.js_values.proofs.ReadingLaws.{HasHeap-kept, HasRecords-kept}
-use Rattle.step_world.specs.Worlds.{state_of}
-use Rattle.step_work.specs.Kept.{kept_operands, waiting}
-use Rattle.step_work.specs.Loads.{weight}
-use Rattle.step_work.specs.Pending.{owns}
-use Rattle.step_work.specs.Going.{here}
-use Rattle.step_work.specs.Settings.{setting_of}
-use Rattle.step_work.specs.Standing.{awaits}
+use Rattle.run_state.specs.Worlds.{state_of}
+use Rattle.continuations.specs.Kept.{kept_operands, waiting}
+use Rattle.continuations.specs.Loads.{weight}
+use Rattle.continuations.specs.Pending.{owns}
+use Rattle.continuations.specs.Going.{here}
+use Rattle.continuations.specs.Settings.{setting_of}
+use Rattle.continuations.specs.Invariant.{awaits}
 use Rattle.step_core.proofs.Continued.{goes_acting, goes_alone, goes_in}
 use Rattle.step_core.proofs.Moves.{adds_moved, rests_of, stands_of}
 use Rattle.step_core.proofs.Parts.{behind_all}

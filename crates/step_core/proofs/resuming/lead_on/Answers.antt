@@ -1,4 +1,4 @@
-use Rattle.step_work.specs.Kept.{waiting}
+use Rattle.continuations.specs.Kept.{waiting}
 use Rattle.step_core.proofs.Stood.{stands_anyway}
 use Rattle.step_core.proofs.resuming.lead_on.Goals as goal
 

@@ -1,7 +1,7 @@
 use Rattle.std.proofs.Common.{sym, ap, ◌∙◌, ◌+◌}
 use Rattle.es_meaning.specs.Plain.{undefined}
-use Rattle.step_work.specs.Pending.{owns}
-use Rattle.step_work.specs.Standing.{given}
+use Rattle.continuations.specs.Pending.{owns}
+use Rattle.continuations.specs.Invariant.{given}
 use Rattle.step_core.proofs.Continued.{forgotten}
 use Rattle.step_core.proofs.Resumed.{operands_below, operands_laid}
 use Rattle.step_core.proofs.resuming.prepare.Goals as goal

@@ -1,8 +1,8 @@
 use Rattle.std.proofs.Common.{length}
 use Rattle.function_table.specs.Tables.{table}
 use Rattle.step_natives.specs.States.{waiting_steps}
-use Rattle.step_work.specs.Kept.{scopes_of}
-use Rattle.step_work.specs.Pending.{values_of}
+use Rattle.continuations.specs.Kept.{scopes_of}
+use Rattle.continuations.specs.Pending.{values_of}
 use Rattle.step_core.proofs.StepLaws.{all_wait, began_steps, makes_still, standing_waiting}
 use Rattle.step_core.proofs.stepping.begin_making.Goals as goal
 

@@ -1,6 +1,6 @@
 use Rattle.std.proofs.Common.{◌-◌, length}
-use Rattle.step_work.specs.Kept.{scopes_of}
-use Rattle.step_work.specs.Pending.{values_of}
+use Rattle.continuations.specs.Kept.{scopes_of}
+use Rattle.continuations.specs.Pending.{values_of}
 use Rattle.step_natives.specs.States.{waiting_steps}
 use Rattle.step_core.proofs.StepLaws.{all_wait, entered_steps, enters_still, one_less, spent_steps, standing_waiting}
 use Rattle.step_core.proofs.stepping.enter_part.Goals as goal

@@ -1,6 +1,6 @@
 use Rattle.std.proofs.Common.{refl}
 use Rattle.step_natives.specs.States.{waiting_steps}
-use Rattle.step_work.specs.declared.work.Next.TheVariants as next
+use Rattle.continuations.specs.declared.continuation.Control.TheVariants as control
 use Rattle.step_core.specs.Stepping.{completion_above}
 use Rattle.step_core.proofs.StepLaws.{after_steps}
 use Rattle.step_core.proofs.stepping.resumed.Goals as goal
@@ -9,6 +9,6 @@ pub returns-clause-stepped : goal.returns-clause-stepped
 returns-clause-stepped g c tables inputs set functions tells asks =
     let old = c.args.progress.now in
     let w = c.args.work in
-    after_steps g.L.Labels.made g.L.Labels.meaning c.resume-moved.new.labels tables inputs set functions tells asks old w (λ reading. completion_above tables inputs set functions tells asks reading old w) next.Value
+    after_steps g.L.Labels.made g.L.Labels.meaning c.resume-moved.new.labels tables inputs set functions tells asks old w (λ reading. completion_above tables inputs set functions tells asks reading old w) control.Value
     c.resume-moved.new.stack c.resume-moved.new.world c.resume-moved.result c.still_step.result c.still_step.ensures refl c.requires.natives
     (c.resume-moved.ensures.resumes tables inputs set functions (waiting_steps tells asks old.natives)) c.resume-moved.ensures.standing c.resume-moved.ensures.adds c.resume-moved.ensures.stopped

@@ -1,7 +1,7 @@
 use Rattle.std.proofs.Common.{◌+◌}
 use Rattle.js_values.specs.Readings.{HasValue}
-use Rattle.step_work.specs.Kept.{kept_operands}
-use Rattle.step_work.specs.Standing.{given}
+use Rattle.continuations.specs.Kept.{kept_operands}
+use Rattle.continuations.specs.Invariant.{given}
 use Rattle.step_core.proofs.Asking.{last_of, told_steps}
 use Rattle.step_core.proofs.Parts.{behind_all}
 use Rattle.step_core.proofs.telling.tell.Goals as goal

@@ -1,5 +1,5 @@
 use Rattle.std.proofs.Common.{sym, subst, ◌∙◌}
-use Rattle.step_work.specs.Resuming.{with_frames}
+use Rattle.continuations.specs.Resuming.{with_frames}
 use Rattle.step_jumps.specs.Raising.{SaysRaised, leaving_by}
 use Rattle.step_jumps.proofs.RaiseLaws.{its_frame, no_frame}
 use Rattle.step_jumps.proofs.raising.raise_at.Goals as goal

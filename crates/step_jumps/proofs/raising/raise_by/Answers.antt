@@ -9,11 +9,11 @@ use Rattle.es_meaning.specs.Environments.{Env, aimed}
 use Rattle.es_meaning.specs.Outcomes.{Exit}
 use Rattle.flow_meaning.specs.Tracked.{named_origins, raises}
 use Rattle.flow_lists.specs.Lists.{names_in}
-use Rattle.step_work.specs.declared.work.Reason.TheVariants as reason
-use Rattle.step_work.specs.declared.work.Next.TheVariants as next
-use Rattle.step_work.specs.Going.{here}
-use Rattle.step_work.specs.Pending.{setting_above}
-use Rattle.step_work.specs.Settings.{setting_of}
+use Rattle.continuations.specs.declared.continuation.Reason.TheVariants as reason
+use Rattle.continuations.specs.declared.continuation.Control.TheVariants as control
+use Rattle.continuations.specs.Going.{here}
+use Rattle.continuations.specs.Pending.{setting_above}
+use Rattle.continuations.specs.Settings.{setting_of}
 use Rattle.step_jumps.specs.Raising.{leaving_by, upgrade_held}
 use Rattle.step_jumps.proofs.Obeyed.{known_origins, no_directive, obeyed_fails, obeyed_goes, obeyed_so, standing_obeyed, unknown_origin}
 use Rattle.step_jumps.proofs.Places.{env_is}
@@ -22,22 +22,22 @@ use Rattle.step_jumps.proofs.raising.raise_by.Goals as goal
 
 pub returns-in_default-clause-resumes : goal.returns-in_default-clause-resumes
 returns-in_default-clause-resumes g c = λ inputs set functions natives.
-    obeyed_so c.args.policy.now inputs set functions g.L.Labels.made g.L.Labels.meaning c.args.labels.now natives c.args.e c.args.stack.now c.args.world.now c.clear.new.self next.Done (λ vs e s. refl) c.clear.ensures.tasks
+    obeyed_so c.args.policy.now inputs set functions g.L.Labels.made g.L.Labels.meaning c.args.labels.now natives c.args.e c.args.stack.now c.args.world.now c.clear.new.self control.Done (λ vs e s. refl) c.clear.ensures.tasks
     (λ reading s is. no_directive c.args.policy.now inputs set functions (upgrade_of (view_expr c.args.e.now)) (setting_above c.args.stack.now.tasks (setting_of natives here)).env _ s (sym c.in_default.ensures))
 
 pub returns-in_default-clause-standing : goal.returns-in_default-clause-standing
 returns-in_default-clause-standing g c =
-    standing_obeyed g.L.Labels.made g.L.Labels.meaning g.L.Labels.room g.L.Labels.firm c.args.labels.now c.args.labels.now (IsKept-refl _ _ _ _ _) c.args.stack.now c.clear.new.self c.args.world.now c.args.world.now.frames next.Done (λ n m e. e) refl c.requires.standing c.clear.ensures.tasks c.clear.ensures.none c.requires.standing.belongs.frames c.requires.standing.belongs.catch refl
+    standing_obeyed g.L.Labels.made g.L.Labels.meaning g.L.Labels.room g.L.Labels.firm c.args.labels.now c.args.labels.now (IsKept-refl _ _ _ _ _) c.args.stack.now c.clear.new.self c.args.world.now c.args.world.now.frames control.Done (λ n m e. e) refl c.requires.standing c.clear.ensures.tasks c.clear.ensures.none c.requires.standing.belongs.frames c.requires.standing.belongs.catch refl
 
 pub returns-in_default-2-clause-resumes : goal.returns-in_default-2-clause-resumes
 returns-in_default-2-clause-resumes g c = λ inputs set functions natives.
-    obeyed_so c.args.policy.now inputs set functions g.L.Labels.made g.L.Labels.meaning c.origins_in.new.labels natives c.args.e c.args.stack.now c.args.world.now c.clear.new.self (next.Leave reason.Origin) (λ vs e s. refl) c.clear.ensures.tasks
+    obeyed_so c.args.policy.now inputs set functions g.L.Labels.made g.L.Labels.meaning c.origins_in.new.labels natives c.args.e c.args.stack.now c.args.world.now c.clear.new.self (control.Leave reason.Origin) (λ vs e s. refl) c.clear.ensures.tasks
     (λ reading s is. unknown_origin c.args.policy.now inputs set functions (upgrade_of (view_expr c.args.e.now)) (upgrade_held c.in-Some.directive) (setting_above c.args.stack.now.tasks (setting_of natives here)) _ s (sym c.in-Some.ensures)
     (one_unknown (named_origins c.args.policy.now inputs (names_in c.in-Some.directive.list.now)) (sym (ap (λ found. option_map (g.L.Labels.meaning c.origins_in.new.labels) found) c.in_default-2.is) ∙ c.in_ok-label.ensures.origins inputs)))
 
 pub returns-in_default-2-clause-standing : goal.returns-in_default-2-clause-standing
 returns-in_default-2-clause-standing g c =
-    standing_obeyed g.L.Labels.made g.L.Labels.meaning g.L.Labels.room g.L.Labels.firm c.args.labels.now c.origins_in.new.labels c.in_ok-label.ensures.kept c.args.stack.now c.clear.new.self c.args.world.now c.args.world.now.frames (next.Leave reason.Origin) (λ n m e. e) refl c.requires.standing c.clear.ensures.tasks c.clear.ensures.none
+    standing_obeyed g.L.Labels.made g.L.Labels.meaning g.L.Labels.room g.L.Labels.firm c.args.labels.now c.origins_in.new.labels c.in_ok-label.ensures.kept c.args.stack.now c.clear.new.self c.args.world.now c.args.world.now.frames (control.Leave reason.Origin) (λ n m e. e) refl c.requires.standing c.clear.ensures.tasks c.clear.ensures.none
     (Belong-kept g.L.Labels.made g.L.Labels.meaning g.met.L.Labels.rising g.L.Labels.room g.L.Labels.firm c.args.labels.now c.origins_in.new.labels c.args.world.now.frames.frames c.in_ok-label.ensures.kept c.requires.standing.belongs.frames) c.requires.standing.belongs.catch refl
 
 pub raise_at-requires-clause-belongs : goal.raise_at-requires-clause-belongs
@@ -67,5 +67,5 @@ returns-clause-resumes g c = λ inputs set functions natives.
 
 pub returns-clause-standing : goal.returns-clause-standing
 returns-clause-standing g c =
-    standing_obeyed g.L.Labels.made g.L.Labels.meaning g.L.Labels.room g.L.Labels.firm c.args.labels.now c.raise_at.new.labels (IsKept-trans _ _ _ _ _ _ _ c.in_ok-label.ensures.kept c.raise_at.ensures.kept) c.args.stack.now c.clear.new.self c.args.world.now c.raise_at.new.frames next.Done (λ n m e. e) refl c.requires.standing c.clear.ensures.tasks c.clear.ensures.none
+    standing_obeyed g.L.Labels.made g.L.Labels.meaning g.L.Labels.room g.L.Labels.firm c.args.labels.now c.raise_at.new.labels (IsKept-trans _ _ _ _ _ _ _ c.in_ok-label.ensures.kept c.raise_at.ensures.kept) c.args.stack.now c.clear.new.self c.args.world.now c.raise_at.new.frames control.Done (λ n m e. e) refl c.requires.standing c.clear.ensures.tasks c.clear.ensures.none
     c.raise_at.ensures.belongs c.raise_at.ensures.catch c.raise_at.ensures.length

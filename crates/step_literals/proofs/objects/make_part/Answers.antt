@@ -1,6 +1,6 @@
 use Rattle.std.proofs.Common.{refl, sym, ap, ap₂, subst, ◌∙◌, [], ◌∷◌, ◌++◌, ◌+◌, ◌≡◌, map, length, arith, Ok}
 use Rattle.es_meaning.specs.Outcomes.{Goes}
-use Rattle.step_world.specs.Worlds.{state_of}
+use Rattle.run_state.specs.Worlds.{state_of}
 use Rattle.js_values.specs.declared.value.Value.TheVariants.{Object}
 use Rattle.step_literals.proofs.objects.make_part.Goals as goal
 

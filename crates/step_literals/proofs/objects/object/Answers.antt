@@ -5,12 +5,12 @@ use Rattle.std.proofs.lemmas.List.{length-append}
 use Rattle.std.proofs.lemmas.List.Elements.{All-append}
 use Rattle.origin_labels.proofs.StoreLaws.{IsKept-refl, IsKept-trans}
 use Rattle.js_values.specs.Readings.{HasValue, read_value}
-use Rattle.step_world.proofs.ActLaws.{Grows-refl, Grows-trans}
-use Rattle.step_work.specs.declared.objects.Part.TheVariants as part
-use Rattle.step_work.specs.Literals.{IsPart, literal_act}
-use Rattle.step_moves.proofs.Begun.{begun_as}
-use Rattle.step_moves.proofs.Loose.{made_later, only}
-use Rattle.step_moves.proofs.Moved.{moved_on}
+use Rattle.run_state.proofs.ActLaws.{Grows-refl, Grows-trans}
+use Rattle.continuations.specs.declared.objects.Part.TheVariants as part
+use Rattle.continuations.specs.Literals.{IsPart, literal_act}
+use Rattle.step_references.proofs.Begun.{begun_as}
+use Rattle.step_references.proofs.Loose.{made_later, only}
+use Rattle.step_references.proofs.Moved.{moved_on}
 use Rattle.step_literals.proofs.LiteralLaws.{builds_from, made_first, made_more}
 use Rattle.step_literals.proofs.objects.object.Goals as goal
 

@@ -3,7 +3,7 @@ use Rattle.std.specs.List.{All}
 use Rattle.origin_labels.specs.Stores.{IsKept}
 use Rattle.js_values.specs.Readings.{HasValue}
 use Rattle.function_table.specs.Tables.{table}
-use Rattle.step_world.specs.Worlds.{Belongs, Grows}
+use Rattle.run_state.specs.Worlds.{Belongs, Grows}
 use Rattle.step_literals.specs.Building.{Made}
 use Rattle.step_literals.proofs.objects.object.Given as goal
 

@@ -1,7 +1,7 @@
 use Rattle.std.proofs.Common.{sym, ap, ◌∙◌, ◌-◌, None}
 use Rattle.std.specs.Option.{option_map}
 use Rattle.js_ast.specs.Views.{view_expr}
-use Rattle.step_world.proofs.ActLaws.{Belongs-later}
+use Rattle.run_state.proofs.ActLaws.{Belongs-later}
 use Rattle.step_numbers.specs.Evaluated.{labelled_number}
 use Rattle.step_numbers.proofs.AssignLaws.{assigned_gives, rebinds_none}
 use Rattle.step_numbers.specs.Assigned.{given_by, name_in}

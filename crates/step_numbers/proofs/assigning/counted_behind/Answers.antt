@@ -1,9 +1,9 @@
 use Rattle.std.proofs.Common.{sym, ap, ◌∙◌, ◌-◌}
 use Rattle.std.specs.Option.{option_map}
 use Rattle.js_ast.specs.Views.{view_expr}
-use Rattle.step_world.proofs.ActLaws.{Belongs-later}
+use Rattle.run_state.proofs.ActLaws.{Belongs-later}
 use Rattle.step_numbers.proofs.AssignLaws.{counted_gives, rebinds_none}
-use Rattle.step_work.specs.Shapes.{step_of}
+use Rattle.continuations.specs.Shapes.{step_of}
 use Rattle.step_numbers.specs.Assigned.{counted_by, name_in}
 use Rattle.step_numbers.proofs.ChangeLaws.{changes_later}
 use Rattle.step_numbers.proofs.TriedLaws.{changed, no_change, no_more, no_number, none_counted, one_counted}

@@ -3,7 +3,7 @@ use Rattle.std.specs.Option.{option_map}
 use Rattle.origin_labels.proofs.StoreLaws.{IsKept-trans}
 use Rattle.js_ast.specs.Views.{view_expr}
 use Rattle.js_number.specs.declared.primitive.Primitive.TheVariants.{Num}
-use Rattle.step_world.proofs.ActLaws.{Belongs-later}
+use Rattle.run_state.proofs.ActLaws.{Belongs-later}
 use Rattle.step_numbers.specs.Evaluated.{labelled_number}
 use Rattle.step_numbers.proofs.AssignLaws.{rebinds_none, updated_gives}
 use Rattle.step_numbers.specs.Assigned.{given_by, name_in}

@@ -3,7 +3,7 @@ use Rattle.std.specs.Option.{option_map}
 use Rattle.js_ast.specs.declared.trees.ExprKind.TheViews.{the_lemmas}
 use Rattle.js_ast.specs.Trees as trees
 use Rattle.js_ast.specs.Views.{view_expr}
-use Rattle.step_world.proofs.ActLaws.{Belongs-later}
+use Rattle.run_state.proofs.ActLaws.{Belongs-later}
 use Rattle.step_numbers.specs.Evaluated.{Evaluates, labelled_number}
 use Rattle.step_numbers.proofs.EvaluationLaws.{binary_counts, name_counts, number_evaluated, paren_counts}
 use Rattle.step_numbers.specs.Evaluated.{combined_of, combines, number_at}

@@ -1,8 +1,8 @@
 use Rattle.std.proofs.Common.{arith, ◌≤◌, length, sym}
 use Rattle.origin_labels.specs.Label.{union}
-use Rattle.step_world.proofs.ActLaws.{Belongs-later}
-use Rattle.step_names.proofs.MeansLaws.{means_later}
-use Rattle.step_names.proofs.HeldLaws.{own_has, structure_has}
+use Rattle.run_state.proofs.ActLaws.{Belongs-later}
+use Rattle.property_access.proofs.MeansLaws.{means_later}
+use Rattle.property_access.proofs.HeldLaws.{own_has, structure_has}
 use Rattle.step_objects.proofs.DeletingLaws.{no_object, no_property, deletes_own}
 use Rattle.step_objects.proofs.deleting.remove_from.Goals as goal
 

@@ -6,9 +6,9 @@ use Rattle.flow_frames.specs.Held.{seen_frame}
 use Rattle.js_values.specs.Readings.{read_value}
 use Rattle.object_heap.specs.Acts as heap_acts
 use Rattle.es_meaning.specs.Operations.{Value}
-use Rattle.step_world.proofs.ActLaws.{Belongs-later}
-use Rattle.step_names.proofs.MeansLaws.{means_later, need_means}
-use Rattle.step_names.proofs.ObjectLaws.{with_heap, Belongs-heap, heap_done, heap_refused}
+use Rattle.run_state.proofs.ActLaws.{Belongs-later}
+use Rattle.property_access.proofs.MeansLaws.{means_later, need_means}
+use Rattle.property_access.proofs.ObjectLaws.{with_heap, Belongs-heap, heap_done, heap_refused}
 use Rattle.step_objects.proofs.DeletingLaws.{yes_of, refuses, takes_away}
 use Rattle.step_objects.proofs.deleting.remove_present.Goals as goal
 

@@ -1,8 +1,8 @@
 use Rattle.std.proofs.Common.{ap, ◌∙◌}
 use Rattle.origin_labels.specs.Label.{union}
 use Rattle.es_meaning.specs.Plain.{key_text}
-use Rattle.step_world.proofs.ActLaws.{Belongs-later}
-use Rattle.step_names.proofs.MeansLaws.{means_later}
+use Rattle.run_state.proofs.ActLaws.{Belongs-later}
+use Rattle.property_access.proofs.MeansLaws.{means_later}
 use Rattle.step_objects.proofs.DeletingLaws.{deleting_leaves, deletes_member}
 use Rattle.step_objects.proofs.deleting.remove_property.Goals as goal
 

@@ -1,5 +1,5 @@
 use Rattle.origin_labels.proofs.StoreLaws.{IsKept-trans}
-use Rattle.step_world.proofs.ActLaws.{Belongs-later}
+use Rattle.run_state.proofs.ActLaws.{Belongs-later}
 use Rattle.step_objects.proofs.TakingLaws.{taking_leaves, taking_goes, listed_later, belongs_framed}
 use Rattle.step_objects.proofs.enumerating.keys_of.Goals as goal
 

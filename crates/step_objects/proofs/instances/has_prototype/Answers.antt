@@ -1,5 +1,5 @@
 use Rattle.origin_labels.proofs.StoreLaws.{IsKept-trans}
-use Rattle.step_world.proofs.ActLaws.{Belongs-later}
+use Rattle.run_state.proofs.ActLaws.{Belongs-later}
 use Rattle.step_objects.proofs.InstanceLaws.{linked_later, prototype_found}
 use Rattle.step_objects.proofs.instances.has_prototype.Goals as goal
 

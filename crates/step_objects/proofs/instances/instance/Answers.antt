@@ -1,7 +1,7 @@
 use Rattle.native_protocol.specs.declared.request.ErrorKind.TheVariants as kinds
 use Rattle.es_meaning.specs.Operations.{One}
-use Rattle.step_world.proofs.ActLaws.{Belongs-later}
-use Rattle.step_names.proofs.ThrowLaws.{error_recast}
+use Rattle.run_state.proofs.ActLaws.{Belongs-later}
+use Rattle.property_access.proofs.ThrowLaws.{error_recast}
 use Rattle.step_objects.specs.Instances.{read_test}
 use Rattle.step_objects.proofs.TestLaws.{tested_primitive, tested_other, tested_function}
 use Rattle.step_objects.proofs.instances.instance.Goals as goal

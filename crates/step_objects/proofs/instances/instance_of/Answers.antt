@@ -1,8 +1,8 @@
 use Rattle.js_values.specs.Readings.{read_value}
 use Rattle.es_meaning.specs.Operations.{Value}
 use Rattle.origin_labels.specs.Label.{union}
-use Rattle.step_world.proofs.ActLaws.{Belongs-later}
-use Rattle.step_names.proofs.MeansLaws.{means_later}
+use Rattle.run_state.proofs.ActLaws.{Belongs-later}
+use Rattle.property_access.proofs.MeansLaws.{means_later}
 use Rattle.step_objects.proofs.InstanceLaws.{instance_among, instance_refused}
 use Rattle.step_objects.proofs.instances.instance_of.Goals as goal
 

@@ -1,7 +1,7 @@
 use Rattle.origin_labels.specs.Label.{union}
 use Rattle.origin_labels.proofs.StoreLaws.{IsKept-trans}
-use Rattle.step_world.proofs.ActLaws.{Belongs-later}
-use Rattle.step_names.proofs.MeansLaws.{means_later}
+use Rattle.run_state.proofs.ActLaws.{Belongs-later}
+use Rattle.property_access.proofs.MeansLaws.{means_later}
 use Rattle.step_objects.proofs.TestLaws.{aimed_later, test_answered, test_reads}
 use Rattle.step_objects.proofs.instances.test_of.Goals as goal
 

@@ -1,6 +1,6 @@
 use Rattle.std.proofs.Common.{sym}
-use Rattle.step_names.proofs.HeldLaws.{own_has}
-use Rattle.step_names.proofs.MeansLaws.{means_later}
+use Rattle.property_access.proofs.HeldLaws.{own_has}
+use Rattle.property_access.proofs.MeansLaws.{means_later}
 use Rattle.step_objects.specs.Literals.{kind_of, label_over}
 use Rattle.step_objects.proofs.LiteralLaws.{defines_absent, defines_present}
 use Rattle.step_objects.proofs.literals.define.Goals as goal

@@ -3,7 +3,7 @@ use Rattle.js_values.specs.Readings.{HasValue, read_value}
 use Rattle.es_meaning.specs.Operations.{object_of}
 use Rattle.flow_meaning.specs.Tracked.{act}
 use Rattle.step_objects.specs.Literals.{keys_in, values_in}
-use Rattle.step_names.proofs.ObjectLaws.{with_heap}
+use Rattle.property_access.proofs.ObjectLaws.{with_heap}
 use Rattle.step_objects.proofs.LiteralLaws.{literal_begun, begun_has, literal_made, belongs_grown, memory_acts, memory_answers}
 use Rattle.step_objects.proofs.literals.make_object.Goals as goal
 

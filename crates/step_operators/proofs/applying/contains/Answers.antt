@@ -3,20 +3,20 @@ use Rattle.std.specs.List.{All}
 use Rattle.flow_policy.specs.Policies.{no_tables}
 use Rattle.js_values.specs.Readings.{HasValue, read_value}
 use Rattle.flow_meaning.specs.Tracked.{labelled}
-use Rattle.step_work.specs.declared.work.Next.TheVariants as next
-use Rattle.step_work.specs.declared.work.Work.TheVariants as work
-use Rattle.step_moves.proofs.Begun.{begun_as, begun_above, begun_comes, begun_handed, begun_pushed, begun_on, begun_off, begun_err, on_is, resumed}
-use Rattle.step_moves.proofs.Moved.{has_on, has_whatever, level_on, moved_behind, moved_lying, moved_off, moved_on, moved_popped, moved_pushed, moved_within, rests_lying, stack_is, stands_still, stood}
-use Rattle.step_moves.proofs.Loose.{front_has, lone, none_has, only, second_has, size_below, two_lie}
-use Rattle.step_work.proofs.EndLaws.{last_has}
+use Rattle.continuations.specs.declared.continuation.Control.TheVariants as control
+use Rattle.continuations.specs.declared.continuation.Continuation.TheVariants as continuation
+use Rattle.step_references.proofs.Begun.{begun_as, begun_above, begun_comes, begun_handed, begun_pushed, begun_on, begun_off, begun_err, on_is, resumed}
+use Rattle.step_references.proofs.Moved.{has_on, has_whatever, level_on, moved_behind, moved_lying, moved_off, moved_on, moved_popped, moved_pushed, moved_within, rests_lying, stack_is, stands_still, stood}
+use Rattle.step_references.proofs.Loose.{front_has, lone, none_has, only, second_has, size_below, two_lie}
+use Rattle.continuations.proofs.EndLaws.{last_has}
 use Rattle.step_operators.proofs.OperatorLaws.{none_built}
 use Rattle.es_meaning.specs.Operations.{has_key}
-use Rattle.step_updates.proofs.Frames.{act_stands}
+use Rattle.step_objects.proofs.Frames.{act_stands}
 use Rattle.step_operators.proofs.OperatorLaws.{contained_as}
 use Rattle.step_operators.proofs.applying.contains.Goals as goal
 
 pub returns-clause-goes_on : goal.returns-clause-goes_on
-returns-clause-goes_on g c = begun_handed (c.has_key-answer.ensures.acts no_tables []) c.settle.ensures.hands refl (λ tables inputs set functions reading f s is. contained_as tables inputs set functions (read_value reading c.args.key) (read_value reading c.args.object) s)
+returns-clause-goes_on g c = begun_handed (c.has_key-answer.ensures.acts no_tables []) c.hand_on.ensures.hands refl (λ tables inputs set functions reading f s is. contained_as tables inputs set functions (read_value reading c.args.key) (read_value reading c.args.object) s)
 
 pub returns-clause-moved : goal.returns-clause-moved
-returns-clause-moved g c = c.settle.ensures.moved c.args.world.now c.args.world.now (stood (c.has_key-answer.ensures.acts no_tables []) (λ s. act_stands no_tables [] has_key (read_value (g.L.Labels.meaning c.has_key-answer.new.labels) c.args.key ∷ read_value (g.L.Labels.meaning c.has_key-answer.new.labels) c.args.object ∷ []) s))
+returns-clause-moved g c = c.hand_on.ensures.moved c.args.world.now c.args.world.now (stood (c.has_key-answer.ensures.acts no_tables []) (λ s. act_stands no_tables [] has_key (read_value (g.L.Labels.meaning c.has_key-answer.new.labels) c.args.key ∷ read_value (g.L.Labels.meaning c.has_key-answer.new.labels) c.args.object ∷ []) s))

@@ -3,12 +3,12 @@ use Rattle.std.specs.List.{All}
 use Rattle.flow_policy.specs.Policies.{no_tables}
 use Rattle.js_values.specs.Readings.{HasValue, read_value}
 use Rattle.flow_meaning.specs.Tracked.{labelled}
-use Rattle.step_work.specs.declared.work.Next.TheVariants as next
-use Rattle.step_work.specs.declared.work.Work.TheVariants as work
-use Rattle.step_moves.proofs.Begun.{begun_as, begun_above, begun_comes, begun_handed, begun_pushed, begun_on, begun_off, begun_err, on_is, resumed}
-use Rattle.step_moves.proofs.Moved.{has_on, has_whatever, level_on, moved_behind, moved_lying, moved_off, moved_on, moved_popped, moved_pushed, moved_within, rests_lying, stack_is, stands_still, stood}
-use Rattle.step_moves.proofs.Loose.{front_has, lone, none_has, only, second_has, size_below, two_lie}
-use Rattle.step_work.proofs.EndLaws.{last_has}
+use Rattle.continuations.specs.declared.continuation.Control.TheVariants as control
+use Rattle.continuations.specs.declared.continuation.Continuation.TheVariants as continuation
+use Rattle.step_references.proofs.Begun.{begun_as, begun_above, begun_comes, begun_handed, begun_pushed, begun_on, begun_off, begun_err, on_is, resumed}
+use Rattle.step_references.proofs.Moved.{has_on, has_whatever, level_on, moved_behind, moved_lying, moved_off, moved_on, moved_popped, moved_pushed, moved_within, rests_lying, stack_is, stands_still, stood}
+use Rattle.step_references.proofs.Loose.{front_has, lone, none_has, only, second_has, size_below, two_lie}
+use Rattle.continuations.proofs.EndLaws.{last_has}
 use Rattle.step_operators.proofs.OperatorLaws.{none_built}
 use Rattle.step_values.specs.Converted.{conversion_in}
 use Rattle.step_operators.proofs.OperatorLaws.{left_plain, left_compared, left_primitive, left_number, left_keyed}

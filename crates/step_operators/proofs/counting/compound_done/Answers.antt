@@ -3,33 +3,33 @@ use Rattle.std.specs.List.{All}
 use Rattle.flow_policy.specs.Policies.{no_tables}
 use Rattle.js_values.specs.Readings.{HasValue, read_value}
 use Rattle.flow_meaning.specs.Tracked.{labelled}
-use Rattle.step_work.specs.declared.work.Next.TheVariants as next
-use Rattle.step_work.specs.declared.work.Work.TheVariants as work
-use Rattle.step_moves.proofs.Begun.{begun_as, begun_above, begun_comes, begun_handed, begun_pushed, begun_on, begun_off, begun_err, on_is, resumed}
-use Rattle.step_moves.proofs.Moved.{has_on, has_whatever, level_on, moved_behind, moved_lying, moved_off, moved_on, moved_popped, moved_pushed, moved_within, rests_lying, stack_is, stands_still, stood}
-use Rattle.step_moves.proofs.Loose.{front_has, lone, none_has, only, second_has, size_below, two_lie}
-use Rattle.step_work.proofs.EndLaws.{last_has}
+use Rattle.continuations.specs.declared.continuation.Control.TheVariants as control
+use Rattle.continuations.specs.declared.continuation.Continuation.TheVariants as continuation
+use Rattle.step_references.proofs.Begun.{begun_as, begun_above, begun_comes, begun_handed, begun_pushed, begun_on, begun_off, begun_err, on_is, resumed}
+use Rattle.step_references.proofs.Moved.{has_on, has_whatever, level_on, moved_behind, moved_lying, moved_off, moved_on, moved_popped, moved_pushed, moved_within, rests_lying, stack_is, stands_still, stood}
+use Rattle.step_references.proofs.Loose.{front_has, lone, none_has, only, second_has, size_below, two_lie}
+use Rattle.continuations.proofs.EndLaws.{last_has}
 use Rattle.step_operators.proofs.OperatorLaws.{none_built}
 use Rattle.js_ast.specs.declared.operators.UnaryOperator.TheVariants as unary_operator
 use Rattle.native_protocol.specs.declared.hint.Hint.TheVariants as hint
 use Rattle.es_meaning.specs.Evaluation.{primitive_left}
 use Rattle.flow_meaning.specs.Planned.{planned}
-use Rattle.step_world.proofs.ActLaws.{Acts-computes}
+use Rattle.run_state.proofs.ActLaws.{Acts-computes}
 use Rattle.origin_labels.proofs.StoreLaws.{IsKept-refl}
-use Rattle.step_work.specs.Settings.{entrance}
-use Rattle.step_updates.proofs.Frames.{unary_stands}
-use Rattle.step_work.specs.Pending.{first_or_undefined}
-use Rattle.step_work.proofs.BranchLaws.{none_in_front}
+use Rattle.continuations.specs.Settings.{entrance}
+use Rattle.step_objects.proofs.Frames.{unary_stands}
+use Rattle.continuations.specs.Pending.{first_or_undefined}
+use Rattle.continuations.proofs.BranchLaws.{none_in_front}
 use Rattle.origin_labels.proofs.StoreLaws.{IsKept-refl, IsKept-trans}
 use Rattle.js_values.proofs.ReadingLaws.{IsReading-earlier}
-use Rattle.step_world.proofs.ActLaws.{Belongs-later}
-use Rattle.step_updates.specs.References.{refers}
-use Rattle.step_updates.proofs.Frames.{binary_stands}
-use Rattle.step_work.specs.Pending.{owns_target}
-use Rattle.step_work.specs.Shapes.{target_of}
-use Rattle.step_moves.proofs.Kept.{reference_later, target_below, value_above}
+use Rattle.run_state.proofs.ActLaws.{Belongs-later}
+use Rattle.step_objects.specs.References.{refers}
+use Rattle.step_objects.proofs.Frames.{binary_stands}
+use Rattle.continuations.specs.Pending.{owns_target}
+use Rattle.continuations.specs.Shapes.{target_of}
+use Rattle.step_references.proofs.Kept.{reference_later, target_below, value_above}
 use Rattle.step_operators.specs.Counting.{changed_by, given_by, numbered_by}
-use Rattle.step_moves.proofs.Loose.{made_later}
+use Rattle.step_references.proofs.Loose.{made_later}
 use Rattle.step_operators.proofs.OperatorLaws.{compound_is, resumed_above}
 use Rattle.step_operators.proofs.counting.compound_done.Goals as goal
 
@@ -59,7 +59,7 @@ pub returns-clause-goes_on : goal.returns-clause-goes_on
 returns-clause-goes_on g c =
     let start = c.requires.loose in
     let whole : length c.args.stack.now.loose ≡ owns_target c.args.target + 1 + 1 = omega (arith, start) in
-    resumed_above c.pop-operand.new.self.loose c.pop-operand.result c.pop-operand.ensures.top (work.AssignTo c.args.target) c.pop-old.new.self.loose c.operate.ensures.goes_on (ap (λ k. k.tasks) c.in_ok-push.ensures.ok ∙ ap (λ ts. ts ++ ((work.AssignTo c.args.target), c.pop-old.new.self.loose) ∷ []) (c.pop-old.ensures.tasks ∙ c.pop-operand.ensures.tasks)) (λ tables inputs set functions reading f s is. compound_is tables inputs set functions c.args.operator (read_value reading c.pop-operand.result) s (sym (target_below reading c.pop-old.new.self.loose c.pop-operand.new.self.loose c.pop-old.result c.pop-old.ensures.top c.args.target (size_below c.pop-old.new.self.loose c.pop-operand.new.self.loose c.pop-old.result (owns_target c.args.target) c.pop-old.ensures.top (size_below c.pop-operand.new.self.loose c.args.stack.now.loose c.pop-operand.result (owns_target c.args.target + 1) c.pop-operand.ensures.top whole)))) (sym (value_above reading c.pop-old.new.self.loose c.pop-operand.new.self.loose c.pop-old.result c.pop-old.ensures.top (owns_target c.args.target) (size_below c.pop-old.new.self.loose c.pop-operand.new.self.loose c.pop-old.result (owns_target c.args.target) c.pop-old.ensures.top (size_below c.pop-operand.new.self.loose c.args.stack.now.loose c.pop-operand.result (owns_target c.args.target + 1) c.pop-operand.ensures.top whole)))))
+    resumed_above c.pop-operand.new.self.loose c.pop-operand.result c.pop-operand.ensures.top (continuation.AssignTo c.args.target) c.pop-old.new.self.loose c.operate.ensures.goes_on (ap (λ k. k.tasks) c.in_ok-push.ensures.ok ∙ ap (λ ts. ts ++ ((continuation.AssignTo c.args.target), c.pop-old.new.self.loose) ∷ []) (c.pop-old.ensures.tasks ∙ c.pop-operand.ensures.tasks)) (λ tables inputs set functions reading f s is. compound_is tables inputs set functions c.args.operator (read_value reading c.pop-operand.result) s (sym (target_below reading c.pop-old.new.self.loose c.pop-operand.new.self.loose c.pop-old.result c.pop-old.ensures.top c.args.target (size_below c.pop-old.new.self.loose c.pop-operand.new.self.loose c.pop-old.result (owns_target c.args.target) c.pop-old.ensures.top (size_below c.pop-operand.new.self.loose c.args.stack.now.loose c.pop-operand.result (owns_target c.args.target + 1) c.pop-operand.ensures.top whole)))) (sym (value_above reading c.pop-old.new.self.loose c.pop-operand.new.self.loose c.pop-old.result c.pop-old.ensures.top (owns_target c.args.target) (size_below c.pop-old.new.self.loose c.pop-operand.new.self.loose c.pop-old.result (owns_target c.args.target) c.pop-old.ensures.top (size_below c.pop-operand.new.self.loose c.args.stack.now.loose c.pop-operand.result (owns_target c.args.target + 1) c.pop-operand.ensures.top whole)))))
 
 pub returns-clause-moved : goal.returns-clause-moved
-returns-clause-moved g c = moved_behind _ _ _ _ _ _ _ _ c.operate.result (work.AssignTo c.args.target) c.pop-old.new.self.loose (omega arith) refl refl (ap (λ k. k.tasks) c.in_ok-push.ensures.ok ∙ ap (λ ts. ts ++ ((work.AssignTo c.args.target), c.pop-old.new.self.loose) ∷ []) (c.pop-old.ensures.tasks ∙ c.pop-operand.ensures.tasks)) (front_has (HasValue (g.L.Labels.made c.operate.new.labels)) c.pop-old.new.self.loose c.pop-operand.new.self.loose c.pop-old.result c.pop-old.ensures.top (made_later g.L.Labels.made g.L.Labels.meaning g.L.Labels.room g.L.Labels.firm c.args.labels.now c.operate.new.labels c.operate.ensures.kept c.pop-operand.new.self.loose (front_has (HasValue (g.L.Labels.made c.args.labels.now)) c.pop-operand.new.self.loose c.args.stack.now.loose c.pop-operand.result c.pop-operand.ensures.top c.requires.made))) c.operate.ensures.moved
+returns-clause-moved g c = moved_behind _ _ _ _ _ _ _ _ c.operate.result (continuation.AssignTo c.args.target) c.pop-old.new.self.loose (omega arith) refl refl (ap (λ k. k.tasks) c.in_ok-push.ensures.ok ∙ ap (λ ts. ts ++ ((continuation.AssignTo c.args.target), c.pop-old.new.self.loose) ∷ []) (c.pop-old.ensures.tasks ∙ c.pop-operand.ensures.tasks)) (front_has (HasValue (g.L.Labels.made c.operate.new.labels)) c.pop-old.new.self.loose c.pop-operand.new.self.loose c.pop-old.result c.pop-old.ensures.top (made_later g.L.Labels.made g.L.Labels.meaning g.L.Labels.room g.L.Labels.firm c.args.labels.now c.operate.new.labels c.operate.ensures.kept c.pop-operand.new.self.loose (front_has (HasValue (g.L.Labels.made c.args.labels.now)) c.pop-operand.new.self.loose c.args.stack.now.loose c.pop-operand.result c.pop-operand.ensures.top c.requires.made))) c.operate.ensures.moved

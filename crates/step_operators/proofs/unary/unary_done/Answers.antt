@@ -3,23 +3,23 @@ use Rattle.std.specs.List.{All}
 use Rattle.flow_policy.specs.Policies.{no_tables}
 use Rattle.js_values.specs.Readings.{HasValue, read_value}
 use Rattle.flow_meaning.specs.Tracked.{labelled}
-use Rattle.step_work.specs.declared.work.Next.TheVariants as next
-use Rattle.step_work.specs.declared.work.Work.TheVariants as work
-use Rattle.step_moves.proofs.Begun.{begun_as, begun_above, begun_comes, begun_handed, begun_pushed, begun_on, begun_off, begun_err, on_is, resumed}
-use Rattle.step_moves.proofs.Moved.{has_on, has_whatever, level_on, moved_behind, moved_lying, moved_off, moved_on, moved_popped, moved_pushed, moved_within, rests_lying, stack_is, stands_still, stood}
-use Rattle.step_moves.proofs.Loose.{front_has, lone, none_has, only, second_has, size_below, two_lie}
-use Rattle.step_work.proofs.EndLaws.{last_has}
+use Rattle.continuations.specs.declared.continuation.Control.TheVariants as control
+use Rattle.continuations.specs.declared.continuation.Continuation.TheVariants as continuation
+use Rattle.step_references.proofs.Begun.{begun_as, begun_above, begun_comes, begun_handed, begun_pushed, begun_on, begun_off, begun_err, on_is, resumed}
+use Rattle.step_references.proofs.Moved.{has_on, has_whatever, level_on, moved_behind, moved_lying, moved_off, moved_on, moved_popped, moved_pushed, moved_within, rests_lying, stack_is, stands_still, stood}
+use Rattle.step_references.proofs.Loose.{front_has, lone, none_has, only, second_has, size_below, two_lie}
+use Rattle.continuations.proofs.EndLaws.{last_has}
 use Rattle.step_operators.proofs.OperatorLaws.{none_built}
 use Rattle.js_ast.specs.declared.operators.UnaryOperator.TheVariants as unary_operator
 use Rattle.native_protocol.specs.declared.hint.Hint.TheVariants as hint
 use Rattle.es_meaning.specs.Evaluation.{primitive_left}
 use Rattle.flow_meaning.specs.Planned.{planned}
-use Rattle.step_world.proofs.ActLaws.{Acts-computes}
+use Rattle.run_state.proofs.ActLaws.{Acts-computes}
 use Rattle.origin_labels.proofs.StoreLaws.{IsKept-refl}
-use Rattle.step_work.specs.Settings.{entrance}
-use Rattle.step_updates.proofs.Frames.{unary_stands}
-use Rattle.step_work.specs.Pending.{first_or_undefined}
-use Rattle.step_work.proofs.BranchLaws.{none_in_front}
+use Rattle.continuations.specs.Settings.{entrance}
+use Rattle.step_objects.proofs.Frames.{unary_stands}
+use Rattle.continuations.specs.Pending.{first_or_undefined}
+use Rattle.continuations.proofs.BranchLaws.{none_in_front}
 use Rattle.step_operators.proofs.OperatorLaws.{converted_as, read_is_label, unary_as}
 use Rattle.es_meaning.specs.Operators.{is_object}
 use Rattle.step_operators.proofs.unary.unary_done.Goals as goal

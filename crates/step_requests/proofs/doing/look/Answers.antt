@@ -1,4 +1,4 @@
-use Rattle.step_world.proofs.ActLaws.{Belongs-later}
+use Rattle.run_state.proofs.ActLaws.{Belongs-later}
 use Rattle.std.proofs.Common.{refl}
 use Rattle.native_protocol.specs.declared.request.Answer.TheVariants as answer
 use Rattle.step_requests.proofs.Does.{looked}

@@ -1,5 +1,5 @@
 use Rattle.std.proofs.Common.{map}
-use Rattle.step_work.specs.Answering.{held_in}
+use Rattle.continuations.specs.Answering.{held_in}
 use Rattle.js_values.specs.Readings.{read_value}
 use Rattle.step_requests.proofs.Based.{at_once}
 use Rattle.step_requests.proofs.making.copy.Goals as goal

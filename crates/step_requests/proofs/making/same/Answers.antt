@@ -3,9 +3,9 @@ use Rattle.origin_labels.specs.Label.{union}
 use Rattle.js_ast.specs.declared.operators.BinaryOperator.TheVariants.{StrictEqual}
 use Rattle.es_meaning.specs.Operators.{binary_of}
 use Rattle.flow_meaning.specs.Tracked.{given}
-use Rattle.step_work.specs.Answering.{held_in}
+use Rattle.continuations.specs.Answering.{held_in}
 use Rattle.js_values.specs.Readings.{read_value}
-use Rattle.step_world.proofs.ActLaws.{Belongs-later}
+use Rattle.run_state.proofs.ActLaws.{Belongs-later}
 use Rattle.step_requests.proofs.Going.{any_set}
 use Rattle.step_requests.proofs.Held.{acts_one}
 use Rattle.step_requests.proofs.making.same.Goals as goal

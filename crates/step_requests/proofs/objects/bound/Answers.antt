@@ -1,5 +1,5 @@
 use Rattle.std.proofs.Common.{◌∷◌, map}
-use Rattle.step_work.specs.Answering.{held_in}
+use Rattle.continuations.specs.Answering.{held_in}
 use Rattle.js_values.specs.Readings.{read_value}
 use Rattle.flow_meaning.specs.Tracked.{act}
 use Rattle.es_meaning.specs.Operations as operations

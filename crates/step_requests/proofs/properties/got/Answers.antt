@@ -1,8 +1,8 @@
 use Rattle.js_values.specs.Readings.{read_value}
-use Rattle.step_world.specs.Accesses.{read_access}
+use Rattle.run_state.specs.Accesses.{read_access}
 use Rattle.flow_meaning.specs.Tracked.{accessed, of_property}
 use Rattle.origin_labels.specs.Label.{bottom}
-use Rattle.step_world.specs.Names.{property_of}
+use Rattle.run_state.specs.Names.{property_of}
 use Rattle.step_requests.proofs.Based.{based, based_leaves, based_passes, based_throws}
 use Rattle.step_requests.proofs.Held.{acts_on}
 use Rattle.step_requests.specs.Asked.{key_value}

@@ -27,7 +27,7 @@ returns-in_default-clause-puts g c =
     let set = built_ins_of (N.entries c.args.natives.now) (N.begin c.args.natives.now) (N.after c.args.natives.now) (N.asks c.args.natives.now) in
     let tells = N.after c.args.natives.now in
     let asks = N.asks c.args.natives.now in
-    cut_off set tells asks L.made L.meaning c.args.show.now c.args.policy.now c.args.machine.now L.room L.firm (c.only_adds.ensures set tells asks) c.steps.labels c.go_on.new.labels c.go_on.ensures.kept c.steps.machine c.go_on.new.machine
+    cut_off set tells asks L.made L.meaning c.args.show.now c.args.policy.now c.args.machine.now L.room L.firm (c.only_adds.ensures set tells asks) c.steps.labels c.advance.new.labels c.advance.ensures.kept c.steps.machine c.advance.new.self
     (g.K.Sink.taken c.args.sink.now) (g.K.Sink.taken c.steps.sink) c.steps.invariant.so_far cut.OutOfMemory
 
 pub steps-preserved-in-Goes : goal.steps-preserved-in-Goes
@@ -38,11 +38,11 @@ steps-preserved-in-Goes g c =
     let tells = N.after c.args.natives.now in
     let asks = N.asks c.args.natives.now in
     record {
-      so_far = goes_on set tells asks L.made L.meaning c.args.show.now c.args.policy.now c.args.machine.now L.room L.firm (c.only_adds.ensures set tells asks) c.steps.labels c.go_on.new.labels c.go_on.ensures.kept c.steps.machine c.go_on.new.machine
+      so_far = goes_on set tells asks L.made L.meaning c.args.show.now c.args.policy.now c.args.machine.now L.room L.firm (c.only_adds.ensures set tells asks) c.steps.labels c.advance.new.labels c.advance.ensures.kept c.steps.machine c.advance.new.self
           (g.K.Sink.taken c.args.sink.now) (g.K.Sink.taken c.steps.sink) c.steps.invariant.so_far (rw c.in-Goes.is at c.in-Ok.ensures.comes);
       runs = rw c.in-Goes.is at c.in-Ok.ensures.runs;
-      policy = ap (λ (p : Bor Tables). p.now) c.in-Ok.ensures.policy ∙ c.steps.invariant.policy;
-      kept = IsKept-trans L.made L.meaning L.room L.firm c.args.labels.now c.steps.labels c.go_on.new.labels c.steps.invariant.kept c.go_on.ensures.kept;
+      policy = ap (λ (p : Bor Tables). p.now) c.advance.ensures.moved.policy ∙ c.steps.invariant.policy;
+      kept = IsKept-trans L.made L.meaning L.room L.firm c.args.labels.now c.steps.labels c.advance.new.labels c.steps.invariant.kept c.advance.ensures.kept;
       open_sink = c.steps.invariant.open_sink;
       faults = c.steps.invariant.faults;
     }
@@ -58,15 +58,15 @@ steps-preserved g c =
     let set = built_ins_of (N.entries c.args.natives.now) (N.begin c.args.natives.now) (N.after c.args.natives.now) (N.asks c.args.natives.now) in
     let tells = N.after c.args.natives.now in
     let asks = N.asks c.args.natives.now in
-    let policy = ap (λ (p : Bor Tables). p.now) c.in-Ok.ensures.policy ∙ c.steps.invariant.policy in
+    let policy = ap (λ (p : Bor Tables). p.now) c.advance.ensures.moved.policy ∙ c.steps.invariant.policy in
     record {
-      so_far = line_put set tells asks L.made L.meaning c.args.show.now c.args.policy.now c.args.machine.now L.room L.firm (c.only_adds.ensures set tells asks) c.steps.labels c.go_on.new.labels c.go_on.ensures.kept c.steps.machine c.go_on.new.machine
+      so_far = line_put set tells asks L.made L.meaning c.args.show.now c.args.policy.now c.args.machine.now L.room L.firm (c.only_adds.ensures set tells asks) c.steps.labels c.advance.new.labels c.advance.ensures.kept c.steps.machine c.advance.new.self
           (g.K.Sink.taken c.args.sink.now) (g.K.Sink.taken c.steps.sink) c.steps.invariant.so_far c.in-Line.printed.value
-          (prints_by set tells asks L.made L.meaning c.go_on.new.labels c.args.policy.now c.steps.machine c.go_on.new.machine c.in-Line.printed.value policy (rw c.in-Line.is at c.in-Ok.ensures.comes))
+          (prints_by set tells asks L.made L.meaning c.advance.new.labels c.args.policy.now c.steps.machine c.advance.new.self c.in-Line.printed.value policy (rw c.in-Line.is at c.in-Ok.ensures.comes))
           (g.K.Sink.taken c.put_line.new.sink) (rw c.deref.ensures at c.in-Ok-put_line.ensures.puts);
       runs = rw c.in-Line.is at c.in-Ok.ensures.runs;
       policy = policy;
-      kept = IsKept-trans L.made L.meaning L.room L.firm c.args.labels.now c.steps.labels c.go_on.new.labels c.steps.invariant.kept c.go_on.ensures.kept;
+      kept = IsKept-trans L.made L.meaning L.room L.firm c.args.labels.now c.steps.labels c.advance.new.labels c.steps.invariant.kept c.advance.ensures.kept;
       open_sink = c.in-Ok-put_line.ensures.shut;
       faults = omega (arith, c.steps.invariant.faults, c.put_line.ensures.faults_stay);
     }
@@ -78,10 +78,10 @@ returns-in-Err-clause-puts g c =
     let set = built_ins_of (N.entries c.args.natives.now) (N.begin c.args.natives.now) (N.after c.args.natives.now) (N.asks c.args.natives.now) in
     let tells = N.after c.args.natives.now in
     let asks = N.asks c.args.natives.now in
-    let policy = ap (λ (p : Bor Tables). p.now) c.in-Ok.ensures.policy ∙ c.steps.invariant.policy in
-    line_cut set tells asks L.made L.meaning c.args.show.now c.args.policy.now c.args.machine.now L.room L.firm (c.only_adds.ensures set tells asks) c.steps.labels c.go_on.new.labels c.go_on.ensures.kept c.steps.machine c.go_on.new.machine
+    let policy = ap (λ (p : Bor Tables). p.now) c.advance.ensures.moved.policy ∙ c.steps.invariant.policy in
+    line_cut set tells asks L.made L.meaning c.args.show.now c.args.policy.now c.args.machine.now L.room L.firm (c.only_adds.ensures set tells asks) c.steps.labels c.advance.new.labels c.advance.ensures.kept c.steps.machine c.advance.new.self
     (g.K.Sink.taken c.args.sink.now) (g.K.Sink.taken c.steps.sink) c.steps.invariant.so_far c.in-Line.printed.value
-    (prints_by set tells asks L.made L.meaning c.go_on.new.labels c.args.policy.now c.steps.machine c.go_on.new.machine c.in-Line.printed.value policy (rw c.in-Line.is at c.in-Ok.ensures.comes))
+    (prints_by set tells asks L.made L.meaning c.advance.new.labels c.args.policy.now c.steps.machine c.advance.new.self c.in-Line.printed.value policy (rw c.in-Line.is at c.in-Ok.ensures.comes))
     c.in-Err.cut (g.K.Sink.taken c.put_line.new.sink) (rw c.deref.ensures at c.in-Err.ensures.puts)
 
 pub returns-in-Ends-clause-puts : goal.returns-in-Ends-clause-puts
@@ -91,5 +91,5 @@ returns-in-Ends-clause-puts g c =
     let set = built_ins_of (N.entries c.args.natives.now) (N.begin c.args.natives.now) (N.after c.args.natives.now) (N.asks c.args.natives.now) in
     let tells = N.after c.args.natives.now in
     let asks = N.asks c.args.natives.now in
-    ended set tells asks L.made L.meaning c.args.show.now c.args.policy.now c.args.machine.now L.room L.firm (c.only_adds.ensures set tells asks) c.steps.labels c.go_on.new.labels c.go_on.ensures.kept c.steps.machine c.go_on.new.machine
+    ended set tells asks L.made L.meaning c.args.show.now c.args.policy.now c.args.machine.now L.room L.firm (c.only_adds.ensures set tells asks) c.steps.labels c.advance.new.labels c.advance.ensures.kept c.steps.machine c.advance.new.self
     (g.K.Sink.taken c.args.sink.now) (g.K.Sink.taken c.steps.sink) c.steps.invariant.so_far c.in-Ends.ending (rw c.in-Ends.is at c.in-Ok.ensures.comes)

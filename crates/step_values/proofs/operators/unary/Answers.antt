@@ -2,7 +2,7 @@ use Rattle.std.proofs.Common.{ap}
 use Rattle.js_values.specs.Readings.{read_value}
 use Rattle.es_meaning.specs.Operators.{unary_of}
 use Rattle.flow_meaning.specs.Tracked.{given, labelled}
-use Rattle.step_world.specs.Worlds.{state_of}
+use Rattle.run_state.specs.Worlds.{state_of}
 use Rattle.step_values.specs.Converted.{value_seen}
 use Rattle.step_values.proofs.CameLaws.{came_computes}
 use Rattle.step_values.proofs.ConvertedLaws.{seen_read}

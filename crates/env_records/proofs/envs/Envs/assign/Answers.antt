@@ -1,4 +1,4 @@
-use Rattle.std.proofs.Common.{ap, sym, subst, ◌∙◌, refl, ◌≡◌, ◌<◌, length, List, set, Some, Ok, Err, Result}
+use Rattle.std.proofs.Common.{sym, subst, refl, ◌≡◌, ◌<◌, length, List, Ok, Err, Result}
 use Rattle.std.specs.Result.{IsErrAnd}
 use Rattle.origin_labels.specs.Label.{Label}
 use Rattle.std.specs.List.{slice_get}
@@ -11,6 +11,7 @@ use Rattle.env_records.specs.Acts.{Assigned, Variables, assign}
 use Rattle.env_records.specs.Answers.{Assigns, Refuses}
 use Rattle.env_records.specs.Formed.{LeadOutwards}
 use Rattle.env_records.proofs.AssignLaws.{refuses, does}
+use Rattle.env_records.proofs.PlaceLaws.{some_of, some_is, stands_there}
 use Rattle.env_records.proofs.RecordLaws.{read_record, put_there, LeadOutwards-put, HasRecords-put, HasRecords-at}
 use Rattle.env_records.proofs.envs.Envs.assign.Goals as goal
 
@@ -21,10 +22,12 @@ assigns_refused made meaning store act records fault (Err e) refuses is = record
 
 pub returns-in_err-check-clause-assigns : goal.returns-in_err-check-clause-assigns
 returns-in_err-check-clause-assigns g c =
-    let bound : bound_in c.args.name.now (slice_get c.args.self.now c.args.e.0) ≡ Some c.binding.result.now = ap (bound_in c.args.name.now) c.record.ensures ∙ sym (c.place-place.ensures.place c.record.result.now c.record.ensures).here ∙ c.binding.ensures in
-    let label = HasRecords-at (g.L.Labels.made c.args.labels.now) c.args.self.now c.args.e.0 c.record.result.now c.place-place.result c.binding.result.now c.record.ensures c.binding.ensures c.requires.belongs in
+    let b = some_of (bound_in c.args.name.now (slice_get c.args.self.now c.args.e.0)) c.requires.bound in
+    let bound = some_is (bound_in c.args.name.now (slice_get c.args.self.now c.args.e.0)) c.requires.bound in
+    let there = stands_there c.args.name.now c.args.self.now c.args.e.0 c.record.result.now c.place-place.result b c.record.ensures (c.place-place.ensures.place c.record.result.now c.record.ensures) bound in
+    let label = HasRecords-at (g.L.Labels.made c.args.labels.now) c.args.self.now c.args.e.0 c.record.result.now c.place-place.result b c.record.ensures there c.requires.belongs in
     assigns_refused g.L.Labels.made g.L.Labels.meaning c.args.labels.now (λ reading. assign c.args.e.0 c.args.name.now (reading c.args.context) (read_value reading c.args.value)) c.args.self.now c.in_err-check.field-0.0 c.from_residual.result
-    (refuses g.L.Labels.made g.L.Labels.meaning c.args.e.0 c.args.name.now c.args.context c.args.value c.args.self.now c.binding.result.now bound c.args.labels.now c.requires.context label c.in_err-check.field-0.0 c.in_err-check.ensures.forbids)
+    (refuses g.L.Labels.made g.L.Labels.meaning c.args.e.0 c.args.name.now c.args.context c.args.value c.args.self.now b bound c.args.labels.now c.requires.context label c.in_err-check.field-0.0 (c.in_err-check.ensures b there).forbids)
     c.from_residual.ensures.1
 
 pub set-requires : goal.set-requires
@@ -41,11 +44,13 @@ pub returns-clause-assigns : goal.returns-clause-assigns
 returns-clause-assigns g c =
     let v : Labelled g.row.T.Denot = record { value = c.args.value.value; label = c.in_ok-label.label } in
     let put_is = put_there c.args.self.now c.self.inside.records.items c.args.e.0 c.record.result.now c.index_mut.result.now c.self.view_is c.record.ensures c.index_mut.ensures.value c.args.name.now v c.place-place.result c.set.new.self (c.place-place.ensures.place c.record.result.now c.record.ensures) c.set.ensures in
-    let bound : bound_in c.args.name.now (slice_get c.args.self.now c.args.e.0) ≡ Some c.binding.result.now = ap (bound_in c.args.name.now) c.record.ensures ∙ sym (c.place-place.ensures.place c.record.result.now c.record.ensures).here ∙ c.binding.ensures in
-    let label = HasRecords-at (g.L.Labels.made c.args.labels.now) c.args.self.now c.args.e.0 c.record.result.now c.place-place.result c.binding.result.now c.record.ensures c.binding.ensures c.requires.belongs in
+    let b = some_of (bound_in c.args.name.now (slice_get c.args.self.now c.args.e.0)) c.requires.bound in
+    let bound = some_is (bound_in c.args.name.now (slice_get c.args.self.now c.args.e.0)) c.requires.bound in
+    let there = stands_there c.args.name.now c.args.self.now c.args.e.0 c.record.result.now c.place-place.result b c.record.ensures (c.place-place.ensures.place c.record.result.now c.record.ensures) bound in
+    let label = HasRecords-at (g.L.Labels.made c.args.labels.now) c.args.self.now c.args.e.0 c.record.result.now c.place-place.result b c.record.ensures there c.requires.belongs in
     subst (λ (rs : List (Record (Labelled g.row.T.Denot))). Assigns g.L.Labels.made g.L.Labels.meaning c.join.new.self (λ reading. assign c.args.e.0 c.args.name.now (reading c.args.context) (read_value reading c.args.value)) c.args.self.now rs (Ok tt)) (sym put_is)
     (record {
-      does = does g.L.Labels.made g.L.Labels.meaning c.args.e.0 c.args.name.now c.args.context c.args.value c.args.self.now c.binding.result.now bound g.L.Labels.room g.L.Labels.firm c.args.labels.now c.join.new.self c.in_ok-label.label c.in_ok-label.ensures.kept c.requires.context c.requires.value label c.in_ok-label.ensures.made c.in_ok-label.ensures.meaning c.in_ok-check.ensures.allows.0 c.in_ok-check.ensures.allows.1;
+      does = does g.L.Labels.made g.L.Labels.meaning c.args.e.0 c.args.name.now c.args.context c.args.value c.args.self.now b bound g.L.Labels.room g.L.Labels.firm c.args.labels.now c.join.new.self c.in_ok-label.label c.in_ok-label.ensures.kept c.requires.context c.requires.value label c.in_ok-label.ensures.made c.in_ok-label.ensures.meaning (c.in_ok-check.ensures b there).allows.0 (c.in_ok-check.ensures b there).allows.1;
       refused = tt;
       unchanged = tt;
     })

@@ -4,4 +4,4 @@ use Rattle.flow_text.specs.Written.{escaped_unit}
 use Rattle.flow_text.proofs.text.Text.escaped.Given as goal
 
 abbrev pub invariant-loop-unit : goal.invariant-loop-unit
-invariant-loop-unit l = (l.written ≡ flat_map escaped_unit (take l.unit-index l.unit-items)) × (l.unit-items ≡ l.fn.self)
+invariant-loop-unit l = (l.written.items ≡ flat_map escaped_unit (take l.unit-index l.unit-items)) × (l.unit-items ≡ l.fn.self)

@@ -4,4 +4,4 @@ use Rattle.std.specs.Char.Escape.{encode_utf16}
 use Rattle.flow_text.proofs.text.Text.spelled.Given as goal
 
 abbrev pub invariant-loop-character : goal.invariant-loop-character
-invariant-loop-character l = l.text ≡ flat_map encode_utf16 l.yielded
+invariant-loop-character l = l.units.items ≡ flat_map encode_utf16 l.yielded

@@ -5,6 +5,6 @@ use Rattle.flow_text.proofs.text.Text.to_utf8.Goals as goal
 pub returns-clause-again : goal.returns-clause-again
 unfolding utf8_of
 returns-clause-again c whole =
-    let read = text_again c.args.self.now (rw (← c.self.view_is) c.self.invariant) whole in
+    let read = text_again c.args.self.now c.known_units.ensures.units whole in
     let is = c.in_ok-spelling.ensures in
-    cc (read, is, c.deref.ensures.value, c.into_bytes.ensures.value)
+    cc (read, is, c.known_units.ensures.same, c.into_bytes.ensures.value)

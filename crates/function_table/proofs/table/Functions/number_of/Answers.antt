@@ -9,4 +9,4 @@ returns-then-begins_there c =
     let n = (out-Function c.args.f.now).number in
     rw (← c.self.view_is)
     (number_is (codes (λ f. f.now) c.self.inside.list.items) n (view_function c.args.f.now)
-    (rw (← c.deref.ensures.value) (sym c.begins_there.ensures ∙ c.if-begins_there.true)) (c.self.invariant.ordered c.if-self.true))
+    (rw (← c.deref.ensures.value) (sym c.begins_there.ensures ∙ c.if-begins_there.true)) (c.self.invariant.0.ordered c.if-self.true))

@@ -1,9 +1,11 @@
 use Rattle.object_heap.specs.Acts.{add_own}
-use Rattle.object_heap.proofs.HeapLaws.{lent, heap_does, heap_refuses, IsFormed-set, HasHeap-set}
-use Rattle.std.proofs.Common.{sym, ap, ◌∙◌, List}
+use Rattle.object_heap.proofs.HeapLaws.{lent, heap_does, heap_refuses, IsFormed-set, HasHeap-set, HasObject-of}
+use Rattle.std.proofs.lemmas.Grind.{common_steps}
+use Rattle.std.proofs.Common.{arith, sym, ap, ◌∙◌, List, subst, ◌<◌, length}
 use Rattle.std.specs.List.{slice_get}
 use Rattle.js_values.specs.Objects.{Object}
 use Rattle.object_heap.specs.Formed.{own_in}
+use Rattle.std.proofs.lemmas.List.{length-set}
 use Rattle.object_heap.proofs.heap.Heap.add.Goals as goal
 
 pub returns-in_err-add-clause-acts : goal.returns-in_err-add-clause-acts
@@ -31,3 +33,20 @@ pub add-requires-clause-absent : goal.add-requires-clause-absent
 add-requires-clause-absent g c =
     let here = lent c.self.inside.objects.items c.args.self.now c.args.o.0 c.index_mut.result.now c.self.view_is c.requires.there c.index_mut.ensures.value in
     sym (ap (own_in c.args.key) here) ∙ c.requires.absent
+
+pub index_mut-requires : goal.index_mut-requires
+index_mut-requires g c = grind (arith, common_steps, subst (λ (h : List (Object g.row.T.Denot)). c.args.o.0 < length h) (sym c.self.view_is) c.requires.there)
+
+pub add-requires-clause-belongs : goal.add-requires-clause-belongs
+add-requires-clause-belongs g c = HasObject-of c.args.self.now (g.L.Labels.made c.args.labels.now) c.args.o.0 c.index_mut.result.now (lent c.self.inside.objects.items c.args.self.now c.args.o.0 c.index_mut.result.now c.self.view_is c.requires.there c.index_mut.ensures.value) c.requires.belongs
+
+pub returns-in_err-add-clause-length : goal.returns-in_err-add-clause-length
+returns-in_err-add-clause-length g c = length-set c.self.inside.objects.items c.args.o.0 c.add.new.self ∙ ap length c.self.view_is
+
+pub returns-clause-length : goal.returns-clause-length
+returns-clause-length g c = length-set c.self.inside.objects.items c.args.o.0 c.add.new.self ∙ ap length c.self.view_is
+
+pub invariant_of-self : goal.invariant_of-self
+invariant_of-self g c =
+    let here = lent c.self.inside.objects.items c.args.self.now c.args.o.0 c.index_mut.result.now c.self.view_is c.requires.there c.index_mut.ensures.value in
+    IsFormed-set c.self.inside.objects.items c.args.o.0 c.index_mut.result.now c.add.new.self (ap (λ (h : List (Object g.row.T.Denot)). slice_get h c.args.o.0) c.self.view_is ∙ here) c.add.ensures.leads c.self.invariant

@@ -1,4 +1,5 @@
-use Rattle.std.proofs.Common.{ap, ◌∙◌, List}
+use Rattle.std.proofs.lemmas.Grind.{common_steps}
+use Rattle.std.proofs.Common.{arith, ap, ◌∙◌, List, sym, subst, ◌<◌, length}
 use Rattle.std.specs.List.{slice_get}
 use Rattle.js_values.specs.Objects.{Object}
 use Rattle.object_heap.proofs.GivenLaws.{heap_given, heap_same}
@@ -19,3 +20,11 @@ pub returns-clause-ok : goal.returns-clause-ok
 returns-clause-ok g c =
     let here = lent c.self.inside.objects.items c.args.self.now c.args.o.0 c.index_mut.result.now c.self.view_is c.requires.there c.index_mut.ensures.value in
     heap_given c.self.inside.objects.items c.args.self.now c.self.view_is c.args.o.0 c.index_mut.result.now here c.give.new.self c.args.key c.args.slot c.in_ok-give.ensures.ok
+
+pub index_mut-requires : goal.index_mut-requires
+index_mut-requires g c = grind (arith, common_steps, subst (λ (h : List (Object g.row.T.Denot)). c.args.o.0 < length h) (sym c.self.view_is) c.requires.there)
+
+pub invariant_of-self : goal.invariant_of-self
+invariant_of-self g c =
+    let here = lent c.self.inside.objects.items c.args.self.now c.args.o.0 c.index_mut.result.now c.self.view_is c.requires.there c.index_mut.ensures.value in
+    IsFormed-set c.self.inside.objects.items c.args.o.0 c.index_mut.result.now c.give.new.self (ap (λ (h : List (Object g.row.T.Denot)). slice_get h c.args.o.0) c.self.view_is ∙ here) c.give.ensures.leads c.self.invariant

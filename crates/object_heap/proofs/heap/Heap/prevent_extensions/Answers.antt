@@ -1,9 +1,11 @@
 use Rattle.object_heap.specs.Acts.{prevent_own_extensions}
-use Rattle.object_heap.proofs.HeapLaws.{lent, heap_does, heap_refuses, IsFormed-set, HasHeap-set}
+use Rattle.object_heap.proofs.HeapLaws.{lent, heap_does, heap_refuses, IsFormed-set, HasHeap-set, HasObject-of}
 use Rattle.origin_labels.proofs.StoreLaws.{IsKept-refl}
-use Rattle.std.proofs.Common.{ap, ◌∙◌, List}
+use Rattle.std.proofs.lemmas.Grind.{common_steps}
+use Rattle.std.proofs.Common.{arith, ap, ◌∙◌, List, sym, subst, ◌<◌, length}
 use Rattle.std.specs.List.{slice_get}
 use Rattle.js_values.specs.Objects.{Object}
+use Rattle.std.proofs.lemmas.List.{length-set}
 use Rattle.object_heap.proofs.heap.Heap.prevent_extensions.Goals as goal
 
 pub returns-in_err-prevent_extensions-clause-acts : goal.returns-in_err-prevent_extensions-clause-acts
@@ -26,3 +28,20 @@ returns-clause-acts g c =
 
 pub returns-clause-belongs : goal.returns-clause-belongs
 returns-clause-belongs g c = HasHeap-set g.L.Labels.made g.L.Labels.meaning g.L.Labels.room g.L.Labels.firm c.args.labels.now c.args.labels.now c.self.inside.objects.items c.args.self.now c.args.o.0 c.prevent_extensions.new.self c.self.view_is (IsKept-refl g.L.Labels.made g.L.Labels.meaning g.L.Labels.room g.L.Labels.firm c.args.labels.now) c.requires.belongs c.prevent_extensions.ensures.belongs
+
+pub index_mut-requires : goal.index_mut-requires
+index_mut-requires g c = grind (arith, common_steps, subst (λ (h : List (Object g.row.T.Denot)). c.args.o.0 < length h) (sym c.self.view_is) c.requires.there)
+
+pub prevent_extensions-requires-clause-belongs : goal.prevent_extensions-requires-clause-belongs
+prevent_extensions-requires-clause-belongs g c = HasObject-of c.args.self.now (g.L.Labels.made c.args.labels.now) c.args.o.0 c.index_mut.result.now (lent c.self.inside.objects.items c.args.self.now c.args.o.0 c.index_mut.result.now c.self.view_is c.requires.there c.index_mut.ensures.value) c.requires.belongs
+
+pub returns-in_err-prevent_extensions-clause-length : goal.returns-in_err-prevent_extensions-clause-length
+returns-in_err-prevent_extensions-clause-length g c = length-set c.self.inside.objects.items c.args.o.0 c.prevent_extensions.new.self ∙ ap length c.self.view_is
+
+pub returns-clause-length : goal.returns-clause-length
+returns-clause-length g c = length-set c.self.inside.objects.items c.args.o.0 c.prevent_extensions.new.self ∙ ap length c.self.view_is
+
+pub invariant_of-self : goal.invariant_of-self
+invariant_of-self g c =
+    let here = lent c.self.inside.objects.items c.args.self.now c.args.o.0 c.index_mut.result.now c.self.view_is c.requires.there c.index_mut.ensures.value in
+    IsFormed-set c.self.inside.objects.items c.args.o.0 c.index_mut.result.now c.prevent_extensions.new.self (ap (λ (h : List (Object g.row.T.Denot)). slice_get h c.args.o.0) c.self.view_is ∙ here) c.prevent_extensions.ensures.leads c.self.invariant

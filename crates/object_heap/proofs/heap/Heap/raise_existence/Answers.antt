@@ -1,8 +1,10 @@
 use Rattle.object_heap.specs.Acts.{raise_own_existence}
-use Rattle.object_heap.proofs.HeapLaws.{lent, heap_does, heap_refuses, IsFormed-set, present_within, HasHeap-set}
-use Rattle.std.proofs.Common.{ap, ◌∙◌, List}
+use Rattle.object_heap.proofs.HeapLaws.{lent, heap_does, heap_refuses, IsFormed-set, present_within, HasHeap-set, HasObject-of, present_there}
+use Rattle.std.proofs.lemmas.Grind.{common_steps}
+use Rattle.std.proofs.Common.{arith, ap, ◌∙◌, List, sym, subst, ◌<◌, length}
 use Rattle.std.specs.List.{slice_get}
 use Rattle.js_values.specs.Objects.{Object}
+use Rattle.std.proofs.lemmas.List.{length-set}
 use Rattle.object_heap.proofs.heap.Heap.raise_existence.Goals as goal
 
 pub returns-in_err-raise_existence-clause-acts : goal.returns-in_err-raise_existence-clause-acts
@@ -25,3 +27,23 @@ returns-clause-acts g c =
 
 pub returns-clause-belongs : goal.returns-clause-belongs
 returns-clause-belongs g c = HasHeap-set g.L.Labels.made g.L.Labels.meaning g.L.Labels.room g.L.Labels.firm c.args.labels.now c.raise_existence.new.labels c.self.inside.objects.items c.args.self.now c.args.o.0 c.raise_existence.new.self c.self.view_is c.raise_existence.ensures.kept c.requires.belongs c.raise_existence.ensures.belongs
+
+pub index_mut-requires : goal.index_mut-requires
+index_mut-requires g c = grind (arith, common_steps, subst (λ (h : List (Object g.row.T.Denot)). c.args.o.0 < length h) (sym c.self.view_is) (present_within c.args.self.now c.args.key.now c.args.o.0 c.requires.present))
+
+pub raise_existence-requires-clause-present : goal.raise_existence-requires-clause-present
+raise_existence-requires-clause-present g c = present_there c.args.self.now c.args.key.now c.args.o.0 c.index_mut.result.now (lent c.self.inside.objects.items c.args.self.now c.args.o.0 c.index_mut.result.now c.self.view_is (present_within c.args.self.now c.args.key.now c.args.o.0 c.requires.present) c.index_mut.ensures.value) c.requires.present
+
+pub raise_existence-requires-clause-belongs : goal.raise_existence-requires-clause-belongs
+raise_existence-requires-clause-belongs g c = HasObject-of c.args.self.now (g.L.Labels.made c.args.labels.now) c.args.o.0 c.index_mut.result.now (lent c.self.inside.objects.items c.args.self.now c.args.o.0 c.index_mut.result.now c.self.view_is (present_within c.args.self.now c.args.key.now c.args.o.0 c.requires.present) c.index_mut.ensures.value) c.requires.belongs
+
+pub returns-in_err-raise_existence-clause-length : goal.returns-in_err-raise_existence-clause-length
+returns-in_err-raise_existence-clause-length g c = length-set c.self.inside.objects.items c.args.o.0 c.raise_existence.new.self ∙ ap length c.self.view_is
+
+pub returns-clause-length : goal.returns-clause-length
+returns-clause-length g c = length-set c.self.inside.objects.items c.args.o.0 c.raise_existence.new.self ∙ ap length c.self.view_is
+
+pub invariant_of-self : goal.invariant_of-self
+invariant_of-self g c =
+    let here = lent c.self.inside.objects.items c.args.self.now c.args.o.0 c.index_mut.result.now c.self.view_is (present_within c.args.self.now c.args.key.now c.args.o.0 c.requires.present) c.index_mut.ensures.value in
+    IsFormed-set c.self.inside.objects.items c.args.o.0 c.index_mut.result.now c.raise_existence.new.self (ap (λ (h : List (Object g.row.T.Denot)). slice_get h c.args.o.0) c.self.view_is ∙ here) c.raise_existence.ensures.leads c.self.invariant

@@ -2,11 +2,12 @@ use Rattle.std.proofs.Common.{suc, ap, ◌∙◌}
 use Rattle.js_values.specs.declared.property.Slot.{Slot}
 use Rattle.js_values.specs.declared.property.Body.{Body}
 use Rattle.object_heap.specs.Arrays.{length_key, length_body}
+use Rattle.object_heap.specs.Places.{changed_at_place}
 use Rattle.object_heap.proofs.ActLaws.{row_written}
 use Rattle.object_heap.proofs.object.Object.set_length.Goals as goal
 
 pub returns : goal.returns
 returns g c =
     let to = λ (x : Slot g.row.T.Denot). record x { body = length_body (suc c.args.i); label = c.args.label } in
-    row_written _ c.args.self.now c.self.view_is length_key c.length_place-place.result c.length_place-place.ensures c.index_mut.result.now c.index_mut.ensures.value to c.set_body.new.self
-    (c.set_body.ensures ∙ ap (λ (b : Body). (c.index_mut.result.now.0, record c.index_mut.result.now.1 { body = b; label = c.args.label })) c.length_above.ensures)
+    row_written _ c.args.self.now c.self.view_is length_key c.length_place-place.result c.length_place-place.ensures to c.set_body.new.self
+    (c.set_body.ensures ∙ ap (λ (b : Body). changed_at_place c.length_place-place.result (λ (x : Slot g.row.T.Denot). record x { body = b; label = c.args.label }) c.self.inside.rows) c.length_above.ensures)

@@ -1,0 +1,15 @@
+pub mod Loads
+pub mod Behind
+pub mod BranchLaws
+pub mod EndLaws
+pub mod Handed
+pub mod Keeping
+pub mod KeptLaws
+pub mod ObjectLaws
+pub mod Reading
+pub mod ScopeLaws
+pub mod Steps
+pub mod Uses
+pub mod LabelLaws
+pub mod JumpTargetLaws
+pub mod RegisterLaws

@@ -1,0 +1,13 @@
+pub mod Settings
+pub mod Kept
+pub mod Pending
+pub mod Resuming
+pub mod Shapes
+pub mod Literals
+pub mod Loads
+pub mod Stops
+pub mod Moving
+pub mod Going
+pub mod Answering
+pub mod JumpTargets
+pub mod Invariant

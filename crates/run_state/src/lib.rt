@@ -1,0 +1,8 @@
+//! What a run holds besides its pending work, and what an act on it comes to.
+#![tactic(auto)]
+
+mod outcome;
+mod world;
+
+pub use outcome::{Access, Leaving, Named, Outcome, Place, Putting};
+pub use world::World;

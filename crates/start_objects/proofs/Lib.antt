@@ -1,5 +1,0 @@
-mod EntryLaws
-mod FirstLaws
-mod HolderLaws
-mod NameLaws
-mod StartedLaws

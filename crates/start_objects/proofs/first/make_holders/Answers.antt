@@ -1,7 +1,0 @@
-use Rattle.plain_heap.proofs.MoreLaws.{more_then}
-use Rattle.start_objects.proofs.first.make_holders.Goals as goal
-
-pub returns-clause-ok : goal.returns-clause-ok
-returns-clause-ok g c =
-    more_then c.args.heap.now c.new_object-2.new.self c.new_object-3.new.self _ _
-    (more_then c.args.heap.now c.new_object.new.self c.new_object-2.new.self _ _ c.in_ok-new_object.ensures.ok c.in_ok-new_object-2.ensures.ok) c.in_ok-new_object-3.ensures.ok

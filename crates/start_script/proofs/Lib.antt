@@ -1,5 +1,0 @@
-mod EnteredLaws
-mod EnterLaws
-mod FirstLaws
-mod Names
-mod VariableLaws

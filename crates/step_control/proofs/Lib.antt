@@ -1,0 +1,3 @@
+pub mod PassLaws
+pub mod VisitLaws
+pub mod NamedLaws

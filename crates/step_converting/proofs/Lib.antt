@@ -1,3 +1,0 @@
-pub mod ConvertingLaws
-pub mod FrameLaws
-pub mod ValueLists

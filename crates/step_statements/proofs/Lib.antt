@@ -1,0 +1,11 @@
+pub mod FallLaws
+pub mod TestLaws
+pub mod Pushed
+pub mod SwitchLaws
+pub mod Labelled
+pub mod Standings
+pub mod CompareLaws
+pub mod KeyLaws
+pub mod VisitPlans
+pub mod TakingFrames
+pub mod Looking

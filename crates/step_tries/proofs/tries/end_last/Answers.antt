@@ -1,8 +1,0 @@
-use Rattle.step_work.specs.declared.work.Work.TheVariants as work
-use Rattle.step_tries.proofs.EndingLaws.{resumes_done}
-use Rattle.step_tries.proofs.tries.end_last.Goals as goal
-
-pub returns-clause-resumes : goal.returns-clause-resumes
-returns-clause-resumes g c tables inputs set functions natives =
-    resumes_done g.L.Labels.made g.L.Labels.meaning c.leave.new.labels tables inputs set functions natives (work.EndLast c.args.waiting) c.args.stack.now c.leave.new.stack c.args.world.now c.leave.new.world c.leave.result c.requires.standing.values
-    (λ tables inputs set functions. c.leave.ensures.begins tables inputs set functions)

@@ -1,4 +1,0 @@
-pub mod Following
-pub mod Ones
-pub mod Reached
-pub mod Frames

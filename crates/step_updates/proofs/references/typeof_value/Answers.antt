@@ -1,9 +1,0 @@
-use Rattle.flow_meaning.specs.Tracked.{accessed_for_typeof}
-use Rattle.step_updates.proofs.references.typeof_value.Goals as goal
-
-pub returns-in-Name-clause-acts : goal.returns-in-Name-clause-acts
-returns-in-Name-clause-acts g c = rw c.in-Name.is (rw c.copied.ensures at c.typeof_name.ensures.acts)
-
-pub returns-in-Property-clause-acts : goal.returns-in-Property-clause-acts
-unfolding accessed_for_typeof
-returns-in-Property-clause-acts g c = rw c.in-Property.is c.get_property.ensures.acts

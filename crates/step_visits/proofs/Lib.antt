@@ -1,4 +1,0 @@
-pub mod KeyLaws
-pub mod VisitPlans
-pub mod TakingFrames
-pub mod Looking

@@ -1,4 +1,0 @@
-use Rattle.step_work.proofs.enter.+behind_labels.Given as goal
-
-abbrev pub decreases-behind_labels : goal.decreases-behind_labels
-decreases-behind_labels l = l.passed

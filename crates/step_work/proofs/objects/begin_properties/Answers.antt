@@ -1,8 +1,0 @@
-use Rattle.std.proofs.Common.{subst}
-use Rattle.step_work.specs.Literals.{IsPart}
-use Rattle.step_work.proofs.ObjectLaws.{value_begins}
-use Rattle.step_work.proofs.objects.begin_properties.Goals as goal
-
-pub returns-in_ok-push-in-Value-clause-goes_on : goal.returns-in_ok-push-in-Value-clause-goes_on
-returns-in_ok-push-in-Value-clause-goes_on g c =
-    value_begins c.args.list c.args.count c.in-Value.value c.args.stack.now c.push.new.self (subst (λ p. IsPart p c.args.list.now c.args.count) c.in-Value.is c.part_at.ensures) c.in_ok-push-in-Value.ensures.ok

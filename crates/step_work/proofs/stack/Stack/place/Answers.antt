@@ -1,7 +1,0 @@
-use Rattle.std.proofs.Common.{ap, ◌∙◌}
-use Rattle.step_work.specs.Going.{here}
-use Rattle.step_work.proofs.AimLaws.{env_same}
-use Rattle.step_work.proofs.stack.Stack.place.Goals as goal
-
-pub returns : goal.returns
-returns g c = rw (← c.self.view_is) (ap (λ e. e.place) (env_same c.self.inside.works c.self.inside.operands.items here) ∙ c.place.ensures)

@@ -1,8 +1,0 @@
-use Rattle.std.proofs.Common.{sym, ap, ◌∙◌, map}
-use Rattle.step_work.specs.Aims.{last_or}
-use Rattle.step_work.specs.Going.{here}
-use Rattle.step_work.proofs.AimLaws.{place_in}
-use Rattle.step_work.proofs.works.Works.place.Goals as goal
-
-pub returns : goal.returns
-returns c = rw (← c.self.view_is) (place_in c.self.inside.works.items here ∙ ap (last_or 0) (sym c.self.invariant) ∙ ap (λ ps. last_or 0 (map (λ e. e.0) ps)) (sym c.deref.ensures.value) ∙ sym c.last_of.ensures)
