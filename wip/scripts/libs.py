@@ -29,7 +29,10 @@ def KEY(name):
         keys[name] = s.hexdigest()[:24]
     return keys[name]
 have, lack = [], []
-for c in crates:
+import os as _os
+want = _os.environ.get("WANT", "").split()
+need = set(n for w in want for n in [w, *[b.name for b in by[w].below()]])
+for c in [c for c in crates if not need or c.name in need]:
     kept = f"{STORE}/rlib.{KEY(c.name)}"
     if os.path.isdir(kept):
         dest = f"{c.folder}/out/rlib"
