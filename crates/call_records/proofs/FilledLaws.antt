@@ -1,16 +1,16 @@
 -- The bindings of a call are the names of its layout with values in their places.
-use Rattle.std.proofs.Common.{refl, sym, ap, ap₂, subst, ◌∙◌, ◌≡◌, ◌-◌, ◌<◌, ◌≤◌, ℕ, zero, suc, Bool, true, false, List, [], ◌∷◌, ◌++◌, append_assoc, length, map, set, Option, Some, None, is_some, IsSome, IfSome, if◌then◌else◌, arith}
+use Rattle.std.proofs.Common.{refl, sym, ap, ap₂, subst, ◌∙◌, ◌≡◌, ◌-◌, ◌<◌, ◌≤◌, ℕ, zero, suc, Bool, true, false, List, [], ◌∷◌, ◌++◌, length, set, Option, Some, None, is_some, IsSome, IfSome, if◌then◌else◌, arith}
 use Rattle.std.specs.List.{All}
 use Rattle.std.specs.Option.{option_map}
 use Rattle.std.proofs.Math.ListN.{replicate}
 use Rattle.std.proofs.lemmas.Bool.{cond-true, true≢false, false≢true}
-use Rattle.std.proofs.lemmas.List.{length-append, length-set, length-replicate}
-use Rattle.std.proofs.lemmas.Option.{none-some, same_Some}
+use Rattle.std.proofs.lemmas.List.{length-append, length-map, length-set, length-replicate}
+use Rattle.std.proofs.lemmas.Option.{none-some}
 use Rattle.origin_labels.specs.Names.{same_name}
-use Rattle.js_ast.specs.Trees.{Ident, Function, name_of, params_of, body_of, Statements}
+use Rattle.js_ast.specs.Trees.{Ident, Function, name_of, params_of, body_of}
 use Rattle.js_values.specs.Records.{Binding, Bindings, found, rebound}
 use Rattle.env_records.specs.Layouts.{LaidName, first_place, laid}
-use Rattle.env_records.specs.Places.{with_value_at, StandsAt, IsPlace}
+use Rattle.env_records.specs.Places.{with_value_at, IsPlace}
 use Rattle.env_records.proofs.LayoutLaws.{laid_set, place_laid}
 use Rattle.es_meaning.specs.Declared.{declared_functions, declared_statements}
 use Rattle.es_meaning.specs.Functions.{this_name, function_name, binds, bound_by, kept_by, name_text, with_parameters, with_functions, with_arguments, with_variables, Entry, entry_bindings}
@@ -401,6 +401,16 @@ module _ {V : Type 0} (f : Function) (entry : Entry V) where
 
 pub first_size : {V : Type 0} (count : ℕ) (this function missing : V) (first : List V) → first ≡ first_values count this function missing → 2 ≤ count → length first ≡ count
 first_size count this function missing first one le = ap length one ∙ length_first count this function missing le
+
+-- each parameter has a place
+places_counted : (ns : List LaidName) (more : List (List ℕ)) (ps : List ℕ) → ArePlaces ns more ps → length ps ≡ length more
+places_counted ns [] [] are = refl
+places_counted ns [] (p ∷ ps) are = absurd are
+places_counted ns (name ∷ more) [] are = absurd are
+places_counted ns (name ∷ more) (p ∷ ps) are = ap suc (places_counted ns more ps are.1)
+
+pub parameters_counted : (f : Function) (layout : List LaidName) (parameters functions : List ℕ) (arguments : Option ℕ) → IsPlanned f layout parameters functions arguments → length parameters ≡ length (params_of f)
+parameters_counted f layout parameters functions arguments planned = places_counted layout (parameter_names (params_of f)) parameters planned.parameters ∙ length-map (params_of f) (λ p. p.text)
 
 -- a planned function's places are within its layout
 module _ (f : Function) (layout : List LaidName) (parameters functions : List ℕ) (arguments : Option ℕ) (planned : IsPlanned f layout parameters functions arguments) (n : ℕ) (size : n ≡ length layout) where

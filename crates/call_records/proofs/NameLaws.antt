@@ -1,14 +1,14 @@
 -- Names that are added to a layout in turn, and their places.
-use Rattle.std.proofs.Common.{refl, sym, ap, subst, ◌∙◌, ◌≡◌, ◌+◌, ◌<◌, ◌≤◌, ℕ, zero, suc, Bool, true, false, List, [], ◌∷◌, ◌++◌, append_assoc, append-nil, length, drop, get_or, Option, Some, None, if◌then◌else◌, arith}
+use Rattle.std.proofs.Common.{refl, sym, ap, subst, ◌∙◌, ◌≡◌, ◌+◌, ◌<◌, ◌≤◌, ℕ, suc, Bool, true, false, List, [], ◌∷◌, ◌++◌, append_assoc, append-nil, length, drop, get_or, Option, Some, None, if◌then◌else◌, arith}
 use Rattle.std.specs.List.{All}
 use Rattle.std.specs.Option.{option_map}
-use Rattle.std.proofs.lemmas.List.{drop_more, at_drop_all, length-append}
+use Rattle.std.proofs.lemmas.List.{drop_more, at_drop_all}
 use Rattle.std.proofs.lemmas.List.Elements.{All-nil, All-cons}
 use Rattle.std.proofs.lemmas.Option.{none-some, same_Some}
 use Rattle.std.specs.Cmp.Lexicographic.{bytes_decides}
 use Rattle.origin_labels.specs.Names.{same_name}
 use Rattle.env_records.specs.Layouts.{LaidName, first_place}
-use Rattle.call_records.specs.Planned.{names, with_name, with_name_at, with_names, with_arguments_name, arguments_place, ArePlaces, Adds}
+use Rattle.call_records.specs.Planned.{names, with_name, with_name_at, with_names, with_arguments_name, ArePlaces, Adds}
 
 -- ---- names in turn
 

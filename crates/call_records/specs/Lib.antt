@@ -1,4 +1,5 @@
 pub mod Declarations
+pub mod Joined
 pub mod Named
 pub mod Placed
 pub mod Planned

@@ -1,7 +1,6 @@
 -- The values of the record of a call, each in its place.
-use Rattle.std.specs.Prelude.{ℕ, List, [], ◌∷◌, Option, Some, None, length, set, ◌-◌}
+use Rattle.std.specs.Prelude.{ℕ, List, [], ◌∷◌, Option, Some, None, set, ◌-◌}
 use Rattle.std.proofs.Math.ListN.{replicate}
-use Rattle.env_records.specs.Layouts.{LaidName, laid}
 use Rattle.es_meaning.specs.Functions.{Entry}
 
 -- values in places in turn, and `missing` where there are no more values

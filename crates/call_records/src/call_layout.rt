@@ -1,11 +1,15 @@
 //! What a call of a function begins with, as far as it depends on the function alone.
 
-ghost use Rattle.std.specs.Prelude.{◌≡◌, ◌<◌, ◌≤◌, ◌+◌, [], ◌∷◌, ◌++◌, IfOk, OnOk, length};
-ghost use Rattle.js_ast.specs.Trees.{body_of};
+ghost use Rattle.std.specs.Prelude.{◌≡◌, ◌<◌, ◌≤◌, ◌+◌, [], ◌∷◌, ◌++◌, IfOk, OnOk, length, take};
+ghost use Rattle.std.specs.List.{All};
+ghost use Rattle.origin_labels.specs.Stores.{IsKept};
+ghost use Rattle.js_ast.specs.Trees.{params_of, body_of};
 ghost use Rattle.js_ast.specs.Views.{view_function};
+ghost use Rattle.js_values.specs.Readings.{HasValue};
 ghost use Rattle.es_meaning.specs.Declared.{declared_functions};
 ghost use Rattle.es_meaning.specs.Functions.{entry_bindings, entry_record};
 ghost use Rattle.es_meaning.specs.Naming.{names_in_statements};
+ghost use Rattle.call_records.specs.Joined.{ForJoined};
 ghost use Rattle.call_records.specs.Planned.{layout_of};
 ghost use Rattle.env_records.specs.Layouts.{laid};
 
@@ -17,6 +21,7 @@ use env_records::{Envs, Layout};
 use flow_text::OutOfMemory;
 use js_ast::Function;
 use js_values::{EnvId, Labelled};
+use origin_labels::Labels;
 use std::alloc::Global;
 use std::marker::Model;
 use std::rc::Rc;
@@ -76,40 +81,52 @@ impl<'p> CallLayout<'p> {
         self.places.arguments.is_some()
     }
 
-    /// Makes the record of a call of the function, which closes over the record `place`.
-    pub fn enter<T: Copy>(
+    /// Makes the record of a call of the function, which closes over the record `place`. The arguments depend on the context besides.
+    pub fn enter<T: Copy, L: Labels<Label = T>>(
         &self,
         alloc: Global,
+        labels: &mut L,
         records: &mut Envs<T>,
         place: EnvId,
+        args: &[Labelled<T>],
+        context: T,
         entry: Entry<T>,
     ) -> Result<EnvId, OutOfMemory>
         requires there { place.0 < length records.old }
         requires functions { length entry.functions.items ≡ length (declared_functions (body_of (view_function self.now))) }
-        ensures ok { OnOk result (records.new ≡ records.old ++ entry_record (view_function self.now) place.0 (record { this = entry.this; function = entry.function; args = entry.args.items; missing = entry.missing; functions = entry.functions.items; arguments = entry.arguments }) ∷ []) }
+        requires args { All (HasValue (L.made labels.old)) args.now }
+        requires context { L.made labels.old context }
+        ensures ok { OnOk result (ForJoined L.made L.meaning labels.new context (take (length (params_of (view_function self.now))) args.now) (λ vs. records.new ≡ records.old ++ entry_record (view_function self.now) place.0 (record { this = entry.this; function = entry.function; args = vs; missing = entry.missing; functions = entry.functions.items; arguments = entry.arguments }) ∷ [])) }
         ensures number { IfOk result (λ e. e.0 ≡ length records.old) }
         ensures length { OnOk result (length records.new ≡ length records.old + 1) }
         ensures longer { length records.old ≤ length records.new }
+        ensures kept { IsKept L.made L.meaning L.room L.firm labels.old labels.new }
     {
-        let values = self.values(alloc, entry)?;
+        let values = self.values(alloc, labels, args, context, entry)?;
         let e = records.begin(Some(place), &self.names, values)?;
         Ok(e)
     }
 
     // The values of the record of a call, in the order of its names.
-    fn values<T: Copy>(
+    #[inline(always)]
+    fn values<T: Copy, L: Labels<Label = T>>(
         &self,
         alloc: Global,
+        labels: &mut L,
+        args: &[Labelled<T>],
+        context: T,
         entry: Entry<T>,
     ) -> Result<Vec<Labelled<T>>, OutOfMemory>
-        requires { length entry.functions.items ≡ length (declared_functions (body_of (view_function self.now))) }
-        ensures bindings { IfOk result (λ vs. laid (layout_of (view_function self.now)) vs.items ≡ entry_bindings (view_function self.now) (record { this = entry.this; function = entry.function; args = entry.args.items; missing = entry.missing; functions = entry.functions.items; arguments = entry.arguments })) }
-        ensures length { IfOk result (λ vs. length vs.items ≡ length (layout_of (view_function self.now))) }
+        requires functions { length entry.functions.items ≡ length (declared_functions (body_of (view_function self.now))) }
+        requires args { All (HasValue (L.made labels.old)) args.now }
+        requires context { L.made labels.old context }
+        ensures bindings { IfOk result (λ all. ForJoined L.made L.meaning labels.new context (take (length (params_of (view_function self.now))) args.now) (λ vs. laid (layout_of (view_function self.now)) all.items ≡ entry_bindings (view_function self.now) (record { this = entry.this; function = entry.function; args = vs; missing = entry.missing; functions = entry.functions.items; arguments = entry.arguments }))) }
+        ensures length { IfOk result (λ all. length all.items ≡ length (layout_of (view_function self.now))) }
+        ensures kept { IsKept L.made L.meaning L.room L.firm labels.old labels.new }
     {
         let Entry {
             this,
             function,
-            args,
             missing,
             functions,
             arguments,
@@ -118,8 +135,10 @@ impl<'p> CallLayout<'p> {
         let places = &self.places;
         fill(
             alloc,
+            labels,
             places,
             args,
+            context,
             functions,
             arguments,
             &missing,

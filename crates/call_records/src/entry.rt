@@ -1,24 +1,27 @@
 //! The values that a call begins with, each in the place of its name.
 
-ghost use Rattle.std.specs.Prelude.{◌≡◌, ◌≤◌, ◌<◌, ◌∷◌, ℕ, List, IfOk, IfSome, OnOk, length, set};
+ghost use Rattle.std.specs.Prelude.{◌≡◌, ◌≤◌, ◌<◌, [], ◌∷◌, ℕ, List, IfOk, IfSome, OnOk, length, set, slice_get, take};
 ghost use Rattle.std.specs.List.{All};
 ghost use Rattle.std.specs.Vec.Iter.{into_iter_items, into_iter_len};
+ghost use Rattle.origin_labels.specs.Stores.{IsKept};
 ghost use Rattle.js_values.specs.declared.value.Labelled.{Labelled};
+ghost use Rattle.js_values.specs.Readings.{HasValue};
+ghost use Rattle.call_records.specs.Joined.{Joins, IsNext, ForJoined};
 ghost use Rattle.call_records.specs.Placed.{placed, placed_if, first_values};
 
 use crate::placing::Places;
 use flow_text::OutOfMemory;
 use js_values::Labelled;
+use origin_labels::Labels;
 use std::alloc::Global;
 use std::vec::IntoIter;
 
-/// What a call begins with.
+/// What a call begins with besides its arguments.
 #[derive(Drop)]
 pub struct Entry<T> {
     pub this: Labelled<T>,
     /// The number of its function.
     pub function: Labelled<T>,
-    pub args: Vec<Labelled<T>>,
     /// What parameters without an argument have, and variables.
     pub missing: Labelled<T>,
     /// The functions that it declares, in their order.
@@ -28,6 +31,7 @@ pub struct Entry<T> {
 }
 
 /// So many values: these two, and `missing` for all others.
+#[inline(always)]
 pub(crate) fn first_values<T: Copy>(
     alloc: Global,
     count: usize,
@@ -48,6 +52,7 @@ pub(crate) fn first_values<T: Copy>(
 }
 
 // The next value, or `missing` where there are no more.
+#[inline(always)]
 fn next_or<T: Copy>(
     alloc: Global,
     values: &mut IntoIter<Labelled<T>>,
@@ -67,6 +72,7 @@ fn next_or<T: Copy>(
 }
 
 // Puts values in places in turn, and `missing` where there are no more.
+#[inline(always)]
 fn put<T: Copy>(
     alloc: Global,
     places: &[usize],
@@ -85,7 +91,72 @@ fn put<T: Copy>(
     Ok(())
 }
 
+// A value that depends on the context besides.
+#[inline(always)]
+fn join_argument<T: Copy, L: Labels<Label = T>>(
+    alloc: Global,
+    labels: &mut L,
+    value: &Labelled<T>,
+    context: T,
+) -> Result<Labelled<T>, OutOfMemory>
+    requires value { L.made labels.old value.now.label }
+    requires context { L.made labels.old context }
+    ensures joins { IfOk result (λ v. Joins L.made L.meaning labels.new context (value.now ∷ []) (v ∷ [])) }
+    ensures made { IfOk result (HasValue (L.made labels.new)) }
+    ensures kept { IsKept L.made L.meaning L.room L.firm labels.old labels.new }
+{
+    let label = labels.join(value.label, context)?;
+    let value = value.value.copy(alloc)?;
+    Ok(Labelled { value, label })
+}
+
+// The argument with this number, which depends on the context besides, or `missing` where there is none.
+#[inline(always)]
+fn next_argument<T: Copy, L: Labels<Label = T>>(
+    alloc: Global,
+    labels: &mut L,
+    args: &[Labelled<T>],
+    number: usize,
+    context: T,
+    missing: &Labelled<T>,
+) -> Result<Labelled<T>, OutOfMemory>
+    requires args { All (HasValue (L.made labels.old)) args.now }
+    requires context { L.made labels.old context }
+    ensures next { IfOk result (IsNext L.made L.meaning labels.new context missing.now (slice_get args.now number)) }
+    ensures kept { IsKept L.made L.meaning L.room L.firm labels.old labels.new }
+{
+    match args.get(number) {
+        Some(value) => join_argument(alloc, labels, value, context),
+        None => missing.copy(alloc),
+    }
+}
+
+// Puts arguments in places in turn, and `missing` where there are no more. They are joined where they go: no list of them is made before.
+#[inline(always)]
+fn put_arguments<T: Copy, L: Labels<Label = T>>(
+    alloc: Global,
+    labels: &mut L,
+    places: &[usize],
+    args: &[Labelled<T>],
+    context: T,
+    missing: &Labelled<T>,
+    all: &mut [Labelled<T>],
+) -> Result<(), OutOfMemory>
+    requires places { All (λ p. p < length all.old) places.now }
+    requires args { All (HasValue (L.made labels.old)) args.now }
+    requires context { L.made labels.old context }
+    ensures placed { OnOk result (ForJoined L.made L.meaning labels.new context (take (length places.now) args.now) (λ vs. all.new ≡ placed missing.now places.now vs all.old)) }
+    ensures length { length all.new ≡ length all.old }
+    ensures kept { IsKept L.made L.meaning L.room L.firm labels.old labels.new }
+{
+    'places: for number in 0..places.len() {
+        all[places[number]] = next_argument(alloc, labels, args, number, context, missing)?;
+    }
+    Ok(())
+}
+
 // Puts a value in a place, if there is one.
+#[inline(always)]
 fn put_if<T: Copy>(place: Option<usize>, value: Labelled<T>, all: &mut [Labelled<T>])
     requires { IfSome place (λ p. p < length all.old) }
     ensures placed { all.new ≡ placed_if place value all.old }
@@ -97,10 +168,13 @@ fn put_if<T: Copy>(place: Option<usize>, value: Labelled<T>, all: &mut [Labelled
 }
 
 /// Puts the values of a call in their places, each later one over an earlier one with its place.
-pub(crate) fn fill<T: Copy>(
+#[inline(always)]
+pub(crate) fn fill<T: Copy, L: Labels<Label = T>>(
     alloc: Global,
+    labels: &mut L,
     places: &Places,
-    args: Vec<Labelled<T>>,
+    args: &[Labelled<T>],
+    context: T,
     functions: Vec<Labelled<T>>,
     arguments: Labelled<T>,
     missing: &Labelled<T>,
@@ -109,10 +183,21 @@ pub(crate) fn fill<T: Copy>(
     requires parameters { All (λ p. p < length all.old) places.now.parameters.items }
     requires functions { All (λ p. p < length all.old) places.now.functions.items }
     requires arguments { IfSome places.now.arguments (λ p. p < length all.old) }
-    ensures placed { OnOk result (all.new ≡ placed missing.now places.now.functions.items functions.items (placed missing.now places.now.parameters.items args.items (placed_if places.now.arguments arguments all.old))) }
+    requires args { All (HasValue (L.made labels.old)) args.now }
+    requires context { L.made labels.old context }
+    ensures placed { OnOk result (ForJoined L.made L.meaning labels.new context (take (length places.now.parameters.items) args.now) (λ vs. all.new ≡ placed missing.now places.now.functions.items functions.items (placed missing.now places.now.parameters.items vs (placed_if places.now.arguments arguments all.old)))) }
     ensures length { length all.new ≡ length all.old }
+    ensures kept { IsKept L.made L.meaning L.room L.firm labels.old labels.new }
 {
     put_if(places.arguments, arguments, all);
-    put(alloc, &places.parameters, args, missing, all)?;
+    put_arguments(
+        alloc,
+        labels,
+        &places.parameters,
+        args,
+        context,
+        missing,
+        all,
+    )?;
     put(alloc, &places.functions, functions, missing, all)
 }

@@ -35,6 +35,7 @@ fn called<'p>(calling: Calling, count: u32) -> Control<'p>
 }
 
 /// Further arguments, behind those that were evaluated.
+#[inline(always)]
 #[tactic(auto, using(crate::proofs::Behind::behind_more, crate::proofs::Behind::setting_more, crate::proofs::Steps::arguments_none, crate::proofs::Steps::arguments_more))]
 pub fn begin_arguments<'p, T: Copy>(
     stack: &mut Stack<'p, T>,
@@ -57,6 +58,7 @@ pub fn begin_arguments<'p, T: Copy>(
 }
 
 /// Behind what is called, a getter's value, the arguments: it stands above what the call has as `this`.
+#[inline(always)]
 pub fn called_by<'p, T: Copy>(
     stack: &mut Stack<'p, T>,
     list: &'p [Expr],
@@ -70,6 +72,7 @@ pub fn called_by<'p, T: Copy>(
 }
 
 /// Behind an argument those that stand behind it.
+#[inline(always)]
 #[tactic(auto, using(crate::proofs::Steps::values_more), unfolding(es_meaning::specs::Evaluation::more_arguments))]
 pub fn more_arguments<'p, T: Copy>(
     stack: &mut Stack<'p, T>,

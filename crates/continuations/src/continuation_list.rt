@@ -118,7 +118,8 @@ impl<'p> Continuations<'p> {
         ensures ok { OnOk result (self.new ≡ self.old ++ work.entry ∷ []) }
         ensures unchanged { OnErr result (self.new ≡ self.old) }
     {
-        self.works.push(work)?;
+        self.works.reserve(1)?;
+        self.works.push_reserved(work);
         Ok(())
     }
 

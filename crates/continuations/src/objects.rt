@@ -79,6 +79,7 @@ pub fn more_properties<'p, T: Copy>(
 }
 
 /// A property with a name: its base is evaluated first.
+#[inline(always)]
 #[tactic(auto, using(crate::proofs::Behind::behind_more, crate::proofs::Behind::setting_more))]
 pub fn begin_member<'p, T: Copy>(
     stack: &mut Stack<'p, T>,
@@ -96,6 +97,7 @@ pub fn begin_member<'p, T: Copy>(
 }
 
 /// A property with a key that is evaluated: its base is evaluated first.
+#[inline(always)]
 #[tactic(auto, using(crate::proofs::Behind::behind_more, crate::proofs::Behind::setting_more))]
 pub fn begin_index<'p, T: Copy>(
     stack: &mut Stack<'p, T>,

@@ -64,7 +64,8 @@ impl<'p, T: Copy> Stack<'p, T> {
         ensures laid { OnOk result (self.new.loose ≡ self.old.loose ++ value ∷ []) }
         ensures unchanged { OnErr result (self.new ≡ self.old) }
     {
-        self.operands.push(value)?;
+        self.operands.reserve(1)?;
+        self.operands.push_reserved(value);
         Ok(())
     }
 

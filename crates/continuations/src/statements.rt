@@ -13,6 +13,7 @@ use flow_text::OutOfMemory;
 use js_ast::Stmt;
 
 /// Statements in their order.
+#[inline(always)]
 #[tactic(auto, using(crate::proofs::Behind::behind_more, crate::proofs::Behind::setting_more, crate::proofs::Steps::statements_none, crate::proofs::Steps::statements_more))]
 pub fn begin_statements<'p, T: Copy>(
     stack: &mut Stack<'p, T>,

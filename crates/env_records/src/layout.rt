@@ -35,6 +35,7 @@ impl LaidName {
         LaidName { name, mutable }
     }
 
+    #[inline(always)]
     fn is_named(&self, name: &Text) -> bool
         ensures { result ≡ same_name self.now.name name.now }
     {
@@ -94,6 +95,7 @@ impl Layout {
     }
 
     /// The first place that has the name.
+    #[inline(always)]
     pub fn place(&self, name: &Text) -> Option<usize>
         ensures { result ≡ first_place name.now self.now }
     {
@@ -104,6 +106,7 @@ impl Layout {
     }
 
     // The same without the index.
+    #[inline(always)]
     fn listed(&self, name: &Text) -> Option<usize>
         ensures { result ≡ first_place name.now self.now }
     {

@@ -1,16 +1,15 @@
 -- A call begins.
-use Rattle.std.proofs.Common.{refl, sym, ap, ap₂, subst, ◌∙◌, ◌≡◌, ◌+◌, ◌<◌, ◌≤◌, ℕ, suc, pos, Bool, true, false, List, [], ◌∷◌, ◌++◌, append_assoc, length, map, take, get_or, Some}
+use Rattle.std.proofs.Common.{refl, sym, ap, ap₂, subst, ◌∙◌, ◌≡◌, ℕ, suc, pos, Bool, true, false, List, [], ◌∷◌, ◌++◌, append_assoc, length, map, take, Some}
 use Rattle.std.specs.List.{All, slice_get}
 use Rattle.std.proofs.lemmas.Option.{same_Some}
-use Rattle.std.proofs.lemmas.List.{append-nil, map-append, length-map, take_more, take_all}
+use Rattle.std.proofs.lemmas.List.{append-nil, map-append, length-map, take-map}
 use Rattle.std.proofs.lemmas.List.Elements.{All-push, All-nil, All-cons}
-use Rattle.origin_labels.specs.Label.{Label, IsLabel, bottom, union}
+use Rattle.origin_labels.specs.Label.{Label, IsLabel, bottom}
 use Rattle.origin_labels.specs.Stores.{IsKept}
-use Rattle.origin_labels.proofs.StoreLaws.{IsKept-refl, IsKept-trans}
 use Rattle.flow_frames.specs.Frames.{context}
 use Rattle.flow_frames.specs.Held.{seen}
 use Rattle.js_ast.specs.declared.trees.Function as tree
-use Rattle.js_ast.specs.Trees.{Function, Statements, body_of}
+use Rattle.js_ast.specs.Trees.{Function, Statements, params_of, body_of}
 use Rattle.js_ast.specs.Functions.{FunctionCode}
 use Rattle.js_ast.specs.Held.{code_of}
 use Rattle.js_ast.specs.Views.{view_function}
@@ -23,7 +22,7 @@ use Rattle.js_values.specs.declared.value.Value.TheVariants as value
 use Rattle.js_values.specs.Objects.{Object}
 use Rattle.js_values.specs.Records.{Record}
 use Rattle.js_values.specs.Readings.{IsReading, HasRecord, HasRecords, HasValue, read_value, read_object, read_record, read_heap, read_records}
-use Rattle.js_values.proofs.ReadingLaws.{IsReading-earlier, All-weaker, HasRecords-kept}
+use Rattle.js_values.proofs.ReadingLaws.{IsReading-earlier, HasRecords-kept}
 use Rattle.es_meaning.specs.Declared.{declared_functions}
 use Rattle.es_meaning.specs.Functions.{objects_of, references_of, behind_functions, made_if, Entry, entry_record}
 use Rattle.es_meaning.specs.Naming.{names_in_statements}
@@ -35,11 +34,12 @@ use Rattle.flow_meaning.specs.Requested.{arguments_object}
 use Rattle.flow_meaning.specs.Tracked.{with_call}
 use Rattle.run_state.specs.declared.world.World.{World}
 use Rattle.run_state.specs.Worlds.{Belongs, state_of}
+use Rattle.call_records.specs.Joined.{ForJoined}
 use Rattle.function_entry.specs.ArgumentRows.{MakesArguments}
 use Rattle.function_entry.specs.Changing.{Changes}
-use Rattle.function_entry.specs.Declaring.{labelled_with, Joins, MakesNamed}
+use Rattle.function_entry.specs.Declaring.{labelled_with, MakesNamed}
 use Rattle.function_entry.specs.Making.{Makes}
-use Rattle.function_entry.proofs.EntryLaws.{read_entry, entry_read, entry_has}
+use Rattle.function_entry.proofs.EntryLaws.{read_entry, entry_enough, entry_read, entry_has}
 use Rattle.function_entry.proofs.FunctionLaws.{with_both}
 use Rattle.function_entry.proofs.WorldLaws.{context_read}
 
@@ -71,49 +71,7 @@ labelled_has : {T : Type 0} (made : T → Type 0) (here : T) → made here → (
 labelled_has made here m [] = All-nil (HasValue made)
 labelled_has made here m (v ∷ vs) = All-cons (HasValue made) (record { value = v; label = here }) (labelled_with here vs) m (labelled_has made here m vs)
 
-module _ {S T : Type 0} (made : S → T → Type 0) (meaning : S → T → Label) (room : S → ℕ) (firm : S → Bool) where
-  -- ---- arguments, which depend on the context besides
-
-  pub kept_values : (old new : S) → IsKept made meaning room firm old new → (vs : List (Labelled T)) → All (HasValue (made old)) vs → All (HasValue (made new)) vs
-  kept_values old new kept vs all = All-weaker (HasValue (made old)) (HasValue (made new)) vs (λ v m. (kept.labels v.label m).0) all
-
-  pub one_joined : (old new : S) (v : Labelled T) (w : Value) (here label : T) → IsKept made meaning room firm old new → made old v.label → made old here → made new label → meaning new label ≡ union (meaning old v.label) (meaning old here) → w ≡ v.value
-      → Joins made meaning new here (v ∷ []) (record { value = w; label = label } ∷ [])
-  one_joined old new v w here label kept m here_made label_made label_is same = record {
-    says = λ reading is.
-        let earlier = IsReading-earlier made meaning room firm old new reading kept is in
-        ap₂ (λ (x : Value) (l : Label). record { value = x; label = l } ∷ []) same (is.agrees label label_made ∙ label_is ∙ ap₂ union (sym (earlier.agrees v.label m)) (sym (earlier.agrees here here_made)));
-  }
-
-  -- in a loop over arguments, so many are joined
-  pub record Joining (here : T) (first : S) (items : List (Labelled T)) (k : ℕ) (store : S) (news : List (Labelled T)) : Type 0 where
-    pub kept : IsKept made meaning room firm first store
-    pub has : All (HasValue (made store)) news
-    pub joins : Joins made meaning store here (take k items) news
-
-  pub joining_begins : (here : T) (first : S) (items news : List (Labelled T)) → news ≡ [] → Joining here first items 0 first news
-  joining_begins here first items news none = subst (Joining here first items 0 first) (sym none) (record { kept = IsKept-refl made meaning room firm first; has = All-nil (HasValue (made first)); joins = record { says = λ reading is. refl } })
-
-  pub joining_goes : (here : T) (first : S) (items : List (Labelled T)) (k : ℕ) (x v : Labelled T) (store next : S) (news more : List (Labelled T)) → k < length items → x ≡ get_or items k x → Joining here first items k store news → IsKept made meaning room firm store next
-      → Joins made meaning next here (x ∷ []) (v ∷ []) → made next v.label → more ≡ news ++ v ∷ [] → Joining here first items (k + 1) next more
-  joining_goes here first items k x v store next news more lt is so_far kept one m pushed = record {
-    kept = IsKept-trans made meaning room firm first store next so_far.kept kept;
-    has = subst (All (HasValue (made next))) (sym pushed) (All-push (HasValue (made next)) news v (kept_values store next kept news so_far.has) m);
-    joins = record {
-      says = λ reading reads.
-          let join = joined (reading here) in
-          ap (map (read_value reading)) pushed
-          ∙ map-append (read_value reading) news (v ∷ [])
-          ∙ ap₂ (λ (front back : List Val). front ++ back) (so_far.joins.says reading (IsReading-earlier made meaning room firm store next reading kept reads)) (one.says reading reads)
-          ∙ sym (map-append join (map (read_value reading) (take k items)) (map (read_value reading) (x ∷ [])))
-          ∙ ap (map join) (sym (map-append (read_value reading) (take k items) (x ∷ [])))
-          ∙ ap (λ (xs : List (Labelled T)). map join (map (read_value reading) xs)) (ap (λ (y : Labelled T). take k items ++ y ∷ []) is ∙ sym (take_more items k x lt));
-    };
-  }
-
-  pub joining_ends : (here : T) (first : S) (items : List (Labelled T)) (k : ℕ) (store : S) (news : List (Labelled T)) → length items ≤ k → Joining here first items k store news → Joins made meaning store here items news
-  joining_ends here first items k store news le so_far = subst (λ xs. Joins made meaning store here xs news) (take_all k items le) so_far.joins
-
+module _ {S T : Type 0} (made : S → T → Type 0) (meaning : S → T → Label) where
   -- ---- the `arguments` object, where the code names it
 
   pub named_made : (store : S) (here : T) (names : Bool) (number own : ℕ) (args : List (Labelled T)) (old new : List (Object T)) → names ≡ true → MakesArguments made meaning store here number own args old new → MakesNamed made meaning store here names number own args old new
@@ -157,22 +115,26 @@ entry_with this function none args here functions arguments = record {
 }
 
 module _ {S T : Type 0} (made : S → T → Type 0) (meaning : S → T → Label) (room : S → ℕ) (firm : S → Bool) (old new : S) (kept : IsKept made meaning room firm old new) (rising : (store : S) (label : T) → made store label → IsLabel (meaning store label)) (w : World T) (belongs : Belongs made meaning old w) where
-  module _ (functions : List FunctionCode) (number : ℕ) (f : Function) (body : Statements) (body_is : body_of f ≡ body) (place own : EnvId) (own_is : own.0 ≡ length w.records) (this : Labelled T) (args news references : List (Labelled T)) (function : Value) (arguments : ObjId)
+  module _ (functions : List FunctionCode) (number : ℕ) (f : Function) (body : Statements) (body_is : body_of f ≡ body) (place own : EnvId) (own_is : own.0 ≡ length w.records) (this : Labelled T) (args references : List (Labelled T)) (function : Value) (arguments : ObjId)
       (this_made : made old this.label) (here : T) (here_made : made old here) (here_is : meaning old here ≡ context (seen meaning old w.frames.frames)) (none : T) (none_made : made new none)
       (references_are : references ≡ labelled_with here (references_of (length w.heap) (declared_functions body))) where
+    -- the record is made, with values for the parameters to which the arguments are joined
+    abbrev Binds : List (Record (Labelled T)) → Type 0
+    Binds records = ForJoined made meaning new here (take (length (params_of f)) args) (λ vs. records ≡ w.records ++ entry_record f place.0 (entry_with this function none vs here references arguments) ∷ [])
+
     -- its record belongs
-    pub entry_belongs : (records : List (Record (Labelled T))) → records ≡ w.records ++ entry_record f place.0 (entry_with this function none news here references arguments) ∷ [] → All (HasValue (made new)) news → HasRecords (made new) records
-    entry_belongs records bound has =
+    pub entry_belongs : (records : List (Record (Labelled T))) → Binds records → HasRecords (made new) records
+    entry_belongs records binds =
         let here_later = (kept.labels here here_made).0 in
-        subst (HasRecords (made new)) (sym bound)
-        (All-push (HasRecord (made new)) w.records (entry_record f place.0 (entry_with this function none news here references arguments)) (HasRecords-kept made meaning room firm old new kept w.records belongs.records)
-        (entry_has (made new) f place.0 (entry_with this function none news here references arguments) (kept.labels this.label this_made).0 none_made has here_later
+        subst (HasRecords (made new)) (sym binds.holds)
+        (All-push (HasRecord (made new)) w.records (entry_record f place.0 (entry_with this function none binds.values here references arguments)) (HasRecords-kept made meaning room firm old new kept w.records belongs.records)
+        (entry_has (made new) f place.0 (entry_with this function none binds.values here references arguments) (kept.labels this.label this_made).0 none_made binds.has here_later
         (subst (All (HasValue (made new))) (sym references_are) (labelled_has (made new) here here_later (references_of (length w.heap) (declared_functions body)))) here_later))
 
     module _ (first second : S) (first_kept : IsKept made meaning room firm first new) (second_kept : IsKept made meaning room firm second new) (names : Bool) (names_are : names ≡ names_in_statements (body_of f)) (none_is : meaning new none ≡ bottom) (function_is : function ≡ value.Primitive (Num (pos number)))
         (middle heap : List (Object T)) (records : List (Record (Labelled T))) (arguments_are : arguments.0 ≡ length middle) (behind : length middle ≡ behind_functions (length w.heap) (declared_functions body))
         (makes : Makes made meaning first here (objects_of functions (length w.heap) own.0 (declared_functions body)) w.heap middle) (makes_named : MakesNamed made meaning second here names number own.0 args middle heap)
-        (joins : Joins made meaning new here args news) (bound : records ≡ w.records ++ entry_record f place.0 (entry_with this function none news here references arguments) ∷ []) where
+        (binds : Binds records) where
       module _ (reading : T → Label) (is : IsReading made meaning new reading) where
         -- the objects
         heap_read : read_heap reading heap ≡ read_heap reading w.heap ++ (made_objects (reading here) (objects_of functions (length w.heap) (length w.records) (declared_functions body)) ++ made_if (names_in_statements body) (arguments_object number (length w.records) (map (read_value reading) args) (reading here)))
@@ -183,19 +145,20 @@ module _ {S T : Type 0} (made : S → T → Type 0) (meaning : S → T → Label
             ∙ ap₂ (λ (k : ℕ) (b : Bool). read_heap reading w.heap ++ (made_objects (reading here) (objects_of functions (length w.heap) k (declared_functions body)) ++ made_if b (arguments_object number k (map (read_value reading) args) (reading here)))) own_is (names_are ∙ ap names_in_statements body_is)
 
         -- the values of the record
-        values_read : read_entry reading (entry_with this function none news here references arguments) ≡ entry_of number (read_value reading this) (map (read_value reading) args) body (reading here) (length w.heap)
+        values_read : read_entry reading (entry_with this function none binds.values here references arguments) ≡ record (entry_of number (read_value reading this) (map (read_value reading) args) body (reading here) (length w.heap)) { args = take (length (params_of f)) (map (joined (reading here)) (map (read_value reading) args)) }
         values_read =
-            ap₂ (λ (v : Value) (l : Label). record (read_entry reading (entry_with this function none news here references arguments)) { function = labelled_by l v }) function_is (is.agrees none none_made ∙ none_is)
+            ap₂ (λ (v : Value) (l : Label). record (read_entry reading (entry_with this function none binds.values here references arguments)) { function = labelled_by l v }) function_is (is.agrees none none_made ∙ none_is)
             ∙ ap₂ (λ (vs us : List Val). record { this = read_value reading this; function = unlabelled (value.Primitive (Num (pos number))); args = vs; missing = labelled_by (reading here) undefined; functions = us; arguments = labelled_by (reading here) (value.Object arguments) })
-            (joins.says reading is) (ap (map (read_value reading)) references_are ∙ labelled_read reading here (references_of (length w.heap) (declared_functions body)))
-            ∙ ap (λ (n : ℕ). record (entry_of number (read_value reading this) (map (read_value reading) args) body (reading here) (length w.heap)) { arguments = labelled_by (reading here) (value.Object (id n)) }) (arguments_are ∙ behind)
+            (binds.joins.says reading is ∙ ap (map (joined (reading here))) (sym (take-map (read_value reading) (length (params_of f)) args)) ∙ sym (take-map (joined (reading here)) (length (params_of f)) (map (read_value reading) args))) (ap (map (read_value reading)) references_are ∙ labelled_read reading here (references_of (length w.heap) (declared_functions body)))
+            ∙ ap (λ (n : ℕ). record (entry_of number (read_value reading this) (map (read_value reading) args) body (reading here) (length w.heap)) { args = take (length (params_of f)) (map (joined (reading here)) (map (read_value reading) args)); arguments = labelled_by (reading here) (value.Object (id n)) }) (arguments_are ∙ behind)
 
         records_read : read_records reading records ≡ read_records reading w.records ++ entry_record f place.0 (entry_of number (read_value reading this) (map (read_value reading) args) body (reading here) (length w.heap)) ∷ []
         records_read =
-            ap (read_records reading) bound
-            ∙ map-append (read_record reading) w.records (entry_record f place.0 (entry_with this function none news here references arguments) ∷ [])
-            ∙ ap (λ (r : Record Val). read_records reading w.records ++ r ∷ []) (entry_read reading f place.0 (entry_with this function none news here references arguments))
+            ap (read_records reading) binds.holds
+            ∙ map-append (read_record reading) w.records (entry_record f place.0 (entry_with this function none binds.values here references arguments) ∷ [])
+            ∙ ap (λ (r : Record Val). read_records reading w.records ++ r ∷ []) (entry_read reading f place.0 (entry_with this function none binds.values here references arguments))
             ∙ ap (λ (e : Entry Val). read_records reading w.records ++ entry_record f place.0 e ∷ []) values_read
+            ∙ ap (λ (r : Record Val). read_records reading w.records ++ r ∷ []) (entry_enough f place.0 (entry_of number (read_value reading this) (map (read_value reading) args) body (reading here) (length w.heap)))
 
       pub entered : Changes made meaning new (λ reading. with_call functions number f place.0 (read_value reading this) (map (read_value reading) args)) w (with_both heap records w)
       unfolding with_call

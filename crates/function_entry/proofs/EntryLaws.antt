@@ -1,5 +1,5 @@
 -- The record of a call: in a reading, and that its labels are those of its values.
-use Rattle.std.proofs.Common.{refl, sym, ap, ◌∙◌, ◌≡◌, ℕ, Bool, true, false, List, [], ◌∷◌, ◌++◌, map, Option, Some, None, if◌then◌else◌}
+use Rattle.std.proofs.Common.{refl, sym, ap, ◌∙◌, ◌≡◌, ℕ, Bool, true, false, List, [], ◌∷◌, ◌++◌, length, map, take, Option, Some, None, if◌then◌else◌}
 use Rattle.std.specs.List.{All}
 use Rattle.std.specs.Option.{option_map}
 use Rattle.std.proofs.lemmas.List.{map-append}
@@ -13,6 +13,20 @@ use Rattle.js_values.specs.Readings.{HasRecord, HasValue, read_value, read_bindi
 use Rattle.es_meaning.specs.Declared.{declared_functions, declared_statements}
 use Rattle.es_meaning.specs.Functions.{this_name, function_name, binds, bound_by, kept_by, name_text, with_parameters, with_functions, with_arguments, with_variables, Entry, entry_bindings, entry_record}
 use Rattle.es_meaning.specs.Naming.{arguments_name, names_in_statements}
+
+-- ---- its arguments
+
+-- those behind the last parameter have no name
+parameters_enough : {V : Type 0} (missing : V) (ps : List Ident) (vs : List V) (bindings : Bindings V) → with_parameters missing ps (take (length ps) vs) bindings ≡ with_parameters missing ps vs bindings
+parameters_enough missing [] vs bindings = refl
+parameters_enough missing (p ∷ ps) [] bindings = refl
+parameters_enough missing (p ∷ ps) (v ∷ vs) bindings = parameters_enough missing ps vs (bound_by (found p.text bindings) p.text v bindings)
+
+pub entry_enough : {V : Type 0} (f : Function) (place : ℕ) (entry : Entry V) → entry_record f place (record entry { args = take (length (params_of f)) entry.args }) ≡ entry_record f place entry
+unfolding entry_bindings
+entry_enough {V} f place entry =
+    ap (λ (bs : Bindings V). record { outer = (entry_record f place entry).outer; bindings = with_variables entry.missing (declared_statements (body_of f)) (with_arguments (names_in_statements (body_of f)) entry.arguments (with_functions (declared_functions (body_of f)) entry.functions bs)) })
+    (parameters_enough entry.missing (params_of f) entry.args (binds false this_name entry.this ++ binds false function_name entry.function))
 
 -- ---- in a reading
 

@@ -12,7 +12,7 @@ ghost use Rattle.flow_meaning.specs.Tracked.{with_call};
 ghost use Rattle.function_table.specs.Tables.{table};
 ghost use Rattle.run_state.specs.Worlds.{Belongs, Grows};
 ghost use Rattle.function_entry.specs.Changing.{Changes};
-ghost use Rattle.function_entry.specs.Declaring.{Joins, MakesNamed};
+ghost use Rattle.function_entry.specs.Declaring.{MakesNamed};
 
 use crate::arguments::make_arguments;
 use crate::declaring::make_declared;
@@ -28,51 +28,15 @@ use run_state::World;
 use std::alloc::Global;
 
 // A number as a value.
+#[inline(always)]
 fn number_value(n: u32) -> Value
     ensures { result ≡ PrimitiveValue (Num (pos n)) }
 {
     Value::Primitive(Primitive::Num(Int::new(i64::from(n)).unwrap()))
 }
 
-// A value that depends on the context besides.
-fn join_argument<T: Copy, L: Labels<Label = T>>(
-    alloc: Global,
-    labels: &mut L,
-    value: &Labelled<T>,
-    context: T,
-) -> Result<Labelled<T>, OutOfMemory>
-    requires value { L.made labels.old value.now.label }
-    requires context { L.made labels.old context }
-    ensures joins { IfOk result (λ v. Joins L.made L.meaning labels.new context (value.now ∷ []) (v ∷ [])) }
-    ensures made { IfOk result (HasValue (L.made labels.new)) }
-    ensures kept { IsKept L.made L.meaning L.room L.firm labels.old labels.new }
-{
-    let label = labels.join(value.label, context)?;
-    let value = value.value.copy(alloc)?;
-    Ok(Labelled { value, label })
-}
-
-// The arguments, which depend on the context besides.
-fn join_arguments<T: Copy, L: Labels<Label = T>>(
-    alloc: Global,
-    labels: &mut L,
-    args: &[Labelled<T>],
-    context: T,
-) -> Result<Vec<Labelled<T>>, OutOfMemory>
-    requires args { All (HasValue (L.made labels.old)) args.now }
-    requires context { L.made labels.old context }
-    ensures joins { IfOk result (λ vs. Joins L.made L.meaning labels.new context args.now vs.items) }
-    ensures made { IfOk result (λ vs. All (HasValue (L.made labels.new)) vs.items) }
-    ensures kept { IsKept L.made L.meaning L.room L.firm labels.old labels.new }
-{
-    let mut joined = Vec::with_capacity(alloc, args.len())?;
-    'values: for value in args {
-        joined.push(join_argument(alloc, labels, value, context)?)?;
-    }
-    Ok(joined)
-}
-
 // Makes the `arguments` object, if the code of the function names it. Its number is that of the object that is made next.
+#[inline(always)]
 fn make_named<T: Copy, L: Labels<Label = T>>(
     alloc: Global,
     labels: &mut L,
@@ -142,14 +106,12 @@ pub fn enter<T: Copy, L: Labels<Label = T>>(
     let heap = &mut world.heap;
     let declared = make_declared(alloc, labels, heap, context, functions, &f.body, own)?;
     let arguments = make_named(alloc, labels, keys, heap, context, named, number, own, args)?;
-    let joined = join_arguments(alloc, labels, args, context)?;
     let entry = Entry {
         this,
         function: Labelled {
             value: number_value(number),
             label: labels.bottom(),
         },
-        args: joined,
         missing: Labelled {
             value: Value::Primitive(Primitive::Undefined),
             label: context,
@@ -160,6 +122,14 @@ pub fn enter<T: Copy, L: Labels<Label = T>>(
             label: context,
         },
     };
-    let e = layout.enter(alloc, &mut world.records, place, entry)?;
+    let e = layout.enter(
+        alloc,
+        labels,
+        &mut world.records,
+        place,
+        args,
+        context,
+        entry,
+    )?;
     Ok(e)
 }

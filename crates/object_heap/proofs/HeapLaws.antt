@@ -20,7 +20,8 @@ use Rattle.js_values.specs.Readings.{IsReading, HasObject, HasHeap, read_object,
 use Rattle.js_values.proofs.ReadingLaws.{HasHeap-kept}
 use Rattle.object_heap.specs.Acts.{Act, act_on, on_object, put_back}
 use Rattle.object_heap.specs.Answers.{Acts, read_stop}
-use Rattle.object_heap.specs.Formed.{IsFormed, LeadsAs, target_of, own_in}
+use Rattle.object_heap.specs.Formed.{IsFormed, LeadsAs, target_of, own_in, rows_in}
+use Rattle.object_heap.specs.Places.{StandsAt}
 
 -- ---- an act on the object with a number
 
@@ -125,6 +126,17 @@ module _ {T : Type 0} (items : List (Object T)) where
 
   pub present_there : (key : List ℕ) (i : ℕ) (x : Object T) → slice_get items i ≡ Some x → IsSome (own_in key (slice_get items i)) → IsSome (own key x.rows)
   present_there key i x here present = sym (ap (λ o. is_some (own_in key o)) here) ∙ present
+
+  -- and so is one that has a property at a place
+  pub place_within : (i place : ℕ) → place < length (rows_in (slice_get items i)) → i < length items
+  place_within i place there = within (slice_get items i) refl there
+    where
+      within : (o : Option (Object T)) → slice_get items i ≡ o → place < length (rows_in o) → i < length items
+      within None here there = absurd (omega (arith, there))
+      within (Some p) here there = slice_get_within items i p here
+
+  pub stands_there : (key : List ℕ) (i place : ℕ) (x : Object T) → slice_get items i ≡ Some x → StandsAt key (rows_in (slice_get items i)) place → StandsAt key x.rows place
+  stands_there key i place x here stands = subst (λ o. StandsAt key (rows_in o) place) here stands
 
   pub HasObject-of : (made : T → Type 0) (i : ℕ) (x : Object T) → slice_get items i ≡ Some x → HasHeap made items → HasObject made x
   HasObject-of made i x here has = subst (HasObject made) (same_Some _ x (sym (slice_get-get_or items i x (slice_get_within items i x here)) ∙ here)) (has i x (slice_get_within items i x here))

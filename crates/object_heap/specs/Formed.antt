@@ -1,11 +1,11 @@
 -- Heaps whose objects lead to those that were made before them.
-use Rattle.std.specs.Prelude.{◌≡◌, ℕ, List, Option, Some, None, slice_get}
+use Rattle.std.specs.Prelude.{◌≡◌, ℕ, List, [], Option, Some, None, slice_get}
 use Rattle.js_values.specs.declared.property.Slot.{Slot}
 use Rattle.js_values.specs.declared.inner.Inner.{Inner}
 use Rattle.js_values.specs.declared.inner.Inner.TheVariants.{Plain, Script, Native, Bound}
 use Rattle.js_values.specs.Chains.{LeadBack}
 use Rattle.object_heap.specs.declared.shape.Shape.{Shape}
-use Rattle.js_values.specs.Objects.{Object, number_of, own}
+use Rattle.js_values.specs.Objects.{Object, Rows, number_of, own}
 
 -- the number of what a bound function calls
 abbrev pub target_of : {T : Type 0} → Inner T → Option ℕ
@@ -28,6 +28,11 @@ own_in key (Some p) = own key p.rows
 abbrev pub row_in : {T : Type 0} → ℕ → Option (Object T) → Option (List ℕ × Slot T)
 row_in n None = None
 row_in n (Some p) = slice_get p.rows n
+
+-- the properties of the object with a number
+abbrev pub rows_in : {T : Type 0} → Option (Object T) → Rows (Slot T)
+rows_in None = []
+rows_in (Some p) = p.rows
 
 -- the object leads to the same prototype as before, and has the same inner part
 pub record LeadsAs {T : Type 0} (old new : Object T) : Type 0 where

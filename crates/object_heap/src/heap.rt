@@ -8,7 +8,8 @@ ghost use Rattle.js_values.specs.Objects.{fresh_object};
 ghost use Rattle.js_values.specs.Readings.{HasHeap, HasInner, read_heap, read_value};
 ghost use Rattle.object_heap.specs.Acts.{act_on, overwrite_own, new_object, write, set_body, set_attributes, raise_existence, add, remove, raise_structure, prevent_extensions, give};
 ghost use Rattle.object_heap.specs.Answers.{Acts};
-ghost use Rattle.object_heap.specs.Formed.{IsFormed, own_in, row_in, target_of, IsShape, IsInner};
+ghost use Rattle.object_heap.specs.Formed.{IsFormed, own_in, row_in, rows_in, target_of, IsShape, IsInner};
+ghost use Rattle.object_heap.specs.Places.{IsPlace, StandsAt};
 
 use crate::object::Object;
 use crate::shape::Shape;
@@ -120,6 +121,22 @@ impl<T: Copy> Heap<T> {
         self.object(o).own_at(n)
     }
 
+    /// The place of the property of an object with the key of a text. It holds until a property of that object is added or taken away.
+    pub fn place_named(&self, o: ObjId, name: &Text) -> Option<usize>
+        requires { o.0 < length self.now }
+        ensures { IsPlace name.now (rows_in (slice_get self.now o.0)) result }
+    {
+        self.object(o).place(name)
+    }
+
+    /// The property of an object at a place that it has.
+    pub fn slot_at(&self, o: ObjId, place: usize) -> &Slot<T>
+        requires { place < length (rows_in (slice_get self.now o.0)) }
+        ensures { option_map (λ r. r.1) (slice_get (rows_in (slice_get self.now o.0)) place) ≡ Some result.now }
+    {
+        self.object(o).slot(place)
+    }
+
     /// Writes a value over that of a property which is data: by rule W2, or by W1 where it is a global name.
     pub fn write<L: Labels<Label = T>>(
         &mut self,
@@ -166,6 +183,40 @@ impl<T: Copy> Heap<T> {
     {
         let body = Body::Data(value.value);
         self.overwrite(labels, rule, o, name, need, body, value.label)?;
+        Ok(())
+    }
+
+    /// The same for the key of a text that stands at a place. The place holds until a property of that object is added or taken away.
+    pub fn write_at<L: Labels<Label = T>>(
+        &mut self,
+        labels: &mut L,
+        rule: Rule,
+        o: ObjId,
+        name: &Text,
+        place: usize,
+        need: T,
+        value: Labelled<T>,
+    ) -> Result<(), FlowFault<T>>
+        requires stands { StandsAt name.now (rows_in (slice_get self.old o.0)) place }
+        requires need { L.made labels.old need }
+        requires value { L.made labels.old value.label }
+        requires belongs { HasHeap (L.made labels.old) self.old }
+        ensures acts { Acts L.made L.meaning labels.new read_heap (λ reading. write rule o.0 name.now (reading need) (read_value reading value)) self.old self.new result }
+        ensures length { length self.new ≡ length self.old }
+        ensures belongs { HasHeap (L.made labels.new) self.new }
+        ensures kept { IsKept L.made L.meaning L.room L.firm labels.old labels.new }
+        ensures firm { L.firm labels.old ≡ true → IfErr result IsStop }
+    {
+        let body = Body::Data(value.value);
+        self.objects[o.0 as usize].overwrite_at(
+            labels,
+            rule,
+            name,
+            place,
+            need,
+            body,
+            value.label,
+        )?;
         Ok(())
     }
 

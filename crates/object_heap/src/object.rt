@@ -103,15 +103,15 @@ impl<T: Copy> Object<T> {
         self.rows.at(n)
     }
 
-    /// The place of the property with a key.
-    fn place(&self, name: &Text) -> Option<usize>
+    /// The place of the property with a key. It holds until a property is added or taken away.
+    pub(crate) fn place(&self, name: &Text) -> Option<usize>
         ensures { IsPlace name.now self.now.rows result }
     {
         self.rows.place(name)
     }
 
     /// The property at a place.
-    fn slot(&self, place: usize) -> &Slot<T>
+    pub(crate) fn slot(&self, place: usize) -> &Slot<T>
         requires { place < length self.now.rows }
         ensures { option_map (λ r. r.1) (slice_get self.now.rows place) ≡ Some result.now }
     {
@@ -179,6 +179,30 @@ impl<T: Copy> Object<T> {
         ensures firm { L.firm labels.old ≡ true → IfErr result IsStop }
     {
         let place = self.present_named(name);
+        self.overwrite_at(labels, rule, name, place, need, body, label)
+    }
+
+    /// The same of the property at a place where its key stands.
+    pub(crate) fn overwrite_at<L: Labels<Label = T>>(
+        &mut self,
+        labels: &mut L,
+        rule: Rule,
+        _name: &Text,
+        place: usize,
+        need: T,
+        body: Body,
+        label: T,
+    ) -> Result<(), FlowFault<T>>
+        requires stands { StandsAt _name.now self.old.rows place }
+        requires need { L.made labels.old need }
+        requires label { L.made labels.old label }
+        requires belongs { HasObject (L.made labels.old) self.old }
+        ensures acts { Acts L.made L.meaning labels.new read_object (λ reading. overwrite_own rule _name.now (reading need) body (reading label)) self.old self.new result }
+        ensures belongs { HasObject (L.made labels.new) self.new }
+        ensures leads { LeadsAs self.old self.new }
+        ensures kept { IsKept L.made L.meaning L.room L.firm labels.old labels.new }
+        ensures firm { L.firm labels.old ≡ true → IfErr result IsStop }
+    {
         let have = self.value_label(labels, place)?;
         check(labels, rule, need, have)?;
         let label = labels.join(label, need)?;

@@ -1,5 +1,5 @@
 -- What bound functions come to, in a reading of the labels.
-use Rattle.std.proofs.Common.{arith, ◌≡◌, ◌<◌, ◌≤◌, ℕ, zero, suc, Bool, List, [], ◌∷◌, ◌++◌, append_assoc, map, length, Option, Some, None, refl, sym, ap, ap₂, subst, ◌∙◌}
+use Rattle.std.proofs.Common.{arith, ◌≡◌, ◌<◌, ◌≤◌, ℕ, zero, suc, Bool, false, true≢false, List, [], ◌∷◌, ◌++◌, append_assoc, map, length, Option, Some, None, refl, sym, ap, ap₂, subst, ◌∙◌}
 use Rattle.std.specs.List.{All, slice_get}
 use Rattle.std.specs.Option.{option_map}
 use Rattle.std.proofs.lemmas.List.{map-append}
@@ -19,7 +19,7 @@ use Rattle.es_meaning.specs.Functions.{bound_behind}
 use Rattle.flow_meaning.specs.Requested as requested
 use Rattle.flow_meaning.specs.Requested.{own_aim, aim_behind, aim_in, aim_within, aim_of}
 use Rattle.step_calling.specs.declared.bound_target.BoundTarget.{BoundTarget}
-use Rattle.step_calling.specs.BoundTargets.{ComesTo, HasBoundTarget, IsBoundTarget, IsBehind, StandsBound, beyond, bound_in, read_bound_target}
+use Rattle.step_calling.specs.BoundTargets.{ComesTo, ComesToItself, HasBoundTarget, IsBoundTarget, IsBehind, StandsBound, beyond, bound_in, holds_target, read_bound_target}
 
 -- ---- an object, and its target
 
@@ -179,10 +179,22 @@ module _ {S T : Type 0} (made : S → T → Type 0) (meaning : S → T → Label
         ∙ ap (λ l. record (read_bound_target reading a) { label = l }) (union-bottom (reading a.label) (subst IsLabel (sym (read.agrees a.label has.label)) (rising a.label has.label)));
   }
 
-  -- one that isn't bound, and one that isn't there
-  pub comes_own : (made : S → T → Type 0) (meaning : S → T → Label) (store : S) → StandsBound heap o None → ComesTo made meaning store heap o None
-  comes_own made meaning store there reading = aim_here reading heap formed o there.object there.here ∙ free_aim reading (aim_of (read_heap reading heap)) o there.object.inner (sym there.is)
+-- one that isn't bound, and one that isn't there
+pub holds_none : {T : Type 0} (x : Inner T) → holds_target x ≡ false → None ≡ bound_in x
+holds_none Plain free = refl
+holds_none (Script function env) free = refl
+holds_none (Native which) free = refl
+holds_none (Bound target label this args) free = absurd (true≢false free)
+
+pub own_itself : {T : Type 0} (heap : List (Object T)) → IsFormed heap → (o : ℕ) → StandsBound heap o None → ComesToItself heap o
+own_itself heap formed o there reading = aim_here reading heap formed o there.object there.here ∙ free_aim reading (aim_of (read_heap reading heap)) o there.object.inner (sym there.is)
+
+pub nowhere_itself : {T : Type 0} (heap : List (Object T)) (o : ℕ) → length heap ≤ o → ComesToItself heap o
+nowhere_itself heap o past reading =
+    ap (aim_in (aim_within (read_heap reading heap) o) o) (slice_get-map (read_object reading) heap o ∙ ap (option_map (read_object reading)) (slice_get_past heap o past))
+
+pub comes_own : {S T : Type 0} (made : S → T → Type 0) (meaning : S → T → Label) (store : S) (heap : List (Object T)) → IsFormed heap → (o : ℕ) → StandsBound heap o None → ComesTo made meaning store heap o None
+comes_own made meaning store heap formed o there = own_itself heap formed o there
 
 pub comes_nowhere : {S T : Type 0} (made : S → T → Type 0) (meaning : S → T → Label) (store : S) (heap : List (Object T)) (o : ℕ) → length heap ≤ o → ComesTo made meaning store heap o None
-comes_nowhere made meaning store heap o past reading =
-    ap (aim_in (aim_within (read_heap reading heap) o) o) (slice_get-map (read_object reading) heap o ∙ ap (option_map (read_object reading)) (slice_get_past heap o past))
+comes_nowhere made meaning store heap o past = nowhere_itself heap o past

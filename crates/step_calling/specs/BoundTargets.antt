@@ -1,5 +1,5 @@
 -- What a bound function comes to, in the labels of a store.
-use Rattle.std.specs.Prelude.{◌≡◌, ℕ, List, ◌++◌, map, Option, Some, None, slice_get}
+use Rattle.std.specs.Prelude.{◌≡◌, ℕ, Bool, true, false, List, ◌++◌, map, Option, Some, None, slice_get}
 use Rattle.std.specs.List.{All}
 use Rattle.origin_labels.specs.Label.{Label, union}
 use Rattle.js_values.specs.declared.inner.Inner.{Inner}
@@ -19,6 +19,13 @@ bound_in Plain = None
 bound_in (Script function env) = None
 bound_in (Native which) = None
 
+-- whether it is one
+abbrev pub holds_target : {T : Type 0} → Inner T → Bool
+holds_target (Bound target label this args) = true
+holds_target Plain = false
+holds_target (Script function env) = false
+holds_target (Native which) = false
+
 -- an object whose inner part is bound, or isn't
 pub record StandsBound {T : Type 0} (heap : List (Object T)) (i : ℕ) (b : Option (BoundTarget T)) : Type 0 where
   pub object : Object T
@@ -37,6 +44,10 @@ read_bound_target reading a = record { target = record { function = a.function.0
 abbrev pub beyond : {T : Type 0} → (T → Label) → BoundTarget T → requested.Aim → requested.Aim
 beyond reading a rest = record { target = bound_behind (read_value reading a.this) (map (read_value reading) a.args) rest.target; label = union (reading a.label) rest.label }
 
+-- what an object comes to that isn't bound: itself
+abbrev pub ComesToItself : {T : Type 0} → List (Object T) → ℕ → Type 0
+ComesToItself heap o = (reading : _ → Label) → aim_of (read_heap reading heap) o ≡ own_aim o
+
 module _ {S T : Type 0} (made : S → T → Type 0) (meaning : S → T → Label) (store : S) where
   -- an aim with that of its function
   pub record IsBehind (a next : BoundTarget T) (joined : BoundTarget T) : Type 0 where
@@ -51,5 +62,5 @@ module _ {S T : Type 0} (made : S → T → Type 0) (meaning : S → T → Label
     pub is : (reading : T → Label) → IsReading made meaning store reading → aim_of (read_heap reading heap) o ≡ read_bound_target reading a
 
   abbrev pub ComesTo : List (Object T) → ℕ → Option (BoundTarget T) → Type 0
-  ComesTo heap o None = (reading : T → Label) → aim_of (read_heap reading heap) o ≡ own_aim o
+  ComesTo heap o None = ComesToItself heap o
   ComesTo heap o (Some a) = IsBoundTarget heap o a

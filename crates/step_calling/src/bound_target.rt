@@ -1,10 +1,10 @@
 //! What a bound function comes to (ECMA-262 15.3.4.5.1).
 
-ghost use Rattle.std.specs.Prelude.{◌≡◌, ◌<◌, Some, None, IfOk, length, slice_get};
+ghost use Rattle.std.specs.Prelude.{◌≡◌, ◌<◌, false, Some, None, IfOk, length, slice_get};
 ghost use Rattle.origin_labels.specs.Label.{union};
 ghost use Rattle.origin_labels.specs.Stores.{IsKept};
 ghost use Rattle.js_values.specs.Readings.{HasHeap, HasInner, HasValue};
-ghost use Rattle.step_calling.specs.BoundTargets.{ComesTo, HasBoundTarget, IsBoundTarget, IsBehind, StandsBound, bound_in};
+ghost use Rattle.step_calling.specs.BoundTargets.{ComesTo, ComesToItself, HasBoundTarget, IsBoundTarget, IsBehind, StandsBound, bound_in, holds_target};
 
 use crate::lists::{append, in_front};
 use flow_text::OutOfMemory;
@@ -20,6 +20,28 @@ pub struct BoundTarget<T> {
     pub label: T,
     pub this: Labelled<T>,
     pub args: ArgList<T>,
+}
+
+/// Whether an object is a bound function. Any other comes to itself, as one does that isn't there. Hardly any function is bound, and this makes no target.
+#[inline(always)]
+pub(crate) fn is_bound<T: Copy>(heap: &Heap<T>, o: ObjId) -> bool
+    ensures { result ≡ false → ComesToItself heap.now o.0 }
+{
+    if o.0 >= heap.len() {
+        return false;
+    }
+    holds_target(heap.inner(o))
+}
+
+/// Whether an inner part is that of a bound function.
+#[inline(always)]
+fn holds_target<T: Copy>(inner: &Inner<T>) -> bool
+    ensures { result ≡ holds_target inner.now }
+{
+    match inner {
+        Inner::Bound { .. } => true,
+        Inner::Plain | Inner::Script { .. } | Inner::Native { .. } => false,
+    }
 }
 
 /// What the call of an object comes to, if it is a bound function. An object that isn't there is none.

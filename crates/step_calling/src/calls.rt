@@ -41,6 +41,7 @@ use std::alloc::Global;
 use step_natives::{NativeStates, enter_frame};
 
 /// The value above the `this` that lies undermost is called with so many arguments.
+#[inline(always)]
 pub fn call<'p, L: Labels, N: Natives>(
     alloc: Global,
     labels: &mut L,
@@ -81,6 +82,7 @@ pub fn call<'p, L: Labels, N: Natives>(
 }
 
 /// An object is called, or what it comes to.
+#[inline(always)]
 fn call_object<'p, L: Labels, N: Natives>(
     alloc: Global,
     labels: &mut L,
@@ -122,6 +124,7 @@ fn call_object<'p, L: Labels, N: Natives>(
 }
 
 /// What was reached is called.
+#[inline(always)]
 fn call_reached<'p, L: Labels, N: Natives>(
     alloc: Global,
     labels: &mut L,
@@ -158,6 +161,7 @@ fn call_reached<'p, L: Labels, N: Natives>(
 }
 
 /// What is no built-in is called in the frame of a call.
+#[inline(always)]
 fn call_function<'p, L: Labels>(
     alloc: Global,
     labels: &mut L,
@@ -189,6 +193,7 @@ fn call_function<'p, L: Labels>(
 }
 
 /// What is done in the frame of a call, by what is called.
+#[inline(always)]
 fn go_in<'p, L: Labels>(
     alloc: Global,
     labels: &mut L,

@@ -36,6 +36,7 @@ use run_state::World;
 use std::alloc::Global;
 
 /// What a function of the script does.
+#[inline(always)]
 #[tactic(auto, using(js_ast::proofs::ViewLaws::parts_function))]
 fn body(function: &Function) -> &[Stmt]
     ensures { view_stmts result.now ≡ body_of (view_function function.entry.now) }
@@ -44,6 +45,7 @@ fn body(function: &Function) -> &[Stmt]
 }
 
 /// Whether a built-in runs next.
+#[inline(always)]
 fn is_request(next: Control<'_>) -> bool
     ensures { running next.entry ≡ given result }
 {
@@ -51,6 +53,7 @@ fn is_request(next: Control<'_>) -> bool
 }
 
 /// The statements of a function. None of them is a built-in's request.
+#[inline(always)]
 pub(crate) fn begin_body<'p, T: Copy>(
     stack: &mut Stack<'p, T>,
     function: &'p Function,
@@ -69,6 +72,7 @@ pub(crate) fn begin_body<'p, T: Copy>(
 }
 
 /// A function of the script is called (ECMA-262 13.2.1).
+#[inline(always)]
 pub(crate) fn enter_script<'p, L: Labels>(
     alloc: Global,
     labels: &mut L,

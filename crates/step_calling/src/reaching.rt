@@ -7,7 +7,7 @@ ghost use Rattle.js_values.specs.Readings.{HasHeap};
 ghost use Rattle.step_natives.specs.Framed.{Leads};
 ghost use Rattle.step_calling.specs.Reaching.{ReachesCall, ReachesConstruction};
 
-use crate::bound_target::bound_target_of;
+use crate::bound_target::{bound_target_of, is_bound};
 use crate::laying::{lay_call, lay_construction};
 use continuations::Stack;
 use flow_text::OutOfMemory;
@@ -25,7 +25,38 @@ pub(crate) struct Reached<T> {
 }
 
 /// The function that a call reaches which has this label itself. What lies loose is what that is called with.
+#[inline(always)]
 pub(crate) fn reach_call<'p, T: Copy, L: Labels<Label = T>>(
+    alloc: Global,
+    labels: &mut L,
+    heap: &Heap<T>,
+    stack: &mut Stack<'p, T>,
+    count: usize,
+    f: ObjId,
+    label: T,
+) -> Result<Reached<T>, OutOfMemory>
+    requires count { count ≡ length stack.old.loose }
+    requires enough { 2 ≤ count }
+    requires label { L.made labels.old label }
+    requires leads { Leads (drop 1 stack.old.loose) (record { value = value.Object f; label = label }) }
+    requires belongs { HasHeap (L.made labels.old) heap.now }
+    ensures reaches { IfOk result (ReachesCall L.made L.meaning labels.new heap.now f label stack.old stack.new) }
+    ensures kept { IsKept L.made L.meaning L.room L.firm labels.old labels.new }
+{
+    if is_bound(heap, f) {
+        reach_bound_call(alloc, labels, heap, stack, count, f, label)
+    } else {
+        Ok(Reached {
+            function: f,
+            label,
+            count,
+        })
+    }
+}
+
+/// The same of a function that is bound, as hardly any is. It isn't inlined, so that the call of any other makes no room for a target.
+#[inline(never)]
+fn reach_bound_call<'p, T: Copy, L: Labels<Label = T>>(
     alloc: Global,
     labels: &mut L,
     heap: &Heap<T>,
@@ -62,8 +93,39 @@ pub(crate) fn reach_call<'p, T: Copy, L: Labels<Label = T>>(
     }
 }
 
-/// The same of a construction.
+/// The function that a construction reaches.
+#[inline(always)]
 pub(crate) fn reach_construction<'p, T: Copy, L: Labels<Label = T>>(
+    alloc: Global,
+    labels: &mut L,
+    heap: &Heap<T>,
+    stack: &mut Stack<'p, T>,
+    count: usize,
+    f: ObjId,
+    label: T,
+) -> Result<Reached<T>, OutOfMemory>
+    requires count { count ≡ length stack.old.loose }
+    requires enough { 1 ≤ count }
+    requires label { L.made labels.old label }
+    requires leads { Leads stack.old.loose (record { value = value.Object f; label = label }) }
+    requires belongs { HasHeap (L.made labels.old) heap.now }
+    ensures reaches { IfOk result (ReachesConstruction L.made L.meaning labels.new heap.now f label stack.old stack.new) }
+    ensures kept { IsKept L.made L.meaning L.room L.firm labels.old labels.new }
+{
+    if is_bound(heap, f) {
+        reach_bound_construction(alloc, labels, heap, stack, count, f, label)
+    } else {
+        Ok(Reached {
+            function: f,
+            label,
+            count,
+        })
+    }
+}
+
+/// The same of a function that is bound, and not inlined either.
+#[inline(never)]
+fn reach_bound_construction<'p, T: Copy, L: Labels<Label = T>>(
     alloc: Global,
     labels: &mut L,
     heap: &Heap<T>,

@@ -79,6 +79,7 @@ pub fn constructor<'p, L: Labels>(
 }
 
 /// What is called.
+#[inline(always)]
 pub(crate) fn second<'s, T: Copy>(stack: &'s Stack<'_, T>, count: usize) -> &'s Labelled<T>
     requires count { count ≡ length stack.now.loose }
     requires enough { 2 ≤ count }
@@ -88,6 +89,7 @@ pub(crate) fn second<'s, T: Copy>(stack: &'s Stack<'_, T>, count: usize) -> &'s 
 }
 
 /// The `this` of a call.
+#[inline(always)]
 pub(crate) fn this_of<T: Copy>(
     alloc: Global,
     stack: &Stack<'_, T>,
@@ -101,6 +103,7 @@ pub(crate) fn this_of<T: Copy>(
 }
 
 /// The object that a value is, if it is one.
+#[inline(always)]
 pub(crate) fn object_in(value: &Value) -> Option<ObjId>
     ensures { result ≡ object_in value.now }
 {

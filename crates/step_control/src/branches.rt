@@ -21,6 +21,7 @@ use origin_labels::Labels;
 use step_values::truth;
 
 /// A frame of a branch, with the work that ends it.
+#[inline(always)]
 fn open_branch<'p, L: Labels>(
     labels: &mut L,
     frames: &mut Frames<L::Label>,
@@ -45,6 +46,7 @@ fn open_branch<'p, L: Labels>(
 }
 
 /// One of two parts, in a frame of its own.
+#[inline(always)]
 fn branch<'p, L: Labels>(
     labels: &mut L,
     frames: &mut Frames<L::Label>,
@@ -76,6 +78,7 @@ fn branch<'p, L: Labels>(
 }
 
 /// `&&` (ECMA-262 11.11): the right operand where the value is true, and else the value.
+#[inline(never)]
 pub fn and_right<'p, L: Labels>(
     labels: &mut L,
     frames: &mut Frames<L::Label>,
@@ -102,6 +105,7 @@ pub fn and_right<'p, L: Labels>(
 }
 
 /// `||` (ECMA-262 11.11): the value where it is true, and else the right operand.
+#[inline(never)]
 pub fn or_right<'p, L: Labels>(
     labels: &mut L,
     frames: &mut Frames<L::Label>,
@@ -128,6 +132,7 @@ pub fn or_right<'p, L: Labels>(
 }
 
 /// `?:` (ECMA-262 11.12): one of two expressions.
+#[inline(always)]
 #[tactic(auto, using(continuations::proofs::BranchLaws::resumes_forked), unfolding(es_meaning::specs::Evaluation::choose_expr))]
 pub fn choose_expr<'p, L: Labels>(
     labels: &mut L,
@@ -156,6 +161,7 @@ pub fn choose_expr<'p, L: Labels>(
 }
 
 /// `if` (ECMA-262 12.5): a statement or nothing.
+#[inline(always)]
 #[tactic(auto, using(continuations::proofs::BranchLaws::resumes_forked), unfolding(es_meaning::specs::Evaluation::choose_stmt))]
 pub fn choose_stmt<'p, L: Labels>(
     labels: &mut L,
@@ -183,6 +189,7 @@ pub fn choose_stmt<'p, L: Labels>(
 }
 
 /// `if` with `else` (ECMA-262 12.5): one of two statements.
+#[inline(always)]
 #[tactic(auto, using(continuations::proofs::BranchLaws::resumes_forked), unfolding(es_meaning::specs::Evaluation::choose_stmts))]
 pub fn choose_stmts<'p, L: Labels>(
     labels: &mut L,

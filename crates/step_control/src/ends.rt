@@ -21,6 +21,7 @@ use origin_labels::Labels;
 use step_values::truth;
 
 /// Leaves the last frame, which stands at the depth, and gives its label.
+#[inline(always)]
 pub(crate) fn leave<L: Labels>(_labels: &L, frames: &mut Frames<L::Label>, depth: usize) -> L::Label
     requires frame { length frames.old.frames ≡ depth + 1 }
     requires inner { 0 < depth }
@@ -37,6 +38,7 @@ pub(crate) fn leave<L: Labels>(_labels: &L, frames: &mut Frames<L::Label>, depth
 }
 
 /// A loop's condition (ECMA-262 12.6): its label raises the loop's frame, and its value decides on a further turn.
+#[inline(always)]
 pub fn tested<'p, L: Labels>(
     labels: &mut L,
     frames: &mut Frames<L::Label>,
@@ -63,6 +65,7 @@ pub fn tested<'p, L: Labels>(
 }
 
 /// The end of a branch that gives a value, which depends on what chose the branch.
+#[inline(always)]
 pub fn end_branch_value<'p, L: Labels>(
     labels: &mut L,
     frames: &mut Frames<L::Label>,
@@ -94,6 +97,7 @@ pub fn end_branch_value<'p, L: Labels>(
 }
 
 /// The end of a branch without a value.
+#[inline(always)]
 pub fn end_branch<'p, L: Labels>(
     labels: &L,
     frames: &mut Frames<L::Label>,
@@ -116,6 +120,7 @@ pub fn end_branch<'p, L: Labels>(
 }
 
 /// The end of a loop, of a turn, of a `switch`, of a labelled statement or of a `try` statement.
+#[inline(always)]
 pub fn end_round<'p, L: Labels>(
     labels: &L,
     frames: &mut Frames<L::Label>,

@@ -31,6 +31,7 @@ use js_ast::{
 };
 
 /// A call. Its callee is a reference, or else an expression.
+#[inline(always)]
 #[tactic(auto, using(continuations::proofs::Behind::behind_more, continuations::proofs::Behind::setting_more))]
 fn begin_call<'p, T: Copy>(
     stack: &mut Stack<'p, T>,
@@ -67,6 +68,7 @@ fn begin_new<'p, T: Copy>(
 }
 
 /// What is done with the operand of `++` or `--` behind it.
+#[inline(always)]
 fn postfix_use<'p>(operator: PostfixOperator) -> Use<'p>
     ensures means { (vs : List Val) → use_of result vs ≡ postfixed (step_of operator) }
     ensures alone { owns_use result ≡ 0 }
@@ -78,6 +80,7 @@ fn postfix_use<'p>(operator: PostfixOperator) -> Use<'p>
 }
 
 /// A condition is evaluated, and then one of two expressions.
+#[inline(always)]
 #[tactic(auto, using(continuations::proofs::Behind::behind_more, continuations::proofs::Behind::setting_more))]
 fn begin_choice<'p, T: Copy>(
     stack: &mut Stack<'p, T>,
@@ -111,6 +114,7 @@ fn begin_comma<'p, T: Copy>(
 }
 
 /// An expression.
+#[inline(always)]
 #[tactic(auto, using(js_ast::proofs::ViewLaws::held_exprs, js_ast::specs::declared::trees::ExprKind::TheViews::the_lemmas), unfolding(es_meaning::specs::Evaluation::expr_step))]
 pub fn begin_expression<'p, T: Copy>(
     stack: &mut Stack<'p, T>,
@@ -160,6 +164,7 @@ pub fn begin_expression<'p, T: Copy>(
 }
 
 /// A loop's first part, and then the loop.
+#[inline(always)]
 #[tactic(auto, using(continuations::proofs::Behind::behind_more, continuations::proofs::Behind::setting_more, js_ast::specs::declared::trees::ExprKind::TheViews::the_lemmas), unfolding(es_meaning::specs::Evaluation::first_step))]
 fn begin_for<'p, T: Copy>(
     stack: &mut Stack<'p, T>,
@@ -185,6 +190,7 @@ fn begin_for<'p, T: Copy>(
 }
 
 /// It can be an upgrade directive: it is a string literal.
+#[inline(always)]
 #[tactic(auto, using(js_ast::specs::declared::trees::ExprKind::TheViews::the_lemmas), unfolding(es_meaning::specs::Directives::upgrade_of))]
 fn is_literal(e: &Expr) -> bool
     ensures { result ≡ false → upgrade_of (view_expr e.now) ≡ None }
@@ -193,6 +199,7 @@ fn is_literal(e: &Expr) -> bool
 }
 
 /// An expression is evaluated, and its value is of no use, or it is a directive.
+#[inline(always)]
 #[tactic(auto, using(continuations::proofs::Behind::behind_more, continuations::proofs::Behind::setting_more), unfolding(es_meaning::specs::Evaluation::behind_expression, es_meaning::specs::Evaluation::discard))]
 fn begin_discard<'p, T: Copy>(
     stack: &mut Stack<'p, T>,
@@ -212,6 +219,7 @@ fn begin_discard<'p, T: Copy>(
 }
 
 /// What is thrown is evaluated first.
+#[inline(always)]
 #[tactic(auto, using(continuations::proofs::Behind::behind_more, continuations::proofs::Behind::setting_more))]
 fn begin_throw<'p, T: Copy>(
     stack: &mut Stack<'p, T>,
@@ -227,6 +235,7 @@ fn begin_throw<'p, T: Copy>(
 }
 
 /// What is returned is evaluated first, if anything.
+#[inline(always)]
 #[tactic(auto, using(continuations::proofs::Behind::behind_more, continuations::proofs::Behind::setting_more))]
 fn begin_return<'p, T: Copy>(
     stack: &mut Stack<'p, T>,
@@ -247,6 +256,7 @@ fn begin_return<'p, T: Copy>(
 }
 
 /// A condition is evaluated, and then a statement or nothing.
+#[inline(always)]
 #[tactic(auto, using(continuations::proofs::Behind::behind_more, continuations::proofs::Behind::setting_more))]
 fn begin_if<'p, T: Copy>(
     stack: &mut Stack<'p, T>,
@@ -263,6 +273,7 @@ fn begin_if<'p, T: Copy>(
 }
 
 /// A condition is evaluated, and then one of two statements.
+#[inline(always)]
 #[tactic(auto, using(continuations::proofs::Behind::behind_more, continuations::proofs::Behind::setting_more))]
 fn begin_if_else<'p, T: Copy>(
     stack: &mut Stack<'p, T>,
@@ -280,6 +291,7 @@ fn begin_if_else<'p, T: Copy>(
 }
 
 /// What `for in` takes the keys of is evaluated first.
+#[inline(always)]
 #[tactic(auto, using(continuations::proofs::Behind::behind_more, continuations::proofs::Behind::setting_more))]
 fn begin_for_in<'p, T: Copy>(
     stack: &mut Stack<'p, T>,
@@ -296,6 +308,7 @@ fn begin_for_in<'p, T: Copy>(
 }
 
 /// What a `switch` compares is evaluated first.
+#[inline(always)]
 #[tactic(auto, using(continuations::proofs::Behind::behind_more, continuations::proofs::Behind::setting_more))]
 fn begin_switch<'p, T: Copy>(
     stack: &mut Stack<'p, T>,
@@ -313,6 +326,7 @@ fn begin_switch<'p, T: Copy>(
 }
 
 /// The statement behind a label, if one stands in front.
+#[inline(always)]
 #[tactic(auto, using(js_ast::specs::declared::trees::ExprKind::TheViews::the_lemmas))]
 fn behind_label(s: &Stmt) -> Option<&Stmt>
     ensures { option_map (λ t. view_stmt t.now) result ≡ body_behind (view_stmt s.entry.now) }
@@ -324,6 +338,7 @@ fn behind_label(s: &Stmt) -> Option<&Stmt>
 }
 
 /// The statement behind so many labels.
+#[inline(always)]
 fn behind_labels(s: &Stmt, passed: u32) -> &Stmt
     ensures { view_stmt result.now ≡ behind_labels passed (view_stmt s.entry.now) }
 {
@@ -337,6 +352,7 @@ fn behind_labels(s: &Stmt, passed: u32) -> &Stmt
 }
 
 /// It is a loop or a `switch`, also behind labels.
+#[inline(always)]
 fn carries_labels(s: &Stmt) -> bool
     ensures { result ≡ carries_labels (view_stmt s.now) }
 {
@@ -352,6 +368,7 @@ fn carries_labels(s: &Stmt) -> bool
 }
 
 /// A labelled statement behind so many labels: a loop and a `switch` carry the label, and what is neither has a frame of its own.
+#[inline(always)]
 fn begin_labelled<'p>(
     of: &'p Stmt,
     passed: u32,
@@ -374,6 +391,7 @@ fn begin_labelled<'p>(
 }
 
 /// A loop, a `switch` or a labelled statement behind so many labels.
+#[inline(never)]
 #[tactic(auto, using(js_ast::specs::declared::trees::ExprKind::TheViews::the_lemmas), unfolding(es_meaning::specs::Evaluation::named_step))]
 pub fn begin_named<'p, T: Copy>(
     stack: &mut Stack<'p, T>,
@@ -402,6 +420,7 @@ pub fn begin_named<'p, T: Copy>(
 }
 
 /// A statement.
+#[inline(always)]
 #[tactic(auto, using(js_ast::proofs::ViewLaws::held_stmts, js_ast::specs::declared::trees::ExprKind::TheViews::the_lemmas), unfolding(es_meaning::specs::Evaluation::stmt_step))]
 pub fn begin_statement<'p, T: Copy>(
     stack: &mut Stack<'p, T>,

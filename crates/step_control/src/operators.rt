@@ -19,6 +19,7 @@ use flow_text::OutOfMemory;
 use js_ast::{AssignOperator, BinaryOperator, Expr, ExprKind, UnaryOperator};
 
 /// An operator between two expressions: the left one is evaluated first.
+#[inline(always)]
 pub(crate) fn begin_binary<'p, T: Copy>(
     stack: &mut Stack<'p, T>,
     left: &'p Expr,
@@ -38,6 +39,7 @@ pub(crate) fn begin_binary<'p, T: Copy>(
 }
 
 /// The operators that evaluate both operands.
+#[inline(always)]
 fn evaluates_both(operator: BinaryOperator) -> bool
     ensures { result ≡ evaluates_both operator }
 {
@@ -48,6 +50,7 @@ fn evaluates_both(operator: BinaryOperator) -> bool
 }
 
 /// An operator that evaluates both operands.
+#[inline(always)]
 #[tactic(auto, using(continuations::proofs::Behind::behind_more, continuations::proofs::Behind::setting_more, continuations::proofs::Steps::both_operands))]
 fn begin_both<'p, T: Copy>(
     stack: &mut Stack<'p, T>,
@@ -66,6 +69,7 @@ fn begin_both<'p, T: Copy>(
 }
 
 /// `&&`, `||` and `instanceof`.
+#[inline(never)]
 #[tactic(auto, using(continuations::proofs::Behind::behind_more, continuations::proofs::Behind::setting_more), unfolding(es_meaning::specs::Evaluation::binary_step))]
 fn begin_logical<'p, T: Copy>(
     stack: &mut Stack<'p, T>,
@@ -98,6 +102,7 @@ fn begin_logical<'p, T: Copy>(
 }
 
 /// An operator in front of an expression.
+#[inline(never)]
 #[tactic(auto, using(continuations::proofs::Behind::behind_more, continuations::proofs::Behind::setting_more), unfolding(es_meaning::specs::Evaluation::unary_step))]
 pub(crate) fn begin_unary<'p, T: Copy>(
     stack: &mut Stack<'p, T>,
@@ -125,6 +130,7 @@ pub(crate) fn begin_unary<'p, T: Copy>(
 }
 
 /// An operator that takes the value of its operand.
+#[inline(always)]
 #[tactic(auto, using(continuations::proofs::Behind::behind_more, continuations::proofs::Behind::setting_more))]
 fn begin_value<'p, T: Copy>(
     stack: &mut Stack<'p, T>,
@@ -141,6 +147,7 @@ fn begin_value<'p, T: Copy>(
 }
 
 /// A name that is asked for its type may have no binding, so it isn't evaluated.
+#[inline(always)]
 #[tactic(auto, using(continuations::proofs::Behind::behind_more, continuations::proofs::Behind::setting_more))]
 fn begin_typeof<'p, T: Copy>(
     stack: &mut Stack<'p, T>,
@@ -160,6 +167,7 @@ fn begin_typeof<'p, T: Copy>(
 }
 
 /// A reference is deleted, and of what is none only the value is taken (ECMA-262 11.4.1).
+#[inline(always)]
 #[tactic(auto, using(continuations::proofs::Behind::behind_more, continuations::proofs::Behind::setting_more))]
 fn begin_delete<'p, T: Copy>(
     stack: &mut Stack<'p, T>,
@@ -179,6 +187,7 @@ fn begin_delete<'p, T: Copy>(
 }
 
 /// Whether it is a name or a property, also in parentheses.
+#[inline(always)]
 #[tactic(auto, unfolding(es_meaning::specs::Evaluation::is_reference))]
 pub(crate) fn is_reference(e: &Expr) -> bool
     ensures { result ≡ is_reference (view_expr e.now) }
@@ -191,6 +200,7 @@ pub(crate) fn is_reference(e: &Expr) -> bool
 }
 
 /// Whether it is a name, also in parentheses.
+#[inline(always)]
 #[tactic(auto, unfolding(es_meaning::specs::Evaluation::is_name))]
 fn is_name(e: &Expr) -> bool
     ensures { result ≡ is_name (view_expr e.now) }
@@ -203,6 +213,7 @@ fn is_name(e: &Expr) -> bool
 }
 
 /// What an assignment does with its target.
+#[inline(always)]
 pub(crate) fn assigned_by<'p>(operator: AssignOperator, value: &'p Expr) -> Use<'p>
     ensures means { (vs : List Val) → use_of result vs ≡ assigned_by (operator_of operator) (view_expr value.entry.now) }
     ensures alone { owns_use result ≡ 0 }
@@ -224,6 +235,7 @@ pub(crate) fn assigned_by<'p>(operator: AssignOperator, value: &'p Expr) -> Use<
 }
 
 /// Behind the left operand the right one is evaluated.
+#[inline(always)]
 #[tactic(auto, using(continuations::proofs::Behind::behind_more, continuations::proofs::Behind::setting_more), unfolding(es_meaning::specs::Evaluation::binary_right))]
 pub fn binary_right<'p, T: Copy>(
     stack: &mut Stack<'p, T>,
@@ -240,6 +252,7 @@ pub fn binary_right<'p, T: Copy>(
 }
 
 /// Behind the left operand of `instanceof` the right one is evaluated.
+#[inline(always)]
 #[tactic(auto, using(continuations::proofs::Behind::behind_more, continuations::proofs::Behind::setting_more), unfolding(es_meaning::specs::Evaluation::instance_right))]
 pub fn instance_right<'p, T: Copy>(
     stack: &mut Stack<'p, T>,
@@ -255,6 +268,7 @@ pub fn instance_right<'p, T: Copy>(
 }
 
 /// Behind the left side of a comma the right one is evaluated.
+#[inline(always)]
 #[tactic(auto, unfolding(es_meaning::specs::Evaluation::comma_right))]
 pub fn comma_right<'p, T: Copy>(stack: &mut Stack<'p, T>, right: &'p Expr) -> Control<'p>
     requires { length stack.old.loose ≡ 1 }
@@ -267,6 +281,7 @@ pub fn comma_right<'p, T: Copy>(stack: &mut Stack<'p, T>, right: &'p Expr) -> Co
 }
 
 /// Behind the old value, which a getter gave, the operand of a compound assignment is evaluated.
+#[inline(always)]
 pub fn compound_right<'p, T: Copy>(
     stack: &mut Stack<'p, T>,
     operator: BinaryOperator,
@@ -283,6 +298,7 @@ pub fn compound_right<'p, T: Copy>(
 }
 
 /// Behind a setter the value that its assignment gives, which lies below the setter's.
+#[inline(always)]
 #[tactic(auto, unfolding(es_meaning::specs::Evaluation::give, flow_meaning::specs::Planned::end_setter))]
 pub fn give_behind<'p, T: Copy>(stack: &mut Stack<'p, T>) -> Control<'p>
     requires { length stack.old.loose ≡ 2 }

@@ -22,6 +22,7 @@ use js_values::{Labelled, Value};
 use origin_labels::Labels;
 
 /// A jump passes work without a frame of its own. The operands that the work kept are dropped.
+#[inline(always)]
 pub fn pass<'p, T: Copy>(
     stack: &mut Stack<'p, T>,
     jump: Jump,
@@ -41,6 +42,7 @@ pub fn pass<'p, T: Copy>(
 }
 
 /// A jump comes to the end of a branch. If the branch's frame was left before, it passes. Else the frame is the one that it was to reach, and the branch gives undefined, or nothing.
+#[inline(always)]
 pub fn pass_branch<'p, L: Labels>(
     labels: &L,
     frames: &mut Frames<L::Label>,
@@ -71,6 +73,7 @@ pub fn pass_branch<'p, L: Labels>(
 }
 
 /// A jump comes to the end of a loop, of a turn, of a `switch`, of a labelled statement or of a `try` statement. If its frame was left before, it passes. Else it is over.
+#[inline(always)]
 pub fn pass_round<'p, L: Labels>(
     labels: &L,
     frames: &mut Frames<L::Label>,
@@ -98,6 +101,7 @@ pub fn pass_round<'p, L: Labels>(
 }
 
 /// A jump has reached the frame of a branch that gives a value: undefined, which depends on what chose the branch.
+#[inline(always)]
 fn reach_value<'p, L: Labels>(
     labels: &L,
     frames: &mut Frames<L::Label>,
@@ -125,6 +129,7 @@ fn reach_value<'p, L: Labels>(
 }
 
 /// A jump has reached the frame of a branch without a value or of what `end_round` ends.
+#[inline(always)]
 fn reach<'p, L: Labels>(
     labels: &L,
     frames: &mut Frames<L::Label>,

@@ -20,6 +20,7 @@ use flow_text::OutOfMemory;
 use origin_labels::Labels;
 
 /// Enters a frame.
+#[inline(always)]
 pub(crate) fn enter<L: Labels>(
     labels: &mut L,
     frames: &mut Frames<L::Label>,
@@ -38,6 +39,7 @@ pub(crate) fn enter<L: Labels>(
 }
 
 /// A loop: its condition, in a frame of its own.
+#[inline(always)]
 pub fn begin_loop<'p, L: Labels>(
     labels: &mut L,
     frames: &mut Frames<L::Label>,
@@ -60,6 +62,7 @@ pub fn begin_loop<'p, L: Labels>(
 }
 
 /// A loop that begins with a turn.
+#[inline(never)]
 pub fn begin_do_loop<'p, L: Labels>(
     labels: &mut L,
     frames: &mut Frames<L::Label>,
@@ -82,6 +85,7 @@ pub fn begin_do_loop<'p, L: Labels>(
 }
 
 /// A turn of a loop: its body, in a frame of its own, and then what stands behind it.
+#[inline(always)]
 pub fn begin_turn<'p, L: Labels>(
     labels: &mut L,
     frames: &mut Frames<L::Label>,
@@ -101,6 +105,7 @@ pub fn begin_turn<'p, L: Labels>(
 }
 
 // The body of a turn, in its frame.
+#[inline(always)]
 fn begin_body<'p, L: Labels>(
     labels: &mut L,
     frames: &mut Frames<L::Label>,

@@ -15,6 +15,7 @@ use flow_text::OutOfMemory;
 use js_ast::Stmt;
 
 /// Behind a statement those that stand behind it.
+#[inline(always)]
 #[tactic(auto, unfolding(es_meaning::specs::Evaluation::more_statements_behind))]
 pub fn more_statements<'p, T: Copy>(
     stack: &mut Stack<'p, T>,
@@ -29,6 +30,7 @@ pub fn more_statements<'p, T: Copy>(
 }
 
 /// The value of an expression statement is of no use.
+#[inline(always)]
 #[tactic(auto, unfolding(es_meaning::specs::Evaluation::discard))]
 pub fn discard<'p, T: Copy>(stack: &mut Stack<'p, T>) -> Control<'p>
     requires { length stack.old.loose ≡ 1 }
@@ -41,6 +43,7 @@ pub fn discard<'p, T: Copy>(stack: &mut Stack<'p, T>) -> Control<'p>
 }
 
 /// A loop's condition, and then a further turn or the end.
+#[inline(always)]
 #[tactic(auto, using(continuations::proofs::Behind::behind_more, continuations::proofs::Behind::setting_more), unfolding(es_meaning::specs::Evaluation::tested))]
 pub(crate) fn begin_test<'p, T: Copy>(
     stack: &mut Stack<'p, T>,
@@ -61,6 +64,7 @@ pub(crate) fn begin_test<'p, T: Copy>(
 }
 
 /// Behind what the loop's header changes its condition.
+#[inline(always)]
 #[tactic(auto, unfolding(es_meaning::specs::Evaluation::updated))]
 pub fn updated<'p, T: Copy>(
     stack: &mut Stack<'p, T>,
@@ -76,6 +80,7 @@ pub fn updated<'p, T: Copy>(
 }
 
 /// Behind the body of a turn what the loop's header changes, and its condition.
+#[inline(always)]
 #[tactic(auto, using(continuations::proofs::Behind::behind_more, continuations::proofs::Behind::setting_more), unfolding(es_meaning::specs::Evaluation::turned_round))]
 pub fn turned<'p, T: Copy>(
     stack: &mut Stack<'p, T>,
@@ -96,6 +101,7 @@ pub fn turned<'p, T: Copy>(
 }
 
 /// Behind a loop's first part the loop.
+#[inline(always)]
 #[tactic(auto, unfolding(es_meaning::specs::Evaluation::looped_value))]
 pub fn looped<'p, T: Copy>(stack: &mut Stack<'p, T>, round: Round<'p>) -> Control<'p>
     requires { length stack.old.loose ≡ 1 }
@@ -108,6 +114,7 @@ pub fn looped<'p, T: Copy>(stack: &mut Stack<'p, T>, round: Round<'p>) -> Contro
 }
 
 /// Behind a loop's variables the loop.
+#[inline(always)]
 #[tactic(auto, unfolding(es_meaning::specs::Evaluation::looped))]
 pub fn declared<'p, T: Copy>(stack: &mut Stack<'p, T>, round: Round<'p>) -> Control<'p>
     requires { length stack.old.loose ≡ 0 }

@@ -27,6 +27,7 @@ use js_ast::{ForTarget, Stmt};
 use origin_labels::Labels;
 
 /// The keys of a value are visited, in a frame of their own.
+#[inline(never)]
 pub fn begin_enumeration<'p, L: Labels>(
     labels: &mut L,
     frames: &mut Frames<L::Label>,
@@ -51,6 +52,7 @@ pub fn begin_enumeration<'p, L: Labels>(
 }
 
 /// A turn, in a frame of its own, with its key: the target is given the key, then the body is done, and then the other keys are visited.
+#[inline(never)]
 pub fn begin_visit<'p, L: Labels>(
     labels: &mut L,
     frames: &mut Frames<L::Label>,
@@ -78,6 +80,7 @@ pub fn begin_visit<'p, L: Labels>(
 }
 
 // The target is given the text that no work keeps.
+#[inline(always)]
 fn given_key<'p>(target: &'p ForTarget) -> Control<'p>
     ensures plan { (tables : Tables) (inputs : Given) (set : BuiltIns) (functions : List FunctionCode) (v : Val) (e : Setting) (s : State) → next_plan tables inputs set functions result (v ∷ []) e s ≡ target_step (planned tables inputs set functions) (entrance tables inputs set functions) (asking tables inputs set functions) (view_target target.entry.now) (key_text v.value) e.env.place s }
     ensures value { values_of result ≡ 1 }
@@ -90,6 +93,7 @@ fn given_key<'p>(target: &'p ForTarget) -> Control<'p>
 }
 
 /// Behind the target the body.
+#[inline(always)]
 #[tactic(auto, unfolding(es_meaning::specs::Evaluation::visit_body))]
 pub fn visit_body<'p, T: Copy>(stack: &mut Stack<'p, T>, body: &'p Stmt) -> Control<'p>
     requires { length stack.old.loose ≡ 1 }
@@ -102,6 +106,7 @@ pub fn visit_body<'p, T: Copy>(stack: &mut Stack<'p, T>, body: &'p Stmt) -> Cont
 }
 
 /// Behind a turn the keys that are left.
+#[inline(always)]
 #[tactic(auto, unfolding(es_meaning::specs::Evaluation::visited))]
 pub fn visited<'p, T: Copy>(
     _stack: &Stack<'p, T>,

@@ -174,3 +174,13 @@ unchanged_steps made meaning_of store tables inputs set functions tells asks m n
 
 pub unchanged_grows : {T : Type 0} (world same new : World T) → same ≡ world → Grows same new → Grows world new
 unchanged_grows world same new is grows = subst (λ w. Grows w new) is grows
+
+-- nothing was done at once, and the machine is the same
+pub undone_steps : {S T X : Type 0} (made : S → T → Type 0) (meaning_of : S → T → Label) (store : S) (tables : Tables) (inputs : Given) (set : BuiltIns) (functions : List FunctionCode) (tells : X → Answer → X) (asks : X → Request) (m same new : Progress T X) (move : Control) (result : Result (Advance T) OutOfMemory) → same ≡ m
+    → IfOk result (Stepped made meaning_of store tables inputs set functions tells asks (λ reading. remaining_run tables inputs set functions tells asks reading same move) (ahead same move) new)
+    → IfOk result (Stepped made meaning_of store tables inputs set functions tells asks (λ reading. remaining_run tables inputs set functions tells asks reading m move) (ahead m move) new)
+undone_steps made meaning_of store tables inputs set functions tells asks m same new move result is stepped =
+    subst (λ p. IfOk result (Stepped made meaning_of store tables inputs set functions tells asks (λ reading. remaining_run tables inputs set functions tells asks reading p move) (ahead p move) new)) is stepped
+
+pub undone_stands : {S T X : Type 0} (made : S → T → Type 0) (meaning_of : S → T → Label) (store : S) (m same : Progress T X) (move : Control) → same ≡ m → StandsBefore made meaning_of store m move → StandsBefore made meaning_of store same move
+undone_stands made meaning_of store m same move is stands = subst (λ p. StandsBefore made meaning_of store p move) (sym is) stands

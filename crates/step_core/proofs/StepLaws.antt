@@ -61,7 +61,7 @@ use Rattle.step_core.specs.RemainingRun.{Comes, IfGoes, IfStopped, ahead, remain
 use Rattle.step_natives.specs.States.{States, waiting_steps}
 use Rattle.continuations.specs.Going.{here}
 use Rattle.continuations.specs.Invariant.{Invariant, Framed, depths, given, running}
-use Rattle.step_core.specs.Stepping.{StandsBefore, Stepped, step_of, still_step, remaining_run_after, completion_above, handed, enters_part, begins_work, calls_function, makes_value, runs_one}
+use Rattle.step_core.specs.Stepping.{StandsBefore, Stepped, step_of, still_step, remaining_run_after, completion_above, handed, enters_part, begins_work, calls_function, makes_value, runs_one, gives_value, hands_on}
 use Rattle.step_core.proofs.Performed.{entered, spent, ended}
 use Rattle.step_core.proofs.Taking.{taken_goes_on}
 
@@ -164,6 +164,12 @@ calls_still _ h = refl
 pub makes_still : (move : Control) → makes_value move ≡ true → running move ≡ 0
 makes_still (control.Request count) h = absurd (cc h)
 makes_still _ h = refl
+
+-- the move behind a part by whether it gave a value
+pub handed_is : (move : Control) → hands_on move ≡ true → handed (gives_value move) ≡ move
+handed_is control.Value h = refl
+handed_is control.Done h = refl
+handed_is _ h = absurd (cc h)
 
 pub handed_still : (gave : Bool) → running (handed gave) ≡ 0
 handed_still true = refl

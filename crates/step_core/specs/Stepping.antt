@@ -87,6 +87,16 @@ abbrev pub handed : Bool → Control
 handed true = control.Value
 handed false = control.Done
 
+-- the moves behind a part that gave a value, or came to its end, and which of the two it is
+abbrev pub hands_on : Control → Bool
+hands_on control.Value = true
+hands_on control.Done = true
+hands_on _ = false
+
+abbrev pub gives_value : Control → Bool
+gives_value control.Value = true
+gives_value _ = false
+
 -- the moves that enter a part of the script
 abbrev pub enters_part : Control → Bool
 enters_part (control.Expr x) = true

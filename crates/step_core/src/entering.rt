@@ -88,9 +88,9 @@ pub(crate) fn enter<'p, L: Labels>(
     ensures kept { IsKept L.made L.meaning L.room L.firm labels.old labels.new }
 {
     match next {
-        Control::Expr(e) => enter_expression(labels, world, stack, e),
+        Control::Expr(e) => enter_expression_apart(labels, world, stack, e),
         Control::Use(how, target) => enter_use(alloc, labels, world, stack, how, target),
-        Control::Stmt(s) => enter_statement(labels, world, stack, s),
+        Control::Stmt(s) => enter_statement_apart(labels, world, stack, s),
         Control::Named(of, passed) => enter_named(labels, world, stack, of, passed),
         Control::Turn(round) => enter_turn(labels, world, stack, round),
         Control::Visit(enumeration, count) => enter_visit(labels, world, stack, enumeration, count),
@@ -100,7 +100,7 @@ pub(crate) fn enter<'p, L: Labels>(
 
 /// An expression is entered.
 #[inline(always)]
-fn enter_expression<'p, L: Labels>(
+pub(crate) fn enter_expression<'p, L: Labels>(
     _labels: &L,
     _world: &World<L::Label>,
     stack: &mut Stack<'p, L::Label>,
@@ -114,6 +114,23 @@ fn enter_expression<'p, L: Labels>(
 {
     let next = begin_expression(stack, e)?;
     Ok(next)
+}
+
+/// The same as a call of its own. `enter` takes this way, since most expressions are entered by a step of their own.
+#[inline(never)]
+fn enter_expression_apart<'p, L: Labels>(
+    _labels: &L,
+    _world: &World<L::Label>,
+    stack: &mut Stack<'p, L::Label>,
+    e: &'p Expr,
+) -> Result<Control<'p>, FlowFault<L::Label>>
+    requires standing { Invariant L.made L.meaning _labels.now stack.old _world.now 0 (scopes_of stack.old.tasks) (waiting stack.old.tasks) (control.Expr e) }
+    ensures enters { (tables : Tables) (inputs : Given) (set : BuiltIns) (functions : List FunctionCode) (natives : List Steps) (part : (L.Label → Label) → Part) → ((reading : L.Label → Label) → part_in (map (read_value reading) stack.old.loose) (setting_above stack.old.tasks (setting_of natives here)) (control.Expr e.entry) ≡ Some (part reading)) → Enters L.made L.meaning _labels.now tables inputs set functions natives stack.old stack.new _world.now _world.now part result }
+    ensures standing { IfOk result (StandsStill L.made L.meaning _labels.now (waiting stack.old.tasks) stack.new _world.now) }
+    ensures adds { IfOk result (Adds 15 stack.old stack.new) }
+    ensures stopped { IfErr result (IfStop (HasStop (L.made _labels.now))) }
+{
+    enter_expression(_labels, _world, stack, e)
 }
 
 /// A reference is entered for a use.
@@ -140,7 +157,7 @@ fn enter_use<'p, L: Labels>(
 
 /// A statement is entered.
 #[inline(always)]
-fn enter_statement<'p, L: Labels>(
+pub(crate) fn enter_statement<'p, L: Labels>(
     _labels: &L,
     _world: &World<L::Label>,
     stack: &mut Stack<'p, L::Label>,
@@ -154,6 +171,23 @@ fn enter_statement<'p, L: Labels>(
 {
     let next = begin_statement(stack, s)?;
     Ok(next)
+}
+
+/// The same as a call of its own, for the same reason.
+#[inline(never)]
+fn enter_statement_apart<'p, L: Labels>(
+    _labels: &L,
+    _world: &World<L::Label>,
+    stack: &mut Stack<'p, L::Label>,
+    s: &'p Stmt,
+) -> Result<Control<'p>, FlowFault<L::Label>>
+    requires standing { Invariant L.made L.meaning _labels.now stack.old _world.now 0 (scopes_of stack.old.tasks) (waiting stack.old.tasks) (control.Stmt s) }
+    ensures enters { (tables : Tables) (inputs : Given) (set : BuiltIns) (functions : List FunctionCode) (natives : List Steps) (part : (L.Label → Label) → Part) → ((reading : L.Label → Label) → part_in (map (read_value reading) stack.old.loose) (setting_above stack.old.tasks (setting_of natives here)) (control.Stmt s.entry) ≡ Some (part reading)) → Enters L.made L.meaning _labels.now tables inputs set functions natives stack.old stack.new _world.now _world.now part result }
+    ensures standing { IfOk result (StandsStill L.made L.meaning _labels.now (waiting stack.old.tasks) stack.new _world.now) }
+    ensures adds { IfOk result (Adds 15 stack.old stack.new) }
+    ensures stopped { IfErr result (IfStop (HasStop (L.made _labels.now))) }
+{
+    enter_statement(_labels, _world, stack, s)
 }
 
 /// A loop, a `switch` or a labelled statement is entered that stands behind labels.

@@ -63,9 +63,10 @@ use step_operators::{
 use step_references::{assigned, index_key, key_of, member, more_variables, variables_behind};
 use step_statements::{compared, falls, switched};
 
-/// A continuation that was taken goes on behind a part that gave a value, which lies above the work's operands, or came to its end without one. A continuation that waits for an end forgets a value, and work that waits for a value takes undefined for an end.
+/// Resumes a continuation that acts on the run's state after a part that gave a value, which is above the continuation's operands, or came to its end
+/// without one. A continuation that waits for an end forgets a value, and one that waits for a value takes undefined for an end.
 #[inline(always)]
-pub(crate) fn resume<'p, L: Labels>(
+pub(crate) fn resume_acting<'p, L: Labels>(
     alloc: Global,
     labels: &mut L,
     world: &mut World<L::Label>,
@@ -73,6 +74,7 @@ pub(crate) fn resume<'p, L: Labels>(
     work: Continuation<'p>,
     gave: bool,
 ) -> Result<Control<'p>, FlowFault<L::Label>>
+    requires acts { acts work ≡ true }
     requires obeys { raises work ≡ false }
     requires asks { answers work ≡ false }
     requires standing { Invariant L.made L.meaning labels.old stack.old world.old (owns work + given gave) (scopes_of stack.old.tasks ++ scope_of work) (waiting stack.old.tasks) control.Value }
@@ -84,7 +86,82 @@ pub(crate) fn resume<'p, L: Labels>(
     ensures kept { IsKept L.made L.meaning L.room L.firm labels.old labels.new }
 {
     prepare(labels, stack, work, gave)?;
-    go_on(alloc, labels, world, stack, work)
+    go_on_acting(alloc, labels, world, stack, work)
+}
+
+/// The same of one that enters, raises or leaves a frame.
+#[inline(always)]
+pub(crate) fn resume_scoped<'p, L: Labels>(
+    labels: &mut L,
+    world: &mut World<L::Label>,
+    stack: &mut Stack<'p, L::Label>,
+    work: Continuation<'p>,
+    gave: bool,
+) -> Result<Control<'p>, FlowFault<L::Label>>
+    requires scoped { scoped work ≡ true }
+    requires obeys { raises work ≡ false }
+    requires asks { answers work ≡ false }
+    requires standing { Invariant L.made L.meaning labels.old stack.old world.old (owns work + given gave) (scopes_of stack.old.tasks ++ scope_of work) (waiting stack.old.tasks) control.Value }
+    ensures resumes { (tables : Tables) (inputs : Given) (set : BuiltIns) (functions : List FunctionCode) (natives : List Steps) → Resumes L.made L.meaning labels.new tables inputs set functions work.entry natives natives stack.old stack.new world.old world.new result }
+    ensures standing { IfOk result (StandsStill L.made L.meaning labels.new (waiting stack.old.tasks) stack.new world.new) }
+    ensures adds { IfOk result (Adds (weight work.entry + 3) stack.old stack.new) }
+    ensures stopped { IfErr result (IfStop (HasStop (L.made labels.new))) }
+    ensures grows { Grows world.old world.new }
+    ensures kept { IsKept L.made L.meaning L.room L.firm labels.old labels.new }
+{
+    prepare(labels, stack, work, gave)?;
+    go_on_scoped(labels, world, stack, work)
+}
+
+/// The same of one of a jump, a call, a `switch` or a `try` statement.
+#[inline(always)]
+pub(crate) fn resume_leading<'p, L: Labels>(
+    alloc: Global,
+    labels: &mut L,
+    world: &mut World<L::Label>,
+    stack: &mut Stack<'p, L::Label>,
+    work: Continuation<'p>,
+    gave: bool,
+) -> Result<Control<'p>, FlowFault<L::Label>>
+    requires leads { leads work ≡ true }
+    requires obeys { raises work ≡ false }
+    requires asks { answers work ≡ false }
+    requires standing { Invariant L.made L.meaning labels.old stack.old world.old (owns work + given gave) (scopes_of stack.old.tasks ++ scope_of work) (waiting stack.old.tasks) control.Value }
+    ensures resumes { (tables : Tables) (inputs : Given) (set : BuiltIns) (functions : List FunctionCode) (natives : List Steps) → Resumes L.made L.meaning labels.new tables inputs set functions work.entry natives natives stack.old stack.new world.old world.new result }
+    ensures standing { IfOk result (StandsStill L.made L.meaning labels.new (waiting stack.old.tasks) stack.new world.new) }
+    ensures adds { IfOk result (Adds (weight work.entry + 3) stack.old stack.new) }
+    ensures stopped { IfErr result (IfStop (HasStop (L.made labels.new))) }
+    ensures grows { Grows world.old world.new }
+    ensures kept { IsKept L.made L.meaning L.room L.firm labels.old labels.new }
+{
+    prepare(labels, stack, work, gave)?;
+    lead_on(alloc, labels, world, stack, work)
+}
+
+/// The same of one that needs the stack alone.
+#[inline(always)]
+pub(crate) fn resume_alone<'p, L: Labels>(
+    labels: &mut L,
+    world: &mut World<L::Label>,
+    stack: &mut Stack<'p, L::Label>,
+    work: Continuation<'p>,
+    gave: bool,
+) -> Result<Control<'p>, FlowFault<L::Label>>
+    requires acts { acts work ≡ false }
+    requires scoped { scoped work ≡ false }
+    requires leads { leads work ≡ false }
+    requires obeys { raises work ≡ false }
+    requires asks { answers work ≡ false }
+    requires standing { Invariant L.made L.meaning labels.old stack.old world.old (owns work + given gave) (scopes_of stack.old.tasks ++ scope_of work) (waiting stack.old.tasks) control.Value }
+    ensures resumes { (tables : Tables) (inputs : Given) (set : BuiltIns) (functions : List FunctionCode) (natives : List Steps) → Resumes L.made L.meaning labels.new tables inputs set functions work.entry natives natives stack.old stack.new world.old world.new result }
+    ensures standing { IfOk result (StandsStill L.made L.meaning labels.new (waiting stack.old.tasks) stack.new world.new) }
+    ensures adds { IfOk result (Adds (weight work.entry + 3) stack.old stack.new) }
+    ensures stopped { IfErr result (IfStop (HasStop (L.made labels.new))) }
+    ensures grows { Grows world.old world.new }
+    ensures kept { IsKept L.made L.meaning L.room L.firm labels.old labels.new }
+{
+    prepare(labels, stack, work, gave)?;
+    go_on_quietly(labels, world, stack, work)
 }
 
 /// Brings what lies loose to what the work waits for: its operands, and above them a value or none.
@@ -142,15 +219,16 @@ fn waits_for_a_value(work: Continuation<'_>) -> bool
     }
 }
 
-/// A continuation goes on with what it waited for.
+/// What was prepared acts on the run's state.
 #[inline(always)]
-fn go_on<'p, L: Labels>(
+fn go_on_acting<'p, L: Labels>(
     alloc: Global,
     labels: &mut L,
     world: &mut World<L::Label>,
     stack: &mut Stack<'p, L::Label>,
     work: Continuation<'p>,
 ) -> Result<Control<'p>, FlowFault<L::Label>>
+    requires acts { acts work ≡ true }
     requires obeys { raises work ≡ false }
     requires asks { answers work ≡ false }
     requires standing { Invariant L.made L.meaning labels.old stack.old world.old (owns work + awaits work) (scopes_of stack.old.tasks ++ scope_of work) (waiting stack.old.tasks) control.Value }
@@ -161,23 +239,59 @@ fn go_on<'p, L: Labels>(
     ensures grows { Grows world.old world.new }
     ensures kept { IsKept L.made L.meaning L.room L.firm labels.old labels.new }
 {
-    if acts(work) {
-        act(alloc, labels, world, stack, work)
-    } else if scoped(work) {
-        let next = go_on_in_frames(labels, &mut world.frames, stack, work)?;
-        let _depth = world.frames.len();
-        Ok(next)
-    } else if leads(work) {
-        lead_on(alloc, labels, world, stack, work)
-    } else {
-        let next = go_on_alone(stack, work)?;
-        Ok(next)
-    }
+    act(alloc, labels, world, stack, work)
+}
+
+/// What was prepared enters, raises or leaves a frame.
+#[inline(always)]
+fn go_on_scoped<'p, L: Labels>(
+    labels: &mut L,
+    world: &mut World<L::Label>,
+    stack: &mut Stack<'p, L::Label>,
+    work: Continuation<'p>,
+) -> Result<Control<'p>, FlowFault<L::Label>>
+    requires scoped { scoped work ≡ true }
+    requires obeys { raises work ≡ false }
+    requires asks { answers work ≡ false }
+    requires standing { Invariant L.made L.meaning labels.old stack.old world.old (owns work + awaits work) (scopes_of stack.old.tasks ++ scope_of work) (waiting stack.old.tasks) control.Value }
+    ensures resumes { (tables : Tables) (inputs : Given) (set : BuiltIns) (functions : List FunctionCode) (natives : List Steps) → Resumes L.made L.meaning labels.new tables inputs set functions work.entry natives natives stack.old stack.new world.old world.new result }
+    ensures standing { IfOk result (StandsStill L.made L.meaning labels.new (waiting stack.old.tasks) stack.new world.new) }
+    ensures adds { IfOk result (Adds (weight work.entry + 3) stack.old stack.new) }
+    ensures stopped { IfErr result (IfStop (HasStop (L.made labels.new))) }
+    ensures grows { Grows world.old world.new }
+    ensures kept { IsKept L.made L.meaning L.room L.firm labels.old labels.new }
+{
+    let next = go_on_in_frames(labels, &mut world.frames, stack, work)?;
+    let _depth = world.frames.len();
+    Ok(next)
+}
+
+/// What was prepared needs the stack alone.
+#[inline(always)]
+fn go_on_quietly<'p, L: Labels>(
+    _labels: &L,
+    _world: &World<L::Label>,
+    stack: &mut Stack<'p, L::Label>,
+    work: Continuation<'p>,
+) -> Result<Control<'p>, FlowFault<L::Label>>
+    requires acts { acts work ≡ false }
+    requires scoped { scoped work ≡ false }
+    requires leads { leads work ≡ false }
+    requires obeys { raises work ≡ false }
+    requires asks { answers work ≡ false }
+    requires standing { Invariant L.made L.meaning _labels.now stack.old _world.now (owns work + awaits work) (scopes_of stack.old.tasks ++ scope_of work) (waiting stack.old.tasks) control.Value }
+    ensures resumes { (tables : Tables) (inputs : Given) (set : BuiltIns) (functions : List FunctionCode) (natives : List Steps) → Resumes L.made L.meaning _labels.now tables inputs set functions work.entry natives natives stack.old stack.new _world.now _world.now result }
+    ensures standing { IfOk result (StandsStill L.made L.meaning _labels.now (waiting stack.old.tasks) stack.new _world.now) }
+    ensures adds { IfOk result (Adds (weight work.entry + 3) stack.old stack.new) }
+    ensures stopped { IfErr result (IfStop (HasStop (L.made _labels.now))) }
+{
+    let next = go_on_alone(stack, work)?;
+    Ok(next)
 }
 
 /// Acts on the run's state.
 #[inline(always)]
-fn acts(work: Continuation<'_>) -> bool
+pub(crate) fn acts(work: Continuation<'_>) -> bool
     ensures { result ≡ acts work.entry }
 {
     matches!(
@@ -204,7 +318,7 @@ fn acts(work: Continuation<'_>) -> bool
 
 /// Enters, raises or leaves a frame.
 #[inline(always)]
-fn scoped(work: Continuation<'_>) -> bool
+pub(crate) fn scoped(work: Continuation<'_>) -> bool
     ensures { result ≡ scoped work.entry }
 {
     matches!(
@@ -225,7 +339,7 @@ fn scoped(work: Continuation<'_>) -> bool
 
 /// Is that of a jump, a call, a `switch` or a `try` statement.
 #[inline(always)]
-fn leads(work: Continuation<'_>) -> bool
+pub(crate) fn leads(work: Continuation<'_>) -> bool
     ensures { result ≡ leads work.entry }
 {
     matches!(
@@ -366,7 +480,6 @@ fn act<'p, L: Labels>(
 }
 
 /// A variable of the record that is there gets its value, and those behind it follow.
-#[inline(always)]
 fn give_variables<'p, L: Labels>(
     alloc: Global,
     labels: &mut L,
@@ -392,7 +505,6 @@ fn give_variables<'p, L: Labels>(
 }
 
 /// Behind a variable's setter those behind it follow, in the record that is there.
-#[inline(always)]
 fn declare_behind<'p, L: Labels>(
     labels: &mut L,
     world: &World<L::Label>,

@@ -23,15 +23,21 @@ ghost use Rattle.continuations.specs.Kept.{scope_of, scopes_of, waiting, waits};
 ghost use Rattle.continuations.specs.Loads.{weight};
 ghost use Rattle.continuations.specs.Pending.{owns, values_of};
 ghost use Rattle.step_core.specs.RemainingRun.{ahead, remaining_run};
+ghost use Rattle.step_core.specs.declared.steps.Advance.TheVariants as advance;
+ghost use Rattle.step_core.specs.Continuing.{acts, scoped, leads};
 ghost use Rattle.continuations.specs.Invariant.{Invariant, given};
-ghost use Rattle.step_core.specs.Stepping.{Stepped, StandsBefore, begins_work, calls_function, makes_value, handed, completion_above, enters_part, remaining_run_after};
+ghost use Rattle.step_core.specs.Stepping.{Stepped, StandsBefore, begins_work, gives_value, hands_on, calls_function, makes_value, handed, completion_above, enters_part, remaining_run_after};
 
-use crate::entering::{begin_calling, begin_move, enter, make_value, present};
+use crate::entering::{
+    begin_calling, begin_move, enter, enter_expression, enter_statement, make_value, present,
+};
 use crate::leaving::leave;
 use crate::passing::pass_work;
 use crate::progress::Progress;
 use crate::requesting::request_next;
-use crate::resuming::{raise_on, resume};
+use crate::resuming::{
+    acts, leads, raise_on, resume_acting, resume_alone, resume_leading, resume_scoped, scoped,
+};
 use crate::steps::{Advance, Ending, step_of, still_step};
 use crate::telling::{abandon, tell};
 use continuations::{Continuation, Control, Jump};
@@ -66,8 +72,7 @@ pub(crate) fn stepped<'p, L: Labels, N: Natives>(
 {
     match next {
         Control::Leave(why) => leave(labels, progress, why),
-        Control::Value => go_on(alloc, labels, policy, progress, true),
-        Control::Done => go_on(alloc, labels, policy, progress, false),
+        Control::Value | Control::Done => hand_on(alloc, labels, policy, progress, next),
         Control::Jumps(jump) => jump_on(alloc, labels, progress, jump),
         Control::Request(count) => {
             request_next(alloc, labels, natives, policy, inputs, progress, count)
@@ -77,8 +82,8 @@ pub(crate) fn stepped<'p, L: Labels, N: Natives>(
         Control::Function(_) | Control::Object(_, _) => {
             begin_making(alloc, labels, functions, progress, next)
         }
-        Control::Expr(e) => begin_expr(alloc, labels, progress, e),
-        Control::Stmt(s) => begin_stmt(alloc, labels, progress, s),
+        Control::Expr(e) => begin_expr(labels, progress, e),
+        Control::Stmt(s) => begin_stmt(labels, progress, s),
         Control::Use(_, _) | Control::Named(_, _) | Control::Turn(_) | Control::Visit(_, _) => {
             enter_part(alloc, labels, progress, next)
         }
@@ -134,6 +139,33 @@ pub(crate) fn run_on<'p, L: Labels, N: Natives>(
     }
 }
 
+// A part gave a value or came to its end. Both ways are one call, so that the code for them is in the loop once.
+#[inline(always)]
+fn hand_on<'p, L: Labels, S: Drop>(
+    alloc: Global,
+    labels: &mut L,
+    policy: &Policy,
+    progress: &mut Progress<'p, L::Label, S>,
+    next: Control<'p>,
+) -> Result<Advance<'p, L::Label>, OutOfMemory>
+    requires hands { hands_on next ≡ true }
+    requires standing { StandsBefore L.made L.meaning labels.old progress.old next }
+    requires room { length policy.now.origins ≤ L.room labels.old }
+    ensures stepped { (inputs : Given) (set : BuiltIns) (functions : List FunctionCode) (tells : S → Answer → S) (asks : S → Request) → IfOk result (Stepped L.made L.meaning labels.new policy.now inputs set functions tells asks (λ reading. remaining_run policy.now inputs set functions tells asks reading progress.old next.entry) (ahead progress.old next.entry) progress.new) }
+    ensures grows { Grows progress.old.world progress.new.world }
+    ensures kept { IsKept L.made L.meaning L.room L.firm labels.old labels.new }
+{
+    go_on(alloc, labels, policy, progress, gives_value(next))
+}
+
+// A part gave a value.
+#[inline(always)]
+fn gives_value(next: Control<'_>) -> bool
+    ensures { result ≡ gives_value next.entry }
+{
+    matches!(next, Control::Value)
+}
+
 // A part gave a value or came to its end: the work goes on that waited for it, and without any the run is done.
 #[inline(always)]
 fn go_on<'p, L: Labels, S: Drop>(
@@ -180,7 +212,7 @@ fn proceed<'p, L: Labels, S: Drop>(
 }
 
 // A directive is obeyed.
-#[inline(always)]
+#[inline(never)]
 fn raised<'p, L: Labels, S: Drop>(
     alloc: Global,
     labels: &mut L,
@@ -202,7 +234,8 @@ fn raised<'p, L: Labels, S: Drop>(
     still_step(moved)
 }
 
-// A continuation that was taken goes on.
+// A continuation that was taken goes on. Each group has a function of its own: the kit's compiler doesn't inline a function that would grow very large, and
+// LLVM inlines each of them where it is called once.
 #[inline(always)]
 fn resumed<'p, L: Labels, S: Drop>(
     alloc: Global,
@@ -219,14 +252,113 @@ fn resumed<'p, L: Labels, S: Drop>(
     ensures grows { Grows progress.old.world progress.new.world }
     ensures kept { IsKept L.made L.meaning L.room L.firm labels.old labels.new }
 {
+    if acts(work) {
+        resumed_acting(alloc, labels, progress, work, gave)
+    } else if scoped(work) {
+        resumed_scoped(alloc, labels, progress, work, gave)
+    } else if leads(work) {
+        resumed_leading(alloc, labels, progress, work, gave)
+    } else {
+        resumed_alone(alloc, labels, progress, work, gave)
+    }
+}
+
+// The same of one that acts on the run's state.
+#[inline(always)]
+fn resumed_acting<'p, L: Labels, S: Drop>(
+    alloc: Global,
+    labels: &mut L,
+    progress: &mut Progress<'p, L::Label, S>,
+    work: Continuation<'p>,
+    gave: bool,
+) -> Result<Advance<'p, L::Label>, OutOfMemory>
+    requires acts { acts work ≡ true }
+    requires obeys { raises work ≡ false }
+    requires asks { answers work ≡ false }
+    requires standing { Invariant L.made L.meaning labels.old progress.old.stack progress.old.world (owns work + given gave) (scopes_of progress.old.stack.tasks ++ scope_of work) (waiting progress.old.stack.tasks) control.Value }
+    requires natives { length progress.old.natives.states ≡ waiting progress.old.stack.tasks }
+    ensures stepped { (tables : Tables) (inputs : Given) (set : BuiltIns) (functions : List FunctionCode) (tells : S → Answer → S) (asks : S → Request) → IfOk result (Stepped L.made L.meaning labels.new tables inputs set functions tells asks (λ reading. remaining_run_after tables inputs set functions tells asks reading progress.old work.entry (completion_above tables inputs set functions tells asks reading progress.old work.entry)) (ahead progress.old control.Value + weight work.entry) progress.new) }
+    ensures grows { Grows progress.old.world progress.new.world }
+    ensures kept { IsKept L.made L.meaning L.room L.firm labels.old labels.new }
+{
     let world = &mut progress.world;
     let stack = &mut progress.stack;
-    let moved = resume(alloc, labels, world, stack, work, gave);
+    let moved = resume_acting(alloc, labels, world, stack, work, gave);
+    still_step(moved)
+}
+
+// The same of one that enters, raises or leaves a frame.
+fn resumed_scoped<'p, L: Labels, S: Drop>(
+    alloc: Global,
+    labels: &mut L,
+    progress: &mut Progress<'p, L::Label, S>,
+    work: Continuation<'p>,
+    gave: bool,
+) -> Result<Advance<'p, L::Label>, OutOfMemory>
+    requires scoped { scoped work ≡ true }
+    requires obeys { raises work ≡ false }
+    requires asks { answers work ≡ false }
+    requires standing { Invariant L.made L.meaning labels.old progress.old.stack progress.old.world (owns work + given gave) (scopes_of progress.old.stack.tasks ++ scope_of work) (waiting progress.old.stack.tasks) control.Value }
+    requires natives { length progress.old.natives.states ≡ waiting progress.old.stack.tasks }
+    ensures stepped { (tables : Tables) (inputs : Given) (set : BuiltIns) (functions : List FunctionCode) (tells : S → Answer → S) (asks : S → Request) → IfOk result (Stepped L.made L.meaning labels.new tables inputs set functions tells asks (λ reading. remaining_run_after tables inputs set functions tells asks reading progress.old work.entry (completion_above tables inputs set functions tells asks reading progress.old work.entry)) (ahead progress.old control.Value + weight work.entry) progress.new) }
+    ensures grows { Grows progress.old.world progress.new.world }
+    ensures kept { IsKept L.made L.meaning L.room L.firm labels.old labels.new }
+{
+    let world = &mut progress.world;
+    let stack = &mut progress.stack;
+    let moved = resume_scoped(labels, world, stack, work, gave);
+    still_step(moved)
+}
+
+// The same of one of a jump, a call, a `switch` or a `try` statement.
+fn resumed_leading<'p, L: Labels, S: Drop>(
+    alloc: Global,
+    labels: &mut L,
+    progress: &mut Progress<'p, L::Label, S>,
+    work: Continuation<'p>,
+    gave: bool,
+) -> Result<Advance<'p, L::Label>, OutOfMemory>
+    requires leads { leads work ≡ true }
+    requires obeys { raises work ≡ false }
+    requires asks { answers work ≡ false }
+    requires standing { Invariant L.made L.meaning labels.old progress.old.stack progress.old.world (owns work + given gave) (scopes_of progress.old.stack.tasks ++ scope_of work) (waiting progress.old.stack.tasks) control.Value }
+    requires natives { length progress.old.natives.states ≡ waiting progress.old.stack.tasks }
+    ensures stepped { (tables : Tables) (inputs : Given) (set : BuiltIns) (functions : List FunctionCode) (tells : S → Answer → S) (asks : S → Request) → IfOk result (Stepped L.made L.meaning labels.new tables inputs set functions tells asks (λ reading. remaining_run_after tables inputs set functions tells asks reading progress.old work.entry (completion_above tables inputs set functions tells asks reading progress.old work.entry)) (ahead progress.old control.Value + weight work.entry) progress.new) }
+    ensures grows { Grows progress.old.world progress.new.world }
+    ensures kept { IsKept L.made L.meaning L.room L.firm labels.old labels.new }
+{
+    let world = &mut progress.world;
+    let stack = &mut progress.stack;
+    let moved = resume_leading(alloc, labels, world, stack, work, gave);
+    still_step(moved)
+}
+
+// The same of one that needs the stack alone.
+fn resumed_alone<'p, L: Labels, S: Drop>(
+    alloc: Global,
+    labels: &mut L,
+    progress: &mut Progress<'p, L::Label, S>,
+    work: Continuation<'p>,
+    gave: bool,
+) -> Result<Advance<'p, L::Label>, OutOfMemory>
+    requires acts { acts work ≡ false }
+    requires scoped { scoped work ≡ false }
+    requires leads { leads work ≡ false }
+    requires obeys { raises work ≡ false }
+    requires asks { answers work ≡ false }
+    requires standing { Invariant L.made L.meaning labels.old progress.old.stack progress.old.world (owns work + given gave) (scopes_of progress.old.stack.tasks ++ scope_of work) (waiting progress.old.stack.tasks) control.Value }
+    requires natives { length progress.old.natives.states ≡ waiting progress.old.stack.tasks }
+    ensures stepped { (tables : Tables) (inputs : Given) (set : BuiltIns) (functions : List FunctionCode) (tells : S → Answer → S) (asks : S → Request) → IfOk result (Stepped L.made L.meaning labels.new tables inputs set functions tells asks (λ reading. remaining_run_after tables inputs set functions tells asks reading progress.old work.entry (completion_above tables inputs set functions tells asks reading progress.old work.entry)) (ahead progress.old control.Value + weight work.entry) progress.new) }
+    ensures grows { Grows progress.old.world progress.new.world }
+    ensures kept { IsKept L.made L.meaning L.room L.firm labels.old labels.new }
+{
+    let world = &mut progress.world;
+    let stack = &mut progress.stack;
+    let moved = resume_alone(labels, world, stack, work, gave);
     still_step(moved)
 }
 
 // A jump passes the work that waits next, or leaves the script where none waits.
-#[inline(always)]
 fn jump_on<'p, L: Labels, S: Drop>(
     alloc: Global,
     labels: &mut L,
@@ -245,7 +377,6 @@ fn jump_on<'p, L: Labels, S: Drop>(
 }
 
 // A jump passes work that was taken.
-#[inline(always)]
 fn passed<'p, L: Labels, S: Drop>(
     alloc: Global,
     labels: &mut L,
@@ -266,7 +397,6 @@ fn passed<'p, L: Labels, S: Drop>(
 }
 
 // A jump passes work of no built-in.
-#[inline(always)]
 fn pass_on<'p, L: Labels, S: Drop>(
     alloc: Global,
     labels: &mut L,
@@ -293,52 +423,93 @@ fn pass_on<'p, L: Labels, S: Drop>(
 }
 
 // An expression is evaluated at once, or entered.
-#[inline(always)]
 fn begin_expr<'p, L: Labels, S: Drop>(
-    alloc: Global,
     labels: &mut L,
     progress: &mut Progress<'p, L::Label, S>,
     e: &'p Expr,
 ) -> Result<Advance<'p, L::Label>, OutOfMemory>
     requires standing { StandsBefore L.made L.meaning labels.old progress.old (control.Expr e) }
     ensures stepped { (tables : Tables) (inputs : Given) (set : BuiltIns) (functions : List FunctionCode) (tells : S → Answer → S) (asks : S → Request) → IfOk result (Stepped L.made L.meaning labels.new tables inputs set functions tells asks (λ reading. remaining_run tables inputs set functions tells asks reading progress.old (control.Expr e.entry)) (ahead progress.old (control.Expr e.entry)) progress.new) }
+    ensures grows { Grows progress.old.world progress.new.world }
+    ensures kept { IsKept L.made L.meaning L.room L.firm labels.old labels.new }
+{
+    if expr_at_once(labels, progress, e)? {
+        Ok(Advance::Goes(Control::Value))
+    } else {
+        enter_expr(labels, progress, e)
+    }
+}
+
+// An expression of names and numbers comes to its value at once, and an assignment of a number to a name is done. Whether that was so is told.
+#[inline(always)]
+fn expr_at_once<'p, L: Labels, S: Drop>(
+    labels: &mut L,
+    progress: &mut Progress<'p, L::Label, S>,
+    e: &'p Expr,
+) -> Result<bool, OutOfMemory>
+    requires standing { StandsBefore L.made L.meaning labels.old progress.old (control.Expr e) }
+    ensures stepped { (tables : Tables) (inputs : Given) (set : BuiltIns) (functions : List FunctionCode) (tells : S → Answer → S) (asks : S → Request) → IfOk result (λ done. done ≡ true → Stepped L.made L.meaning labels.new tables inputs set functions tells asks (λ reading. remaining_run tables inputs set functions tells asks reading progress.old (control.Expr e.entry)) (ahead progress.old (control.Expr e.entry)) progress.new (advance.Goes control.Value)) }
+    ensures unchanged { IfOk result (λ done. done ≡ false → progress.new ≡ progress.old) }
     ensures grows { Grows progress.old.world progress.new.world }
     ensures kept { IsKept L.made L.meaning L.room L.firm labels.old labels.new }
 {
     match &*e.kind {
         ExprKind::Assign { .. } | ExprKind::Postfix { .. } => {
-            begin_assignment(alloc, labels, progress, e)
+            assign_at_once(labels, progress, e)
         }
-        _ => begin_value(alloc, labels, progress, e),
+        ExprKind::Name(_) | ExprKind::Number(_) | ExprKind::Paren(_) | ExprKind::Binary { .. } => {
+            value_at_once(labels, progress, e)
+        }
+        _ => Ok(false),
     }
 }
 
-// An expression of names and numbers comes to its value at once, and any other is entered.
+// The same of an expression that changes nothing.
 #[inline(always)]
-fn begin_value<'p, L: Labels, S: Drop>(
-    alloc: Global,
+fn value_at_once<'p, L: Labels, S: Drop>(
     labels: &mut L,
     progress: &mut Progress<'p, L::Label, S>,
     e: &'p Expr,
-) -> Result<Advance<'p, L::Label>, OutOfMemory>
+) -> Result<bool, OutOfMemory>
     requires standing { StandsBefore L.made L.meaning labels.old progress.old (control.Expr e) }
-    ensures stepped { (tables : Tables) (inputs : Given) (set : BuiltIns) (functions : List FunctionCode) (tells : S → Answer → S) (asks : S → Request) → IfOk result (Stepped L.made L.meaning labels.new tables inputs set functions tells asks (λ reading. remaining_run tables inputs set functions tells asks reading progress.old (control.Expr e.entry)) (ahead progress.old (control.Expr e.entry)) progress.new) }
+    ensures stepped { (tables : Tables) (inputs : Given) (set : BuiltIns) (functions : List FunctionCode) (tells : S → Answer → S) (asks : S → Request) → IfOk result (λ done. done ≡ true → Stepped L.made L.meaning labels.new tables inputs set functions tells asks (λ reading. remaining_run tables inputs set functions tells asks reading progress.old (control.Expr e.entry)) (ahead progress.old (control.Expr e.entry)) progress.new (advance.Goes control.Value)) }
+    ensures unchanged { IfOk result (λ done. done ≡ false → progress.new ≡ progress.old) }
     ensures grows { Grows progress.old.world progress.new.world }
     ensures kept { IsKept L.made L.meaning L.room L.firm labels.old labels.new }
 {
     let place = present(&progress.world, &progress.stack)?;
     let Some(found) = evaluate(labels, &progress.world, place, progress.turns, e) else {
-        return enter_part(alloc, labels, progress, Control::Expr(e));
+        return Ok(false);
     };
     progress.turns = found.turns;
     progress.stack.lay(found.value)?;
-    Ok(Advance::Goes(Control::Value))
+    Ok(true)
 }
 
-// An assignment of a number to a name is done at once, and any other is entered.
+// The same of an assignment.
 #[inline(always)]
-fn begin_assignment<'p, L: Labels, S: Drop>(
-    alloc: Global,
+fn assign_at_once<'p, L: Labels, S: Drop>(
+    labels: &mut L,
+    progress: &mut Progress<'p, L::Label, S>,
+    e: &'p Expr,
+) -> Result<bool, OutOfMemory>
+    requires standing { StandsBefore L.made L.meaning labels.old progress.old (control.Expr e) }
+    ensures stepped { (tables : Tables) (inputs : Given) (set : BuiltIns) (functions : List FunctionCode) (tells : S → Answer → S) (asks : S → Request) → IfOk result (λ done. done ≡ true → Stepped L.made L.meaning labels.new tables inputs set functions tells asks (λ reading. remaining_run tables inputs set functions tells asks reading progress.old (control.Expr e.entry)) (ahead progress.old (control.Expr e.entry)) progress.new (advance.Goes control.Value)) }
+    ensures unchanged { IfOk result (λ done. done ≡ false → progress.new ≡ progress.old) }
+    ensures grows { Grows progress.old.world progress.new.world }
+    ensures kept { IsKept L.made L.meaning L.room L.firm labels.old labels.new }
+{
+    let place = present(&progress.world, &progress.stack)?;
+    let Some(found) = assign(labels, &mut progress.world, place, progress.turns, e) else {
+        return Ok(false);
+    };
+    progress.turns = found.turns;
+    progress.stack.lay(found.value)?;
+    Ok(true)
+}
+
+// An expression is entered, which costs a turn, and without one the run ends.
+fn enter_expr<'p, L: Labels, S: Drop>(
     labels: &mut L,
     progress: &mut Progress<'p, L::Label, S>,
     e: &'p Expr,
@@ -348,19 +519,16 @@ fn begin_assignment<'p, L: Labels, S: Drop>(
     ensures grows { Grows progress.old.world progress.new.world }
     ensures kept { IsKept L.made L.meaning L.room L.firm labels.old labels.new }
 {
-    let place = present(&progress.world, &progress.stack)?;
-    let Some(found) = assign(labels, &mut progress.world, place, progress.turns, e) else {
-        return enter_part(alloc, labels, progress, Control::Expr(e));
-    };
-    progress.turns = found.turns;
-    progress.stack.lay(found.value)?;
-    Ok(Advance::Goes(Control::Value))
+    if progress.turns == 0 {
+        return Ok(Advance::Ends(Ending::OutOfTurns));
+    }
+    progress.turns -= 1;
+    let moved = enter_expression(labels, &progress.world, &mut progress.stack, e);
+    still_step(moved)
 }
 
 // A statement that is such an assignment is done at once, and any other is entered.
-#[inline(always)]
 fn begin_stmt<'p, L: Labels, S: Drop>(
-    alloc: Global,
     labels: &mut L,
     progress: &mut Progress<'p, L::Label, S>,
     s: &'p Stmt,
@@ -370,16 +538,54 @@ fn begin_stmt<'p, L: Labels, S: Drop>(
     ensures grows { Grows progress.old.world progress.new.world }
     ensures kept { IsKept L.made L.meaning L.room L.firm labels.old labels.new }
 {
+    if stmt_at_once(labels, progress, s)? {
+        Ok(Advance::Goes(Control::Done))
+    } else {
+        enter_stmt(labels, progress, s)
+    }
+}
+
+// A statement that is such an assignment is done. Whether it is one is told.
+#[inline(always)]
+fn stmt_at_once<'p, L: Labels, S: Drop>(
+    labels: &mut L,
+    progress: &mut Progress<'p, L::Label, S>,
+    s: &'p Stmt,
+) -> Result<bool, OutOfMemory>
+    requires standing { StandsBefore L.made L.meaning labels.old progress.old (control.Stmt s) }
+    ensures stepped { (tables : Tables) (inputs : Given) (set : BuiltIns) (functions : List FunctionCode) (tells : S → Answer → S) (asks : S → Request) → IfOk result (λ done. done ≡ true → Stepped L.made L.meaning labels.new tables inputs set functions tells asks (λ reading. remaining_run tables inputs set functions tells asks reading progress.old (control.Stmt s.entry)) (ahead progress.old (control.Stmt s.entry)) progress.new (advance.Goes control.Done)) }
+    ensures unchanged { IfOk result (λ done. done ≡ false → progress.new ≡ progress.old) }
+    ensures grows { Grows progress.old.world progress.new.world }
+    ensures kept { IsKept L.made L.meaning L.room L.firm labels.old labels.new }
+{
     let place = present(&progress.world, &progress.stack)?;
     let Some(left) = finish(labels, &mut progress.world, place, progress.turns, s) else {
-        return enter_part(alloc, labels, progress, Control::Stmt(s));
+        return Ok(false);
     };
     progress.turns = left;
-    Ok(Advance::Goes(Control::Done))
+    Ok(true)
+}
+
+// A statement is entered, which costs a turn, and without one the run ends.
+fn enter_stmt<'p, L: Labels, S: Drop>(
+    labels: &mut L,
+    progress: &mut Progress<'p, L::Label, S>,
+    s: &'p Stmt,
+) -> Result<Advance<'p, L::Label>, OutOfMemory>
+    requires standing { StandsBefore L.made L.meaning labels.old progress.old (control.Stmt s) }
+    ensures stepped { (tables : Tables) (inputs : Given) (set : BuiltIns) (functions : List FunctionCode) (tells : S → Answer → S) (asks : S → Request) → IfOk result (Stepped L.made L.meaning labels.new tables inputs set functions tells asks (λ reading. remaining_run tables inputs set functions tells asks reading progress.old (control.Stmt s.entry)) (ahead progress.old (control.Stmt s.entry)) progress.new) }
+    ensures grows { Grows progress.old.world progress.new.world }
+    ensures kept { IsKept L.made L.meaning L.room L.firm labels.old labels.new }
+{
+    if progress.turns == 0 {
+        return Ok(Advance::Ends(Ending::OutOfTurns));
+    }
+    progress.turns -= 1;
+    let moved = enter_statement(labels, &progress.world, &mut progress.stack, s);
+    still_step(moved)
 }
 
 // A part of the script is entered, which costs a turn, and without one the run ends.
-#[inline(always)]
 fn enter_part<'p, L: Labels, S: Drop>(
     alloc: Global,
     labels: &mut L,
@@ -407,7 +613,6 @@ fn enter_part<'p, L: Labels, S: Drop>(
 }
 
 // A move that enters no part begins its work.
-#[inline(always)]
 fn begin_work<'p, L: Labels, S: Drop>(
     alloc: Global,
     labels: &mut L,
@@ -434,7 +639,6 @@ fn begin_work<'p, L: Labels, S: Drop>(
 }
 
 // A value is made of a function of the script, or of a literal.
-#[inline(always)]
 fn begin_making<'p, L: Labels, S: Drop>(
     alloc: Global,
     labels: &mut L,
@@ -460,7 +664,6 @@ fn begin_making<'p, L: Labels, S: Drop>(
 }
 
 // A value is called, makes an object, or is converted.
-#[inline(always)]
 fn begin_call<'p, L: Labels, N: Natives>(
     alloc: Global,
     labels: &mut L,

@@ -33,6 +33,7 @@ use origin_labels::Labels;
 use run_state::World;
 
 /// A jump is issued whose value lies loose.
+#[inline(always)]
 fn issue<'p, L: Labels>(
     labels: &mut L,
     world: &mut World<L::Label>,
@@ -53,6 +54,7 @@ fn issue<'p, L: Labels>(
 }
 
 /// `throw` (ECMA-262 12.13): its value goes to what catches it, or ends the run.
+#[inline(always)]
 pub fn throw_value<'p, L: Labels>(
     labels: &mut L,
     world: &mut World<L::Label>,
@@ -70,6 +72,7 @@ pub fn throw_value<'p, L: Labels>(
 }
 
 /// `return` with a value (ECMA-262 12.9), to the call in the frame at a depth.
+#[inline(always)]
 pub fn return_value<'p, L: Labels>(
     labels: &mut L,
     world: &mut World<L::Label>,
@@ -89,6 +92,7 @@ pub fn return_value<'p, L: Labels>(
 }
 
 /// Lays undefined, which depends on nothing.
+#[inline(always)]
 fn lay_nothing<'p, L: Labels>(
     labels: &L,
     stack: &mut Stack<'p, L::Label>,
@@ -105,6 +109,7 @@ fn lay_nothing<'p, L: Labels>(
 }
 
 /// `return` without a value (ECMA-262 12.9).
+#[inline(always)]
 pub fn return_nothing<'p, L: Labels>(
     labels: &mut L,
     world: &mut World<L::Label>,
@@ -125,6 +130,7 @@ pub fn return_nothing<'p, L: Labels>(
 }
 
 /// `break` and `continue` (ECMA-262 12.7, 12.8): behind the loop, the turn or the statement that is ended, of which is known how many are round it and in the frame at which depth it stands. Where there is none, nothing is left.
+#[inline(always)]
 pub fn leave_by<'p, L: Labels>(
     labels: &mut L,
     world: &mut World<L::Label>,

@@ -29,7 +29,7 @@ use Rattle.js_values.specs.Walks.{Found, find, found_at, object_chain}
 use Rattle.js_values.proofs.ReadingLaws.{IsReading-earlier}
 use Rattle.object_heap.specs.declared.shape.Shape.{Shape}
 use Rattle.object_heap.specs.Acts as heap_acts
-use Rattle.object_heap.specs.Formed.{IsShape, own_in}
+use Rattle.object_heap.specs.Formed.{IsShape, own_in, rows_in}
 use Rattle.object_heap.proofs.ReadLaws.{read_own}
 use Rattle.prototype_walk.specs.declared.plan.PutPlan.TheVariants.{Write}
 use Rattle.prototype_walk.specs.Plans.{can_put, if_allowed, own_plan, plan_at}
@@ -234,6 +234,14 @@ module _ {T : Type 0} where
   pub class_seen : (p : Option (Object T)) (shape : Shape T) → IsShape p shape → is_array shape.class ≡ array_in p
   class_seen None shape is = absurd is
   class_seen (Some p) shape is = ap (λ (q : Shape T). is_array q.class) is
+
+  own_rows : (name : List ℕ) (p : Option (Object T)) → own name (rows_in p) ≡ own_in name p
+  own_rows name None = refl
+  own_rows name (Some p) = refl
+
+  -- what is found among the properties of an object that is no array
+  pub written_found : (name : List ℕ) (p : Option (Object T)) (o : Option (Slot T)) → array_in p ≡ false → own name (rows_in p) ≡ o → slot_there o ≡ written_in name p
+  written_found name p o none is = ap slot_there (sym is ∙ own_rows name p) ∙ sym (ap (λ b. if b then None else slot_there (own_in name p)) none)
 
   pub written_slot : (name : List ℕ) (p : Option (Object T)) (walk : T) → Some walk ≡ written_in name p → Writable (own_in name p) walk
   written_slot name p walk e = (no_array_there (array_in p) (own_in name p) walk e).1

@@ -12,7 +12,8 @@ ghost use Rattle.js_number.specs.declared.primitive.Primitive.TheVariants as pri
 ghost use Rattle.js_values.specs.declared.value.Value.TheVariants as value;
 ghost use Rattle.js_values.specs.Records.{bound_in};
 ghost use Rattle.native_protocol.specs.declared.request.Seen.TheVariants as seen;
-ghost use Rattle.object_heap.specs.Formed.{own_in};
+ghost use Rattle.object_heap.specs.Formed.{own_in, rows_in};
+ghost use Rattle.object_heap.specs.Places.{StandsAt};
 ghost use Rattle.es_meaning.specs.Evaluation.{operator_of};
 ghost use Rattle.es_meaning.specs.Operators.{binary_of, unary_of};
 ghost use Rattle.run_state.specs.Worlds.{Belongs};
@@ -31,7 +32,16 @@ use js_values::{Body, Class, EnvId, Labelled, Slot, Value};
 use origin_labels::Labels;
 use run_state::World;
 
+/// A property of the global object whose value can be written over.
+#[derive(Drop)]
+struct WritePlace<T> {
+    place: usize,
+    /// The label of its existence.
+    existence: T,
+}
+
 /// Evaluates an expression in a record, where it gives a name a number that can be changed: what is assigned is made of names, numbers, parentheses and arithmetic, it isn't deep, and there are turns for it. Where that would throw, stop the run or want memory, it isn't done, and nothing but the store of labels changes.
+#[inline(always)]
 pub fn assign<L: Labels>(
     labels: &mut L,
     world: &mut World<L::Label>,
@@ -51,6 +61,7 @@ pub fn assign<L: Labels>(
 }
 
 /// The same, of an expression that gives such a number.
+#[inline(always)]
 fn assigned<L: Labels>(
     labels: &mut L,
     world: &mut World<L::Label>,
@@ -83,6 +94,7 @@ fn assigned<L: Labels>(
 }
 
 /// Evaluates an expression statement in a record, where its expression is assigned so at once, and answers how many turns are left. It comes to its end.
+#[inline(always)]
 pub fn finish<L: Labels>(
     labels: &mut L,
     world: &mut World<L::Label>,
@@ -111,6 +123,7 @@ pub fn finish<L: Labels>(
 }
 
 /// `++` or `--` behind a name: the number is changed by one, and is what the expression gives.
+#[inline(always)]
 fn counted_behind<L: Labels>(
     labels: &mut L,
     world: &mut World<L::Label>,
@@ -136,6 +149,7 @@ fn counted_behind<L: Labels>(
 }
 
 /// The operator by which a number is changed by one.
+#[inline(always)]
 fn step_of(operator: PostfixOperator) -> BinaryOperator
     ensures { result ≡ step_of operator }
 {
@@ -146,6 +160,7 @@ fn step_of(operator: PostfixOperator) -> BinaryOperator
 }
 
 /// A number with one added or taken away, where that is a number of the profile.
+#[inline(always)]
 #[tactic(auto, using(crate::proofs::NumberLaws::plus_number))]
 fn one_more(operator: BinaryOperator, number: Int) -> Option<Int>
     ensures exact { result ≡ combined_of operator number (pos 1) }
@@ -156,6 +171,7 @@ fn one_more(operator: BinaryOperator, number: Int) -> Option<Int>
 }
 
 /// The number one.
+#[inline(always)]
 fn one() -> Int
     ensures { result ≡ pos 1 }
 {
@@ -163,6 +179,7 @@ fn one() -> Int
 }
 
 /// An assignment of a number to a name.
+#[inline(always)]
 fn assignment<L: Labels>(
     labels: &mut L,
     world: &mut World<L::Label>,
@@ -188,6 +205,7 @@ fn assignment<L: Labels>(
 }
 
 /// An assignment by `=`.
+#[inline(always)]
 fn assigned_value<L: Labels>(
     labels: &mut L,
     world: &mut World<L::Label>,
@@ -212,6 +230,7 @@ fn assigned_value<L: Labels>(
 }
 
 /// A compound assignment of a number to a name that has one.
+#[inline(always)]
 fn updated_value<L: Labels>(
     labels: &mut L,
     world: &mut World<L::Label>,
@@ -242,6 +261,7 @@ fn updated_value<L: Labels>(
 }
 
 /// The operator of a compound assignment.
+#[inline(always)]
 fn operator_of(operator: AssignOperator) -> Option<BinaryOperator>
     ensures { result ≡ operator_of operator }
 {
@@ -262,6 +282,7 @@ fn operator_of(operator: AssignOperator) -> Option<BinaryOperator>
 }
 
 /// The name that an expression is.
+#[inline(always)]
 #[tactic(auto, using(js_ast::specs::declared::trees::ExprKind::TheViews::the_lemmas))]
 fn name_of(e: &Expr) -> Option<&Text>
     ensures exact { option_map (λ name. name.now) result ≡ name_in (view_expr e.now) }
@@ -274,6 +295,7 @@ fn name_of(e: &Expr) -> Option<&Text>
 }
 
 /// Gives a name a number, if it is bound or the global object has a property of the name, that can be changed, and its label includes what rule W1 asks for.
+#[inline(always)]
 fn put<L: Labels>(
     labels: &mut L,
     world: &mut World<L::Label>,
@@ -302,6 +324,7 @@ fn put<L: Labels>(
 }
 
 /// Gives a name another value in the record that binds it.
+#[inline(always)]
 fn put_bound<L: Labels>(
     labels: &mut L,
     world: &mut World<L::Label>,
@@ -326,6 +349,7 @@ fn put_bound<L: Labels>(
 }
 
 /// Gives the global object's own property with a name another value.
+#[inline(always)]
 fn put_global<L: Labels>(
     labels: &mut L,
     world: &mut World<L::Label>,
@@ -341,31 +365,36 @@ fn put_global<L: Labels>(
     ensures rebinds { Rebinds L.made L.meaning labels.new world.old world.new }
     ensures kept { IsKept L.made L.meaning L.room L.firm labels.old labels.new }
 {
-    let walk = written(world, name)?;
+    let found = written(world, name)?;
     let context = world.frames.context(labels);
-    let need = labels.join(context, walk).ok()?;
+    let need = labels.join(context, found.existence).ok()?;
     match world
         .heap
-        .write_named(labels, Rule::W1, GLOBAL, name, need, value)
+        .write_at(labels, Rule::W1, GLOBAL, name, found.place, need, value)
     {
         Ok(()) => Some(()),
         Err(_) => None,
     }
 }
 
-/// The label of the existence of the global object's own property with a name, if its value can be written over (ECMA-262 8.12.4).
-fn written<T: Copy>(world: &World<T>, name: &Text) -> Option<T>
+/// The global object's own property with a name, if its value can be written over (ECMA-262 8.12.4). It is searched for once: its place serves the write.
+#[inline(always)]
+fn written<T: Copy>(world: &World<T>, name: &Text) -> Option<WritePlace<T>>
     requires { 10 ≤ length world.now.heap }
-    ensures { result ≡ written_in name.now (global_in world.now.heap) }
+    ensures written { option_map (λ w. w.existence) result ≡ written_in name.now (global_in world.now.heap) }
+    ensures stands { IfSome result (λ w. StandsAt name.now (rows_in (global_in world.now.heap)) w.place) }
 {
     if is_array(world) {
         return None;
     }
-    let slot = world.heap.own_named(GLOBAL, name)?;
-    slot_written(slot)
+    let place = world.heap.place_named(GLOBAL, name)?;
+    let slot = world.heap.slot_at(GLOBAL, place);
+    let existence = slot_written(slot)?;
+    Some(WritePlace { place, existence })
 }
 
 /// Whether the global object is an array.
+#[inline(always)]
 fn is_array<T: Copy>(world: &World<T>) -> bool
     requires { 10 ≤ length world.now.heap }
     ensures { result ≡ array_in (global_in world.now.heap) }
@@ -374,6 +403,7 @@ fn is_array<T: Copy>(world: &World<T>) -> bool
 }
 
 /// Whether it is the class of arrays.
+#[inline(always)]
 fn is_array_class(class: Class) -> bool
     ensures { result ≡ is_array class }
 {
@@ -381,6 +411,7 @@ fn is_array_class(class: Class) -> bool
 }
 
 /// The label of the existence of a property whose value can be written over.
+#[inline(always)]
 fn slot_written<T: Copy>(slot: &Slot<T>) -> Option<T>
     ensures { result ≡ slot_written slot.now }
 {

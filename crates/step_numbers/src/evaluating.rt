@@ -48,6 +48,7 @@ pub(crate) struct Counted<T> {
 }
 
 /// Evaluates an expression in a record, where it is made of names, numbers, parentheses and operators between numbers, with one comparison outermost or none, it isn't deep, and there are turns for it. Nothing but the store of labels changes.
+#[inline(always)]
 pub fn evaluate<L: Labels>(
     labels: &mut L,
     world: &World<L::Label>,
@@ -77,6 +78,7 @@ pub fn evaluate<L: Labels>(
     }
 }
 
+#[inline(always)]
 pub(crate) fn as_value<T>(counted: Option<Counted<T>>) -> Option<Evaluated<T>>
     ensures { result ≡ option_map (λ c. record { value = labelled_number c.number c.label; turns = c.turns }) counted }
 {
@@ -91,6 +93,7 @@ pub(crate) fn as_value<T>(counted: Option<Counted<T>>) -> Option<Evaluated<T>>
 }
 
 /// A comparison of two numbers.
+#[inline(always)]
 fn comparison<L: Labels>(
     labels: &mut L,
     world: &World<L::Label>,
@@ -109,8 +112,8 @@ fn comparison<L: Labels>(
     if turns == 0 {
         return None;
     }
-    let first = number(labels, world, at, turns - 1, DEPTH, left)?;
-    let second = number(labels, world, at, first.turns, DEPTH, right)?;
+    let first = operand(labels, world, at, turns - 1, DEPTH, left)?;
+    let second = operand(labels, world, at, first.turns, DEPTH, right)?;
     let holds = compared(operator, first.number, second.number)?;
     let Ok(label) = labels.join(first.label, second.label) else {
         return None;
@@ -125,6 +128,7 @@ fn comparison<L: Labels>(
 }
 
 /// A number.
+#[cycle(numbers)]
 #[tactic(auto, using(crate::proofs::ExactLaws::stays_out, js_ast::specs::declared::trees::ExprKind::TheViews::the_lemmas))]
 pub(crate) fn number<L: Labels>(
     labels: &mut L,
@@ -161,8 +165,8 @@ pub(crate) fn number<L: Labels>(
             if !combines(*operator) {
                 return None;
             }
-            let first = number(labels, world, at, turns, depth - 1, left)?;
-            let second = number(labels, world, at, first.turns, depth - 1, right)?;
+            let first = operand(labels, world, at, turns, depth - 1, left)?;
+            let second = operand(labels, world, at, first.turns, depth - 1, right)?;
             joined(labels, *operator, first, second)
         }
         ExprKind::String { .. }
@@ -184,7 +188,40 @@ pub(crate) fn number<L: Labels>(
     }
 }
 
+/// The same. A name and a number, which most operands are, take no call.
+#[cycle(numbers)]
+#[inline(always)]
+fn operand<L: Labels>(
+    labels: &mut L,
+    world: &World<L::Label>,
+    at: EnvId,
+    turns: u64,
+    depth: u32,
+    e: &Expr,
+) -> Option<Counted<L::Label>>
+    requires belongs { Belongs L.made L.meaning labels.old world.now }
+    requires at { at.0 < length world.now.records }
+    ensures exact { L.firm labels.old ≡ true → option_map (λ c. (c.number, c.turns)) result ≡ number_at world.now.records world.now.heap at.0 depth (view_expr e.now) turns }
+    ensures evaluates { IfSome result (λ c. Evaluates L.made L.meaning labels.new (view_expr e.now) at.0 world.now turns (labelled_number c.number c.label) c.turns) }
+    ensures belongs { Belongs L.made L.meaning labels.new world.now }
+    ensures kept { IsKept L.made L.meaning L.room L.firm labels.old labels.new }
+{
+    if turns == 0 || depth == 0 {
+        return None;
+    }
+    match &*e.kind {
+        ExprKind::Name(name) => named(labels, world, at, turns - 1, name),
+        ExprKind::Number(n) => Some(Counted {
+            number: *n,
+            label: labels.bottom(),
+            turns: turns - 1,
+        }),
+        _ => number(labels, world, at, turns, depth, e),
+    }
+}
+
 /// The number that a name has, which a record binds from this one on, or else the global object itself (ECMA-262 10.3.1, 10.2.1.2.4).
+#[inline(always)]
 pub(crate) fn named<L: Labels>(
     labels: &mut L,
     world: &World<L::Label>,
@@ -206,6 +243,7 @@ pub(crate) fn named<L: Labels>(
 }
 
 /// The number that a value is.
+#[inline(always)]
 fn counted_value<T: Copy>(found: &Labelled<T>, turns: u64) -> Option<Counted<T>>
     ensures exact { option_map (λ c. (c.number, c.turns)) result ≡ left_with (number_of_value (Some found.now)) turns }
     ensures found { IfSome result (λ c. labelled_number c.number c.label ≡ found.now) }
@@ -222,6 +260,7 @@ fn counted_value<T: Copy>(found: &Labelled<T>, turns: u64) -> Option<Counted<T>>
 }
 
 /// The number that the global object's own property with the name holds. That the property is there depends on the label of its existence, which its value has besides.
+#[inline(always)]
 fn global_number<L: Labels>(
     labels: &mut L,
     world: &World<L::Label>,
@@ -245,6 +284,7 @@ fn global_number<L: Labels>(
 }
 
 /// The number that a property holds.
+#[inline(always)]
 fn held_number(body: &Body) -> Option<Int>
     ensures exact { result ≡ number_of_body body.now }
     ensures holds { IfSome result (λ n. body.now ≡ Data (value.Primitive (prims.Num n))) }
@@ -256,6 +296,7 @@ fn held_number(body: &Body) -> Option<Int>
 }
 
 /// What arithmetic gives of two numbers, with the turns that are left behind the second.
+#[inline(always)]
 pub(crate) fn joined<L: Labels>(
     labels: &mut L,
     operator: BinaryOperator,

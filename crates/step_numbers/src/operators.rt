@@ -11,6 +11,7 @@ use js_ast::BinaryOperator;
 use js_number::{Int, LeftNumbers, add, mul, rem, sub};
 
 /// Whether it compares two numbers.
+#[inline(always)]
 pub(crate) fn compares(operator: BinaryOperator) -> bool
     ensures { result ≡ compares operator }
 {
@@ -28,6 +29,7 @@ pub(crate) fn compares(operator: BinaryOperator) -> bool
 }
 
 /// Whether it is arithmetic, which gives a number of two.
+#[inline(always)]
 pub(crate) fn combines(operator: BinaryOperator) -> bool
     ensures { result ≡ combines operator }
 {
@@ -41,6 +43,7 @@ pub(crate) fn combines(operator: BinaryOperator) -> bool
 }
 
 /// What a comparison says of two numbers.
+#[inline(always)]
 #[tactic(auto, using(crate::proofs::NumberLaws::converts_numbers, crate::proofs::NumberLaws::less_given, crate::proofs::NumberLaws::turned_given))]
 pub(crate) fn compared(operator: BinaryOperator, left: Int, right: Int) -> Option<bool>
     ensures exact { result ≡ compared_of operator left right }
@@ -59,6 +62,7 @@ pub(crate) fn compared(operator: BinaryOperator, left: Int, right: Int) -> Optio
 }
 
 /// What arithmetic gives of two numbers, where that is a number of the profile.
+#[inline(always)]
 #[tactic(auto, using(crate::proofs::NumberLaws::converts_numbers, crate::proofs::NumberLaws::of_both, crate::proofs::NumberLaws::sum_of_both))]
 pub(crate) fn combined(operator: BinaryOperator, left: Int, right: Int) -> Option<Int>
     ensures exact { result ≡ combined_of operator left right }
@@ -74,6 +78,7 @@ pub(crate) fn combined(operator: BinaryOperator, left: Int, right: Int) -> Optio
     }
 }
 
+#[inline(always)]
 fn kept(answer: Result<Int, LeftNumbers>) -> Option<Int>
     ensures number { IfSome result (λ n. answer ≡ Ok n) }
     ensures exact { result ≡ in_numbers answer }

@@ -31,6 +31,7 @@ use step_references::{Went, go_on, hand_on};
 use step_values::{Conversion, conversion_of, converts};
 
 /// An operator between the value of its left operand, which lies below, and that of its right one.
+#[inline(always)]
 pub fn binary_done<'p, L: Labels>(
     alloc: Global,
     labels: &mut L,
@@ -54,6 +55,7 @@ pub fn binary_done<'p, L: Labels>(
 }
 
 /// An operator between two values. Where none is converted it is one act.
+#[inline(always)]
 pub(crate) fn operate<'p, L: Labels>(
     alloc: Global,
     labels: &mut L,
@@ -123,6 +125,7 @@ fn convert_operands<'p, L: Labels>(
 }
 
 /// The left operand is converted as `==` does beside the right one, which waits.
+#[inline(always)]
 fn compare_left<'p, L: Labels>(
     alloc: Global,
     labels: &L,
@@ -147,6 +150,7 @@ fn compare_left<'p, L: Labels>(
 }
 
 /// The left operand is converted to a primitive value, and the right one waits.
+#[inline(always)]
 fn convert_left<'p, L: Labels>(
     labels: &L,
     world: &World<L::Label>,
@@ -169,6 +173,7 @@ fn convert_left<'p, L: Labels>(
 }
 
 /// `in`: the right value has to be an object, and then the left one is converted to a key.
+#[inline(always)]
 fn need_object<'p, L: Labels>(
     labels: &mut L,
     world: &mut World<L::Label>,
@@ -199,6 +204,7 @@ fn need_object<'p, L: Labels>(
 }
 
 /// A key is converted, and the object waits that may have it.
+#[inline(always)]
 fn convert_key<'p, L: Labels>(
     labels: &L,
     world: &World<L::Label>,

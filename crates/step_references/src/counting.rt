@@ -105,6 +105,7 @@ pub(crate) fn begin_asking<'p, L: Labels>(
 }
 
 /// The value of a reference is called: what the call has as `this` lies below it.
+#[inline(always)]
 pub(crate) fn begin_call<'p, L: Labels>(
     alloc: Global,
     labels: &mut L,

@@ -16,6 +16,7 @@ use run_state::{Access, Putting};
 use std::alloc::Global;
 
 /// What a read came to: its value, or its getter is called.
+#[inline(always)]
 pub fn enter_access<'p, L: Labels>(
     _labels: &L,
     stack: &mut Stack<'p, L::Label>,
@@ -44,6 +45,7 @@ pub fn enter_access<'p, L: Labels>(
 }
 
 /// What a put came to: the value that its assignment gives, or its setter is called, and then that.
+#[inline(always)]
 pub(crate) fn enter_putting<'p, L: Labels>(
     alloc: Global,
     _labels: &L,
@@ -84,6 +86,7 @@ pub(crate) fn enter_putting<'p, L: Labels>(
 }
 
 /// A function as a value.
+#[inline(always)]
 pub(crate) fn called<T>(function: ObjId, label: T) -> Labelled<T>
     ensures { result ≡ record { value = kinds.Object function; label = label } }
 {
@@ -94,6 +97,7 @@ pub(crate) fn called<T>(function: ObjId, label: T) -> Labelled<T>
 }
 
 /// The value that a setter is given.
+#[inline(always)]
 fn given_or<T: Copy>(
     alloc: Global,
     value: Option<Labelled<T>>,
@@ -108,6 +112,7 @@ fn given_or<T: Copy>(
 }
 
 /// A setter is called with a value, above work that keeps the values that lie loose.
+#[inline(always)]
 pub(crate) fn begin_setter<'p, T: Copy>(
     stack: &mut Stack<'p, T>,
     work: Continuation<'p>,

@@ -19,6 +19,7 @@ use run_state::{Access, Outcome, Putting};
 use std::alloc::Global;
 
 /// What comes behind an act: its value, or what it threw, lies uppermost.
+#[inline(always)]
 pub fn hand_on<'p, L: Labels>(
     labels: &L,
     stack: &mut Stack<'p, L::Label>,
@@ -41,6 +42,7 @@ pub fn hand_on<'p, L: Labels>(
 }
 
 /// What comes behind a read: its value, or its getter is called.
+#[inline(always)]
 pub fn hand_on_access<'p, L: Labels>(
     labels: &L,
     stack: &mut Stack<'p, L::Label>,
@@ -63,6 +65,7 @@ pub fn hand_on_access<'p, L: Labels>(
 }
 
 /// What comes behind a put: the value that the assignment gives, or its setter is called, with what the assignment gives as its value where no other is given.
+#[inline(always)]
 pub(crate) fn hand_on_putting<'p, L: Labels>(
     alloc: Global,
     labels: &L,
@@ -97,6 +100,7 @@ pub enum Went<'p, X> {
 }
 
 /// An act's answer, where something follows that it doesn't give: what it threw lies uppermost, in place of the values that no work keeps.
+#[inline(always)]
 pub fn go_on<'p, X: Drop, L: Labels>(
     labels: &L,
     stack: &mut Stack<'p, L::Label>,

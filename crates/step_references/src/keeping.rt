@@ -18,6 +18,7 @@ use run_state::{Named, Place};
 use step_objects::Reference;
 
 /// Lays what work keeps of a reference above the values that no work keeps yet.
+#[inline(always)]
 pub(crate) fn lay_reference<'p, T: Copy>(
     stack: &mut Stack<'p, T>,
     reference: Reference<'p, T>,
@@ -40,6 +41,7 @@ pub(crate) fn lay_reference<'p, T: Copy>(
 }
 
 /// Lays the label of the walk to a name that stands nowhere.
+#[inline(always)]
 fn lay_walk<T: Copy>(stack: &mut Stack<'_, T>, place: Place, walk: T) -> Result<(), OutOfMemory>
     ensures tasks { stack.new.tasks ≡ stack.old.tasks }
     ensures laid { OnOk result (stack.new.loose ≡ stack.old.loose ++ walk_laid place walk) }
@@ -57,6 +59,7 @@ fn lay_walk<T: Copy>(stack: &mut Stack<'_, T>, place: Place, walk: T) -> Result<
 }
 
 /// Takes the reference back with which work waited.
+#[inline(always)]
 pub fn take_reference<'p, L: Labels>(
     labels: &L,
     stack: &mut Stack<'p, L::Label>,
@@ -83,6 +86,7 @@ pub fn take_reference<'p, L: Labels>(
 }
 
 /// The label of the walk to a name. Of one that stands an assignment doesn't ask for it, and none was kept.
+#[inline(always)]
 fn take_walk<L: Labels>(labels: &L, stack: &mut Stack<'_, L::Label>, place: Place) -> L::Label
     requires loose { length stack.old.loose ≡ owns_walk place }
     requires made { All (HasValue (L.made labels.now)) stack.old.loose }

@@ -17,7 +17,7 @@ ghost use Rattle.continuations.specs.Stops.{HasStop};
 ghost use Rattle.step_references.specs.Moving.{Begun, Moved, Resumed};
 
 use crate::handing_on::{Went, go_on};
-use crate::uses::use_reference;
+use crate::uses::{use_keyed, use_reference};
 use continuations::{Continuation, Control, Stack, Use};
 use flow_frames::FlowFault;
 use flow_text::{OutOfMemory, Text};
@@ -163,8 +163,8 @@ fn use_member<'p, L: Labels>(
     match came {
         Went::On(base) => {
             let reference = Reference::Property(base, key);
-            use_reference(alloc, labels, world, stack, how, reference)
-        },
+            use_keyed(alloc, labels, world, stack, how, reference)
+        }
         Went::Off(next) => Ok(next),
     }
 }
@@ -196,7 +196,7 @@ fn use_key<'p, L: Labels>(
         Ok(next)
     } else {
         let reference = Reference::Property(base, key);
-        use_reference(alloc, labels, world, stack, how, reference)
+        use_keyed(alloc, labels, world, stack, how, reference)
     }
 }
 

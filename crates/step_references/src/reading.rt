@@ -22,6 +22,7 @@ use std::alloc::Global;
 use step_objects::{Reference, get_value, put_value};
 
 /// The value of a reference (ECMA-262 8.7.1).
+#[inline(always)]
 pub(crate) fn read<'p, L: Labels>(
     alloc: Global,
     labels: &mut L,
@@ -44,6 +45,7 @@ pub(crate) fn read<'p, L: Labels>(
 }
 
 /// The value is given to the reference, and is what the assignment gives (ECMA-262 11.13.1).
+#[inline(always)]
 pub fn assign<'p, L: Labels>(
     alloc: Global,
     labels: &mut L,
@@ -69,6 +71,7 @@ pub fn assign<'p, L: Labels>(
 }
 
 /// The value is given to the reference, and the assignment gives another.
+#[inline(always)]
 pub fn assign_giving<'p, L: Labels>(
     alloc: Global,
     labels: &mut L,

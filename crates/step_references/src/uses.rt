@@ -61,7 +61,7 @@ pub fn begin_use<'p, L: Labels>(
     match &*target.kind {
         ExprKind::Name(name) => {
             let named = resolve(labels, world, at, name)?;
-            use_reference(alloc, labels, world, stack, how, Reference::Name(named))
+            use_named(alloc, labels, world, stack, how, Reference::Name(named))
         }
         ExprKind::Member { base, name } => {
             let next = begin_member(stack, how, base, name)?;
@@ -76,6 +76,76 @@ pub fn begin_use<'p, L: Labels>(
             stack.clear(how.owns());
             Ok(Control::Leave(Reason::Unbuilt))
         }
+    }
+}
+
+/// What is done with a reference that is a name, as with any. The most frequent uses don't go through all of them: a call of the large `use_reference` costs more than they do.
+#[inline(always)]
+fn use_named<'p, L: Labels>(
+    alloc: Global,
+    labels: &mut L,
+    world: &mut World<L::Label>,
+    stack: &mut Stack<'p, L::Label>,
+    how: Use<'p>,
+    reference: Reference<'p, L::Label>,
+) -> Result<Control<'p>, FlowFault<L::Label>>
+    requires loose { length stack.old.loose ≡ owns_use how }
+    requires made { All (HasValue (L.made labels.old)) stack.old.loose }
+    requires reference { HasReference (L.made labels.old) reference }
+    requires belongs { Belongs L.made L.meaning labels.old world.old }
+    ensures goes_on { Begun L.made L.meaning labels.new (λ tables inputs set functions reading e. used (planned tables inputs set functions) (entrance tables inputs set functions) (asking tables inputs set functions) (use_of how.entry (map (read_value reading) stack.old.loose)) e.env.place (refers reading reference.entry)) stack.old stack.new world.old world.new result }
+    ensures moved { IfOk result (Moved (L.made labels.new) 12 stack.old stack.new world.old world.new) }
+    ensures stopped { IfErr result (IfStop (HasStop (L.made labels.new))) }
+    ensures belongs { Belongs L.made L.meaning labels.new world.new }
+    ensures grows { Grows world.old world.new }
+    ensures kept { IsKept L.made L.meaning L.room L.firm labels.old labels.new }
+{
+    match how {
+        Use::Assigned(value) => {
+            let next = begin_assign(labels, world, stack, reference, value)?;
+            Ok(next)
+        }
+        Use::Updated(operator, operand) => {
+            begin_update(alloc, labels, world, stack, reference, operator, operand)
+        }
+        Use::Prefixed(operator) => {
+            let counting = Counting::Prefix;
+            begin_count(alloc, labels, world, stack, reference, counting, operator)
+        }
+        Use::Postfixed(operator) => {
+            let counting = Counting::Postfix;
+            begin_count(alloc, labels, world, stack, reference, counting, operator)
+        }
+        Use::Called(list) => begin_call(alloc, labels, world, stack, reference, list),
+        _ => use_reference(alloc, labels, world, stack, how, reference),
+    }
+}
+
+/// The same of a property. An assignment isn't among its frequent uses, since with one more use that is inlined it would be too large to be inlined itself.
+#[inline(always)]
+pub(crate) fn use_keyed<'p, L: Labels>(
+    alloc: Global,
+    labels: &mut L,
+    world: &mut World<L::Label>,
+    stack: &mut Stack<'p, L::Label>,
+    how: Use<'p>,
+    reference: Reference<'p, L::Label>,
+) -> Result<Control<'p>, FlowFault<L::Label>>
+    requires loose { length stack.old.loose ≡ owns_use how }
+    requires made { All (HasValue (L.made labels.old)) stack.old.loose }
+    requires reference { HasReference (L.made labels.old) reference }
+    requires belongs { Belongs L.made L.meaning labels.old world.old }
+    ensures goes_on { Begun L.made L.meaning labels.new (λ tables inputs set functions reading e. used (planned tables inputs set functions) (entrance tables inputs set functions) (asking tables inputs set functions) (use_of how.entry (map (read_value reading) stack.old.loose)) e.env.place (refers reading reference.entry)) stack.old stack.new world.old world.new result }
+    ensures moved { IfOk result (Moved (L.made labels.new) 12 stack.old stack.new world.old world.new) }
+    ensures stopped { IfErr result (IfStop (HasStop (L.made labels.new))) }
+    ensures belongs { Belongs L.made L.meaning labels.new world.new }
+    ensures grows { Grows world.old world.new }
+    ensures kept { IsKept L.made L.meaning L.room L.firm labels.old labels.new }
+{
+    match how {
+        Use::Valued => read(alloc, labels, world, stack, &reference),
+        Use::Called(list) => begin_call(alloc, labels, world, stack, reference, list),
+        _ => use_reference(alloc, labels, world, stack, how, reference),
     }
 }
 
@@ -124,6 +194,7 @@ pub(crate) fn use_reference<'p, L: Labels>(
 }
 
 /// An assignment: its value is evaluated first.
+#[inline(always)]
 fn begin_assign<'p, L: Labels>(
     labels: &L,
     world: &World<L::Label>,

@@ -1,4 +1,4 @@
-use Rattle.std.proofs.Common.{arith, refl, ap, List, length, set, get_or, ◌∙◌}
+use Rattle.std.proofs.Common.{refl, ap, List, set, get_or, ◌∙◌}
 use Rattle.std.proofs.lemmas.List.{length-set}
 use Rattle.std.specs.Vec.Iter.{into_iter_items}
 use Rattle.js_values.specs.declared.value.Labelled.{Labelled}

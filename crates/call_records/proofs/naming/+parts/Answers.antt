@@ -1,4 +1,4 @@
-use Rattle.std.proofs.Common.{rules, refl, sym, ◌∙◌}
+use Rattle.std.proofs.Common.{rules, refl}
 use Rattle.js_ast.specs.declared.trees.ExprKind.TheViews.{the_lemmas}
 use Rattle.js_ast.proofs.ViewLaws.{held_exprs}
 use Rattle.js_ast.specs.Views.{view_expr, view_exprs, view_items, view_property, view_properties}

@@ -1,4 +1,4 @@
-use Rattle.std.proofs.Common.{refl, sym, ◌∙◌}
+use Rattle.std.proofs.Common.{refl}
 use Rattle.js_ast.specs.Views.{view_clauses, view_stmt, view_stmts}
 use Rattle.es_meaning.specs.Naming.{names_in_block, names_in_clauses, names_in_statement, names_in_statements}
 use Rattle.call_records.specs.Named.{names_in_clause}

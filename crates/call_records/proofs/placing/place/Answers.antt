@@ -1,4 +1,4 @@
-use Rattle.std.proofs.Common.{true, sym, ap, ◌++◌, ◌≡◌, ◌∙◌, Some, None}
+use Rattle.std.proofs.Common.{true, sym, ap, ◌++◌, ◌∙◌, Some}
 use Rattle.env_records.specs.Layouts.{first_place}
 use Rattle.call_records.specs.Planned.{names}
 use Rattle.call_records.proofs.NameLaws.{fresh_place}

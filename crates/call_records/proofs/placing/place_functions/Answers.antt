@@ -1,4 +1,4 @@
-use Rattle.std.proofs.Common.{refl, subst, ℕ, List, []}
+use Rattle.std.proofs.Common.{refl, subst, ℕ, List}
 use Rattle.js_ast.specs.Views.{view_stmt, view_stmts}
 use Rattle.es_meaning.specs.Declared.{declared_functions}
 use Rattle.call_records.specs.Declarations.{declared_by}

@@ -21,23 +21,23 @@ enter-requires-clause-functions g c =
 
 pub returns-clause-enters : goal.returns-clause-enters
 returns-clause-enters g c =
-    entered g.L.Labels.made g.L.Labels.meaning g.L.Labels.room g.L.Labels.firm c.args.labels.now c.join_arguments.new.labels
-    (IsKept-trans _ _ _ _ _ _ _ c.make_declared.ensures.kept (IsKept-trans _ _ _ _ _ _ _ c.make_named.ensures.kept c.join_arguments.ensures.kept)) g.met.L.Labels.rising c.args.world.now c.requires.belongs
+    entered g.L.Labels.made g.L.Labels.meaning g.L.Labels.room g.L.Labels.firm c.args.labels.now c.enter.new.labels
+    (IsKept-trans _ _ _ _ _ _ _ c.make_declared.ensures.kept (IsKept-trans _ _ _ _ _ _ _ c.make_named.ensures.kept c.enter.ensures.kept)) g.met.L.Labels.rising c.args.world.now c.requires.belongs
     (table c.args.functions.now) c.args.number (view_function c.args.f.now) (view_stmts (nodes_of (out-Function c.args.f.now).body)) (ap body_of (parts_function c.args.f.now)) c.args.place (record { 0 = c.len-2.result }) c.len-2.ensures
-    c.args.this c.args.args.now c.in_ok-joined.joined.items c.in_ok-declared.declared.items c.number_value.result c.in_ok-arguments.arguments c.requires.this c.context-context.result c.context-context.ensures.made c.context-context.ensures.meaning c.bottom.result c.bottom.ensures.made c.in_ok-declared.ensures.references
-    c.make_declared.new.labels c.make_named.new.labels (IsKept-trans _ _ _ _ _ _ _ c.make_named.ensures.kept c.join_arguments.ensures.kept) c.join_arguments.ensures.kept c.names_arguments-named.result (c.names_arguments-named.ensures ∙ ap (λ f. names_in_statements (body_of f)) (planned_same c.in-Some.layout.now c.args.f.now (table c.args.functions.now) c.args.number c.in-Some.ensures c.requires.known)) c.bottom.ensures.meaning c.number_value.ensures
-    c.make_declared.new.heap c.make_named.new.heap c.enter.new.records c.in_ok-arguments.ensures.number c.in_ok-declared.ensures.length c.in_ok-declared.ensures.makes c.in_ok-arguments.ensures.makes c.in_ok-joined.ensures.joins
+    c.args.this c.args.args.now c.in_ok-declared.declared.items c.number_value.result c.in_ok-arguments.arguments c.requires.this c.context-context.result c.context-context.ensures.made c.context-context.ensures.meaning c.bottom.result (c.enter.ensures.kept.labels c.bottom.result c.bottom.ensures.made).0 c.in_ok-declared.ensures.references
+    c.make_declared.new.labels c.make_named.new.labels (IsKept-trans _ _ _ _ _ _ _ c.make_named.ensures.kept c.enter.ensures.kept) c.enter.ensures.kept c.names_arguments-named.result (c.names_arguments-named.ensures ∙ ap (λ f. names_in_statements (body_of f)) (planned_same c.in-Some.layout.now c.args.f.now (table c.args.functions.now) c.args.number c.in-Some.ensures c.requires.known)) ((c.enter.ensures.kept.labels c.bottom.result c.bottom.ensures.made).1 ∙ c.bottom.ensures.meaning) c.number_value.ensures
+    c.make_declared.new.heap c.make_named.new.heap c.enter.new.records c.in_ok-arguments.ensures.number c.in_ok-declared.ensures.length c.in_ok-declared.ensures.makes c.in_ok-arguments.ensures.makes
     (rw (planned_same c.in-Some.layout.now c.args.f.now (table c.args.functions.now) c.args.number c.in-Some.ensures c.requires.known) at c.in_ok-e.ensures.ok)
 
 pub returns-clause-belongs : goal.returns-clause-belongs
 returns-clause-belongs g c =
-    both_belong g.L.Labels.made g.L.Labels.meaning g.L.Labels.room g.L.Labels.firm c.args.labels.now c.join_arguments.new.labels
-    (IsKept-trans _ _ _ _ _ _ _ c.make_declared.ensures.kept (IsKept-trans _ _ _ _ _ _ _ c.make_named.ensures.kept c.join_arguments.ensures.kept)) g.met.L.Labels.rising c.args.world.now c.requires.belongs
+    both_belong g.L.Labels.made g.L.Labels.meaning g.L.Labels.room g.L.Labels.firm c.args.labels.now c.enter.new.labels
+    (IsKept-trans _ _ _ _ _ _ _ c.make_declared.ensures.kept (IsKept-trans _ _ _ _ _ _ _ c.make_named.ensures.kept c.enter.ensures.kept)) g.met.L.Labels.rising c.args.world.now c.requires.belongs
     c.make_named.new.heap c.enter.new.records
-    (HasHeap-kept g.L.Labels.made g.L.Labels.meaning g.L.Labels.room g.L.Labels.firm c.make_named.new.labels c.join_arguments.new.labels c.join_arguments.ensures.kept c.make_named.new.heap c.make_named.ensures.belongs)
+    (HasHeap-kept g.L.Labels.made g.L.Labels.meaning g.L.Labels.room g.L.Labels.firm c.make_named.new.labels c.enter.new.labels c.enter.ensures.kept c.make_named.new.heap c.make_named.ensures.belongs)
     (let first = c.make_declared.ensures.grows in let second = c.make_named.ensures.grows in omega (arith, first, second))
-    (entry_belongs g.L.Labels.made g.L.Labels.meaning g.L.Labels.room g.L.Labels.firm c.args.labels.now c.join_arguments.new.labels
-    (IsKept-trans _ _ _ _ _ _ _ c.make_declared.ensures.kept (IsKept-trans _ _ _ _ _ _ _ c.make_named.ensures.kept c.join_arguments.ensures.kept)) g.met.L.Labels.rising c.args.world.now c.requires.belongs
+    (entry_belongs g.L.Labels.made g.L.Labels.meaning g.L.Labels.room g.L.Labels.firm c.args.labels.now c.enter.new.labels
+    (IsKept-trans _ _ _ _ _ _ _ c.make_declared.ensures.kept (IsKept-trans _ _ _ _ _ _ _ c.make_named.ensures.kept c.enter.ensures.kept)) g.met.L.Labels.rising c.args.world.now c.requires.belongs
     (table c.args.functions.now) c.args.number (view_function c.args.f.now) (view_stmts (nodes_of (out-Function c.args.f.now).body)) (ap body_of (parts_function c.args.f.now)) c.args.place (record { 0 = c.len-2.result }) c.len-2.ensures
-    c.args.this c.args.args.now c.in_ok-joined.joined.items c.in_ok-declared.declared.items c.number_value.result c.in_ok-arguments.arguments c.requires.this c.context-context.result c.context-context.ensures.made c.context-context.ensures.meaning c.bottom.result c.bottom.ensures.made c.in_ok-declared.ensures.references
-    c.enter.new.records (rw (planned_same c.in-Some.layout.now c.args.f.now (table c.args.functions.now) c.args.number c.in-Some.ensures c.requires.known) at c.in_ok-e.ensures.ok) c.in_ok-joined.ensures.made)
+    c.args.this c.args.args.now c.in_ok-declared.declared.items c.number_value.result c.in_ok-arguments.arguments c.requires.this c.context-context.result c.context-context.ensures.made c.context-context.ensures.meaning c.bottom.result (c.enter.ensures.kept.labels c.bottom.result c.bottom.ensures.made).0 c.in_ok-declared.ensures.references
+    c.enter.new.records (rw (planned_same c.in-Some.layout.now c.args.f.now (table c.args.functions.now) c.args.number c.in-Some.ensures c.requires.known) at c.in_ok-e.ensures.ok))

@@ -15,5 +15,5 @@ returns-then-o-len-clause-comes g c =
 pub returns-in-None-clause-comes : goal.returns-in-None-clause-comes
 returns-in-None-clause-comes g c =
     let there : c.args.o.0 < length c.args.heap.now = omega (arith, c.len.ensures.length, c.if-o-len.false) in
-    comes_own g.L.Labels.made g.L.Labels.meaning g.L.Labels.room g.L.Labels.firm c.args.heap.now c.len.ensures.formed c.args.o.0 g.L.Labels.made g.L.Labels.meaning c.args.labels.now
+    comes_own g.L.Labels.made g.L.Labels.meaning c.args.labels.now c.args.heap.now c.len.ensures.formed c.args.o.0
     (stands_bound c.args.heap.now c.args.o.0 c.inner.result.now None there c.inner.ensures (sym c.in-None.is ∙ c.in_ok-bound.ensures))

@@ -11,8 +11,8 @@ use Rattle.step_core.proofs.entering.enter.Goals as goal
 pub returns-in-Expr-clause-enters : goal.returns-in-Expr-clause-enters
 returns-in-Expr-clause-enters g c tables inputs set functions natives =
     subst (λ m. (part : (g.row.L-Label.Denot → Label) → Part) → ((reading : g.row.L-Label.Denot → Label) → part_in (map (read_value reading) c.args.stack.now.loose) (setting_above c.args.stack.now.tasks (setting_of natives here)) m ≡ Some (part reading))
-    → Enters g.L.Labels.made g.L.Labels.meaning c.args.labels.now tables inputs set functions natives c.args.stack.now c.enter_expression.new.stack c.args.world.now c.args.world.now part c.enter_expression.result)
-    (sym c.in-Expr.is) (c.enter_expression.ensures.enters tables inputs set functions natives)
+    → Enters g.L.Labels.made g.L.Labels.meaning c.args.labels.now tables inputs set functions natives c.args.stack.now c.enter_expression_apart.new.stack c.args.world.now c.args.world.now part c.enter_expression_apart.result)
+    (sym c.in-Expr.is) (c.enter_expression_apart.ensures.enters tables inputs set functions natives)
 
 pub returns-in-Use-clause-enters : goal.returns-in-Use-clause-enters
 returns-in-Use-clause-enters g c tables inputs set functions natives =
@@ -23,8 +23,8 @@ returns-in-Use-clause-enters g c tables inputs set functions natives =
 pub returns-in-Stmt-clause-enters : goal.returns-in-Stmt-clause-enters
 returns-in-Stmt-clause-enters g c tables inputs set functions natives =
     subst (λ m. (part : (g.row.L-Label.Denot → Label) → Part) → ((reading : g.row.L-Label.Denot → Label) → part_in (map (read_value reading) c.args.stack.now.loose) (setting_above c.args.stack.now.tasks (setting_of natives here)) m ≡ Some (part reading))
-    → Enters g.L.Labels.made g.L.Labels.meaning c.args.labels.now tables inputs set functions natives c.args.stack.now c.enter_statement.new.stack c.args.world.now c.args.world.now part c.enter_statement.result)
-    (sym c.in-Stmt.is) (c.enter_statement.ensures.enters tables inputs set functions natives)
+    → Enters g.L.Labels.made g.L.Labels.meaning c.args.labels.now tables inputs set functions natives c.args.stack.now c.enter_statement_apart.new.stack c.args.world.now c.args.world.now part c.enter_statement_apart.result)
+    (sym c.in-Stmt.is) (c.enter_statement_apart.ensures.enters tables inputs set functions natives)
 
 pub returns-in-Named-clause-enters : goal.returns-in-Named-clause-enters
 returns-in-Named-clause-enters g c tables inputs set functions natives =

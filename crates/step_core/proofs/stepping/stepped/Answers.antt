@@ -12,13 +12,7 @@ pub returns-in-Value-clause-stepped : goal.returns-in-Value-clause-stepped
 returns-in-Value-clause-stepped g c =
     let N = g.N.Natives in
     let natives = c.args.natives.now in
-    rw c.in-Value.is (c.go_on.ensures.stepped c.args.inputs.now (built_ins_of (N.entries natives) (N.begin natives) (N.after natives) (N.asks natives)) (table c.args.functions.now) (N.after natives) (N.asks natives))
-
-pub returns-in-Done-clause-stepped : goal.returns-in-Done-clause-stepped
-returns-in-Done-clause-stepped g c =
-    let N = g.N.Natives in
-    let natives = c.args.natives.now in
-    rw c.in-Done.is (c.go_on-in-Done.ensures.stepped c.args.inputs.now (built_ins_of (N.entries natives) (N.begin natives) (N.after natives) (N.asks natives)) (table c.args.functions.now) (N.after natives) (N.asks natives))
+    c.hand_on.ensures.stepped c.args.inputs.now (built_ins_of (N.entries natives) (N.begin natives) (N.after natives) (N.asks natives)) (table c.args.functions.now) (N.after natives) (N.asks natives)
 
 pub returns-in-Jumps-clause-stepped : goal.returns-in-Jumps-clause-stepped
 returns-in-Jumps-clause-stepped g c =

@@ -25,10 +25,10 @@ pub go_on-requires-clause-made : goal.go_on-requires-clause-made
 go_on-requires-clause-made g c = has_whatever (HasValue (g.L.Labels.made c.base_needed-answer.new.labels)) (g.L.Labels.made c.base_needed-answer.new.labels) c.base_needed-answer.result c.base_needed-answer.ensures.made
 
 pub returns-in-On-clause-goes_on : goal.returns-in-On-clause-goes_on
-returns-in-On-clause-goes_on g c = begun_on (λ tables inputs set functions reading f. with_base (planned tables inputs set functions) (entrance tables inputs set functions) (asking tables inputs set functions) (use_of c.args.how (map (read_value reading) c.args.stack.now.loose)) f.env.place (read_value reading c.args.key)) (c.base_needed-answer.ensures.acts no_tables []) (λ tables inputs set functions reading f s is. index_as tables inputs set functions (use_of c.args.how (map (read_value reading) c.args.stack.now.loose)) f.env.place (read_value reading c.args.base) (read_value reading c.args.key) s) _ _ _ c.in-On.base c.use_reference.ensures.kept (rw c.in-On.is at c.in_ok-came.ensures.parts) refl (subst (λ (m : Kept _). Begun g.L.Labels.made g.L.Labels.meaning c.use_reference.new.labels (λ tables inputs set functions reading f. with_base (planned tables inputs set functions) (entrance tables inputs set functions) (asking tables inputs set functions) (use_of c.args.how (map (read_value reading) m.loose)) f.env.place (read_value reading c.args.key) (read_value reading c.in-On.base)) c.go_on.new.stack c.use_reference.new.stack c.base_needed-answer.new.world c.use_reference.new.world c.use_reference.result) (on_is _ c.args.stack.now c.go_on.new.stack c.base_needed-answer.result c.in-On.base (rw c.in-On.is at c.in_ok-came.ensures.parts)).1 (begun_as c.use_reference.ensures.goes_on refl (λ tables inputs set functions reading f s is. sym (based_as tables inputs set functions (use_of c.args.how (map (read_value reading) c.go_on.new.stack.loose)) f.env.place (read_value reading c.in-On.base) (read_value reading c.args.key) s c.requires.primitive))))
+returns-in-On-clause-goes_on g c = begun_on (λ tables inputs set functions reading f. with_base (planned tables inputs set functions) (entrance tables inputs set functions) (asking tables inputs set functions) (use_of c.args.how (map (read_value reading) c.args.stack.now.loose)) f.env.place (read_value reading c.args.key)) (c.base_needed-answer.ensures.acts no_tables []) (λ tables inputs set functions reading f s is. index_as tables inputs set functions (use_of c.args.how (map (read_value reading) c.args.stack.now.loose)) f.env.place (read_value reading c.args.base) (read_value reading c.args.key) s) _ _ _ c.in-On.base c.use_keyed.ensures.kept (rw c.in-On.is at c.in_ok-came.ensures.parts) refl (subst (λ (m : Kept _). Begun g.L.Labels.made g.L.Labels.meaning c.use_keyed.new.labels (λ tables inputs set functions reading f. with_base (planned tables inputs set functions) (entrance tables inputs set functions) (asking tables inputs set functions) (use_of c.args.how (map (read_value reading) m.loose)) f.env.place (read_value reading c.args.key) (read_value reading c.in-On.base)) c.go_on.new.stack c.use_keyed.new.stack c.base_needed-answer.new.world c.use_keyed.new.world c.use_keyed.result) (on_is _ c.args.stack.now c.go_on.new.stack c.base_needed-answer.result c.in-On.base (rw c.in-On.is at c.in_ok-came.ensures.parts)).1 (begun_as c.use_keyed.ensures.goes_on refl (λ tables inputs set functions reading f s is. sym (based_as tables inputs set functions (use_of c.args.how (map (read_value reading) c.go_on.new.stack.loose)) f.env.place (read_value reading c.in-On.base) (read_value reading c.args.key) s c.requires.primitive))))
 
 pub returns-in-On-clause-moved : goal.returns-in-On-clause-moved
-returns-in-On-clause-moved g c = moved_on _ _ _ _ _ _ _ _ _ (c.use_reference.result) (omega arith) (ap (λ m. m.tasks) (on_is _ c.args.stack.now c.go_on.new.stack c.base_needed-answer.result c.in-On.base (rw c.in-On.is at c.in_ok-came.ensures.parts)).1) (level_on _ c.args.world.now c.base_needed-answer.new.world c.args.stack.now c.go_on.new.stack c.base_needed-answer.result c.in-On.base (stood (c.base_needed-answer.ensures.acts no_tables []) (λ s. act_stands no_tables [] base_needed (read_value (g.L.Labels.meaning c.base_needed-answer.new.labels) c.args.base ∷ []) s)) (rw c.in-On.is at c.in_ok-came.ensures.parts)) c.use_reference.ensures.moved
+returns-in-On-clause-moved g c = moved_on _ _ _ _ _ _ _ _ _ (c.use_keyed.result) (omega arith) (ap (λ m. m.tasks) (on_is _ c.args.stack.now c.go_on.new.stack c.base_needed-answer.result c.in-On.base (rw c.in-On.is at c.in_ok-came.ensures.parts)).1) (level_on _ c.args.world.now c.base_needed-answer.new.world c.args.stack.now c.go_on.new.stack c.base_needed-answer.result c.in-On.base (stood (c.base_needed-answer.ensures.acts no_tables []) (λ s. act_stands no_tables [] base_needed (read_value (g.L.Labels.meaning c.base_needed-answer.new.labels) c.args.base ∷ []) s)) (rw c.in-On.is at c.in_ok-came.ensures.parts)) c.use_keyed.ensures.moved
 
 pub returns-in-Off-clause-goes_on : goal.returns-in-Off-clause-goes_on
 returns-in-Off-clause-goes_on g c = begun_off (λ tables inputs set functions reading f. with_base (planned tables inputs set functions) (entrance tables inputs set functions) (asking tables inputs set functions) (use_of c.args.how (map (read_value reading) c.args.stack.now.loose)) f.env.place (read_value reading c.args.key)) (c.base_needed-answer.ensures.acts no_tables []) (λ tables inputs set functions reading f s is. index_as tables inputs set functions (use_of c.args.how (map (read_value reading) c.args.stack.now.loose)) f.env.place (read_value reading c.args.base) (read_value reading c.args.key) s) _ _ (rw c.in-Off.is at c.in_ok-came.ensures.parts) refl
@@ -39,11 +39,11 @@ returns-in-Off-clause-moved g c = moved_off c.args.stack.now c.go_on.new.stack c
 pub returns-in_err-came-clause-goes_on : goal.returns-in_err-came-clause-goes_on
 returns-in_err-came-clause-goes_on g c = begun_err (λ tables inputs set functions reading f. with_base (planned tables inputs set functions) (entrance tables inputs set functions) (asking tables inputs set functions) (use_of c.args.how (map (read_value reading) c.args.stack.now.loose)) f.env.place (read_value reading c.args.key)) (c.base_needed-answer.ensures.acts no_tables []) (λ tables inputs set functions reading f s is. index_as tables inputs set functions (use_of c.args.how (map (read_value reading) c.args.stack.now.loose)) f.env.place (read_value reading c.args.base) (read_value reading c.args.key) s) _ _ _ c.in_err-came.field-0.0 c.in_err-came.ensures.parts refl c.from_residual.ensures.1
 
-pub use_reference-requires-clause-loose : goal.use_reference-requires-clause-loose
-use_reference-requires-clause-loose g c = ap (λ (m : Kept _). length m.loose) (on_is _ c.args.stack.now c.go_on.new.stack c.base_needed-answer.result c.in-On.base (rw c.in-On.is at c.in_ok-came.ensures.parts)).1 ∙ c.requires.loose
+pub use_keyed-requires-clause-loose : goal.use_keyed-requires-clause-loose
+use_keyed-requires-clause-loose g c = ap (λ (m : Kept _). length m.loose) (on_is _ c.args.stack.now c.go_on.new.stack c.base_needed-answer.result c.in-On.base (rw c.in-On.is at c.in_ok-came.ensures.parts)).1 ∙ c.requires.loose
 
-pub use_reference-requires-clause-made : goal.use_reference-requires-clause-made
-use_reference-requires-clause-made g c = subst (λ (m : Kept _). All (HasValue (g.L.Labels.made c.base_needed-answer.new.labels)) m.loose) (sym (on_is _ c.args.stack.now c.go_on.new.stack c.base_needed-answer.result c.in-On.base (rw c.in-On.is at c.in_ok-came.ensures.parts)).1) (made_later g.L.Labels.made g.L.Labels.meaning g.L.Labels.room g.L.Labels.firm c.args.labels.now c.base_needed-answer.new.labels c.base_needed-answer.ensures.kept c.args.stack.now.loose c.requires.made)
+pub use_keyed-requires-clause-made : goal.use_keyed-requires-clause-made
+use_keyed-requires-clause-made g c = subst (λ (m : Kept _). All (HasValue (g.L.Labels.made c.base_needed-answer.new.labels)) m.loose) (sym (on_is _ c.args.stack.now c.go_on.new.stack c.base_needed-answer.result c.in-On.base (rw c.in-On.is at c.in_ok-came.ensures.parts)).1) (made_later g.L.Labels.made g.L.Labels.meaning g.L.Labels.room g.L.Labels.firm c.args.labels.now c.base_needed-answer.new.labels c.base_needed-answer.ensures.kept c.args.stack.now.loose c.requires.made)
 
-pub use_reference-requires-clause-reference : goal.use_reference-requires-clause-reference
-use_reference-requires-clause-reference g c = (has_on (g.L.Labels.made c.base_needed-answer.new.labels) (HasValue (g.L.Labels.made c.base_needed-answer.new.labels)) c.args.stack.now c.go_on.new.stack c.base_needed-answer.result c.in-On.base c.base_needed-answer.ensures.made (rw c.in-On.is at c.in_ok-came.ensures.parts), (c.base_needed-answer.ensures.kept.labels c.args.key.label c.requires.key).0)
+pub use_keyed-requires-clause-reference : goal.use_keyed-requires-clause-reference
+use_keyed-requires-clause-reference g c = (has_on (g.L.Labels.made c.base_needed-answer.new.labels) (HasValue (g.L.Labels.made c.base_needed-answer.new.labels)) c.args.stack.now c.go_on.new.stack c.base_needed-answer.result c.in-On.base c.base_needed-answer.ensures.made (rw c.in-On.is at c.in_ok-came.ensures.parts), (c.base_needed-answer.ensures.kept.labels c.args.key.label c.requires.key).0)

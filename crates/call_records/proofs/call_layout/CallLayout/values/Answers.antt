@@ -1,15 +1,17 @@
-use Rattle.std.proofs.Common.{arith, refl, sym, ap, subst, ◌∙◌, ◌≡◌, ◌++◌, ℕ, List, length, take, drop}
+use Rattle.std.proofs.Common.{sym, ap, subst, ◌∙◌, ◌≡◌, ◌++◌, List, length, take, drop}
 use Rattle.std.proofs.lemmas.List.{take_at}
 use Rattle.js_ast.specs.declared.trees.Function.{Function}
-use Rattle.js_ast.specs.Trees.{body_of}
+use Rattle.js_ast.specs.Trees.{params_of, body_of}
 use Rattle.js_ast.specs.Views.{view_function}
 use Rattle.js_values.specs.declared.value.Labelled.{Labelled}
 use Rattle.env_records.specs.Layouts.{LaidName, laid}
 use Rattle.es_meaning.specs.Declared.{declared_functions}
-use Rattle.es_meaning.specs.Functions.{entry_bindings}
+use Rattle.es_meaning.specs.Functions.{Entry, entry_bindings}
+use Rattle.call_records.specs.Joined.{ForJoined}
 use Rattle.call_records.specs.Placed.{placed, placed_if}
 use Rattle.call_records.specs.Planned.{layout_of}
-use Rattle.call_records.proofs.FilledLaws.{values_put, first_size, planned_two, planned_arguments, planned_parameters, planned_functions}
+use Rattle.call_records.proofs.FilledLaws.{values_put, first_size, parameters_counted, planned_two, planned_arguments, planned_parameters, planned_functions}
+use Rattle.call_records.proofs.JoinedLaws.{for_joined_weaker}
 use Rattle.call_records.proofs.call_layout.CallLayout.values.Goals as goal
 
 pub first_values-requires : goal.first_values-requires
@@ -39,12 +41,18 @@ returns-clause-bindings g c =
     let e = c.args.entry in
     let places = c.self.inside.places in
     let whole = take_at c.fill.new.all (drop (length c.fill.new.all) c.in_ok-values.values.items) c.in_ok-values.values.len (c.in_ok-fill.ensures.length ∙ c.deref_mut.ensures.len) in
-    subst (λ (node : Function). laid (layout_of (view_function node)) (take c.in_ok-values.values.len (c.fill.new.all ++ drop (length c.fill.new.all) c.in_ok-values.values.items)) ≡ entry_bindings (view_function node) (record { this = e.this; function = e.function; args = e.args.items; missing = e.missing; functions = e.functions.items; arguments = e.arguments })) c.self.view_is
-    (ap (laid (layout_of (view_function f))) whole
-    ∙ values_put (view_function f) (record { this = e.this; function = e.function; args = e.args.items; missing = e.missing; functions = e.functions.items; arguments = e.arguments }) c.self.inside.names.value places.parameters.items places.functions.items places.arguments c.self.invariant
-    (subst (λ (node : Function). length e.functions.items ≡ length (declared_functions (body_of (view_function node)))) (sym c.self.view_is) c.requires) c.len.result (c.len.ensures ∙ ap (λ (ns : List LaidName). length ns) c.deref.ensures)
+    let all = take c.in_ok-values.values.len (c.fill.new.all ++ drop (length c.fill.new.all) c.in_ok-values.values.items) in
+    let with_args : List (Labelled g.row.T.Denot) → Entry (Labelled g.row.T.Denot) = λ vs. record { this = e.this; function = e.function; args = vs; missing = e.missing; functions = e.functions.items; arguments = e.arguments } in
+    subst (λ (node : Function). ForJoined g.L.Labels.made g.L.Labels.meaning c.fill.new.labels c.args.context (take (length (params_of (view_function node))) c.args.args.now) (λ vs. laid (layout_of (view_function node)) all ≡ entry_bindings (view_function node) (with_args vs))) c.self.view_is
+    (for_joined_weaker g.L.Labels.made g.L.Labels.meaning c.fill.new.labels c.args.context c.args.args.now (length places.parameters.items) (length (params_of (view_function f))) (parameters_counted (view_function f) c.self.inside.names.value places.parameters.items places.functions.items places.arguments c.self.invariant)
+    (λ vs. c.fill.new.all ≡ placed e.missing places.functions.items e.functions.items (placed e.missing places.parameters.items vs (placed_if places.arguments e.arguments c.deref_mut.result.now))) (λ vs. laid (layout_of (view_function f)) all ≡ entry_bindings (view_function f) (with_args vs))
+    (λ vs filled.
+    ap (laid (layout_of (view_function f))) whole
+    ∙ values_put (view_function f) (with_args vs) c.self.inside.names.value places.parameters.items places.functions.items places.arguments c.self.invariant
+    (subst (λ (node : Function). length e.functions.items ≡ length (declared_functions (body_of (view_function node)))) (sym c.self.view_is) c.requires.functions) c.len.result (c.len.ensures ∙ ap (λ (ns : List LaidName). length ns) c.deref.ensures)
     c.in_ok-values.values.items c.fill.new.all c.in_ok-values.ensures
-    (c.in_ok-fill.ensures.placed ∙ ap (λ (vs : List (Labelled g.row.T.Denot)). placed e.missing places.functions.items e.functions.items (placed e.missing places.parameters.items e.args.items (placed_if places.arguments e.arguments vs))) c.deref_mut.ensures.value))
+    (filled ∙ ap (λ (us : List (Labelled g.row.T.Denot)). placed e.missing places.functions.items e.functions.items (placed e.missing places.parameters.items vs (placed_if places.arguments e.arguments us))) c.deref_mut.ensures.value))
+    c.in_ok-fill.ensures.placed)
 
 pub returns-clause-length : goal.returns-clause-length
 returns-clause-length g c =
