@@ -1,7 +1,6 @@
-"""instr.py PROG SCRIPT FUNC-substring [min]: disassembly of a function with counts"""
+"""instr.py PROG SCRIPT FUNC-substring [min]: disassembly of a function with counts, in a folder with SCRIPT.js, a policy p and an input i"""
 import sys,re,subprocess,os
 prog,script,fun=sys.argv[1:4]; mn=int(sys.argv[4]) if len(sys.argv)>4 else 1
-os.chdir('/work/tmp/fast/w')
 subprocess.run(['valgrind','--tool=callgrind','--dump-instr=yes','--callgrind-out-file=cgi',prog,'run',script+'.js','p','i'],stdout=subprocess.DEVNULL,stderr=subprocess.DEVNULL)
 cnt={}; cur=0; skip=False
 for l in open('cgi'):
