@@ -139,6 +139,44 @@ fn written<L: Labels>(
     told!(labels, result)
 }
 
+// What is answered where 1 is written at the place of a property.
+fn written_at<L: Labels>(
+    labels: &mut L,
+    heap: &mut Heap<L::Label>,
+    o: ObjId,
+    key: &Key,
+    need: L::Label,
+) -> Answer
+    requires there { o.0 < length heap.old }
+    requires need { L.made labels.old need }
+    requires belongs { HasHeap (L.made labels.old) heap.old }
+    ensures there { length heap.new ≡ length heap.old }
+    ensures belongs { HasHeap (L.made labels.new) heap.new }
+{
+    let Some(place) = heap.place_named(o, key.text()) else {
+        return Answer::NoSuchCall;
+    };
+    let value = Labelled {
+        value: number(1),
+        label: need,
+    };
+    let result = heap.write_at(labels, Rule::W1, o, key.text(), place, need, value);
+    told!(labels, result)
+}
+
+// Whether the property at the place of a key holds the number.
+fn has_at<T: Copy>(heap: &Heap<T>, o: ObjId, key: &Key, n: i64) -> bool
+    requires { o.0 < length heap.now }
+{
+    let Some(place) = heap.place_named(o, key.text()) else {
+        return false;
+    };
+    match &heap.slot_at(o, place).body {
+        Body::Data(value) => *value == number(n),
+        Body::Accessor { .. } => false,
+    }
+}
+
 // What is answered where an accessor takes the place of a value.
 fn with_body<L: Labels>(
     labels: &mut L,
@@ -308,6 +346,16 @@ fn changes_are_done(alloc: Global) -> Result<bool, OutOfMemory> {
     Ok(value && one && marks && first && body && !has_number(&heap, o, &x, 1))
 }
 
+fn places_are_written(alloc: Global) -> Result<bool, OutOfMemory> {
+    let a = Masks.single(0)?;
+    let none = Masks.bottom();
+    let (mut heap, o, x) = make_one(alloc, &mut Masks, Class::Object, "x")?;
+    let stopped = is_stop(written_at(&mut Masks, &mut heap, o, &x, a), Rule::W1);
+    let kept = has_at(&heap, o, &x, 0);
+    let done = written_at(&mut Masks, &mut heap, o, &x, none) == Answer::Done;
+    Ok(stopped && kept && done && has_at(&heap, o, &x, 1))
+}
+
 // Whether the only object is one without properties, to which none can be added.
 fn is_empty_and_shut<T: Copy>(heap: &Heap<T>, o: ObjId) -> bool
     requires { o.0 < length heap.now }
@@ -407,6 +455,7 @@ fn changes_of_objects(rt: HostRuntime) {
     assert!(rt; holds(shapes_are_kept(alloc)));
     assert!(rt; holds(removals_are_stopped(alloc)));
     assert!(rt; holds(changes_are_done(alloc)));
+    assert!(rt; holds(places_are_written(alloc)));
     assert!(rt; holds(shapes_are_changed(alloc)));
     assert!(rt; holds(elements_raise_the_length(alloc)));
 }
