@@ -1,14 +1,13 @@
 -- Properties with an index of their keys.
 use Rattle.std.proofs.Common.{◌≡◌, ℕ, zero, suc, ◌<◌, ◌≤◌, inl, inr, true≢false, Bool, true, false, cond, List, [], ◌∷◌, ◌++◌, take, length, get_or, set, Option, Some, None, refl, sym, ap, subst, ◌∙◌, arith}
-use Rattle.std.specs.Prelude.{nat_lt, not}
-use Rattle.std.specs.List.{list_any, position, position_or_len, remove}
+use Rattle.std.specs.Prelude.{nat_lt}
+use Rattle.std.specs.List.{AllByRecursion, IsDistinct, position, position_or_len, remove}
 use Rattle.std.specs.Cmp.Lexicographic.{bytes_decides}
 use Rattle.std.specs.declared.boxed.Box.{Box}
 use Rattle.std.proofs.lemmas.Bool.{cond-true, cond-false, cases_lt, lt-ltb}
 use Rattle.std.proofs.lemmas.List.Quantifiers.{position-Some}
-use Rattle.std.proofs.lemmas.List.Sums.{fails_before_first}
+use Rattle.std.proofs.lemmas.List.Sums.{fails_before_first, position_or_len_is}
 use Rattle.std.proofs.lemmas.Option.{none-some}
-use Rattle.indexmap.specs.IndexSet.{IndexSet, insert_key}
 use Rattle.origin_labels.specs.Names.{same_name}
 use Rattle.js_values.specs.Objects.{Rows, own, changed, without, keys_of}
 use Rattle.object_heap.specs.Places.{IsPlace, StandsAt, changed_at_place}
@@ -48,22 +47,14 @@ module _ {S : Type 0} where
 
 -- ---- the index
 
-module _ {H Z : Type 0} where
+module _ {Z : Type 0} where
   -- an index agrees with keys
-  pub agrees : (index : Option (Box (IndexSet (List ℕ) H) Z)) (old new : List (List ℕ)) → new ≡ old → indexed index old ≡ old → indexed index new ≡ new
+  pub agrees : (index : Option (Box (List (List ℕ)) Z)) (old new : List (List ℕ)) → new ≡ old → indexed index old ≡ old → indexed index new ≡ new
   agrees index old new same has = subst (λ ks. indexed index ks ≡ ks) (sym same) has
 
   -- an index that there is has the keys
-  pub held : (index : Option (Box (IndexSet (List ℕ) H) Z)) (box : Box (IndexSet (List ℕ) H) Z) (keys : List (List ℕ)) → index ≡ Some box → indexed index keys ≡ keys → box.value.keys ≡ keys
+  pub held : (index : Option (Box (List (List ℕ)) Z)) (box : Box (List (List ℕ)) Z) (keys : List (List ℕ)) → index ≡ Some box → indexed index keys ≡ keys → box.value ≡ keys
   held index box keys is has = ap (λ o. indexed o keys) (sym is) ∙ has
-
--- a key that is new in a set goes last
-pub inserted : (old new keys : List (List ℕ)) (key : List ℕ) (added : Bool) → added ≡ true → added ≡ not (list_any (same_name key) old) → new ≡ insert_key same_name old key → old ≡ keys → new ≡ keys ++ key ∷ []
-inserted old new keys key added is tells grows same = grows ∙ at (list_any (same_name key) old) (sym is ∙ tells) ∙ ap (λ ks. ks ++ key ∷ []) same
-  where
-    at : (t : Bool) → true ≡ not t → cond t old (old ++ key ∷ []) ≡ old ++ key ∷ []
-    at true e = absurd (true≢false e)
-    at false e = refl
 
 -- ---- a row that is written
 
@@ -74,7 +65,7 @@ module _ {S : Type 0} where
       ∙ place_set items i r to (subst (λ (rs : Rows S). i < length rs) (sym same) lt) read
       ∙ ap (changed_at_place i to) same
 
-  pub row_agrees : {H Z : Type 0} (index : Option (Box (IndexSet (List ℕ) H) Z)) (items : Rows S) (i : ℕ) (r : List ℕ × S) → r ≡ get_or items i r → (x : List ℕ × S) → x.0 ≡ r.0 → indexed index (keys_of items) ≡ keys_of items → indexed index (keys_of (set items i x)) ≡ keys_of (set items i x)
+  pub row_agrees : {Z : Type 0} (index : Option (Box (List (List ℕ)) Z)) (items : Rows S) (i : ℕ) (r : List ℕ × S) → r ≡ get_or items i r → (x : List ℕ × S) → x.0 ≡ r.0 → indexed index (keys_of items) ≡ keys_of items → indexed index (keys_of (set items i x)) ≡ keys_of (set items i x)
   row_agrees index items i r read x same has = agrees index (keys_of items) (keys_of (set items i x)) (keys_set items i r x read same) has
 
 -- ---- the place of a key
@@ -94,6 +85,27 @@ none_past p xs e =
       | inl lt ↦ absurd (none-some (position_or_len p xs) (sym e ∙ cond-true (nat_lt (position_or_len p xs) (length xs)) (Some (position_or_len p xs)) None (lt-ltb (position_or_len p xs) (length xs) lt)))
       | inr past ↦ past
     ]
+
+-- distinct keys are told apart
+apart : (keys : List (List ℕ)) (k i : ℕ) (d : List ℕ) → IsDistinct same_name keys → k < i → i < length keys → same_name (get_or keys k d) (get_or keys i d) ≡ false
+unfolding IsDistinct
+apart [] k i d distinct below lt = absurd (omega arith)
+apart (x ∷ keys) k zero d distinct below lt = absurd (omega arith)
+apart (x ∷ keys) zero (suc i) d distinct below lt = at keys i distinct.0 (omega arith)
+  where
+    at : (ys : List (List ℕ)) (j : ℕ) → AllByRecursion (λ y. same_name x y ≡ false) ys → j < length ys → same_name x (get_or ys j d) ≡ false
+    at [] j all lt = absurd (omega arith)
+    at (y ∷ ys) zero all lt = all.0
+    at (y ∷ ys) (suc j) all lt = at ys j all.1 (omega arith)
+apart (x ∷ keys) (suc k) (suc i) d distinct below lt = apart keys k i d distinct.1 (omega arith) (omega arith)
+
+-- where a key is found among distinct ones, it is first found
+pub hinted : (name : List ℕ) (keys : List (List ℕ)) (i : ℕ) (key : List ℕ) → IsDistinct same_name keys → i < length keys → key ≡ get_or keys i key → same_name name key ≡ true → Some i ≡ position (λ k. same_name name k) keys
+hinted name keys i key distinct lt read same =
+    let is : name ≡ get_or keys i key = (bytes_decides name key).0 same ∙ read in
+    let before : (k : ℕ) → k < i → same_name name (get_or keys k key) ≡ false = λ k below. ap (λ n. same_name n (get_or keys k key)) is ∙ same_back (get_or keys k key) (get_or keys i key) false (apart keys k i key distinct below lt) in
+    let first : position_or_len (λ k. same_name name k) keys ≡ i = position_or_len_is (λ k. same_name name k) keys i key (omega (arith, lt)) before (λ _. ap (same_name name) (sym read) ∙ same) in
+    sym (ap (λ n. cond (nat_lt n (length keys)) (Some n) None) first ∙ cond-true (nat_lt i (length keys)) (Some i) None (lt-ltb i (length keys) lt))
 
 module _ {S : Type 0} where
   keys_at : (rows : Rows S) (k : ℕ) (d : List ℕ × S) → get_or (keys_of rows) k d.0 ≡ (get_or rows k d).0
@@ -140,6 +152,6 @@ module _ {S : Type 0} where
       (λ d. at_row key rows i d true (position-Some (λ k. same_name key k) (keys_of rows) i d.0 e).1)
 
   -- an index finds the place
-  pub place_indexed : {H Z : Type 0} (key : List ℕ) (rows : Rows S) (index : Option (Box (IndexSet (List ℕ) H) Z)) (box : Box (IndexSet (List ℕ) H) Z) → index ≡ Some box → indexed index (keys_of rows) ≡ keys_of rows
-      → (o : Option ℕ) → o ≡ position (λ k. same_name key k) box.value.keys → IsPlace key rows o
+  pub place_indexed : {Z : Type 0} (key : List ℕ) (rows : Rows S) (index : Option (Box (List (List ℕ)) Z)) (box : Box (List (List ℕ)) Z) → index ≡ Some box → indexed index (keys_of rows) ≡ keys_of rows
+      → (o : Option ℕ) → o ≡ position (λ k. same_name key k) box.value → IsPlace key rows o
   place_indexed key rows index box is has o e = place_position key rows o (ap (position (λ k. same_name key k)) (sym (held index box (keys_of rows) is has)) ∙ sym e)

@@ -3,6 +3,7 @@
 
 mod arrays;
 mod heap;
+mod index;
 mod laws;
 mod named;
 mod object;

@@ -6,10 +6,9 @@ ghost use Rattle.js_values.specs.Objects.{keys_of};
 ghost use Rattle.object_heap.specs.Places.{IsPlace, changed_at_place};
 ghost use Rattle.object_heap.specs.Tables.{indexed};
 
-use crate::named::Named;
+use crate::index::Index;
 use crate::row::Row;
 use flow_text::{OutOfMemory, Text};
-use indexmap::IndexSet;
 use js_values::{Body, Key, Marks, Slot};
 use std::alloc::Global;
 use std::marker::Model;
@@ -23,7 +22,7 @@ pub(crate) struct Table<T> {
     alloc: Global,
     rows: Vec<Row<T>>,
     // The keys of the rows, in their order.
-    index: Option<Box<IndexSet<Key>>>,
+    index: Option<Box<Index>>,
 }
 
 impl<T> Model for Table<T> {
@@ -68,7 +67,7 @@ impl<T: Copy> Table<T> {
         ensures { IsPlace name.now self.now result }
     {
         match &self.index {
-            Some(index) => index.get_index_of(Named { text: name }),
+            Some(index) => index.place(name),
             None => self.listed(name),
         }
     }
@@ -171,13 +170,10 @@ impl<T: Copy> Table<T> {
 }
 
 // An index of the rows. There is none where a key comes twice.
-fn index_of<T: Copy>(
-    alloc: Global,
-    rows: &[Row<T>],
-) -> Result<Option<Box<IndexSet<Key>>>, OutOfMemory>
+fn index_of<T: Copy>(alloc: Global, rows: &[Row<T>]) -> Result<Option<Box<Index>>, OutOfMemory>
     ensures { IfOk result (λ index. indexed index (keys_of rows.now) ≡ keys_of rows.now) }
 {
-    let mut index = Some(Box::new(alloc, IndexSet::new(alloc))?);
+    let mut index = Some(Box::new(alloc, Index::new(alloc))?);
     for row in rows {
         insert_key(alloc, &mut index, row.key())?;
     }
@@ -185,18 +181,14 @@ fn index_of<T: Copy>(
 }
 
 // Adds a key to an index. None is left where the key is in it.
-fn insert_key(
-    alloc: Global,
-    index: &mut Option<Box<IndexSet<Key>>>,
-    key: &Key,
-) -> Result<(), OutOfMemory>
+fn insert_key(alloc: Global, index: &mut Option<Box<Index>>, key: &Key) -> Result<(), OutOfMemory>
     ensures ok { OnOk result ((keys : List (List ℕ)) → indexed index.old keys ≡ keys → indexed index.new (keys ++ key.now ∷ []) ≡ keys ++ key.now ∷ []) }
     ensures unchanged { OnErr result ((keys : List (List ℕ)) → indexed index.old keys ≡ keys → indexed index.new keys ≡ keys) }
 {
     let Some(keys) = index else {
         return Ok(());
     };
-    if keys.insert(key.copy(alloc)?)? {
+    if keys.insert(alloc, key)? {
         return Ok(());
     }
     *index = None;
@@ -204,11 +196,11 @@ fn insert_key(
 }
 
 // Takes the key at a place out of an index.
-fn remove_key(index: &mut Option<Box<IndexSet<Key>>>, place: usize)
+fn remove_key(index: &mut Option<Box<Index>>, place: usize)
     ensures { (keys : List (List ℕ)) → indexed index.old keys ≡ keys → indexed index.new (remove keys place) ≡ remove keys place }
 {
     let Some(keys) = index else {
         return;
     };
-    let _key = keys.shift_remove_index(place);
+    keys.remove(place);
 }

@@ -1,5 +1,5 @@
 -- Walks to a property, object by object, in a reading of the labels.
-use Rattle.std.proofs.Common.{◌≡◌, ℕ, zero, suc, ◌<◌, Bool, List, ◌∷◌, Option, Some, None, refl, sym, ap, subst, ◌∙◌}
+use Rattle.std.proofs.Common.{◌≡◌, ℕ, zero, suc, ◌<◌, Bool, List, ◌∷◌, Option, Some, None, Result, Ok, Err, IfOk, refl, sym, ap, ap₂, subst, ◌∙◌}
 use Rattle.std.specs.List.{slice_get}
 use Rattle.std.specs.Option.{option_map}
 use Rattle.std.proofs.lemmas.Option.{none-some, same_Some, slice_get-map}
@@ -19,6 +19,24 @@ use Rattle.object_heap.specs.Formed.{IsFormed, own_in, IsShape}
 use Rattle.object_heap.proofs.ReadLaws.{read_own}
 use Rattle.prototype_walk.specs.Answers.{Means, IsPlace}
 use Rattle.prototype_walk.proofs.HeldLaws.{own_there, HasShape, shape_there, object_has, slot_has}
+
+-- ---- labels that are joined
+
+module _ {S T : Type 0} (made : S → T → Type 0) (meaning : S → T → Label) (room : S → ℕ) (firm : S → Bool) where
+  -- a label that was joined of two
+  pub means_union : (old new : S) (a b label : T) → IsKept made meaning room firm old new → made old a → made old b → made new label → meaning new label ≡ union (meaning old a) (meaning old b) → Means made meaning new label (λ reading. union (reading a) (reading b))
+  means_union old new a b label kept ma mb m is = record {
+    belongs = m;
+    is = λ reading read. let earlier = IsReading-earlier made meaning room firm old new reading kept read in read.agrees label m ∙ is ∙ ap₂ union (sym (earlier.agrees a ma)) (sym (earlier.agrees b mb));
+  }
+
+  -- and then of a third
+  pub means_passed : {E : Type 0} (old mid new : S) (walk structure passed link : T) → IsKept made meaning room firm mid new → IsKept made meaning room firm old mid → Means made meaning mid passed (λ reading. union (reading walk) (reading structure)) → made old link
+      → (r : Result T E) → IfOk r (made new) → IfOk r (λ label. meaning new label ≡ union (meaning mid passed) (meaning mid link)) → IfOk r (λ label. Means made meaning new label (λ reading. union (union (reading walk) (reading structure)) (reading link)))
+  means_passed old mid new walk structure passed link later kept means ml (Err e) m is = tt
+  means_passed old mid new walk structure passed link later kept means ml (Ok label) m is =
+      let both = means_union mid new passed link label later means.belongs (kept.labels link ml).0 m is in
+      record { belongs = m; is = λ reading read. both.is reading read ∙ ap (λ l. union l (reading link)) (means.is reading (IsReading-earlier made meaning room firm mid new reading later read)) }
 
 -- ---- one object of a chain
 
