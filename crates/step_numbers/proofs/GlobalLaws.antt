@@ -131,12 +131,12 @@ pub ok_has : {A E : Type 0} (P : A → Type 0) (r : Result A E) (a : A) → Some
 ok_has P (Ok x) a is holds = subst P (sym (same_Some a x is)) holds
 ok_has P (Err e) a is holds = absurd (none-some a (sym is))
 
--- a property that holds a number
+-- a property that holds a value
 module _ {S T : Type 0} (made : S → T → Type 0) (meaning_of : S → T → Label) (room : S → ℕ) (firm : S → Bool) (earlier store : S) (kept : IsKept made meaning_of room firm earlier store) (rising : (store : S) (label : T) → made store label → IsLabel (meaning_of store label)) where
-  pub number_is_held : (name : List ℕ) (heap : List (Object T)) (s : Slot T) (n : ℤ) (label : T) → own_in name (global_in heap) ≡ Some s → s.body ≡ Data (value.Primitive (Num n)) → HasSlot (made earlier) s
-      → made store label → meaning_of store label ≡ union (meaning_of earlier s.existence) (meaning_of earlier s.label) → IsHeld made meaning_of store name heap (labelled_number n label)
+  pub value_is_held : (name : List ℕ) (heap : List (Object T)) (s : Slot T) (v : Value) (label : T) → own_in name (global_in heap) ≡ Some s → s.body ≡ Data v → HasSlot (made earlier) s
+      → made store label → meaning_of store label ≡ union (meaning_of earlier s.existence) (meaning_of earlier s.label) → IsHeld made meaning_of store name heap (record { value = v; label = label })
   unfolding named found_globally
-  number_is_held name heap s n label has is slot m means = record {
+  value_is_held name heap s v label has is slot m means = record {
     there = ap is_some has;
     comes = λ reading t read same.
         let before = IsReading-earlier made meaning_of room firm earlier store reading kept read in
@@ -144,35 +144,59 @@ module _ {S T : Type 0} (made : S → T → Type 0) (meaning_of : S → T → La
         ap (λ h. found_globally (union (global_walk h name).walk (global_walk h name).walk) (global_walk h name).at t) same
         ∙ ap (λ (f : Found). found_globally (union f.walk f.walk) f.at t) (own_found reading name heap 1 s has)
         ∙ ap (λ b. Goes (held (union (union (reading s.existence) (reading s.existence)) (reading s.label)) global_value b) t) is
-        ∙ ap (λ (l : Label). Goes (has_value (record { value = value.Primitive (Num n); label = l })) t)
+        ∙ ap (λ (l : Label). Goes (has_value (record { value = v; label = l })) t)
         (ap (λ l. union l (reading s.label)) (union-same (reading s.existence) is_label) ∙ ap₂ union (before.agrees s.existence slot.1) (before.agrees s.label slot.0) ∙ sym means ∙ sym (read.agrees label m));
     labelled = m;
   }
 
-module _ {S T : Type 0} (made : S → T → Type 0) (meaning_of : S → T → Label) (store : S) (at : ℕ) (name : List ℕ) (w : World T) where
-  abbrev IsNumber : Option (Counted T) → Type 0
-  IsNumber result = IfSome result (λ c. IsNamed made meaning_of store at name w (labelled_number c.number c.label))
+  pub number_is_held : (name : List ℕ) (heap : List (Object T)) (s : Slot T) (n : ℤ) (label : T) → own_in name (global_in heap) ≡ Some s → s.body ≡ Data (value.Primitive (Num n)) → HasSlot (made earlier) s
+      → made store label → meaning_of store label ≡ union (meaning_of earlier s.existence) (meaning_of earlier s.label) → IsHeld made meaning_of store name heap (labelled_number n label)
+  number_is_held name heap s n label has is slot m means = value_is_held name heap s (value.Primitive (Num n)) label has is slot m means
 
-  pub named_inside : (e : ℕ) (result : Option (Counted T)) → Some e ≡ lookup name w.records at → HasRecords (made store) w.records
-      → IfSome result (λ c. Some (labelled_number c.number c.label) ≡ option_map (λ b. b.value) (bound_in name (slice_get w.records e))) → IsNumber result
+-- the value that was found, if it was taken
+pub value_found : {T : Type 0} (result : Option (Labelled T)) (v : Labelled T) (bound : Option (Labelled T)) → bound ≡ Some v → IfSome result (λ x. x ≡ v) → IfSome result (λ x. Some x ≡ bound)
+value_found None v bound is found = tt
+value_found (Some x) v bound is found = ap Some found ∙ sym is
+
+module _ {S T : Type 0} (made : S → T → Type 0) (meaning_of : S → T → Label) (store : S) (at : ℕ) (name : List ℕ) (w : World T) where
+  bound_named : (e : ℕ) (v : Labelled T) → Some e ≡ lookup name w.records at → HasRecords (made store) w.records → Some v ≡ option_map (λ b. b.value) (bound_in name (slice_get w.records e)) → IsNamed made meaning_of store at name w v
   unfolding accessed named
-  named_inside e None is has found = tt
-  named_inside e (Some c) is has found = record {
+  bound_named e v is has found = record {
     comes = λ reading told turns read.
         ap (λ n. accessed n (state_of reading w told turns)) (stands_inside reading w.records w.heap at name e is)
-        ∙ (name_read made meaning_of store w e name (labelled_number c.number c.label) found).says reading read told turns;
-    labelled = name_has (made store) w.records e name (labelled_number c.number c.label) has found;
+        ∙ (name_read made meaning_of store w e name v found).says reading read told turns;
+    labelled = name_has (made store) w.records e name v has found;
   }
 
-  pub named_beyond : (result : Option (Counted T)) → None ≡ lookup name w.records at → IfSome result (λ c. IsHeld made meaning_of store name w.heap (labelled_number c.number c.label)) → IsNumber result
+  held_named : (v : Labelled T) → None ≡ lookup name w.records at → IsHeld made meaning_of store name w.heap v → IsNamed made meaning_of store at name w v
   unfolding accessed
-  named_beyond None is held = tt
-  named_beyond (Some c) is held = record {
+  held_named v is held = record {
     comes = λ reading told turns read.
         let s = state_of reading w told turns in
         ap (λ n. accessed n s) (stands_beyond reading w.records w.heap at name held.there is) ∙ held.comes reading s read refl;
     labelled = held.labelled;
   }
+
+  pub value_inside : (e : ℕ) (result : Option (Labelled T)) → Some e ≡ lookup name w.records at → HasRecords (made store) w.records
+      → IfSome result (λ v. Some v ≡ option_map (λ b. b.value) (bound_in name (slice_get w.records e))) → IfSome result (IsNamed made meaning_of store at name w)
+  value_inside e None is has found = tt
+  value_inside e (Some v) is has found = bound_named e v is has found
+
+  pub value_beyond : (result : Option (Labelled T)) → None ≡ lookup name w.records at → IfSome result (IsHeld made meaning_of store name w.heap) → IfSome result (IsNamed made meaning_of store at name w)
+  value_beyond None is held = tt
+  value_beyond (Some v) is held = held_named v is held
+
+  abbrev pub IsNumber : Option (Counted T) → Type 0
+  IsNumber result = IfSome result (λ c. IsNamed made meaning_of store at name w (labelled_number c.number c.label))
+
+  pub named_inside : (e : ℕ) (result : Option (Counted T)) → Some e ≡ lookup name w.records at → HasRecords (made store) w.records
+      → IfSome result (λ c. Some (labelled_number c.number c.label) ≡ option_map (λ b. b.value) (bound_in name (slice_get w.records e))) → IsNumber result
+  named_inside e None is has found = tt
+  named_inside e (Some c) is has found = bound_named e (labelled_number c.number c.label) is has found
+
+  pub named_beyond : (result : Option (Counted T)) → None ≡ lookup name w.records at → IfSome result (λ c. IsHeld made meaning_of store name w.heap (labelled_number c.number c.label)) → IsNumber result
+  named_beyond None is held = tt
+  named_beyond (Some c) is held = held_named (labelled_number c.number c.label) is held
 
 -- ---- it is given a value
 

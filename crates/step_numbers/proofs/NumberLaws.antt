@@ -1,5 +1,5 @@
 -- What operators give of two numbers of the profile.
-use Rattle.std.proofs.Common.{refl, sym, ap, ◌∙◌, ◌≡◌, ℤ, ◌+ℤ◌, not, int_lt, Some, false, Result, Ok, Err}
+use Rattle.std.proofs.Common.{refl, ap, ◌∙◌, ◌≡◌, ℤ, ◌+ℤ◌, not, int_lt, Some, false, Result, Ok, Err}
 use Rattle.js_ast.specs.declared.operators.BinaryOperator.{BinaryOperator}
 use Rattle.js_number.specs.declared.int.LeftNumbers.{LeftNumbers}
 use Rattle.js_number.specs.declared.primitive.Primitive.TheVariants.{Num}

@@ -11,12 +11,13 @@ use Rattle.js_ast.specs.Trees as trees
 use Rattle.js_ast.specs.Trees.{Expr, Statement}
 use Rattle.js_ast.specs.declared.operators.BinaryOperator.{BinaryOperator}
 use Rattle.js_values.specs.declared.value.Labelled.{Labelled}
+use Rattle.js_values.specs.declared.value.Value.{Value}
 use Rattle.js_values.specs.Records.{Binding, bound_in, lookup}
 use Rattle.js_values.specs.Readings.{HasValue, IsReading, read_heap, read_records, read_value}
 use Rattle.es_meaning.specs.Environments.{Env}
 use Rattle.es_meaning.specs.Evaluation.{operator_of}
 use Rattle.es_meaning.specs.Outcomes.{Goes}
-use Rattle.es_meaning.specs.Plain.{undefined, Place}
+use Rattle.es_meaning.specs.Plain.{undefined, Place, on_global}
 use Rattle.flow_meaning.specs.Erased.{unlabelled}
 use Rattle.flow_meaning.specs.Scopes.{LabelledLine}
 use Rattle.flow_meaning.specs.Planned.{a_stmt, an_expr, meaning}
@@ -31,7 +32,7 @@ use Rattle.flow_meaning.specs.Tracked.{is_put, put_named, put_value, resolved}
 use Rattle.run_state.specs.declared.world.World.{World}
 use Rattle.run_state.specs.Worlds.{Belongs, Grows, state_of}
 use Rattle.continuations.specs.Shapes.{step_of}
-use Rattle.step_numbers.specs.Evaluated.{Left, and_left, combined_of, global_in, left_with, name_number, number_at}
+use Rattle.step_numbers.specs.Evaluated.{Left, and_left, combined_of, global_in, left_with, name_number, number_at, without_memory}
 
 -- in the record with this number an expression comes to a value, with so many turns before it and so many behind it, and leaves another world: in each
 -- reading that agrees with the store, whatever was printed
@@ -119,6 +120,11 @@ module _ {T : Type 0} (reading : T → Label) where
 
   abbrev pub changes : World T → ℕ → List ℕ → Bool
   changes w at text = changes_at w (lookup text w.records at) text
+
+  -- what is given at once, behind a right side that was evaluated: a value that is no text, to a name of the global object
+  abbrev pub puts_at_once : World T → Place → List ℕ → Value → Bool
+  puts_at_once w on_global text v = is_some (without_memory v) && changes_global (context_of w) text (global_in w.heap)
+  puts_at_once w _ text v = false
 
   -- what is assigned to must be a name, and one that can be given a value
   abbrev pub if_changes : World T → ℕ → Option (List ℕ) → (List ℕ → Left ℤ) → Left ℤ

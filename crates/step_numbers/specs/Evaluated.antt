@@ -127,6 +127,33 @@ number_at_place None records heap text = number_held (own_in text (global_in hea
 abbrev pub name_number : {T : Type 0} → List (Record (Labelled T)) → List (Object T) → ℕ → List ℕ → Option ℤ
 name_number records heap at text = number_at_place (lookup text records at) records heap text
 
+-- ---- any value that a name has
+
+-- a copy of a text may want memory, and of no other value
+abbrev pub without_memory : Value → Option Value
+without_memory (value.Primitive (prims.Str text)) = None
+without_memory v = Some v
+
+abbrev pub value_of : {T : Type 0} → Option (Labelled T) → Option Value
+value_of (Some v) = without_memory v.value
+value_of None = None
+
+abbrev pub value_of_body : Body → Option Value
+value_of_body (Data v) = without_memory v
+value_of_body (Accessor get set) = None
+
+abbrev pub value_held : {T : Type 0} → Option (Slot T) → Option Value
+value_held (Some s) = value_of_body s.body
+value_held None = None
+
+abbrev pub value_at_place : {T : Type 0} → Option ℕ → List (Record (Labelled T)) → List (Object T) → List ℕ → Option Value
+value_at_place (Some i) records heap text = value_of (option_map (λ b. b.value) (bound_in text (slice_get records i)))
+value_at_place None records heap text = value_held (own_in text (global_in heap))
+
+-- the value that a name has, if it is no text: in the record that binds it, or else as the global object's own property
+abbrev pub name_value : {T : Type 0} → List (Record (Labelled T)) → List (Object T) → ℕ → List ℕ → Option Value
+name_value records heap at text = value_at_place (lookup text records at) records heap text
+
 -- two numbers, and then what is made of them
 abbrev pub of_both : {X : Type 0} → (Expr → ℕ → Left ℤ) → Expr → Expr → (ℤ → ℤ → Option X) → ℕ → Left X
 of_both parts l r make turns = and_left (parts l turns) (λ m t. and_left (parts r t) (λ n u. left_with (make m n) u))
@@ -154,7 +181,13 @@ module _ {T : Type 0} (records : List (Record (Labelled T))) (heap : List (Objec
   abbrev pub as_value : {X : Type 0} → (X → Primitive) → Left X → Left Value
   as_value make x = option_map (λ y. (value.Primitive (make y.0), y.1)) x
 
+  -- or a name; to enter it costs a turn
+  abbrev pub named_at : List ℕ → ℕ → Left Value
+  named_at text zero = None
+  named_at text (suc turns) = left_with (name_value records heap at text) turns
+
   abbrev pub value_at : ℕ → Expr → ℕ → Left Value
+  value_at d (name place text) turns = named_at text turns
   value_at d (binary place l o r) turns = if compares o then as_value prims.Bool (truth_at d o l r turns) else as_value Num (number_at d (binary place l o r) turns)
   value_at d e turns = as_value Num (number_at d e turns)
 

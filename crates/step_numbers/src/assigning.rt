@@ -16,21 +16,23 @@ ghost use Rattle.object_heap.specs.Formed.{own_in, rows_in};
 ghost use Rattle.object_heap.specs.Places.{StandsAt};
 ghost use Rattle.es_meaning.specs.Evaluation.{operator_of};
 ghost use Rattle.es_meaning.specs.Operators.{binary_of, unary_of};
+ghost use Rattle.run_state.specs.Names.{place_of};
 ghost use Rattle.run_state.specs.Worlds.{Belongs};
 ghost use Rattle.continuations.specs.Shapes.{step_of};
-ghost use Rattle.step_numbers.specs.Assigned.{Finishes, Gives, Puts, PutsAt, Rebinds, array_in, assigned_at, changes, changes_binding, changes_global, context_of, counted_by, finished_at, given_by, if_changes, is_array, name_in, slot_written, written_in};
+ghost use Rattle.step_numbers.specs.Assigned.{Finishes, Gives, Puts, PutsAt, Rebinds, array_in, assigned_at, changes, changes_binding, changes_global, context_of, counted_by, finished_at, given_by, if_changes, is_array, name_in, puts_at_once, slot_written, written_in};
 ghost use Rattle.es_meaning.specs.Plain.{in_record, on_global};
 ghost use Rattle.step_numbers.specs.Evaluated.{as_value, combined_of, global_in, labelled_number};
 
 use crate::evaluating::{Counted, DEPTH, Evaluated, GLOBAL, as_value, joined, named, number};
 use crate::operators::{combined, combines};
+use crate::values::value_of;
 use flow_frames::Rule;
 use flow_text::Text;
 use js_ast::{AssignOperator, BinaryOperator, Expr, ExprKind, PostfixOperator, Stmt, StmtKind};
 use js_number::{Int, Primitive};
 use js_values::{Body, Class, EnvId, Labelled, Slot, Value};
 use origin_labels::Labels;
-use run_state::World;
+use run_state::{Place, World};
 
 /// A property of the global object whose value can be written over.
 #[derive(Drop)]
@@ -320,6 +322,33 @@ fn put<L: Labels>(
     match world.records.lookup(at, name) {
         Some(e) => put_bound(labels, world, e, name, value),
         None => put_global(labels, world, name, value),
+    }
+}
+
+/// Gives a name of the global object a value that is no text at once. Where that would throw, stop the run, call a setter or want memory, it isn't done, and nothing but the store of labels changes.
+#[inline(always)]
+pub fn put_at_once<L: Labels>(
+    labels: &mut L,
+    world: &mut World<L::Label>,
+    place: Place,
+    name: &Text,
+    value: &Labelled<L::Label>,
+) -> Option<()>
+    requires label { L.made labels.old value.now.label }
+    requires belongs { Belongs L.made L.meaning labels.old world.old }
+    ensures exact { L.firm labels.old ≡ true → is_some result ≡ puts_at_once (L.meaning labels.old) world.old (place_of place) name.now value.now.value }
+    ensures puts { IfSome result (λ _. PutsAt L.made L.meaning labels.new (place_of place) name.now value.now world.old world.new) }
+    ensures unchanged { IfNone result (world.new ≡ world.old) }
+    ensures rebinds { Rebinds L.made L.meaning labels.new world.old world.new }
+    ensures kept { IsKept L.made L.meaning L.room L.firm labels.old labels.new }
+{
+    match place {
+        Place::Global => {
+            let given = value_of(value)?;
+            put_global(labels, world, name, given)
+        }
+        Place::Record(_) => None,
+        Place::Nowhere => None,
     }
 }
 

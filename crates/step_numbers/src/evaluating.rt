@@ -17,6 +17,7 @@ ghost use Rattle.object_heap.specs.Formed.{own_in};
 ghost use Rattle.step_numbers.specs.Named.{IsHeld, IsNamed};
 
 use crate::operators::{combined, combines, compared, compares};
+use crate::values::evaluated_name;
 use flow_text::Text;
 use js_ast::{BinaryOperator, Expr, ExprKind};
 use js_number::{Int, Primitive};
@@ -47,7 +48,7 @@ pub(crate) struct Counted<T> {
     pub(crate) turns: u64,
 }
 
-/// Evaluates an expression in a record, where it is made of names, numbers, parentheses and operators between numbers, with one comparison outermost or none, it isn't deep, and there are turns for it. Nothing but the store of labels changes.
+/// Evaluates an expression in a record, where it is a name that has another value than a text, or is made of names, numbers, parentheses and operators between numbers, with one comparison outermost or none, it isn't deep, and there are turns for it. Nothing but the store of labels changes.
 #[inline(always)]
 pub fn evaluate<L: Labels>(
     labels: &mut L,
@@ -63,6 +64,7 @@ pub fn evaluate<L: Labels>(
     ensures kept { IsKept L.made L.meaning L.room L.firm labels.old labels.new }
 {
     match &*e.kind {
+        ExprKind::Name(name) => evaluated_name(labels, world, at, turns, name),
         ExprKind::Binary {
             left,
             operator,

@@ -4,6 +4,8 @@
 mod assigning;
 mod evaluating;
 mod operators;
+mod values;
 
-pub use assigning::{assign, finish};
+pub use assigning::{assign, finish, put_at_once};
 pub use evaluating::{Evaluated, evaluate};
+pub use values::name_value;

@@ -1,5 +1,5 @@
 -- Calls that begin what a plan says.
-use Rattle.std.proofs.Common.{refl, sym, ap, ap₂, subst, ◌∙◌, ◌≡◌, ℕ, Bool, List, [], ◌∷◌, ◌++◌, map, Result, Ok, Err}
+use Rattle.std.proofs.Common.{refl, sym, ap, subst, ◌∙◌, ◌≡◌, ℕ, Bool, List, [], ◌∷◌, ◌++◌, map, Result, Ok, Err}
 use Rattle.std.specs.Result.{IsErrAnd}
 use Rattle.origin_labels.specs.Label.{Label}
 use Rattle.origin_labels.specs.Stores.{IsKept}
@@ -13,31 +13,28 @@ use Rattle.js_values.specs.Readings.{IsReading, read_heap, read_records, read_va
 use Rattle.js_values.proofs.ReadingLaws.{IsReading-earlier}
 use Rattle.es_meaning.specs.BuiltIns.{BuiltIns}
 use Rattle.es_meaning.specs.Operations.{Ty}
-use Rattle.es_meaning.specs.Outcomes.{left, Outcome, Jumps}
-use Rattle.flow_meaning.specs.Scopes.{as_plain, State, Val, Halt, Jump, L, LabelledLine, stopped}
+use Rattle.es_meaning.specs.Outcomes.{Outcome}
+use Rattle.flow_meaning.specs.Scopes.{State, Val, Halt, Jump, L, LabelledLine, stopped}
 use Rattle.flow_meaning.specs.Tracked.{Reference, resolved}
-use Rattle.flow_meaning.specs.Planned.{gave, Plan, End, and_plan, planned}
+use Rattle.flow_meaning.specs.Planned.{gave, Plan, and_plan, planned}
 use Rattle.run_state.specs.declared.outcome.Outcome as machine
 use Rattle.run_state.specs.declared.outcome.Outcome.TheVariants as outcomes
 use Rattle.run_state.specs.declared.outcome.Named.{Named}
 use Rattle.run_state.specs.declared.world.World.{World}
-use Rattle.run_state.specs.Acts.{Acts, Says, thrown}
-use Rattle.run_state.specs.Names.{leaving_name, reference_of}
+use Rattle.run_state.specs.Acts.{Acts, Says}
+use Rattle.run_state.specs.Names.{reference_of}
 use Rattle.run_state.specs.Worlds.{state_of}
 use Rattle.continuations.specs.Settings.{Setting}
-use Rattle.continuations.specs.declared.continuation.Jump.TheVariants as jump
 use Rattle.continuations.specs.declared.continuation.Continuation.{Continuation}
 use Rattle.continuations.specs.declared.continuation.Control.{Control}
-use Rattle.continuations.specs.declared.continuation.Control.TheVariants as control
 use Rattle.continuations.specs.Kept.{Kept}
 use Rattle.continuations.specs.Moving.{Moves, Planning, following}
-use Rattle.continuations.specs.Pending.{Task, after, after_task, behind, next_plan, setting_above, setting_inside}
+use Rattle.continuations.specs.Pending.{Task, after, behind, next_plan, setting_above, setting_inside}
 use Rattle.continuations.specs.Resuming.{BeginsBehind, coming}
 use Rattle.continuations.proofs.Behind.{behind_more, setting_more}
 use Rattle.continuations.proofs.Handed.{behind_end}
-use Rattle.step_references.specs.declared.handing_on.Went.{Went}
 use Rattle.step_references.specs.declared.handing_on.Went.TheVariants as went
-use Rattle.step_references.specs.Moving.{Begun, BegunAt, Comes, Doing, DoingAt, Handed, Parts, Resumed, ResumedAt, cleared}
+use Rattle.step_references.specs.Moving.{Begun, BegunAt, Comes, Doing, DoingAt, Handed, Parts, Resumed, ResumedAt}
 
 -- ---- plans at a stack
 
@@ -311,22 +308,29 @@ module _ {S T : Type 0} {made : S → T → Type 0} {meaning : S → T → Label
         (begun.begins tables inputs set functions reading e told turns is (ap (λ (ts : List (Task T)). (setting_above ts e).env.place) tasks ∙ at));
   }
 
--- a name is looked for, and what is done with the reference is begun in a later store
+-- a name is looked for, and what is done with the reference is begun
+pub begun_at_reference : {S T : Type 0} {made : S → T → Type 0} {meaning : S → T → Label} {store : S} (t : Ty) (k : Tables → Given → BuiltIns → List FunctionCode → (T → Label) → ℕ → Reference → State → Plan) (name : List ℕ) (place : ℕ) (found : (T → Label) → Reference)
+    → {old new : Kept T} {world_old world_new : World T} {result : Result Control (FlowFault T)}
+    → ((reading : T → Label) → IsReading made meaning store reading → found reading ≡ resolved (read_records reading world_old.records) (read_heap reading world_old.heap) place name)
+    → Begun made meaning store (λ tables inputs set functions reading e. k tables inputs set functions reading e.env.place (found reading)) old new world_old world_new result
+    → BegunAt made meaning store place (λ tables inputs set functions reading e. (planned tables inputs set functions).resolve t e.env.place name (k tables inputs set functions reading e.env.place)) old new world_old world_new result
+begun_at_reference {made = made} {meaning} {store} t k name place found {old} {new} {world_old} {world_new} {result} is begun = record {
+  begins = λ tables inputs set functions reading e told turns read at.
+      let s = state_of reading world_old told turns in
+      let f = setting_above old.tasks e in
+      moves_as tables inputs set functions reading new e (state_of reading world_new told turns) (behind tables inputs set functions reading old.tasks e (k tables inputs set functions reading f.env.place (found reading) s)) (behind tables inputs set functions reading old.tasks e ((planned tables inputs set functions).resolve t f.env.place name (k tables inputs set functions reading f.env.place) s)) result
+      (ap (λ n. behind tables inputs set functions reading old.tasks e (k tables inputs set functions reading f.env.place n s)) (is reading read)
+      ∙ ap (λ i. behind tables inputs set functions reading old.tasks e (k tables inputs set functions reading f.env.place (resolved s.records s.heap i name) s)) (sym at))
+      (begun.begins tables inputs set functions reading e told turns read);
+}
+
+-- the same of a name that was looked for in an earlier store
 pub begun_at : {S T : Type 0} {made : S → T → Type 0} {meaning : S → T → Label} {store : S} {room : S → ℕ} {firm : S → Bool} {later : S} (t : Ty) (k : Tables → Given → BuiltIns → List FunctionCode → (T → Label) → ℕ → Reference → State → Plan) (name : List ℕ) (place : ℕ) (found : Named T)
     → IsKept made meaning room firm store later → {old new : Kept T} {world_old world_new : World T} {result : Result Control (FlowFault T)}
     → ((reading : T → Label) → IsReading made meaning store reading → reference_of reading found ≡ resolved (read_records reading world_old.records) (read_heap reading world_old.heap) place name)
     → Begun made meaning later (λ tables inputs set functions reading e. k tables inputs set functions reading e.env.place (reference_of reading found)) old new world_old world_new result
     → BegunAt made meaning later place (λ tables inputs set functions reading e. (planned tables inputs set functions).resolve t e.env.place name (k tables inputs set functions reading e.env.place)) old new world_old world_new result
-begun_at {made = made} {meaning} {store} {room} {firm} {later} t k name place found kept {old} {new} {world_old} {world_new} {result} is begun = record {
-  begins = λ tables inputs set functions reading e told turns read at.
-      let s = state_of reading world_old told turns in
-      let f = setting_above old.tasks e in
-      let earlier = IsReading-earlier made meaning room firm store later reading kept read in
-      moves_as tables inputs set functions reading new e (state_of reading world_new told turns) (behind tables inputs set functions reading old.tasks e (k tables inputs set functions reading f.env.place (reference_of reading found) s)) (behind tables inputs set functions reading old.tasks e ((planned tables inputs set functions).resolve t f.env.place name (k tables inputs set functions reading f.env.place) s)) result
-      (ap (λ n. behind tables inputs set functions reading old.tasks e (k tables inputs set functions reading f.env.place n s)) (is reading earlier)
-      ∙ ap (λ i. behind tables inputs set functions reading old.tasks e (k tables inputs set functions reading f.env.place (resolved s.records s.heap i name) s)) (sym at))
-      (begun.begins tables inputs set functions reading e told turns read);
-}
+begun_at {made = made} {meaning} {store} {room} {firm} {later} t k name place found kept is begun = begun_at_reference t k name place (λ reading. reference_of reading found) (λ reading read. is reading (IsReading-earlier made meaning room firm store later reading kept read)) begun
 
 -- ---- work that is resumed
 

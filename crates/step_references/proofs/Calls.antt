@@ -1,5 +1,5 @@
 -- What reads and puts came to: a value, or the call of a getter or a setter.
-use Rattle.std.proofs.Common.{refl, sym, ap, ap₂, ◌∙◌, ◌≡◌, ℕ, List, [], ◌∷◌, ◌++◌, map, length, Option, Some, None}
+use Rattle.std.proofs.Common.{refl, sym, ap, ap₂, ◌∙◌, ◌≡◌, List, [], ◌∷◌, ◌++◌, map, length, Option, Some, None}
 use Rattle.std.proofs.lemmas.List.{nil_from_length}
 use Rattle.js_values.specs.declared.ids.ObjId.{ObjId}
 use Rattle.js_values.specs.declared.value.Labelled.{Labelled}
@@ -20,7 +20,7 @@ use Rattle.flow_policy.specs.Inputs.{Given}
 use Rattle.js_ast.specs.Functions.{FunctionCode}
 use Rattle.es_meaning.specs.BuiltIns.{BuiltIns}
 use Rattle.flow_meaning.specs.Scopes.{State}
-use Rattle.continuations.specs.Pending.{after, behind, behind_setter, next_plan}
+use Rattle.continuations.specs.Pending.{behind, behind_setter, next_plan}
 use Rattle.continuations.specs.Resuming.{coming}
 use Rattle.continuations.specs.Settings.{Setting, entrance}
 use Rattle.continuations.proofs.Handed.{laid_value}

@@ -1,5 +1,5 @@
 -- What work keeps of a reference stands for it: it takes values as the reference does.
-use Rattle.std.proofs.Common.{refl, sym, ap, ap₂, subst, ◌∙◌, ◌≡◌, ◌⊎◌, inl, inr, ◌+◌, ℕ, Bool, List, [], ◌∷◌, ◌++◌, map, length, arith}
+use Rattle.std.proofs.Common.{refl, ap, ap₂, subst, ◌∙◌, ◌≡◌, ◌⊎◌, inl, inr, ◌+◌, ℕ, Bool, List, [], ◌∷◌, ◌++◌, map, length, arith}
 use Rattle.std.specs.Borrow.{Bor}
 use Rattle.std.specs.List.{All}
 use Rattle.std.proofs.lemmas.List.{length-append, length-map, map-append, nil_from_length}

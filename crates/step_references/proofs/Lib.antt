@@ -1,3 +1,4 @@
+mod AtOnce
 pub mod Loose
 pub mod Plans
 pub mod Begun

@@ -1,7 +1,6 @@
 -- What calls leave.
 use Rattle.std.proofs.Common.{refl, sym, ap, ap₂, subst, ◌∙◌, ◌≡◌, ◌+◌, ◌≤◌, ℕ, [], ◌∷◌, ◌++◌, length, Result, Ok, Err, IfOk, append-nil, List, arith}
 use Rattle.std.specs.List.{All}
-use Rattle.std.proofs.lemmas.List.{nil_from_length}
 use Rattle.std.proofs.lemmas.List.Elements.{All-append}
 use Rattle.flow_frames.specs.declared.faults.FlowFault.{FlowFault}
 use Rattle.js_values.specs.declared.value.Labelled.{Labelled}
@@ -18,14 +17,13 @@ use Rattle.step_objects.specs.Standing.{FramesStand, StandsBy}
 use Rattle.continuations.specs.declared.continuation.Continuation.{Continuation}
 use Rattle.continuations.specs.declared.continuation.Control.{Control}
 use Rattle.continuations.specs.declared.continuation.Control.TheVariants as control
-use Rattle.continuations.specs.Kept.{Kept, scope_of, scopes_of, waits, waiting, kept_operands, operands_of}
+use Rattle.continuations.specs.Kept.{Kept, scope_of, scopes_of, waits, waiting, kept_operands}
 use Rattle.continuations.specs.Loads.{Adds, load, lift, weight}
 use Rattle.continuations.specs.Moving.{Rests, Stands}
 use Rattle.continuations.specs.Pending.{Task, values_of}
 use Rattle.continuations.specs.Resuming.{Keeps}
 use Rattle.continuations.proofs.Keeping.{scopes_more, natives_more, kept_more}
 use Rattle.continuations.proofs.Loads.{load_more}
-use Rattle.step_references.specs.declared.handing_on.Went.{Went}
 use Rattle.step_references.specs.declared.handing_on.Went.TheVariants as went
 use Rattle.step_references.specs.Moving.{Moved, Parts}
 use Rattle.step_references.proofs.Loose.{only}

@@ -1,5 +1,5 @@
 -- What is done with references, as plans.
-use Rattle.std.proofs.Common.{refl, sym, ap, ap₂, ◌∙◌, ◌≡◌, ℕ, Bool, List, [], ◌∷◌, pos}
+use Rattle.std.proofs.Common.{refl, sym, ap, ap₂, ◌≡◌, ℕ, Bool, List, [], ◌∷◌, pos}
 use Rattle.js_number.specs.declared.primitive.Primitive.TheVariants.{Num, Str}
 use Rattle.js_values.specs.declared.value.Value.TheVariants as value
 use Rattle.origin_labels.specs.Label.{Label, bottom}
@@ -15,11 +15,11 @@ use Rattle.es_meaning.specs.Operations.{One, Value, Ops, Rec, Use, base_needed, 
 use Rattle.es_meaning.specs.Operators.{is_object}
 use Rattle.es_meaning.specs.Evaluation.{give, assign_to, assign_giving, binary_values, compound_done, compound_right, more_variables, variables, used, read_value, prefix_by, prefix_number, prefix_value, postfix_by, postfix_number, postfix_value, unary_done, unary_value, call_reference, index_key, member_base, with_base, with_key}
 use Rattle.flow_meaning.specs.Scopes.{Val, State}
-use Rattle.flow_meaning.specs.Planned.{gave, Enters, Give, Ask, an_expr, and_plan, with_result, as_plan, planned, asking, enter_access, enter_putting, convert_by, end_setter, with_outcome}
+use Rattle.flow_meaning.specs.Planned.{gave, Enters, Give, Ask, an_expr, and_plan, with_result, planned, asking, enter_access, enter_putting, convert_by, end_setter, with_outcome}
 use Rattle.std.specs.Borrow.{Bor}
 use Rattle.js_ast.specs.declared.trees.Declaration.{Declaration}
 use Rattle.js_ast.specs.Views.{view_other_declarations}
-use Rattle.flow_meaning.specs.Tracked.{is_put, Reference, accessed, accessed_for_typeof, act, base_of, labelled, of_property, put_value, remove}
+use Rattle.flow_meaning.specs.Tracked.{is_put, Reference, accessed, accessed_for_typeof, act, base_of, of_property, put_value, remove}
 use Rattle.es_meaning.specs.Plain.{key_text}
 use Rattle.continuations.specs.declared.continuation.Counting.{Counting}
 use Rattle.continuations.specs.declared.continuation.Counting.TheVariants as counting

@@ -6,8 +6,11 @@ ghost use Rattle.origin_labels.specs.Stores.{IsKept};
 ghost use Rattle.flow_frames.specs.Stops.{IfStop};
 ghost use Rattle.js_ast.specs.Views.{view_expr, view_exprs};
 ghost use Rattle.js_values.specs.Readings.{IsReading, read_value};
+ghost use Rattle.es_meaning.specs.Operations as operations;
 ghost use Rattle.es_meaning.specs.Operations.{asked, called, updated_by};
+ghost use Rattle.es_meaning.specs.Plain.{undefined};
 ghost use Rattle.es_meaning.specs.Evaluation.{used};
+ghost use Rattle.flow_meaning.specs.Erased.{unlabelled};
 ghost use Rattle.flow_meaning.specs.Planned.{planned, asking};
 ghost use Rattle.flow_meaning.specs.Tracked.{base_of};
 ghost use Rattle.step_objects.specs.References.{refers, HasReference};
@@ -15,17 +18,19 @@ ghost use Rattle.run_state.specs.Worlds.{Belongs, Grows};
 ghost use Rattle.continuations.specs.Settings.{entrance};
 ghost use Rattle.continuations.specs.Stops.{HasStop};
 ghost use Rattle.step_references.specs.Keeping.{counted_by};
-ghost use Rattle.step_references.specs.Moving.{Begun, Moved};
+ghost use Rattle.step_numbers.specs.Named.{IsNamed};
+ghost use Rattle.step_references.specs.Moving.{Begun, BegunAt, Moved};
 
 use crate::handing_on::hand_on_access;
 use crate::keeping::lay_reference;
 use continuations::{Continuation, Control, Counting, Stack};
 use flow_frames::FlowFault;
+use flow_text::Text;
 use js_ast::{BinaryOperator, Expr, UnaryOperator};
 use js_number::Primitive;
-use js_values::{Labelled, Value};
+use js_values::{EnvId, Labelled, Value};
 use origin_labels::Labels;
-use run_state::World;
+use run_state::{Access, Outcome, World};
 use std::alloc::Global;
 use step_objects::{Reference, get_value, typeof_value};
 
@@ -130,6 +135,29 @@ pub(crate) fn begin_call<'p, L: Labels>(
     hand_on_access(labels, stack, answer)
 }
 
+/// The value of a name is called, which was read at once.
+#[inline(always)]
+pub(crate) fn call_named<'p, L: Labels>(
+    labels: &L,
+    _world: &World<L::Label>,
+    stack: &mut Stack<'p, L::Label>,
+    _at: EnvId,
+    _name: &Text,
+    callee: Labelled<L::Label>,
+    list: &'p [Expr],
+) -> Result<Control<'p>, FlowFault<L::Label>>
+    requires loose { length stack.old.loose ≡ 0 }
+    requires named { IsNamed L.made L.meaning labels.now _at.0 _name.now _world.now callee }
+    ensures goes_on { BegunAt L.made L.meaning labels.now _at.0 (λ tables inputs set functions reading e. (planned tables inputs set functions).resolve operations.Value e.env.place _name.now (used (planned tables inputs set functions) (entrance tables inputs set functions) (asking tables inputs set functions) (called (view_exprs list.entry.now)) e.env.place)) stack.old stack.new _world.now _world.now result }
+    ensures moved { IfOk result (Moved (L.made labels.now) 9 stack.old stack.new _world.now _world.now) }
+    ensures stopped { IfErr result (IfStop (HasStop (L.made labels.now))) }
+{
+    let answer = Ok(Outcome::Goes(Access::Value(callee)));
+    stack.lay(no_this(labels))?;
+    stack.push(Continuation::CalledBy(list))?;
+    hand_on_access(labels, stack, answer)
+}
+
 /// What a call of a reference has as `this`: a name has none.
 fn this_of<L: Labels>(labels: &L, reference: Reference<'_, L::Label>) -> Labelled<L::Label>
     requires reference { HasReference (L.made labels.now) reference }
@@ -137,10 +165,19 @@ fn this_of<L: Labels>(labels: &L, reference: Reference<'_, L::Label>) -> Labelle
     ensures base { (reading : L.Label → Label) → IsReading L.made L.meaning labels.now reading → read_value reading result ≡ base_of (refers reading reference.entry) }
 {
     match reference {
-        Reference::Name(_) => Labelled {
-            value: Value::Primitive(Primitive::Undefined),
-            label: labels.bottom(),
-        },
+        Reference::Name(_) => no_this(labels),
         Reference::Property(base, _) => base,
+    }
+}
+
+/// What a call of a name has as `this`.
+#[inline(always)]
+fn no_this<L: Labels>(labels: &L) -> Labelled<L::Label>
+    ensures made { L.made labels.now result.label }
+    ensures undefined { (reading : L.Label → Label) → IsReading L.made L.meaning labels.now reading → read_value reading result ≡ unlabelled undefined }
+{
+    Labelled {
+        value: Value::Primitive(Primitive::Undefined),
+        label: labels.bottom(),
     }
 }

@@ -7,6 +7,9 @@ ghost use Rattle.js_values.specs.Readings.{read_value};
 ghost use Rattle.es_meaning.specs.Evaluation.{assign_giving, assign_to};
 ghost use Rattle.flow_meaning.specs.Planned.{planned};
 ghost use Rattle.step_objects.specs.References.{refers, HasReference};
+ghost use Rattle.flow_meaning.specs.Tracked.{put_value};
+ghost use Rattle.run_state.specs.Accesses.{HasPutting, read_putting};
+ghost use Rattle.run_state.specs.Acts.{Acts, HasAnswer};
 ghost use Rattle.run_state.specs.Worlds.{Belongs, Grows};
 ghost use Rattle.continuations.specs.Settings.{entrance};
 ghost use Rattle.continuations.specs.Stops.{HasStop};
@@ -17,8 +20,9 @@ use continuations::{Control, Stack};
 use flow_frames::FlowFault;
 use js_values::Labelled;
 use origin_labels::Labels;
-use run_state::World;
+use run_state::{Outcome, Putting, World};
 use std::alloc::Global;
+use step_numbers::put_at_once;
 use step_objects::{Reference, get_value, put_value};
 
 /// The value of a reference (ECMA-262 8.7.1).
@@ -65,8 +69,7 @@ pub fn assign<'p, L: Labels>(
     ensures grows { Grows world.old world.new }
     ensures kept { IsKept L.made L.meaning L.room L.firm labels.old labels.new }
 {
-    let given = value.copy(alloc)?;
-    let answer = put_value(alloc, labels, world, reference, given);
+    let answer = put(alloc, labels, world, reference, &value);
     hand_on_putting(alloc, labels, stack, answer, None, value)
 }
 
@@ -93,7 +96,55 @@ pub fn assign_giving<'p, L: Labels>(
     ensures grows { Grows world.old world.new }
     ensures kept { IsKept L.made L.meaning L.room L.firm labels.old labels.new }
 {
-    let given = value.copy(alloc)?;
-    let answer = put_value(alloc, labels, world, reference, given);
+    let answer = put(alloc, labels, world, reference, &value);
     hand_on_putting(alloc, labels, stack, answer, Some(value), gives)
+}
+
+/// Gives a reference a value (ECMA-262 8.7.2), and a name of the global object at once, where it can.
+#[inline(always)]
+fn put<L: Labels>(
+    alloc: Global,
+    labels: &mut L,
+    world: &mut World<L::Label>,
+    reference: &Reference<'_, L::Label>,
+    value: &Labelled<L::Label>,
+) -> Result<Outcome<Putting<L::Label>, L::Label>, FlowFault<L::Label>>
+    requires reference { HasReference (L.made labels.old) reference.now }
+    requires value { L.made labels.old value.now.label }
+    requires belongs { Belongs L.made L.meaning labels.old world.old }
+    ensures acts { Acts L.made L.meaning labels.new (λ reading. read_putting reading) (λ reading. put_value (refers reading reference.now) (read_value reading value.now)) world.old world.new result }
+    ensures made { HasAnswer (HasPutting (L.made labels.new)) (L.made labels.new) result }
+    ensures belongs { Belongs L.made L.meaning labels.new world.new }
+    ensures grows { Grows world.old world.new }
+    ensures kept { IsKept L.made L.meaning L.room L.firm labels.old labels.new }
+{
+    if let Reference::Name(named) = reference {
+        return match put_at_once(labels, world, named.place, named.name, value) {
+            Some(()) => Ok(Outcome::Goes(Putting::Put)),
+            None => put_copy(alloc, labels, world, reference, value),
+        };
+    }
+    put_copy(alloc, labels, world, reference, value)
+}
+
+/// Gives a reference a copy of a value.
+#[inline(always)]
+fn put_copy<L: Labels>(
+    alloc: Global,
+    labels: &mut L,
+    world: &mut World<L::Label>,
+    reference: &Reference<'_, L::Label>,
+    value: &Labelled<L::Label>,
+) -> Result<Outcome<Putting<L::Label>, L::Label>, FlowFault<L::Label>>
+    requires reference { HasReference (L.made labels.old) reference.now }
+    requires value { L.made labels.old value.now.label }
+    requires belongs { Belongs L.made L.meaning labels.old world.old }
+    ensures acts { Acts L.made L.meaning labels.new (λ reading. read_putting reading) (λ reading. put_value (refers reading reference.now) (read_value reading value.now)) world.old world.new result }
+    ensures made { HasAnswer (HasPutting (L.made labels.new)) (L.made labels.new) result }
+    ensures belongs { Belongs L.made L.meaning labels.new world.new }
+    ensures grows { Grows world.old world.new }
+    ensures kept { IsKept L.made L.meaning L.room L.firm labels.old labels.new }
+{
+    let given = value.copy(alloc)?;
+    put_value(alloc, labels, world, reference, given)
 }

@@ -4,9 +4,10 @@ ghost use Rattle.std.specs.Prelude.{◌≡◌, ◌<◌, ◌+◌, length, map, Ok
 ghost use Rattle.std.specs.List.{All};
 ghost use Rattle.origin_labels.specs.Stores.{IsKept};
 ghost use Rattle.flow_frames.specs.Stops.{IfStop};
-ghost use Rattle.js_ast.specs.Views.{view_expr};
+ghost use Rattle.js_ast.specs.Views.{view_expr, view_exprs};
 ghost use Rattle.js_values.specs.Readings.{HasValue, read_value};
-ghost use Rattle.es_meaning.specs.Operations.{assigned, deleted};
+ghost use Rattle.es_meaning.specs.Operations as operations;
+ghost use Rattle.es_meaning.specs.Operations.{assigned, called, deleted};
 ghost use Rattle.es_meaning.specs.Evaluation.{use_step, used};
 ghost use Rattle.flow_meaning.specs.Planned.{planned, asking};
 ghost use Rattle.step_objects.specs.References.{refers, HasReference};
@@ -18,7 +19,7 @@ ghost use Rattle.continuations.specs.Shapes.{use_of};
 ghost use Rattle.continuations.specs.Stops.{HasStop};
 ghost use Rattle.step_references.specs.Moving.{Begun, BegunAt, Moved};
 
-use crate::counting::{begin_asking, begin_call, begin_count, begin_update};
+use crate::counting::{begin_asking, begin_call, begin_count, begin_update, call_named};
 use crate::handing_on::hand_on;
 use crate::keeping::lay_reference;
 use crate::reading::{assign, read};
@@ -26,7 +27,7 @@ use continuations::{
     Continuation, Control, Counting, Reason, Stack, Use, begin_index, begin_member,
 };
 use flow_frames::FlowFault;
-use flow_text::OutOfMemory;
+use flow_text::{OutOfMemory, Text};
 use js_ast::{Expr, ExprKind};
 use js_number::Primitive;
 use js_values::{EnvId, Labelled, Value};
@@ -34,6 +35,7 @@ use origin_labels::Labels;
 use property_access::resolve;
 use run_state::World;
 use std::alloc::Global;
+use step_numbers::name_value;
 use step_objects::{Reference, remove, text_of_key};
 
 /// A reference, or its parentheses, for a use, from the record on in which it stands.
@@ -59,10 +61,7 @@ pub fn begin_use<'p, L: Labels>(
     ensures kept { IsKept L.made L.meaning L.room L.firm labels.old labels.new }
 {
     match &*target.kind {
-        ExprKind::Name(name) => {
-            let named = resolve(labels, world, at, name)?;
-            use_named(alloc, labels, world, stack, how, Reference::Name(named))
-        }
+        ExprKind::Name(name) => use_name(alloc, labels, world, stack, at, how, name),
         ExprKind::Member { base, name } => {
             let next = begin_member(stack, how, base, name)?;
             Ok(next)
@@ -77,6 +76,63 @@ pub fn begin_use<'p, L: Labels>(
             Ok(Control::Leave(Reason::Unbuilt))
         }
     }
+}
+
+/// A name for a use. A call reads the value of a name at once, where it can.
+#[inline(always)]
+fn use_name<'p, L: Labels>(
+    alloc: Global,
+    labels: &mut L,
+    world: &mut World<L::Label>,
+    stack: &mut Stack<'p, L::Label>,
+    at: EnvId,
+    how: Use<'p>,
+    name: &'p Text,
+) -> Result<Control<'p>, FlowFault<L::Label>>
+    requires loose { length stack.old.loose ≡ owns_use how }
+    requires made { All (HasValue (L.made labels.old)) stack.old.loose }
+    requires at { at.0 < length world.old.records }
+    requires belongs { Belongs L.made L.meaning labels.old world.old }
+    ensures goes_on { BegunAt L.made L.meaning labels.new at.0 (λ tables inputs set functions reading e. (planned tables inputs set functions).resolve operations.Value e.env.place name.entry.now (used (planned tables inputs set functions) (entrance tables inputs set functions) (asking tables inputs set functions) (use_of how.entry (map (read_value reading) stack.old.loose)) e.env.place)) stack.old stack.new world.old world.new result }
+    ensures moved { IfOk result (Moved (L.made labels.new) 12 stack.old stack.new world.old world.new) }
+    ensures stopped { IfErr result (IfStop (HasStop (L.made labels.new))) }
+    ensures belongs { Belongs L.made L.meaning labels.new world.new }
+    ensures grows { Grows world.old world.new }
+    ensures kept { IsKept L.made L.meaning L.room L.firm labels.old labels.new }
+{
+    if let Use::Called(list) = how {
+        return use_callee(alloc, labels, world, stack, at, name, list);
+    }
+    let named = resolve(labels, world, at, name)?;
+    use_named(alloc, labels, world, stack, how, Reference::Name(named))
+}
+
+/// The value of a name is called. It is read at once, where that can be.
+#[inline(always)]
+fn use_callee<'p, L: Labels>(
+    alloc: Global,
+    labels: &mut L,
+    world: &mut World<L::Label>,
+    stack: &mut Stack<'p, L::Label>,
+    at: EnvId,
+    name: &'p Text,
+    list: &'p [Expr],
+) -> Result<Control<'p>, FlowFault<L::Label>>
+    requires loose { length stack.old.loose ≡ 0 }
+    requires at { at.0 < length world.old.records }
+    requires belongs { Belongs L.made L.meaning labels.old world.old }
+    ensures goes_on { BegunAt L.made L.meaning labels.new at.0 (λ tables inputs set functions reading e. (planned tables inputs set functions).resolve operations.Value e.env.place name.entry.now (used (planned tables inputs set functions) (entrance tables inputs set functions) (asking tables inputs set functions) (called (view_exprs list.entry.now)) e.env.place)) stack.old stack.new world.old world.new result }
+    ensures moved { IfOk result (Moved (L.made labels.new) 9 stack.old stack.new world.old world.new) }
+    ensures stopped { IfErr result (IfStop (HasStop (L.made labels.new))) }
+    ensures belongs { Belongs L.made L.meaning labels.new world.new }
+    ensures grows { Grows world.old world.new }
+    ensures kept { IsKept L.made L.meaning L.room L.firm labels.old labels.new }
+{
+    if let Some(callee) = name_value(labels, world, at, name) {
+        return call_named(labels, world, stack, at, name, callee, list);
+    }
+    let named = resolve(labels, world, at, name)?;
+    begin_call(alloc, labels, world, stack, Reference::Name(named), list)
 }
 
 /// What is done with a reference that is a name, as with any. The most frequent uses don't go through all of them: a call of the large `use_reference` costs more than they do.

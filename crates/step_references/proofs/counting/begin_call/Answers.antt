@@ -1,14 +1,12 @@
-use Rattle.std.proofs.Common.{refl, sym, ap, ap₂, subst, ◌∙◌, [], ◌∷◌, ◌++◌, map, length, arith, append-nil, Ok}
+use Rattle.std.proofs.Common.{refl, sym, ap, subst, ◌∙◌, [], ◌∷◌, ◌++◌, map, length, arith}
 use Rattle.std.specs.List.{All}
-use Rattle.js_ast.specs.Views.{view_expr, view_exprs}
+use Rattle.js_ast.specs.Views.{view_exprs}
 use Rattle.js_values.specs.Readings.{HasValue, read_value}
 use Rattle.step_objects.specs.References.{refers}
-use Rattle.step_objects.proofs.Frames.{accessed_stands, asked_stands}
+use Rattle.step_objects.proofs.Frames.{accessed_stands}
 use Rattle.continuations.specs.declared.continuation.Continuation.TheVariants as continuation
-use Rattle.continuations.specs.Shapes.{target_of}
-use Rattle.step_references.specs.Keeping.{laid_for}
 use Rattle.step_references.proofs.Begun.{begun_behind}
-use Rattle.step_references.proofs.Kept.{laid_alike, laid_first, laid_has, laid_size, reference_later}
+use Rattle.step_references.proofs.Kept.{reference_later}
 use Rattle.step_references.proofs.Moved.{moved_behind, stood}
 use Rattle.continuations.specs.Pending.{first_or_undefined}
 use Rattle.step_references.proofs.Calls.{alone}

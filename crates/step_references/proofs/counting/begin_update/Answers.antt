@@ -1,9 +1,9 @@
-use Rattle.std.proofs.Common.{refl, sym, ap, ap₂, subst, ◌∙◌, [], ◌∷◌, ◌++◌, map, length, arith, append-nil, Ok}
+use Rattle.std.proofs.Common.{refl, sym, ap, subst, ◌∙◌, [], ◌∷◌, ◌++◌, map, length, arith, append-nil}
 use Rattle.std.specs.List.{All}
-use Rattle.js_ast.specs.Views.{view_expr, view_exprs}
+use Rattle.js_ast.specs.Views.{view_expr}
 use Rattle.js_values.specs.Readings.{HasValue, read_value}
 use Rattle.step_objects.specs.References.{refers}
-use Rattle.step_objects.proofs.Frames.{accessed_stands, asked_stands}
+use Rattle.step_objects.proofs.Frames.{accessed_stands}
 use Rattle.continuations.specs.declared.continuation.Continuation.TheVariants as continuation
 use Rattle.continuations.specs.Shapes.{target_of}
 use Rattle.step_references.specs.Keeping.{laid_for}

@@ -1,9 +1,9 @@
-use Rattle.std.proofs.Common.{refl, sym, ap, ap₂, subst, ◌∙◌, [], ◌∷◌, ◌++◌, map, length, arith, append-nil, Ok}
+use Rattle.std.proofs.Common.{refl, sym, ap, ap₂, ◌∙◌, [], ◌∷◌, ◌++◌, length, arith}
 use Rattle.js_values.specs.Readings.{HasValue}
 use Rattle.continuations.specs.declared.continuation.Continuation.TheVariants as continuation
 use Rattle.continuations.specs.declared.continuation.Control.TheVariants as control
 use Rattle.step_references.proofs.Calls.{alone, comes_put, comes_setter}
-use Rattle.step_references.proofs.Moved.{moved_lying, moved_pushed}
+use Rattle.step_references.proofs.Moved.{moved_pushed}
 use Rattle.step_references.proofs.Calls.{given_has}
 use Rattle.step_references.proofs.Loose.{only, three}
 use Rattle.step_references.proofs.entering.enter_putting.Goals as goal

@@ -1,13 +1,11 @@
-use Rattle.std.proofs.Common.{refl, sym, ap, ap₂, subst, map, length, ◌∙◌, ◌++◌, [], ◌∷◌, arith}
+use Rattle.std.proofs.Common.{refl, sym, ap, subst, length, ◌∙◌, ◌++◌, [], ◌∷◌, arith}
 use Rattle.std.specs.List.{All}
 use Rattle.std.proofs.lemmas.List.{length-append}
 use Rattle.std.proofs.lemmas.List.Elements.{All-append}
 use Rattle.js_values.specs.Readings.{HasValue, read_value}
-use Rattle.es_meaning.specs.Evaluation.{with_base}
 use Rattle.native_protocol.specs.declared.hint.Hint.TheVariants as hint
 use Rattle.continuations.specs.declared.continuation.Control.TheVariants as control
 use Rattle.continuations.specs.declared.continuation.Continuation.TheVariants as continuation
-use Rattle.continuations.specs.Shapes.{use_of}
 use Rattle.continuations.specs.Pending.{owns_use}
 use Rattle.step_references.proofs.Begun.{begun_pushed}
 use Rattle.step_references.proofs.Kept.{use_below, value_above}

@@ -1,11 +1,11 @@
-use Rattle.std.proofs.Common.{◌≡◌, ◌+◌, ap₂, sym, map, length, ◌∙◌, arith}
+use Rattle.std.proofs.Common.{◌≡◌, ◌+◌, ap₂, sym, length, ◌∙◌, arith}
 use Rattle.js_values.specs.Readings.{HasValue, read_value}
-use Rattle.es_meaning.specs.Evaluation.{index_key, with_key}
+use Rattle.es_meaning.specs.Evaluation.{index_key}
 use Rattle.flow_meaning.specs.Planned.{asking, planned}
 use Rattle.continuations.specs.Settings.{entrance}
 use Rattle.continuations.specs.Pending.{owns_use}
 use Rattle.continuations.proofs.EndLaws.{last_has}
-use Rattle.step_references.proofs.Begun.{resumed, begun_as}
+use Rattle.step_references.proofs.Begun.{resumed}
 use Rattle.step_references.proofs.Kept.{use_below, value_above}
 use Rattle.step_references.proofs.Loose.{front_has, size_below}
 use Rattle.step_references.proofs.Moved.{moved_popped}

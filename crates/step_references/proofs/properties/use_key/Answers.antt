@@ -1,4 +1,4 @@
-use Rattle.std.proofs.Common.{refl, sym, map, ◌∙◌, arith, Ok}
+use Rattle.std.proofs.Common.{refl, sym, map, ◌∙◌, arith}
 use Rattle.js_values.specs.Readings.{read_value}
 use Rattle.continuations.specs.Shapes.{use_of}
 use Rattle.step_references.proofs.Begun.{begun_as}

@@ -1,15 +1,13 @@
-use Rattle.std.proofs.Common.{refl, ap, sym, subst, map, length, ◌∙◌, arith, [], ◌∷◌, Ok}
+use Rattle.std.proofs.Common.{refl, ap, sym, subst, map, length, ◌∙◌, arith, [], ◌∷◌}
 use Rattle.js_values.specs.Readings.{HasValue, read_value}
 use Rattle.flow_meaning.specs.Planned.{asking, planned}
 use Rattle.continuations.specs.Settings.{entrance}
-use Rattle.step_references.proofs.Begun.{begun_as, begun_err, begun_here, begun_off, begun_on, begun_on_at, on_is}
+use Rattle.step_references.proofs.Begun.{begun_as, begun_err, begun_off, begun_on, on_is}
 use Rattle.step_references.proofs.Moved.{has_on, has_whatever, level_on, moved_off, moved_on, stood}
 use Rattle.std.specs.List.{All}
 use Rattle.flow_policy.specs.Policies.{no_tables}
 use Rattle.es_meaning.specs.Operations.{base_needed}
-use Rattle.es_meaning.specs.Evaluation.{index_key, used, with_base}
-use Rattle.step_objects.specs.References.{refers}
-use Rattle.step_objects.specs.declared.references.Reference.TheVariants as reference
+use Rattle.es_meaning.specs.Evaluation.{with_base}
 use Rattle.step_objects.proofs.Frames.{act_stands}
 use Rattle.continuations.specs.Kept.{Kept}
 use Rattle.continuations.specs.Shapes.{use_of}

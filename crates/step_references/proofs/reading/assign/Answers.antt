@@ -8,7 +8,7 @@ use Rattle.step_references.proofs.UseLaws.{assign_as}
 use Rattle.step_references.proofs.reading.assign.Goals as goal
 
 pub returns-clause-goes_on : goal.returns-clause-goes_on
-returns-clause-goes_on g c = begun_handed (rw c.in_ok-given.ensures at c.put_value-answer.ensures.acts) c.hand_on_putting.ensures.hands refl (λ tables inputs set functions reading f s is. assign_as tables inputs set functions (refers reading c.args.reference.now) (read_value reading c.args.value) s)
+returns-clause-goes_on g c = begun_handed c.put-answer.ensures.acts c.hand_on_putting.ensures.hands refl (λ tables inputs set functions reading f s is. assign_as tables inputs set functions (refers reading c.args.reference.now) (read_value reading c.args.value) s)
 
 pub returns-clause-moved : goal.returns-clause-moved
-returns-clause-moved g c = c.hand_on_putting.ensures.moved c.args.world.now c.put_value-answer.new.world (stood (rw c.in_ok-given.ensures at c.put_value-answer.ensures.acts) (λ s. put_stands (refers (g.L.Labels.meaning c.put_value-answer.new.labels) c.args.reference.now) (read_value (g.L.Labels.meaning c.put_value-answer.new.labels) c.args.value) s))
+returns-clause-moved g c = c.hand_on_putting.ensures.moved c.args.world.now c.put-answer.new.world (stood c.put-answer.ensures.acts (λ s. put_stands (refers (g.L.Labels.meaning c.put-answer.new.labels) c.args.reference.now) (read_value (g.L.Labels.meaning c.put-answer.new.labels) c.args.value) s))

@@ -1,5 +1,4 @@
 use Rattle.std.proofs.Common.{refl}
-use Rattle.js_values.specs.Readings.{read_value}
 use Rattle.step_objects.specs.References.{refers}
 use Rattle.step_references.proofs.Begun.{begun_handed}
 use Rattle.step_references.proofs.Moved.{stood}

@@ -1,10 +1,8 @@
 use Rattle.std.proofs.Common.{refl}
-use Rattle.js_values.specs.Readings.{read_value}
 use Rattle.step_objects.specs.References.{refers}
 use Rattle.step_references.proofs.Begun.{begun_handed}
 use Rattle.step_references.proofs.Moved.{stood}
 use Rattle.step_objects.proofs.Frames.{remove_stands}
-use Rattle.step_references.proofs.Moved.{moved_within}
 use Rattle.step_references.proofs.UseLaws.{used_deleted}
 use Rattle.step_references.proofs.uses.begin_deletion.Goals as goal
 

@@ -1,33 +1,22 @@
-use Rattle.std.proofs.Common.{rules, refl, sym, ap, map, ◌≡◌, arith, Ok}
+use Rattle.std.proofs.Common.{rules, refl, sym, ap, map, ◌≡◌, arith}
 use Rattle.js_ast.specs.declared.trees.ExprKind.TheViews.{the_lemmas}
 use Rattle.js_ast.specs.Trees.{name, member, index}
 use Rattle.js_ast.specs.Views.{view_expr}
 use Rattle.js_values.specs.Readings.{read_value}
 use Rattle.es_meaning.specs.Operations.{Value}
-use Rattle.es_meaning.specs.Evaluation.{index_base, member_base, use_step, used}
+use Rattle.es_meaning.specs.Evaluation.{index_base, member_base, use_step}
 use Rattle.flow_meaning.specs.Planned.{asking, planned}
-use Rattle.run_state.proofs.ActLaws.{Belongs-later}
 use Rattle.continuations.specs.Settings.{entrance}
 use Rattle.continuations.specs.Shapes.{use_of}
-use Rattle.step_references.proofs.Begun.{begun_at, begun_here, begun_there, begun_values}
-use Rattle.step_references.proofs.Loose.{made_later}
+use Rattle.step_references.proofs.Begun.{begun_here, begun_there, begun_values}
 use Rattle.step_references.proofs.Moved.{moved_keeping, moved_lying}
 use Rattle.step_references.proofs.uses.begin_use.Goals as goal
 
-pub use_named-requires-clause-made : goal.use_named-requires-clause-made
-use_named-requires-clause-made g c = made_later g.L.Labels.made g.L.Labels.meaning g.L.Labels.room g.L.Labels.firm c.args.labels.now c.resolve.new.labels c.in_ok-named-in-Name.ensures.kept c.args.stack.now.loose c.requires.made
-
-pub use_named-requires-clause-belongs : goal.use_named-requires-clause-belongs
-use_named-requires-clause-belongs g c = Belongs-later g.L.Labels.made g.L.Labels.meaning g.L.Labels.room g.L.Labels.firm c.args.labels.now c.resolve.new.labels c.in_ok-named-in-Name.ensures.kept g.met.L.Labels.rising c.args.world.now c.requires.belongs
-
-pub returns-in_err-named-in-Name-clause-belongs : goal.returns-in_err-named-in-Name-clause-belongs
-returns-in_err-named-in-Name-clause-belongs g c = Belongs-later g.L.Labels.made g.L.Labels.meaning g.L.Labels.room g.L.Labels.firm c.args.labels.now c.resolve.new.labels c.resolve.ensures.kept g.met.L.Labels.rising c.args.world.now c.requires.belongs
-
-pub returns-in_ok-named-in-Name-clause-goes_on : goal.returns-in_ok-named-in-Name-clause-goes_on
+pub returns-in-Name-clause-goes_on : goal.returns-in-Name-clause-goes_on
 unfolding use_step
-returns-in_ok-named-in-Name-clause-goes_on g c =
+returns-in-Name-clause-goes_on g c =
     let is : view_expr c.args.target.now ≡ name c.args.target.now.at c.in-Name.name = search (rules, the_lemmas, c.in-Name.is) in
-    begun_there (begun_at Value (λ tables inputs set functions reading i. used (planned tables inputs set functions) (entrance tables inputs set functions) (asking tables inputs set functions) (use_of c.args.how (map (read_value reading) c.args.stack.now.loose)) i) c.in-Name.name c.args.at.0 c.in_ok-named-in-Name.named c.use_named.ensures.kept c.in_ok-named-in-Name.ensures.resolved c.use_named.ensures.goes_on) refl (λ tables inputs set functions reading f s read. sym (ap (λ x. use_step (planned tables inputs set functions) (entrance tables inputs set functions) (asking tables inputs set functions) (use_of c.args.how (map (read_value reading) c.args.stack.now.loose)) x f.env.place s) is))
+    begun_there c.use_name.ensures.goes_on refl (λ tables inputs set functions reading f s read. sym (ap (λ x. use_step (planned tables inputs set functions) (entrance tables inputs set functions) (asking tables inputs set functions) (use_of c.args.how (map (read_value reading) c.args.stack.now.loose)) x f.env.place s) is))
 
 pub returns-in_ok-next-in-Member-clause-goes_on : goal.returns-in_ok-next-in-Member-clause-goes_on
 unfolding use_step

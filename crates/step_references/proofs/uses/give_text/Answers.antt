@@ -1,12 +1,8 @@
-use Rattle.std.proofs.Common.{◌≡◌, ap, ap₂, sym, map, length, ◌∙◌, arith}
-use Rattle.origin_labels.specs.Label.{Label, bottom}
-use Rattle.js_number.specs.declared.primitive.Primitive.TheVariants.{Str}
-use Rattle.js_values.specs.declared.value.Value.TheVariants as value
-use Rattle.js_values.specs.declared.value.Labelled.{Labelled}
+use Rattle.std.proofs.Common.{ap, sym, map, length, ◌∙◌}
 use Rattle.js_values.specs.Readings.{read_value}
 use Rattle.js_values.proofs.ReadingLaws.{IsReading-earlier}
 use Rattle.es_meaning.specs.Operations.{given_text}
-use Rattle.es_meaning.specs.Evaluation.{assign_to, used}
+use Rattle.es_meaning.specs.Evaluation.{used}
 use Rattle.flow_meaning.specs.Planned.{asking, planned}
 use Rattle.step_objects.specs.References.{refers}
 use Rattle.continuations.specs.Settings.{entrance}

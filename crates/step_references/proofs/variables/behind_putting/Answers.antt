@@ -1,4 +1,4 @@
-use Rattle.std.proofs.Common.{refl, sym, ap, ap₂, length, map, ◌∙◌, ◌++◌, [], ◌∷◌, arith, Ok}
+use Rattle.std.proofs.Common.{refl, sym, [], ◌∷◌, arith}
 use Rattle.std.proofs.lemmas.List.{nil_from_length}
 use Rattle.js_ast.specs.Views.{view_other_declarations}
 use Rattle.js_values.specs.Readings.{HasValue, read_value}

@@ -1,9 +1,9 @@
 use Rattle.std.proofs.Common.{refl, sym, ap, ◌∙◌, ◌≡◌, ◌∷◌, Some}
 use Rattle.js_ast.specs.Nodes.{nodes_of}
-use Rattle.js_ast.specs.Views.{view_expr, view_declarations, view_other_declarations}
+use Rattle.js_ast.specs.Views.{view_expr, view_other_declarations}
 use Rattle.js_ast.specs.declared.trees.Declaration.{out-Declaration}
 use Rattle.js_ast.specs.declared.trees.Declarations.{out-Declarations}
-use Rattle.es_meaning.specs.Evaluation.{declarations, variables}
+use Rattle.es_meaning.specs.Evaluation.{variables}
 use Rattle.flow_meaning.specs.Planned.{asking, planned}
 use Rattle.continuations.specs.Settings.{entrance}
 use Rattle.step_references.specs.Variables.{Variable, first_given}

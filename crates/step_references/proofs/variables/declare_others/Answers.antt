@@ -1,10 +1,7 @@
-use Rattle.std.proofs.Common.{[], refl, sym, ap, ◌≡◌, Some, None, arith}
+use Rattle.std.proofs.Common.{refl, sym, ◌≡◌, Some, None}
 use Rattle.js_ast.specs.Views.{view_expr, view_other_declarations}
-use Rattle.continuations.specs.declared.continuation.Control.TheVariants as control
 use Rattle.step_references.specs.Variables.{Variable, first_given}
 use Rattle.step_references.proofs.Begun.{begun_here, begun_laid, begun_there}
-use Rattle.step_references.proofs.Loose.{none_has}
-use Rattle.step_references.proofs.Moved.{moved_lying}
 use Rattle.step_references.proofs.VariableLaws.{variables_given, variables_none}
 use Rattle.step_references.proofs.variables.declare_others.Goals as goal
 

@@ -1,12 +1,9 @@
-use Rattle.std.proofs.Common.{refl, ap, sym, subst, map, length, ◌∙◌, arith, [], ◌∷◌, Ok}
-use Rattle.js_values.specs.Readings.{HasValue, read_value}
-use Rattle.flow_meaning.specs.Planned.{asking, planned}
-use Rattle.continuations.specs.Settings.{entrance}
-use Rattle.step_references.proofs.Begun.{begun_as, begun_err, begun_here, begun_off, begun_on, begun_on_at, on_is}
+use Rattle.std.proofs.Common.{refl, ap, sym, length, ◌∙◌, arith}
+use Rattle.js_values.specs.Readings.{read_value}
+use Rattle.step_references.proofs.Begun.{begun_err, begun_here, begun_off, begun_on_at, on_is}
 use Rattle.step_references.proofs.Moved.{has_on, has_whatever, level_on, moved_off, moved_on, stood}
-use Rattle.flow_meaning.specs.Tracked.{put_value}
 use Rattle.js_ast.specs.Views.{view_other_declarations}
-use Rattle.run_state.specs.Accesses.{HasPutting, read_putting}
+use Rattle.run_state.specs.Accesses.{HasPutting}
 use Rattle.step_objects.specs.References.{refers}
 use Rattle.step_objects.proofs.Frames.{put_stands}
 use Rattle.step_references.specs.Variables.{behind_putting}

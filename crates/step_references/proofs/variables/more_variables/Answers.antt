@@ -1,13 +1,13 @@
-use Rattle.std.proofs.Common.{ap, length, ◌∙◌, arith}
+use Rattle.std.proofs.Common.{ap, length, ◌∙◌}
 use Rattle.js_ast.specs.Views.{view_other_declarations}
 use Rattle.js_values.specs.Readings.{HasValue, read_value}
 use Rattle.js_values.proofs.ReadingLaws.{IsReading-earlier}
-use Rattle.es_meaning.specs.Evaluation.{assign_to, more_variables}
+use Rattle.es_meaning.specs.Evaluation.{more_variables}
 use Rattle.flow_meaning.specs.Planned.{asking, planned}
 use Rattle.continuations.specs.Settings.{entrance}
 use Rattle.continuations.specs.Pending.{owns_target}
 use Rattle.continuations.proofs.EndLaws.{last_has}
-use Rattle.step_references.proofs.Begun.{resumed, resumed_at}
+use Rattle.step_references.proofs.Begun.{resumed_at}
 use Rattle.step_references.proofs.Loose.{front_has, size_below}
 use Rattle.step_references.proofs.Moved.{moved_popped}
 use Rattle.step_references.proofs.variables.more_variables.Goals as goal

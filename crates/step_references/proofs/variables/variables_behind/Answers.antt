@@ -1,6 +1,4 @@
-use Rattle.std.proofs.Common.{refl, sym, ap, length, map, ◌∙◌, [], ◌∷◌, ◌++◌, arith}
-use Rattle.continuations.proofs.BranchLaws.{none_in_front}
-use Rattle.js_ast.specs.Views.{view_other_declarations}
+use Rattle.std.proofs.Common.{sym, ap, length, []}
 use Rattle.js_values.specs.Readings.{read_value}
 use Rattle.step_references.proofs.Begun.{resumed_at}
 use Rattle.step_references.proofs.Loose.{lone_last}
