@@ -1,11 +1,12 @@
 -- The start objects of the set, computed.
-use Rattle.std.proofs.Common.{◌≡◌, true, List, ◌++◌, take, drop, codes, refl, subst}
+use Rattle.std.proofs.Common.{◌≡◌, true, List, ◌++◌, codes, refl, sym, ap, ◌∙◌, subst}
 use Rattle.std.specs.List.Sorted.{IsPermutation}
 use Rattle.std.proofs.lemmas.List.Sorted.{IsPermutation-append_comm, IsPermutation-append_left, IsPermutation-append_right, IsPermutation-trans}
 use Rattle.std.proofs.lemmas.List.{append_assoc}
 use Rattle.channels.specs.Entries.{channel_entries}
 use Rattle.es_meaning.specs.Holders.{are_lawful, with_entries, built_heap}
 use Rattle.object_natives.specs.Table.{entries}
+use Rattle.all_natives.proofs.TogetherLaws.{first_part, math_part, global_part, holder_part, all_parts, own_parts}
 use Rattle.all_natives.specs.Names.{names_of, global_names, math_names, object_names, object_prototype_names, boolean_prototype_names, number_names, number_prototype_names}
 use Rattle.all_natives.specs.Together.{all_entries}
 
@@ -15,11 +16,6 @@ lawful = refl
 
 -- ---- nothing is left out, and nothing stands twice
 
--- the set's own parts, put together again
-parts : take 3 entries ++ (take 45 (drop 3 entries) ++ drop 48 entries) ≡ entries
-unfolding entries
-parts = refl
-
 moved : {X : Type 0} (a b c d : List X) → IsPermutation (a ++ (b ++ (c ++ d))) (c ++ (a ++ (d ++ b)))
 moved a b c d =
     IsPermutation-trans (a ++ (b ++ (c ++ d))) (a ++ (c ++ (d ++ b))) (c ++ (a ++ (d ++ b)))
@@ -27,11 +23,15 @@ moved a b c d =
     (subst (λ l. IsPermutation l (c ++ (a ++ (d ++ b)))) (append_assoc a c (d ++ b))
     (subst (IsPermutation ((a ++ c) ++ (d ++ b))) (append_assoc c a (d ++ b)) (IsPermutation-append_left (d ++ b) (a ++ c) (c ++ a) (IsPermutation-append_comm a c))))
 
+-- those of `object_natives`, put together again
+parts : first_part ++ ((global_part ++ holder_part) ++ math_part) ≡ entries
+parts = ap (λ es. first_part ++ es) (append_assoc global_part holder_part math_part) ∙ sym own_parts
+
 pub whole : IsPermutation all_entries (channel_entries ++ entries)
-unfolding all_entries
 whole =
-    subst (λ l. IsPermutation all_entries (channel_entries ++ l)) parts
-    (moved (take 3 entries) (drop 48 entries) channel_entries (take 45 (drop 3 entries)))
+    subst (λ l. IsPermutation l (channel_entries ++ entries)) (sym all_parts)
+    (subst (λ l. IsPermutation (first_part ++ (math_part ++ (channel_entries ++ (global_part ++ holder_part)))) (channel_entries ++ l)) parts
+    (moved first_part math_part channel_entries (global_part ++ holder_part)))
 
 -- ---- the names, as the start objects have them
 

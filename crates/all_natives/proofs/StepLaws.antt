@@ -1,12 +1,13 @@
 -- A call of one of them takes the steps of its set.
-use Rattle.std.proofs.Common.{arith, ◌≡◌, ◌<◌, ℕ, suc, ap, Bool, List, [], ◌∷◌, length, refl, ◌∙◌}
+use Rattle.std.proofs.Common.{arith, ◌≡◌, ◌<◌, ℕ, zero, suc, slice_get, ap, Bool, List, [], ◌∷◌, length, refl, ◌∙◌}
 use Rattle.native_protocol.specs.declared.request.Answer.{Answer}
 use Rattle.native_protocol.specs.declared.request.Answer.TheVariants as answer
 use Rattle.native_protocol.specs.Running.{behind}
+use Rattle.native_protocol.specs.Sets.{SeenEntry}
 use Rattle.channels.proofs.ClauseLaws.{clause_followed}
 use Rattle.channels.specs.declared.state.ChannelState.{ChannelState}
 use Rattle.channels.specs.Machine.{channel_begin, channel_after, channel_asks}
-use Rattle.es_meaning.specs.BuiltIns.{begins_in, built_ins_of, in_set}
+use Rattle.es_meaning.specs.BuiltIns.{BuiltIns, begins_entry, begins_in, built_ins_of, in_set}
 use Rattle.object_natives.proofs.CallLaws.{all_follow}
 use Rattle.object_natives.specs.declared.call.ObjectState.{ObjectState}
 use Rattle.object_natives.specs.Dispatch.{state_begin, state_after, state_asks}
@@ -33,8 +34,16 @@ part_follows names (part.Object n) argc construct answers is =
 pub each_follows : (names : List (List ℕ)) (which argc : ℕ) (construct : Bool) (answers : List Answer) → which < length all_entries → all_asks (behind (all_after names) (all_begin which argc construct) (answer.Begin ∷ answers)) ≡ all_steps names which argc construct answers
 each_follows names which argc construct answers less = part_follows names (part_at which) argc construct answers (parts_stand which less)
 
+-- a number that an entry has begins what it is the number of
+begun : (entries : List SeenEntry) (n : ℕ) (set : BuiltIns) (which argc : ℕ) (construct : Bool) (answers : List Answer) → n < length entries → begins_entry (slice_get entries n) set which argc construct answers ≡ set.begins which argc construct answers
+begun [] n set which argc construct answers less = absurd (omega arith)
+begun (e ∷ entries) zero set which argc construct answers less = refl
+begun (e ∷ entries) (suc n) set which argc construct answers less = begun entries n set which argc construct answers (omega arith)
+
 -- the numbers of the meanings: that of a built-in behind the three accessors
 pub each_begins : (names : List (List ℕ)) (which argc : ℕ) (construct : Bool) (answers : List Answer) → which < length all_entries → begins_in (built_ins_of all_entries all_begin (all_after names) all_asks) (in_set which) argc construct answers ≡ all_steps names which argc construct answers
 each_begins names which argc construct answers less =
-    ap (λ n. begins_in (built_ins_of all_entries all_begin (all_after names) all_asks) n argc construct answers) (let behind_three : in_set which ≡ suc (suc (suc which)) = omega arith in behind_three)
+    let set = built_ins_of all_entries all_begin (all_after names) all_asks in
+    ap (λ n. begins_in set n argc construct answers) (let behind_three : in_set which ≡ suc (suc (suc which)) = omega arith in behind_three)
+    ∙ begun all_entries which set which argc construct answers less
     ∙ each_follows names which argc construct answers less

@@ -1,5 +1,5 @@
--- The names that stand at the start, in their order: behind the properties that the standard gives every function and every prototype, those that are kept come
--- before those that aren't offered.
+-- The names that the start objects have, in their order: first `length` and `prototype` of a function and `constructor` of a prototype, then the names that are
+-- kept, then those that aren't offered. `caller` and `arguments` of a function come last: no built-in has them in the standard, and here they leave by their names.
 use Rattle.std.specs.Prelude.{ℕ, List, [], ◌∷◌, ◌++◌, map, Option, Some, None, codes, slice_get}
 use Rattle.js_values.specs.Objects.{PlainObject}
 use Rattle.es_meaning.specs.Holders.{holder_in}
@@ -28,15 +28,16 @@ global_names =
 
 -- ---- constructors and prototypes
 
-abbrev pub constructor_names : List (List ℕ)
-constructor_names = codes "length" ∷ codes "prototype" ∷ codes "caller" ∷ codes "arguments" ∷ []
+-- those of a constructor, round its own
+abbrev pub constructor_names : List (List ℕ) → List (List ℕ)
+constructor_names own_names = codes "length" ∷ codes "prototype" ∷ (own_names ++ codes "caller" ∷ codes "arguments" ∷ [])
 
 abbrev pub object_names : List (List ℕ)
 object_names =
-    constructor_names
-    ++ codes "getPrototypeOf" ∷ codes "getOwnPropertyDescriptor" ∷ codes "getOwnPropertyNames" ∷ codes "create"
+    constructor_names (
+    codes "getPrototypeOf" ∷ codes "getOwnPropertyDescriptor" ∷ codes "getOwnPropertyNames" ∷ codes "create"
     ∷ codes "defineProperty" ∷ codes "defineProperties" ∷ codes "seal" ∷ codes "freeze" ∷ codes "preventExtensions"
-    ∷ codes "isSealed" ∷ codes "isFrozen" ∷ codes "isExtensible" ∷ codes "keys" ∷ []
+    ∷ codes "isSealed" ∷ codes "isFrozen" ∷ codes "isExtensible" ∷ codes "keys" ∷ [])
 
 abbrev pub object_prototype_names : List (List ℕ)
 object_prototype_names =
@@ -49,8 +50,7 @@ boolean_prototype_names = codes "constructor" ∷ codes "toString" ∷ codes "va
 
 abbrev pub number_names : List (List ℕ)
 number_names =
-    constructor_names
-    ++ codes "MAX_VALUE" ∷ codes "MIN_VALUE" ∷ codes "NaN" ∷ codes "NEGATIVE_INFINITY" ∷ codes "POSITIVE_INFINITY" ∷ []
+    constructor_names (codes "MAX_VALUE" ∷ codes "MIN_VALUE" ∷ codes "NaN" ∷ codes "NEGATIVE_INFINITY" ∷ codes "POSITIVE_INFINITY" ∷ [])
 
 abbrev pub number_prototype_names : List (List ℕ)
 number_prototype_names =

@@ -1,5 +1,5 @@
 -- The built-ins of `channels` and of `object_natives` as one set.
-use Rattle.std.specs.Prelude.{ℕ, ◌+◌, ◌-◌, ◌<◌, nat_lt, Bool, List, ◌++◌, length, take, drop, if◌then◌else◌}
+use Rattle.std.specs.Prelude.{ℕ, ◌+◌, ◌-◌, ◌<◌, nat_lt, Bool, List, ◌++◌, length, if◌then◌else◌}
 use Rattle.native_protocol.specs.declared.request.Answer.{Answer}
 use Rattle.native_protocol.specs.declared.request.Request.{Request}
 use Rattle.native_protocol.specs.Sets.{SeenEntry}
@@ -8,7 +8,7 @@ use Rattle.channels.specs.Clauses.{clause}
 use Rattle.channels.specs.Entries.{channel_entries}
 use Rattle.channels.specs.Machine.{channel_begin, channel_after, channel_asks}
 use Rattle.object_natives.specs.Dispatch.{state_begin, state_after, state_asks}
-use Rattle.object_natives.specs.Table.{entries, steps}
+use Rattle.object_natives.specs.Table.{entries, entries_of, constructor_rows, global_rows, holder_rows, math_rows, steps}
 use Rattle.all_natives.specs.declared.natives.AllState.{AllState}
 use Rattle.all_natives.specs.declared.natives.AllState.TheVariants as state
 use Rattle.all_natives.specs.declared.order.Part.{Part}
@@ -18,14 +18,27 @@ use Rattle.all_natives.specs.declared.order.Part.TheVariants as part
 -- holders come last, as they stand
 
 unfoldable pub all_entries : List SeenEntry
-all_entries = take 3 entries ++ (drop 48 entries ++ (channel_entries ++ take 45 (drop 3 entries)))
+all_entries = entries_of constructor_rows ++ (entries_of math_rows ++ (channel_entries ++ (entries_of global_rows ++ entries_of holder_rows)))
+
+-- how many stand before the parts behind the first, and how many of `object_natives` have their number between its first and its last part
+abbrev pub before_math : ℕ
+before_math = length constructor_rows
+
+abbrev pub before_channels : ℕ
+before_channels = before_math + length math_rows
+
+abbrev pub before_global : ℕ
+before_global = before_channels + length channel_entries
+
+abbrev pub between : ℕ
+between = length global_rows + length holder_rows
 
 abbrev pub part_at : ℕ → Part
 part_at which =
-    if nat_lt which 3 then part.Object which
-    else (if nat_lt which 29 then part.Object (which + 45)
-    else (if nat_lt which 34 then part.Channel (which - 29)
-    else part.Object (which - 31)))
+    if nat_lt which before_math then part.Object which
+    else (if nat_lt which before_channels then part.Object (which + between)
+    else (if nat_lt which before_global then part.Channel (which - before_channels)
+    else part.Object (which - before_global + before_math)))
 
 -- its set has a built-in of that number
 abbrev pub IsPart : Part → Type 0

@@ -23,6 +23,6 @@ pub(crate) fn part_at(which: u32) -> Part
     } else if which < 34 {
         Part::Channel(which - 29)
     } else {
-        Part::Object(which - 31)
+        Part::Object(which - 34 + 3)
     }
 }

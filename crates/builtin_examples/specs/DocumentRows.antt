@@ -5,7 +5,7 @@ use Rattle.js_ast.specs.Trees.{Expr, Properties, Statement, conditional, no_prop
 use Rattle.flow_meaning.specs.Scopes.{LabelledLine}
 use Rattle.meaning_examples.specs.Building.{does, dot, has_value, literal, named, prints, puts, raises_existence, raises_structure, reads, text, var_is, where_one}
 use Rattle.meaning_examples.specs.LabelledRuns.{labelled_line, origin_a}
-use Rattle.builtin_examples.specs.SetRuns.{Leaves, Says, Stops, is_false, of_object}
+use Rattle.builtin_examples.specs.SetRuns.{Says, Stops, is_false, of_object}
 
 abbrev pub form : Expr
 form = named (codes "form")
@@ -38,6 +38,10 @@ none = text (codes "none")
 abbrev pub prevents : Statement
 prevents = does (of_object (codes "preventExtensions") (form ∷ []))
 
+-- Object.freeze(form);
+abbrev pub freezes : Statement
+freezes = does (of_object (codes "freeze") (form ∷ []))
+
 -- Object.isExtensible(form) ? "Open" : "Closed"
 abbrev pub open_or_closed : Expr
 open_or_closed = conditional 0 (of_object (codes "isExtensible") (form ∷ [])) (text (codes "Open")) (text (codes "Closed"))
@@ -57,7 +61,10 @@ pub record DocumentRows : Type 0 where
   -- Object.preventExtensions(form); print("all", form.answer);
   pub fixed_by_hand : Says (form_is (reads (codes "pin")) ∷ defines (codes "answer") fixed ∷ defines (codes "place") fixed ∷ prevents ∷ prints (codes "all") answer ∷ []) (counted (codes "1"))
   -- var form = {answer: read("pin"), place: "hall"}; Object.freeze(form);
-  pub freezes : Leaves (form_is (reads (codes "pin")) ∷ does (of_object (codes "freeze") (form ∷ [])) ∷ []) [] (codes "unbuilt")
+  pub freeze_stops : Stops (form_is (reads (codes "pin")) ∷ freezes ∷ []) W6
+  -- upge(form, "answer", "A"); upge(form, "place", "A"); upgs(form, "A"); Object.freeze(form); print("all", form.answer);
+  pub frozen : Says (form_is (reads (codes "pin")) ∷ does (raises_existence form (codes "answer")) ∷ does (raises_existence form (codes "place")) ∷ raises_structure form ∷ freezes ∷ prints (codes "all") answer ∷ [])
+      (counted (codes "1"))
   -- if (read("pin") == "1") Object.preventExtensions(form); print("all", Object.isExtensible(form) ? "Open" : "Closed");
   pub prevention_stops : Stops (form_is none ∷ where_one prevents ∷ prints (codes "all") open_or_closed ∷ []) W7
   -- upgs(form, "A"); if (read("pin") == "1") Object.preventExtensions(form); print("all", Object.isExtensible(form) ? "Open" : "Closed");

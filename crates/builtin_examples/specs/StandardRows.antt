@@ -51,8 +51,8 @@ pub record ObjectRows : Type 0 where
   pub described : Says (shows (dot (of_object (codes "getOwnPropertyDescriptor") (literal (has_value (codes "p") (num 7) no_properties) ∷ text (codes "p") ∷ [])) (codes "value")) ∷ []) (said (codes "7") ∷ [])
   -- var o = {}; Object.preventExtensions(o); o.p = 1;
   pub closed : ThrowsTypeError (o_is_empty ∷ does (of_object (codes "preventExtensions") (o ∷ [])) ∷ does (puts (dot o (codes "p")) (num 1)) ∷ []) []
-  -- Object.keys({});
-  pub listed : Leaves (does (of_object (codes "keys") (empty ∷ [])) ∷ []) [] (codes "unbuilt")
+  -- print("pub", Object.keys({p: 7}).length);
+  pub listed : Says (shows (dot (of_object (codes "keys") (literal (has_value (codes "p") (num 7) no_properties) ∷ [])) (codes "length")) ∷ []) (said (codes "1") ∷ [])
 
 pub record NumberRows : Type 0 where
   -- print("pub", Math.max(1, 9, 3)); print("pub", Math.abs(-5)); Math.max();

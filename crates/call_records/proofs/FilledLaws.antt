@@ -13,10 +13,10 @@ use Rattle.env_records.specs.Layouts.{LaidName, first_place, laid}
 use Rattle.env_records.specs.Places.{with_value_at, IsPlace}
 use Rattle.env_records.proofs.LayoutLaws.{laid_set, place_laid}
 use Rattle.es_meaning.specs.Declared.{declared_functions, declared_statements}
-use Rattle.es_meaning.specs.Functions.{this_name, function_name, binds, bound_by, kept_by, name_text, with_parameters, with_functions, with_arguments, with_variables, Entry, entry_bindings}
+use Rattle.es_meaning.specs.Functions.{this_name, function_name, binds, bound_by, kept_by, name_text, with_parameters, with_functions, unless_bound, with_arguments, with_variables, Entry, entry_bindings}
 use Rattle.es_meaning.specs.Naming.{arguments_name, names_in_statements}
 use Rattle.call_records.specs.Placed.{placed, placed_if, first_values, values_of}
-use Rattle.call_records.specs.Planned.{names, with_name, with_name_at, with_names, with_arguments_name, arguments_place, parameter_names, function_names, names_before, layout_of, ArePlaces, IsPlanned}
+use Rattle.call_records.specs.Planned.{names, with_name, with_name_at, with_names, with_arguments_at, with_arguments_name, place_behind, arguments_place, parameter_names, function_names, names_before, layout_of, ArePlaces, IsPlanned}
 use Rattle.call_records.proofs.NameLaws.{same_self, places_within}
 
 -- ---- names are never taken away
@@ -125,12 +125,23 @@ module _ {V : Type 0} (missing : V) where
   found_variables [] name bindings some = some
   found_variables (other ∷ more) name bindings some = found_variables more name (keep other bindings) (found_kept (found other bindings) name other bindings some)
 
+  unless_rebound : (o p : Option (Binding V)) (a : V) (name : List ℕ) (v : V) (bindings : Bindings V) → IsSome (found name bindings) → is_some p ≡ is_some o → unless_bound p a (rebound name v bindings) ≡ rebound name v (unless_bound o a bindings)
+  unless_rebound None None a name v bindings some same = sym (rebound_more name v bindings (binds false arguments_name a) some)
+  unless_rebound (Some b) (Some c) a name v bindings some same = refl
+  unless_rebound None (Some c) a name v bindings some same = absurd (true≢false same)
+  unless_rebound (Some b) None a name v bindings some same = absurd (false≢true same)
+
   arguments_rebound : (named : Bool) (a : V) (name : List ℕ) (v : V) (bindings : Bindings V) → IsSome (found name bindings) → with_arguments named a (rebound name v bindings) ≡ rebound name v (with_arguments named a bindings)
-  arguments_rebound true a name v bindings some = sym (rebound_more name v bindings (binds false arguments_name a) some)
+  arguments_rebound true a name v bindings some =
+      unless_rebound (found arguments_name bindings) (found arguments_name (rebound name v bindings)) a name v bindings some (found_rebound name arguments_name v bindings)
   arguments_rebound false a name v bindings some = refl
 
+  found_unless : (o : Option (Binding V)) (a : V) (name : List ℕ) (bindings : Bindings V) → IsSome (found name bindings) → IsSome (found name (unless_bound o a bindings))
+  found_unless None a name bindings some = found_more name bindings (binds false arguments_name a) some
+  found_unless (Some b) a name bindings some = some
+
   found_arguments : (named : Bool) (a : V) (name : List ℕ) (bindings : Bindings V) → IsSome (found name bindings) → IsSome (found name (with_arguments named a bindings))
-  found_arguments true a name bindings some = found_more name bindings (binds false arguments_name a) some
+  found_arguments true a name bindings some = found_unless (found arguments_name bindings) a name bindings some
   found_arguments false a name bindings some = some
 
   -- ---- parameters and functions get their values last
@@ -247,16 +258,23 @@ module _ {V : Type 0} (missing : V) where
   valued_if None v bindings = bindings
   valued_if (Some k) v bindings = with_value_at k v bindings
 
-  -- `arguments` gets its value last
-  arguments_last : (named : Bool) (a : V) (more : List (List ℕ)) (ns : List LaidName) (vs : List V) → length vs ≤ length ns
-      → with_variables missing more (with_arguments named a (filled ns vs)) ≡ valued_if (arguments_place named ns) a (filled (with_names more (with_arguments_name named ns)) vs)
-  arguments_last true a more ns vs le =
+  -- `arguments` gets its value last, where it is bound
+  arguments_at : (o : Option (Binding V)) (p : Option ℕ) (a : V) (more : List (List ℕ)) (ns : List LaidName) (vs : List V) → length vs ≤ length ns → is_some o ≡ is_some p
+      → with_variables missing more (unless_bound o a (filled ns vs)) ≡ valued_if (place_behind p ns) a (filled (with_names more (with_arguments_at p ns)) vs)
+  arguments_at None None a more ns vs le same =
       let shorter : length (filled ns vs) < length (filled (ns ++ names false arguments_name) vs) = omega (arith, length_filled ns vs, length_filled (ns ++ names false arguments_name) vs, length-append ns (names false arguments_name)) in
       let longer_one : length vs ≤ length (ns ++ names false arguments_name) = omega (arith, length-append ns (names false arguments_name)) in
       ap (with_variables missing more)
       (sym (value_new a missing false arguments_name (filled ns vs)) ∙ ap (with_value_at (length (filled ns vs)) a) (sym (filled_more ns vs (record { name = arguments_name; mutable = false }) le)))
       ∙ variables_valued more (length (filled ns vs)) a (filled (ns ++ names false arguments_name) vs) shorter
       ∙ ap₂ (λ k bs. with_value_at k a bs) (length_filled ns vs) (variables_filled more (ns ++ names false arguments_name) vs longer_one)
+  arguments_at (Some b) (Some q) a more ns vs le same = variables_filled more ns vs le
+  arguments_at None (Some q) a more ns vs le same = absurd (false≢true same)
+  arguments_at (Some b) None a more ns vs le same = absurd (true≢false same)
+
+  arguments_last : (named : Bool) (a : V) (more : List (List ℕ)) (ns : List LaidName) (vs : List V) → length vs ≤ length ns
+      → with_variables missing more (with_arguments named a (filled ns vs)) ≡ valued_if (arguments_place named ns) a (filled (with_names more (with_arguments_name named ns)) vs)
+  arguments_last true a more ns vs le = arguments_at (found arguments_name (filled ns vs)) (first_place arguments_name ns) a more ns vs le (found_filled arguments_name ns vs)
   arguments_last false a more ns vs le = variables_filled more ns vs le
 
   -- ---- values in places
@@ -305,8 +323,12 @@ length_first count this function missing le = let rest = length-replicate (count
 
 -- ---- a planned function
 
+longer_arguments : (p : Option ℕ) (ns : List LaidName) → length ns ≤ length (with_arguments_at p ns)
+longer_arguments None ns = omega (arith, length-append ns (names false arguments_name))
+longer_arguments (Some q) ns = omega arith
+
 longer_names : (named : Bool) (ns : List LaidName) → length ns ≤ length (with_arguments_name named ns)
-longer_names true ns = omega (arith, length-append ns (names false arguments_name))
+longer_names true ns = longer_arguments (first_place arguments_name ns) ns
 longer_names false ns = omega arith
 
 -- each layout begins with two names
@@ -319,8 +341,12 @@ two_names f =
     let fourth = names_longer (declared_statements (body_of f)) (with_arguments_name (names_in_statements (body_of f)) (names_before f)) in
     omega arith
 
+place_at_end : (p : Option ℕ) (ns : List LaidName) (n : ℕ) → length (with_arguments_at p ns) ≤ n → IfSome (place_behind p ns) (λ q. q < n)
+place_at_end None ns n le = omega (arith, length-append ns (names false arguments_name))
+place_at_end (Some q) ns n le = tt
+
 place_in : (named : Bool) (ns : List LaidName) (n : ℕ) → length (with_arguments_name named ns) ≤ n → IfSome (arguments_place named ns) (λ p. p < n)
-place_in true ns n le = omega (arith, length-append ns (names false arguments_name))
+place_in true ns n le = place_at_end (first_place arguments_name ns) ns n le
 place_in false ns n le = tt
 
 arguments_within : (f : Function) → IfSome (arguments_place (names_in_statements (body_of f)) (names_before f)) (λ p. p < length (layout_of f))
@@ -372,7 +398,7 @@ module _ {V : Type 0} (f : Function) (entry : Entry V) where
       ∙ arguments_last entry.missing (names_in_statements (body_of f)) entry.arguments (declared_statements (body_of f)) (names_before f) vs (omega arith)
 
   -- the values of a call under the names of its layout
-  values_entered : (layout : List LaidName) (parameters functions : List ℕ) (arguments : Option ℕ) → IsPlanned f layout parameters functions arguments → length entry.functions ≡ length (declared_functions (body_of f))
+  values_entered : {named : Bool} (layout : List LaidName) (parameters functions : List ℕ) (arguments : Option ℕ) → IsPlanned f named layout parameters functions arguments → length entry.functions ≡ length (declared_functions (body_of f))
       → laid layout (values_of (length layout) parameters functions arguments entry) ≡ entry_bindings f entry
   values_entered layout parameters functions arguments planned counted =
       let two : 2 ≤ length layout = subst (λ ns. 2 ≤ length ns) (sym planned.names) (two_names f) in
@@ -391,7 +417,7 @@ module _ {V : Type 0} (f : Function) (entry : Entry V) where
       ∙ sym (bound_last counted)
 
   -- the same of lists that calls make in turn
-  pub values_put : (layout : List LaidName) (parameters functions : List ℕ) (arguments : Option ℕ) → IsPlanned f layout parameters functions arguments → length entry.functions ≡ length (declared_functions (body_of f)) → (count : ℕ) → count ≡ length layout
+  pub values_put : {named : Bool} (layout : List LaidName) (parameters functions : List ℕ) (arguments : Option ℕ) → IsPlanned f named layout parameters functions arguments → length entry.functions ≡ length (declared_functions (body_of f)) → (count : ℕ) → count ≡ length layout
       → (first last : List V) → first ≡ first_values count entry.this entry.function entry.missing → last ≡ placed entry.missing functions entry.functions (placed entry.missing parameters entry.args (placed_if arguments entry.arguments first))
       → laid (layout_of f) last ≡ entry_bindings f entry
   values_put layout parameters functions arguments planned counted count size first last one two =
@@ -409,11 +435,11 @@ places_counted ns [] (p ∷ ps) are = absurd are
 places_counted ns (name ∷ more) [] are = absurd are
 places_counted ns (name ∷ more) (p ∷ ps) are = ap suc (places_counted ns more ps are.1)
 
-pub parameters_counted : (f : Function) (layout : List LaidName) (parameters functions : List ℕ) (arguments : Option ℕ) → IsPlanned f layout parameters functions arguments → length parameters ≡ length (params_of f)
+pub parameters_counted : (f : Function) {named : Bool} (layout : List LaidName) (parameters functions : List ℕ) (arguments : Option ℕ) → IsPlanned f named layout parameters functions arguments → length parameters ≡ length (params_of f)
 parameters_counted f layout parameters functions arguments planned = places_counted layout (parameter_names (params_of f)) parameters planned.parameters ∙ length-map (params_of f) (λ p. p.text)
 
 -- a planned function's places are within its layout
-module _ (f : Function) (layout : List LaidName) (parameters functions : List ℕ) (arguments : Option ℕ) (planned : IsPlanned f layout parameters functions arguments) (n : ℕ) (size : n ≡ length layout) where
+module _ (f : Function) {named : Bool} (layout : List LaidName) (parameters functions : List ℕ) (arguments : Option ℕ) (planned : IsPlanned f named layout parameters functions arguments) (n : ℕ) (size : n ≡ length layout) where
   pub planned_two : 2 ≤ n
   planned_two = subst (λ k. 2 ≤ k) (sym (size ∙ ap length planned.names)) (two_names f)
 

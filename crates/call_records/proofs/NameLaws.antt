@@ -1,14 +1,16 @@
 -- Names that are added to a layout in turn, and their places.
-use Rattle.std.proofs.Common.{refl, sym, ap, subst, ◌∙◌, ◌≡◌, ◌+◌, ◌<◌, ◌≤◌, ℕ, suc, Bool, true, false, List, [], ◌∷◌, ◌++◌, append_assoc, append-nil, length, drop, get_or, Option, Some, None, if◌then◌else◌, arith}
+use Rattle.std.proofs.Common.{refl, sym, ap, subst, ◌∙◌, ◌≡◌, ◌+◌, ◌<◌, ◌≤◌, ℕ, suc, Bool, true, false, List, [], ◌∷◌, ◌++◌, append_assoc, append-nil, length, drop, get_or, Option, Some, None, is_some, if◌then◌else◌, arith}
 use Rattle.std.specs.List.{All}
 use Rattle.std.specs.Option.{option_map}
 use Rattle.std.proofs.lemmas.List.{drop_more, at_drop_all}
 use Rattle.std.proofs.lemmas.List.Elements.{All-nil, All-cons}
+use Rattle.std.proofs.lemmas.Bool.{true≢false, false≢true}
 use Rattle.std.proofs.lemmas.Option.{none-some, same_Some}
 use Rattle.std.specs.Cmp.Lexicographic.{bytes_decides}
 use Rattle.origin_labels.specs.Names.{same_name}
 use Rattle.env_records.specs.Layouts.{LaidName, first_place}
-use Rattle.call_records.specs.Planned.{names, with_name, with_name_at, with_names, with_arguments_name, ArePlaces, Adds}
+use Rattle.es_meaning.specs.Naming.{arguments_name}
+use Rattle.call_records.specs.Planned.{names, with_name, with_name_at, with_names, with_arguments_at, with_arguments_name, place_behind, arguments_place, ArePlaces, Adds}
 
 -- ---- names in turn
 
@@ -57,8 +59,12 @@ pub kept_names : (more : List (List ℕ)) (ns : List LaidName) → Keeps ns (wit
 kept_names [] ns other p is = is
 kept_names (name ∷ more) ns other p is = kept_names more (with_name name ns) other p (kept_at (first_place name ns) name ns other p is)
 
+kept_arguments_at : (o : Option ℕ) (ns : List LaidName) → Keeps ns (with_arguments_at o ns)
+kept_arguments_at None ns = kept_append ns (names false arguments_name)
+kept_arguments_at (Some q) ns = λ other p is. is
+
 pub kept_arguments : (named : Bool) (ns : List LaidName) → Keeps ns (with_arguments_name named ns)
-kept_arguments true ns = λ other p is. kept_append ns _ other p is
+kept_arguments true ns = kept_arguments_at (first_place arguments_name ns) ns
 kept_arguments false ns = λ other p is. is
 
 pub are_kept : (old new : List LaidName) → Keeps old new → (more : List (List ℕ)) (places : List ℕ) → ArePlaces old more places → ArePlaces new more places
@@ -85,6 +91,45 @@ fresh_at false (Some q) more n rest none = absurd (none-some (suc q) (sym none))
 pub fresh_place : (name : List ℕ) (mutable : Bool) (ns : List LaidName) → first_place name ns ≡ None → first_place name (ns ++ names mutable name) ≡ Some (length ns)
 fresh_place name mutable [] none = ap (λ (b : Bool). if b then Some 0 else None) (same_self name)
 fresh_place name mutable (n ∷ ns) none = fresh_at (same_name n.name name) (first_place name ns) (first_place name (ns ++ names mutable name)) (length ns) (λ here. fresh_place name mutable ns here) none
+
+-- ---- the name `arguments`
+
+module _ (named : Bool) (ns : List LaidName) (text : List ℕ) (o : Option ℕ) (is_named : named ≡ true) (spelled : text ≡ arguments_name) (placed : o ≡ first_place text ns) where
+  names_at : with_arguments_name named ns ≡ with_arguments_at o ns
+  names_at = ap (λ b. with_arguments_name b ns) is_named ∙ ap (λ p. with_arguments_at p ns) (sym (placed ∙ ap (λ t. first_place t ns) spelled))
+
+  place_at_names : arguments_place named ns ≡ place_behind o ns
+  place_at_names = ap (λ b. arguments_place b ns) is_named ∙ ap (λ p. place_behind p ns) (sym (placed ∙ ap (λ t. first_place t ns) spelled))
+
+  -- it is there already
+  pub arguments_stay : is_some o ≡ true → ns ≡ with_arguments_name named ns
+  arguments_stay some = sym (names_at ∙ stay o some)
+    where
+      stay : (p : Option ℕ) → is_some p ≡ true → with_arguments_at p ns ≡ ns
+      stay None some = absurd (false≢true some)
+      stay (Some q) some = refl
+
+  pub arguments_elsewhere : is_some o ≡ true → None ≡ arguments_place named ns
+  arguments_elsewhere some = sym (place_at_names ∙ elsewhere o some)
+    where
+      elsewhere : (p : Option ℕ) → is_some p ≡ true → place_behind p ns ≡ None
+      elsewhere None some = absurd (false≢true some)
+      elsewhere (Some q) some = refl
+
+  -- it is added
+  pub arguments_added : (new : List LaidName) → is_some o ≡ false → new ≡ ns ++ names false text → new ≡ with_arguments_name named ns
+  arguments_added new none more = more ∙ ap (λ t. ns ++ names false t) spelled ∙ sym (names_at ∙ added o none)
+    where
+      added : (p : Option ℕ) → is_some p ≡ false → with_arguments_at p ns ≡ ns ++ names false arguments_name
+      added None none = refl
+      added (Some q) none = absurd (true≢false none)
+
+  pub arguments_at_end : (place : ℕ) → is_some o ≡ false → place ≡ length ns → Some place ≡ arguments_place named ns
+  arguments_at_end place none last = ap Some last ∙ sym (place_at_names ∙ at_end o none)
+    where
+      at_end : (p : Option ℕ) → is_some p ≡ false → place_behind p ns ≡ Some (length ns)
+      at_end None none = refl
+      at_end (Some q) none = absurd (true≢false none)
 
 -- ---- names with their places
 

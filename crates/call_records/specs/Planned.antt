@@ -30,13 +30,21 @@ parameter_names ps = map (λ p. p.text) ps
 abbrev pub function_names : List Function → List (List ℕ)
 function_names fs = map (λ f. name_text (name_of f)) fs
 
--- that of the `arguments` object, where the code names it, and its place
+-- that of the `arguments` object, where the code names it and it has no place yet, and its place
+abbrev pub with_arguments_at : Option ℕ → List LaidName → List LaidName
+with_arguments_at None ns = ns ++ names false arguments_name
+with_arguments_at (Some place) ns = ns
+
 abbrev pub with_arguments_name : Bool → List LaidName → List LaidName
-with_arguments_name true ns = ns ++ names false arguments_name
+with_arguments_name true ns = with_arguments_at (first_place arguments_name ns) ns
 with_arguments_name false ns = ns
 
+abbrev pub place_behind : Option ℕ → List LaidName → Option ℕ
+place_behind None ns = Some (length ns)
+place_behind (Some place) ns = None
+
 abbrev pub arguments_place : Bool → List LaidName → Option ℕ
-arguments_place true ns = Some (length ns)
+arguments_place true ns = place_behind (first_place arguments_name ns) ns
 arguments_place false ns = None
 
 -- `this` and the function, the parameters, and the functions that are declared
@@ -62,7 +70,8 @@ pub record Adds (more : List (List ℕ)) (old new : List LaidName) (places_old p
   pub places : (before : List (List ℕ)) → ArePlaces old before places_old → ArePlaces new (before ++ more) places_new
 
 -- what a call of a function needs
-pub record IsPlanned (f : Function) (layout : List LaidName) (places function_places : List ℕ) (own_place : Option ℕ) : Type 0 where
+pub record IsPlanned (f : Function) (names_arguments : Bool) (layout : List LaidName) (places function_places : List ℕ) (own_place : Option ℕ) : Type 0 where
+  pub named : names_arguments ≡ names_in_statements (body_of f)
   pub names : layout ≡ layout_of f
   pub parameters : ArePlaces layout (parameter_names (params_of f)) places
   pub functions : ArePlaces layout (function_names (declared_functions (body_of f))) function_places

@@ -31,6 +31,7 @@ use std::rc::Rc;
 #[derive(Drop)]
 pub struct CallLayout<'p> {
     function: &'p Function,
+    names_arguments: bool,
     names: Rc<Layout>,
     places: Places,
 }
@@ -48,7 +49,7 @@ impl<'p> Model for CallLayout<'p> {
 
     ghost view = { λ l. l.function.now };
 
-    ghost invariant = { λ l. IsPlanned (view_function l.function.now) l.names.value l.places.parameters.items l.places.functions.items l.places.arguments };
+    ghost invariant = { λ l. IsPlanned (view_function l.function.now) l.names_arguments l.names.value l.places.parameters.items l.places.functions.items l.places.arguments };
 }
 
 impl<'p> CallLayout<'p> {
@@ -59,7 +60,8 @@ impl<'p> CallLayout<'p> {
         let mut names = first_names(alloc)?;
         let parameters = place_parameters(alloc, f.params.items(), &mut names)?;
         let functions = place_functions(alloc, &f.body, &mut names)?;
-        let arguments = place_arguments(alloc, names_arguments(f), &mut names)?;
+        let names_arguments = names_arguments(f);
+        let arguments = place_arguments(alloc, names_arguments, &mut names)?;
         in_list(alloc, &f.body, &mut names)?;
         let names = Rc::new(alloc, names)?;
         let places = Places {
@@ -69,6 +71,7 @@ impl<'p> CallLayout<'p> {
         };
         Ok(CallLayout {
             function: f,
+            names_arguments,
             names,
             places,
         })
@@ -78,7 +81,7 @@ impl<'p> CallLayout<'p> {
     pub fn names_arguments(&self) -> bool
         ensures { result ≡ names_in_statements (body_of (view_function self.now)) }
     {
-        self.places.arguments.is_some()
+        self.names_arguments
     }
 
     /// Makes the record of a call of the function, which closes over the record `place`. The arguments depend on the context besides.

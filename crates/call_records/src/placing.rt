@@ -30,7 +30,7 @@ const ARGUMENTS: [u16; 9] = [0x61, 0x72, 0x67, 0x75, 0x6D, 0x65, 0x6E, 0x74, 0x7
 pub(crate) struct Places {
     pub(crate) parameters: Vec<usize>,
     pub(crate) functions: Vec<usize>,
-    /// That of the `arguments` object, where the code names it.
+    /// That of the `arguments` object, where it is bound.
     pub(crate) arguments: Option<usize>,
 }
 
@@ -161,7 +161,7 @@ pub(crate) fn place_functions(
     Ok(places)
 }
 
-/// Adds `arguments`, if the code names it, and gives its place. Nothing gives it another value.
+/// Adds `arguments`, if the code names it and it isn't there (ECMA-262 10.5, step 7), and gives its place. Nothing gives it another value.
 pub(crate) fn place_arguments(
     alloc: Global,
     names_arguments: bool,
@@ -170,11 +170,14 @@ pub(crate) fn place_arguments(
     ensures names { OnOk result (layout.new ≡ with_arguments_name names_arguments layout.old) }
     ensures place { IfOk result (λ place. place ≡ arguments_place names_arguments layout.old) }
 {
-    if names_arguments {
-        let place = layout.len();
-        layout.push(text_of(alloc, &ARGUMENTS)?, false)?;
-        Ok(Some(place))
-    } else {
-        Ok(None)
+    if !names_arguments {
+        return Ok(None);
     }
+    let name = text_of(alloc, &ARGUMENTS)?;
+    if layout.place(&name).is_some() {
+        return Ok(None);
+    }
+    let place = layout.len();
+    layout.push(name, false)?;
+    Ok(Some(place))
 }

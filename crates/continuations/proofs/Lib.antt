@@ -6,6 +6,7 @@ pub mod Handed
 pub mod Keeping
 pub mod KeptLaws
 pub mod ObjectLaws
+pub mod ArrayLaws
 pub mod Reading
 pub mod ScopeLaws
 pub mod Steps

@@ -82,7 +82,7 @@ module _ (list : NodeList node.Property) (count : ℕ) (f : Bor function.Functio
 
 module _ {T : Type 0} where
   -- an expression that is evaluated next, behind work without a scope
-  pushed_expr : (w : Task T) (x : Bor code.Expr) (old new : Kept T) → ((g : Setting) → setting_inside w.0 g ≡ g) → new ≡ record { tasks = old.tasks ++ w ∷ []; loose = [] } → (tables : Tables) (inputs : Given) (set : BuiltIns) (functions : List FunctionCode) (reading : T → Label) (e : Setting) (s : State)
+  pub pushed_expr : (w : Task T) (x : Bor code.Expr) (old new : Kept T) → ((g : Setting) → setting_inside w.0 g ≡ g) → new ≡ record { tasks = old.tasks ++ w ∷ []; loose = [] } → (tables : Tables) (inputs : Given) (set : BuiltIns) (functions : List FunctionCode) (reading : T → Label) (e : Setting) (s : State)
       → coming tables inputs set functions reading new (control.Expr x) e s ≡ behind tables inputs set functions reading old.tasks e (Ask (an_expr (view_expr x.now) (setting_above old.tasks e).env.place) s (after_task tables inputs set functions reading w (setting_above old.tasks e)))
   pushed_expr w x old new same is tables inputs set functions reading e s =
       let f = setting_above old.tasks e in

@@ -20,7 +20,7 @@ use Rattle.es_meaning.specs.Evaluation.{element_or, with_element, answered_in, p
 use Rattle.es_meaning.specs.Operations.{Value}
 use Rattle.es_meaning.specs.Plain.{undefined}
 use Rattle.flow_meaning.specs.Erased.{unlabelled}
-use Rattle.flow_meaning.specs.Planned.{Plan, Ask, Give, a_request, gave, and_plan, end_branch, end_setter}
+use Rattle.flow_meaning.specs.Planned.{Plan, Ask, Give, a_request, gave, and_plan, end_branch, end_putting}
 use Rattle.flow_meaning.specs.Scopes.{Val, State}
 use Rattle.continuations.specs.declared.continuation.Counting.TheVariants as counting
 use Rattle.continuations.specs.declared.continuation.Continuation.{Continuation}
@@ -198,7 +198,7 @@ module _ {S T : Type 0} (made : S → T → Type 0) (meaning : S → T → Label
       ∙ behind_enough tables inputs set functions reading old.tasks e.natives (steps ∷ []) e.env (Ask (a_request steps (map (read_value reading) new.loose)) s Give) size
 
   pub answer_dropped : (count : ℕ) (old new : Kept T) (popped : Labelled T) → old.loose ≡ new.loose ++ popped ∷ [] → new.tasks ≡ old.tasks → IsAnswered made meaning store count None old new (control.Request count)
-  unfolding end_setter put_behind
+  unfolding end_putting put_behind
   answer_dropped count old new popped top same = λ tables inputs set functions reading e steps s kept value read size loose.
       let both = last_two new.loose kept popped value (sym top ∙ loose) in
       let f = setting_above old.tasks (with_steps steps e) in

@@ -4,6 +4,7 @@ pub mod Pending
 pub mod Resuming
 pub mod Shapes
 pub mod Literals
+pub mod Arrays
 pub mod Loads
 pub mod Stops
 pub mod Moving

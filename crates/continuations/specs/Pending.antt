@@ -1,28 +1,32 @@
 -- What pending work does with a completion, and what a machine's next move is, as plans of the labelled meaning.
 use Rattle.std.specs.Prelude.{ℕ, ◌+◌, Bool, List, [], ◌∷◌, map, Option, Some, None, take, drop, reverse, codes}
-use Rattle.origin_labels.specs.Label.{Label}
+use Rattle.origin_labels.specs.Label.{Label, union}
 use Rattle.flow_policy.specs.Policies.{Tables}
 use Rattle.flow_policy.specs.Inputs.{Given}
 use Rattle.js_ast.specs.Functions.{FunctionCode}
 use Rattle.es_meaning.specs.BuiltIns.{BuiltIns}
 use Rattle.js_values.specs.declared.value.Labelled.{Labelled}
 use Rattle.js_values.specs.Readings.{read_value}
+use Rattle.js_number.specs.declared.num.Num.TheVariants as nums
 use Rattle.js_number.specs.declared.primitive.Primitive.TheVariants as prims
 use Rattle.js_ast.specs.Nodes.{nodes_of}
-use Rattle.js_ast.specs.Views.{view_expr, view_exprs, view_properties, view_target, view_stmt, view_stmts, view_declarations, view_other_declarations, view_clauses, view_name, view_function}
+use Rattle.js_ast.specs.Views.{view_block, view_expr, view_exprs, view_items, view_properties, view_target, view_stmt, view_stmts, view_declarations, view_other_declarations, view_clauses, view_name, view_function}
 use Rattle.es_meaning.specs.Outcomes.{left}
 use Rattle.es_meaning.specs.Directives.{upgrade_of}
 use Rattle.es_meaning.specs.Environments.{Env, with_around, with_place, called_env, thrown, returned, left_by}
 use Rattle.js_ast.specs.declared.operators.BinaryOperator.{BinaryOperator}
-use Rattle.js_ast.specs.Trees.{Exprs, Statement, try_catch, try_finally, try_both, Clauses, no_clauses, case, default}
+use Rattle.js_ast.specs.Trees.{Exprs, Items, Statement, block, try_catch, try_finally, try_both, Clauses, no_clauses, case, default}
 use Rattle.native_protocol.specs.Steps.{Steps}
-use Rattle.es_meaning.specs.Operations.{One, Value, Ty, Visit, Ops, Rec, object_of, calls}
-use Rattle.es_meaning.specs.Plain.{undefined, argument_or, key_text, object_or_default}
+use Rattle.es_meaning.specs.Operations.{One, Value, Ty, Visit, Ops, Rec, Act, object_of, array_of, calls}
+use Rattle.es_meaning.specs.Plain.{undefined, argument_or, key_text, object_or_default, is_count, count_of as length_count}
 use Rattle.es_meaning.specs.Evaluation as evaluation
-use Rattle.es_meaning.specs.Evaluation.{Conversion, unconverted, compared, numbers, keyed, primitives, conversion_of, discard, give, unary_done, binary_done, has_left, compared_left, primitive_left, number_left, prefix_value, postfix_value, prefix_number, postfix_number, compound_right, with_key, arguments, properties, variables, answered_in, put_behind, unary_value, binary_values, binary_right, and_right, or_right, choose_expr, comma_right, assign_to, compound_done, more_arguments, choose_stmt, choose_stmts, more_statements_behind, more_variables, looped_value, turn_test, updated, turned_round, used, member_base, index_base, index_key, parts_of, more_values, enumerated, visit_body, visited, with_keys, visits, declarations, loop, looped, call_with, call_value, construct_value, instance_right, instance_done, jump_with, behind_expression, switched, cases, case_compared, from_default, falls_on, handled, unhandled, block_step, text_of_label}
+use Rattle.es_meaning.specs.Evaluation.{Conversion, unconverted, compared, numbers, keyed, primitives, conversion_of, discard, give, unary_done, binary_done, has_left, compared_left, primitive_left, number_left, prefix_value, postfix_value, prefix_number, postfix_number, compound_right, with_key, arguments, properties, variables, answered_in, put_behind, unary_value, binary_values, binary_right, and_right, or_right, choose_expr, comma_right, assign_to, compound_done, more_arguments, choose_stmt, choose_stmts, more_statements_behind, more_variables, looped_value, turn_test, updated, turned_round, used, member_base, index_base, index_key, parts_of, more_values, more_items, places_of, count_of, enumerated, visit_body, visited, with_keys, visits, declarations, loop, looped, call_with, call_value, construct_value, instance_right, instance_done, jump_with, behind_expression, switched, cases, case_compared, from_default, falls_on, handled, unhandled, text_of_label}
 use Rattle.flow_meaning.specs.Erased.{unlabelled}
 use Rattle.flow_meaning.specs.Scopes.{Val, State, as_plain}
-use Rattle.flow_meaning.specs.Planned.{Enters, an_expr, a_use, a_stmt, a_named, a_turn, a_visit, a_request, gave, jumped, Plan, Give, Ask, End, Then, and_plan, with_result, end_branch, end_round, end_call, end_construction, end_block, end_handler, end_last, end_setter, end_instance, nothing_done, planned, asking}
+use Rattle.flow_meaning.specs.Planned.{Enters, an_expr, a_use, a_stmt, a_named, a_turn, a_visit, a_request, gave, jumped, Plan, Give, Ask, End, Then, and_plan, with_result, end_branch, end_round, end_call, end_construction, end_block, end_handler, end_last, end_putting, end_first, end_instance, nothing_done, planned, asking, Counted, convert_for_length, given_count, with_outcome, as_plan}
+use Rattle.flow_meaning.specs.Tracked.{numbered, set_length}
+use Rattle.run_state.specs.declared.outcome.SetLength.{SetLength}
+use Rattle.run_state.specs.Accesses.{defines, marks_given}
 use Rattle.continuations.specs.declared.continuation.Continuation.{Continuation}
 use Rattle.continuations.specs.declared.continuation.Continuation.TheVariants as continuation
 use Rattle.continuations.specs.declared.continuation.Control.{Control}
@@ -76,6 +80,9 @@ owns (continuation.MemberBase how text) = owns_use how
 owns (continuation.IndexBase how x) = owns_use how
 owns (continuation.IndexKey how) = owns_use how + 1
 owns (continuation.Property ps count) = count
+owns (continuation.Item is place count) = count
+owns (continuation.LengthOnce how) = 2
+owns (continuation.LengthTwice how) = 2
 owns (continuation.Visited e count) = count + 1
 owns (continuation.ConvertedLeft o) = 1
 owns (continuation.Operate o) = 1
@@ -139,6 +146,8 @@ values_of (control.Construct count) = count + 1
 values_of (control.Request count) = count
 values_of (control.Convert h) = 1
 values_of control.Compare = 2
+values_of control.ConvertBeside = 2
+values_of (control.Array is count) = count
 values_of (control.Object ps count) = count
 values_of (control.Use how x) = owns_use how
 values_of (control.GiveVariable x) = 1
@@ -193,8 +202,8 @@ module _ (tables : Tables) (inputs : Given) (set : BuiltIns) (functions : List F
   handler_of _ e = unhandled O E R
 
   abbrev pub last_of : Statement → Env ℕ → State → Plan
-  last_of (try_finally at b last) e = block_step O E R last e
-  last_of (try_both at b ident handler last) e = block_step O E R last e
+  last_of (try_finally at b last) e = R.stmt (block last) e
+  last_of (try_both at b ident handler last) e = R.stmt (block last) e
   last_of _ e = nothing_done
 
   -- an operator with its left operand converted, beside the right one
@@ -209,9 +218,22 @@ module _ (tables : Tables) (inputs : Given) (set : BuiltIns) (functions : List F
   abbrev pub called_on : Val → Exprs → Env ℕ → Val → State → Plan
   called_on own es e f = arguments O E R (calls f own) [] es e.place
 
+  -- the array that a literal makes of the values of its items
+  abbrev pub array_act : Items → Act
+  array_act items = array_of (places_of 0 items) (count_of items)
+
+  -- the `length` of an array is given a number, by a put or by a definition
+  abbrev pub sets_length : SetLength → Val → Counted
+  sets_length how array n given s = as_plan Value (set_length (defines how) array.label (object_or_default array.value).0 (marks_given how) n given s)
+
+  -- behind the second conversion of a value for it, with what the first came to
+  abbrev pub end_both : Label → Counted → Val → Then
+  end_both label next first =
+      with_result Value (λ second s. with_outcome (numbered first s) (λ m t. with_outcome (numbered second t) (λ n. given_count (is_count m n) (length_count m) (union first.label second.label) label next)))
+
   -- what a setter gives is of no use
   abbrev pub behind_setter : (Unit {0} → State → Plan) → Then
-  behind_setter next came s = and_plan (end_setter came s) (with_result One next)
+  behind_setter next came s = and_plan (end_putting came s) (with_result One next)
 
   -- what work does with a completion, with the operands that it keeps, in its setting
   abbrev pub after : Continuation → List Val → Setting → Then
@@ -228,6 +250,9 @@ module _ (tables : Tables) (inputs : Given) (set : BuiltIns) (functions : List F
   after (continuation.IndexBase how x) vs e = with_result Value (index_base O E R (use_of how vs) (view_expr x.now) e.env.place)
   after (continuation.IndexKey how) vs e = with_result Value (index_key O E R (use_of how vs) e.env.place (nth (owns_use how) vs))
   after (continuation.Property ps count) vs e = with_result Value (more_values O E R (object_of (parts_of (view_properties (nodes_of ps.now)))) vs (view_properties (drop (count + 1) (nodes_of ps.now))) e.env.place)
+  after (continuation.Item is place count) vs e = with_result Value (more_items O E R (array_act (view_items (nodes_of is.now))) vs (view_items (drop (place + 1) (nodes_of is.now))) e.env.place)
+  after (continuation.LengthOnce how) vs e = end_first E (nth 0 vs).label (nth 1 vs) (sets_length how (nth 0 vs))
+  after (continuation.LengthTwice how) vs e = end_both (nth 0 vs).label (sets_length how (nth 0 vs)) (nth 1 vs)
   after (continuation.Argument f count rest) vs e = with_result Value (more_arguments O E R (calling_of f vs) (drop (owns_calling f) vs) (view_exprs rest.now) e.env.place)
   after (continuation.Callee es) vs e = with_result Value (call_value O E R (view_exprs es.now) e.env.place)
   after (continuation.Constructor es) vs e = with_result Value (construct_value O E R (view_exprs es.now) e.env.place)
@@ -285,11 +310,12 @@ module _ (tables : Tables) (inputs : Given) (set : BuiltIns) (functions : List F
   next_plan control.Done vs e s = Give (gave (unlabelled undefined)) s
   next_plan control.Null vs e s = Give (gave (O.literal prims.Null)) s
   next_plan (control.Bool b) vs e s = Give (gave (O.literal (prims.Bool b))) s
-  next_plan (control.Number n) vs e s = Give (gave (O.literal (prims.Num n.now))) s
+  next_plan (control.Number n) vs e s = Give (gave (O.literal (prims.Num (nums.Int n.now)))) s
   next_plan (control.Text text) vs e s = Give (gave (O.literal (prims.Str text.now))) s
   next_plan (control.Name text) vs e s = O.resolve Value e.env.place text.now (evaluation.read_value O E R) s
   next_plan control.This vs e s = O.resolve Value e.env.place (codes "this") (evaluation.read_value O E R) s
   next_plan (control.Object ps count) vs e s = properties O E R (object_of (parts_of (view_properties (nodes_of ps.now)))) vs (view_properties (drop count (nodes_of ps.now))) e.env.place s
+  next_plan (control.Array is count) vs e s = O.act (array_act (view_items (nodes_of is.now))) vs s
   next_plan (control.GiveVariable x) vs e s = O.resolve Value e.env.place x.now.text (used O E R (use_of use_as.GivenText vs) e.env.place) s
   next_plan (control.Keys x) vs e s = with_keys O E R (labels_at (view_stmt x.of.now)) (view_target x.target.now) (view_stmt x.body.now) (nth 0 vs) e.env s
   next_plan (control.Visits x count) vs e s = visits O E R (labels_at (view_stmt x.of.now)) (view_target x.target.now) (view_stmt x.body.now) (nth 0 vs) (keys_left vs) e.env s
@@ -299,6 +325,7 @@ module _ (tables : Tables) (inputs : Given) (set : BuiltIns) (functions : List F
   next_plan (control.Construct count) vs e s = call_with O E R (calling_of calling.Constructs vs) (drop 1 vs) s
   next_plan (control.Convert h) vs e s = O.primitive h (first_or_undefined vs) E s
   next_plan control.Compare vs e s = O.comparable (nth 0 vs) (nth 1 vs) E s
+  next_plan control.ConvertBeside vs e s = convert_for_length E (nth 0 vs).label (nth 1 vs) s
   next_plan (control.Function f) vs e s = O.function (view_function f.now) e.env.place s
   next_plan (control.Break turn label) vs e s = O.jump (left_by turn (text_of_label (view_name label.now))) e.env (O.literal prims.Undefined) s
   next_plan control.Return vs e s = O.jump returned e.env (O.literal prims.Undefined) s
@@ -308,6 +335,7 @@ module _ (tables : Tables) (inputs : Given) (set : BuiltIns) (functions : List F
   next_plan (control.Expr x) vs e s = Ask (an_expr (view_expr x.now) e.env.place) s Give
   next_plan (control.Use how x) vs e s = Ask (a_use (use_of how vs) (view_expr x.now) e.env.place) s Give
   next_plan (control.Stmt x) vs e s = Ask (a_stmt (view_stmt x.now) e.env) s Give
+  next_plan (control.Block x) vs e s = Ask (a_stmt (block (view_block x.now)) e.env) s Give
   next_plan (control.Variables ds) vs e s = declarations O E R (view_declarations ds.now) e.env.place s
   next_plan (control.Turn r) vs e s = Ask (a_turn (round_of r) e.env) s Give
   next_plan (control.Loop r) vs e s = loop O E R (round_of r) e.env s

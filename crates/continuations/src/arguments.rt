@@ -26,7 +26,7 @@ use js_ast::Expr;
 fn called<'p>(calling: Calling, count: u32) -> Control<'p>
     ensures plan { (tables : Tables) (inputs : Given) (set : BuiltIns) (functions : List FunctionCode) (vs : List Val) (e : Setting) (s : State) → next_plan tables inputs set functions result vs e s ≡ call_with (planned tables inputs set functions) (entrance tables inputs set functions) (asking tables inputs set functions) (calling_of calling vs) (drop (owns_calling calling) vs) s }
     ensures values { values_of result ≡ owns_calling calling + count }
-    ensures lifts { lift result ≤ 6 }
+    ensures lifts { lift result ≤ 8 }
 {
     match calling {
         Calling::Calls => Control::Call(count),
@@ -46,7 +46,7 @@ pub fn begin_arguments<'p, T: Copy>(
     requires { length stack.old.loose ≡ owns_calling calling + count }
     ensures goes_on { IfOk result (BeginsBehind (λ tables inputs set functions vs e. arguments (planned tables inputs set functions) (entrance tables inputs set functions) (asking tables inputs set functions) (calling_of calling vs) (drop (owns_calling calling) vs) (view_exprs list.entry.now) e.env.place) stack.old stack.new) }
     ensures keeps { IfOk result (Keeps stack.old stack.new) }
-    ensures adds { IfOk result (Adds 6 stack.old stack.new) }
+    ensures adds { IfOk result (Adds 8 stack.old stack.new) }
 {
     match list.split_first() {
         None => Ok(called(calling, count)),
@@ -66,7 +66,7 @@ pub fn called_by<'p, T: Copy>(
     requires { length stack.old.loose ≡ 2 }
     ensures goes_on { IfOk result (ResumesBeside (continuation.CalledBy list.entry) stack.old stack.new) }
     ensures keeps { IfOk result (Keeps stack.old stack.new) }
-    ensures adds { IfOk result (Adds 6 stack.old stack.new) }
+    ensures adds { IfOk result (Adds 8 stack.old stack.new) }
 {
     begin_arguments(stack, Calling::Calls, 0, list)
 }
@@ -83,7 +83,7 @@ pub fn more_arguments<'p, T: Copy>(
     requires { length stack.old.loose ≡ owns_calling calling + count + 1 }
     ensures goes_on { IfOk result (ResumesBehind (continuation.Argument calling count rest.entry) stack.old stack.new) }
     ensures keeps { IfOk result (Keeps stack.old stack.new) }
-    ensures adds { IfOk result (Adds 6 stack.old stack.new) }
+    ensures adds { IfOk result (Adds 8 stack.old stack.new) }
 {
     match count.checked_add(1) {
         Some(count) => begin_arguments(stack, calling, count, rest),

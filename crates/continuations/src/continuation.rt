@@ -8,13 +8,13 @@ ghost use Rattle.continuations.specs.Shapes.{inner_of, maybe_of, round_of};
 
 use flow_text::Text;
 use js_ast::{
-    BinaryOperator, Clause, ClauseList, Declaration, Declarations, Expr, ForTarget, Function,
-    Ident, PropertyList, Stmt, StmtKind, UnaryOperator,
+    BinaryOperator, Block, Clause, ClauseList, Declaration, Declarations, Expr, ForTarget,
+    Function, Ident, ItemList, PropertyList, Stmt, StmtKind, UnaryOperator,
 };
 use js_number::Int;
 use js_values::EnvId;
 use native_protocol::{Hint, Reg};
-use run_state::Place;
+use run_state::{Place, SetLength};
 
 /// What is done with a reference.
 #[derive(Clone, Copy)]
@@ -195,6 +195,8 @@ pub enum Continuation<'p> {
     IndexKey(Use<'p>),
     /// The value is that of a property of an object. It keeps those before it.
     Property(&'p PropertyList, u32),
+    /// The value is that of the item of an array with this number. It keeps those before it, so many.
+    Item(&'p ItemList, u32, u32),
     /// The value is of no use.
     Discard,
     /// The value is of no use, and behind it the directive is obeyed that the expression is.
@@ -271,7 +273,11 @@ pub enum Continuation<'p> {
     CalledBy(&'p [Expr]),
     /// The value is the `prototype` of what stands on the right of `instanceof`. It keeps the left operand, with the label of both.
     InstanceTest,
-    /// A setter's value is of no use. It keeps the value that the assignment gives.
+    /// The value is what the `length` of an array is given, converted once. It keeps the array, with the label of base, key and walk, and the value.
+    LengthOnce(SetLength),
+    /// The same, converted once more. It keeps the array, and what the first conversion came to.
+    LengthTwice(SetLength),
+    /// A setter's value is of no use, and so is that of a `length`. It keeps the value that the assignment gives.
     GiveBehind,
     /// The same behind the assignment of a variable, and other variables stand behind.
     VariablesBehind(&'p [Declaration]),
@@ -334,7 +340,7 @@ impl<'p> Continuation<'p> {
             | Continuation::EndNew(_, _) => 1,
             Continuation::EndLast(waiting) => waiting.is_some() as usize,
             Continuation::Argument(calling, count, _) => calling.owns() + count as usize,
-            Continuation::Property(_, count) => count as usize,
+            Continuation::Property(_, count) | Continuation::Item(_, _, count) => count as usize,
             Continuation::MemberBase(how, _) | Continuation::IndexBase(how, _) => how.owns(),
             Continuation::IndexKey(how) => how.owns() + 1,
             Continuation::Visited(_, count) => count as usize + 1,
@@ -344,6 +350,7 @@ impl<'p> Continuation<'p> {
             | Continuation::CountedNumber(_, _, target)
             | Continuation::CompoundRight(_, _, target) => target.owns(),
             Continuation::CalledBy(_) | Continuation::InstanceTest | Continuation::GiveBehind => 1,
+            Continuation::LengthOnce(_) | Continuation::LengthTwice(_) => 2,
             Continuation::Answered(count, _) => count as usize,
             _ => 0,
         }
@@ -384,6 +391,8 @@ pub enum Control<'p> {
     This,
     /// The part comes to an object with these properties, of which so many have their values, those that no work keeps.
     Object(&'p PropertyList, u32),
+    /// The part comes to an array with these items, of which those that are no holes have the values, so many, that no work keeps.
+    Array(&'p ItemList, u32),
     /// The value that no work keeps, a text, is given to a variable.
     GiveVariable(&'p Ident),
     /// The keys of the value that no work keeps are visited.
@@ -400,6 +409,8 @@ pub enum Control<'p> {
     Convert(Hint),
     /// The first of the two values that no work keeps is converted as `==` converts an operand beside the second.
     Compare,
+    /// The second of the two values that no work keeps is converted to a number's primitive value, in a frame with the first one's label besides.
+    ConvertBeside,
     /// The part comes to a function.
     Function(&'p Function),
     /// A loop or a statement is left, or a turn of it, by its label or none.
@@ -416,6 +427,8 @@ pub enum Control<'p> {
     Use(Use<'p>, &'p Expr),
     /// A statement is evaluated.
     Stmt(&'p Stmt),
+    /// A block of a `try` statement is evaluated.
+    Block(&'p Block),
     /// A loop, a `switch` or a labelled statement is evaluated that stands behind so many labels of this statement.
     Named(&'p Stmt, u32),
     /// Variables are given their first values, where they have one.

@@ -34,10 +34,11 @@ impl<'p> Model for Continuations<'p> {
     ghost use Rattle.js_ast.specs.contracts.trees.StmtKind as stmt_kind;
     ghost use Rattle.js_ast.specs.contracts.trees.Declaration as declaration;
     ghost use Rattle.js_ast.specs.contracts.trees.ForTarget as for_target;
+    ghost use Rattle.js_ast.specs.contracts.trees.Item as item;
     ghost use Rattle.js_ast.specs.contracts.trees.Property as property;
     ghost use Rattle.js_ast.specs.contracts.trees.Clause as clause;
 
-    ghost coded = { Prim.hlevel (codes, expr_kind.the_row.coded, stmt_kind.the_row.coded, declaration.the_row.coded, for_target.the_row.coded, property.the_row.coded, clause.the_row.coded) };
+    ghost coded = { Prim.hlevel (codes, expr_kind.the_row.coded, stmt_kind.the_row.coded, declaration.the_row.coded, for_target.the_row.coded, item.the_row.coded, property.the_row.coded, clause.the_row.coded) };
 
     ghost view = { λ s. s.works.items };
 

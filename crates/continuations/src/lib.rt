@@ -2,6 +2,7 @@
 #![tactic(auto)]
 
 mod arguments;
+mod arrays;
 mod continuation;
 mod continuation_list;
 mod jump_targets;
@@ -12,6 +13,7 @@ mod stack;
 mod statements;
 
 pub use arguments::{begin_arguments, called_by, more_arguments};
+pub use arrays::{begin_items, begin_length, convert_again, more_items};
 pub use continuation::{
     Calling, Continuation, Control, Counting, Enumeration, Jump, Reason, Round, Target, Use,
 };

@@ -49,7 +49,7 @@ pub fn begin_properties<'p, T: Copy>(
     requires { length stack.old.loose ≡ count }
     ensures goes_on { IfOk result (BeginsBehind (literal_from list.entry.now count) stack.old stack.new) }
     ensures keeps { IfOk result (Keeps stack.old stack.new) }
-    ensures adds { IfOk result (Adds 5 stack.old stack.new) }
+    ensures adds { IfOk result (Adds 7 stack.old stack.new) }
 {
     match part_at(list, count) {
         Part::Value(value) => {
@@ -70,7 +70,7 @@ pub fn more_properties<'p, T: Copy>(
     requires { length stack.old.loose ≡ count + 1 }
     ensures goes_on { IfOk result (ResumesBehind (continuation.Property list.entry count) stack.old stack.new) }
     ensures keeps { IfOk result (Keeps stack.old stack.new) }
-    ensures adds { IfOk result (Adds 5 stack.old stack.new) }
+    ensures adds { IfOk result (Adds 7 stack.old stack.new) }
 {
     match count.checked_add(1) {
         Some(count) => begin_properties(stack, list, count),
@@ -90,7 +90,7 @@ pub fn begin_member<'p, T: Copy>(
     requires { length stack.old.loose ≡ owns_use how }
     ensures goes_on { IfOk result (BeginsBehind (λ tables inputs set functions vs e. (planned tables inputs set functions).bind Value Value ((asking tables inputs set functions).expr (view_expr base.entry.now) e.env.place) (member_base (planned tables inputs set functions) (entrance tables inputs set functions) (asking tables inputs set functions) (use_of how.entry vs) name.entry.now e.env.place)) stack.old stack.new) }
     ensures keeps { IfOk result (Keeps stack.old stack.new) }
-    ensures adds { IfOk result (Adds 9 stack.old stack.new) }
+    ensures adds { IfOk result (Adds 11 stack.old stack.new) }
 {
     stack.push(Continuation::MemberBase(how, name))?;
     Ok(Control::Expr(base))
@@ -108,7 +108,7 @@ pub fn begin_index<'p, T: Copy>(
     requires { length stack.old.loose ≡ owns_use how }
     ensures goes_on { IfOk result (BeginsBehind (λ tables inputs set functions vs e. (planned tables inputs set functions).bind Value Value ((asking tables inputs set functions).expr (view_expr base.entry.now) e.env.place) (index_base (planned tables inputs set functions) (entrance tables inputs set functions) (asking tables inputs set functions) (use_of how.entry vs) (view_expr index.entry.now) e.env.place)) stack.old stack.new) }
     ensures keeps { IfOk result (Keeps stack.old stack.new) }
-    ensures adds { IfOk result (Adds 8 stack.old stack.new) }
+    ensures adds { IfOk result (Adds 10 stack.old stack.new) }
 {
     stack.push(Continuation::IndexBase(how, index))?;
     Ok(Control::Expr(base))
@@ -123,7 +123,7 @@ pub fn index_base<'p, T: Copy>(
     requires { length stack.old.loose ≡ owns_use how + 1 }
     ensures goes_on { IfOk result (ResumesBehind (continuation.IndexBase how.entry index.entry) stack.old stack.new) }
     ensures keeps { IfOk result (Keeps stack.old stack.new) }
-    ensures adds { IfOk result (Adds 11 stack.old stack.new) }
+    ensures adds { IfOk result (Adds 13 stack.old stack.new) }
 {
     stack.push(Continuation::IndexKey(how))?;
     Ok(Control::Expr(index))

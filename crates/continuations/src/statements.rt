@@ -22,7 +22,7 @@ pub fn begin_statements<'p, T: Copy>(
     requires { length stack.old.loose ≡ 0 }
     ensures goes_on { IfOk result (Begins (λ tables inputs set functions e. statements (planned tables inputs set functions) (asking tables inputs set functions) (view_stmts list.entry.now) e.env) stack.old stack.new) }
     ensures keeps { IfOk result (Keeps stack.old stack.new) }
-    ensures adds { IfOk result (Adds 4 stack.old stack.new) }
+    ensures adds { IfOk result (Adds 6 stack.old stack.new) }
 {
     match list.split_first() {
         None => Ok(Control::Done),

@@ -1,6 +1,7 @@
 -- What a look tells of the values that descriptors are made of.
 use Rattle.std.specs.Prelude.{ℕ, Bool, true, false, List, [], unsigned_abs}
 use Rattle.js_number.specs.declared.primitive.Primitive.TheVariants as prims
+use Rattle.js_number.specs.Number.{integer_of}
 use Rattle.js_number.specs.Conversions.{boolean_of}
 use Rattle.native_protocol.specs.declared.request.Seen.{Seen}
 use Rattle.native_protocol.specs.declared.request.Seen.TheVariants.{Prim, Object}
@@ -24,7 +25,7 @@ truth_of (Object c) = true
 
 -- the length of a list of keys, which is a number that isn't negative
 abbrev pub count_in : Seen → ℕ
-count_in (Prim (prims.Num n)) = unsigned_abs n
+count_in (Prim (prims.Num n)) = unsigned_abs (integer_of n)
 count_in other = 0
 
 -- a key of such a list, which is a text

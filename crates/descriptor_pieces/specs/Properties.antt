@@ -1,6 +1,7 @@
 -- Properties as built-ins see them: marks that were looked at, and registers.
 use Rattle.std.specs.Prelude.{ℕ, ◌+◌, ◌/◌, ◌%◌, ◌==◌, Bool, false, not, ◌&&◌, ◌||◌, is_some, if◌then◌else◌, List, unsigned_abs, Option, Some, None}
 use Rattle.js_number.specs.declared.primitive.Primitive.TheVariants as prims
+use Rattle.js_number.specs.Number.{integer_of}
 use Rattle.native_protocol.specs.declared.registers.Reg.{Reg}
 use Rattle.native_protocol.specs.declared.request.GivenMarks.{GivenMarks}
 use Rattle.native_protocol.specs.declared.request.Request.{Request}
@@ -44,7 +45,7 @@ marks_of_sum n = record { writable = n % 2 == 1; enumerable = n / 2 % 2 == 1; co
 
 -- what the request `Own` put into the register of marks: undefined where there is no such property
 abbrev pub marks_in : Seen → Option OwnMarks
-marks_in (Prim (prims.Num n)) = Some (marks_of_sum (unsigned_abs n))
+marks_in (Prim (prims.Num n)) = Some (marks_of_sum (unsigned_abs (integer_of n)))
 marks_in other = None
 
 abbrev pub mark_of : OwnMarks → Mark → Bool

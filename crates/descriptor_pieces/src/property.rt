@@ -86,7 +86,7 @@ impl OwnMarks {
     {
         match seen {
             Seen::Prim(Primitive::Num(n)) => {
-                let sum = n.get().unsigned_abs();
+                let sum = n.to_integer().unsigned_abs();
                 Some(OwnMarks {
                     writable: sum % 2 == 1,
                     enumerable: sum / 2 % 2 == 1,

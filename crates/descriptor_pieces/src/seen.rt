@@ -45,7 +45,7 @@ pub fn count(seen: &Seen) -> u64
     ensures { result ≡ count_in seen.now }
 {
     match seen {
-        Seen::Prim(Primitive::Num(n)) => n.get().unsigned_abs(),
+        Seen::Prim(Primitive::Num(n)) => n.to_integer().unsigned_abs(),
         _ => 0,
     }
 }

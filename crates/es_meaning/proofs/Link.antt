@@ -1,6 +1,7 @@
 -- If two records of operations are linked, so are their evaluators: one proof for all readings of a script. What is done with the value of a part
 -- has a lemma of its own, since work that is pending in a machine is that.
 use Rattle.std.proofs.Common.{◌≡◌, ℕ, suc, ◌-◌, Bool, true, false, List, [], ◌∷◌, ◌++◌, length, pos, Option, Some, None, refl, ap, subst}
+use Rattle.js_number.specs.declared.num.Num.TheVariants.{Int}
 use Rattle.js_number.specs.declared.primitive.Primitive.{Primitive}
 use Rattle.js_number.specs.declared.primitive.Primitive.TheVariants.{Undefined, Null, Num, Str}
 use Rattle.js_number.specs.declared.primitive.Primitive.TheVariants as prims
@@ -9,17 +10,18 @@ use Rattle.js_ast.specs.declared.operators.UnaryOperator.TheVariants as unary_op
 use Rattle.js_ast.specs.declared.operators.PostfixOperator.TheVariants as postfix_operator
 use Rattle.js_ast.specs.declared.operators.BinaryOperator.{BinaryOperator}
 use Rattle.js_ast.specs.declared.operators.BinaryOperator.TheVariants as binary_operator
-use Rattle.js_ast.specs.Trees.{Ident, Expr, name, number, string, this, null, boolean, paren, array, object, function, member, index, new_with, new_bare, call, postfix, unary, binary, conditional, assign, comma, Exprs, no_exprs, more_exprs, MaybeExpr, absent, present, value, getter, setter, Properties, no_properties, more_properties, Target, target_expr, target_var, First, first_expr, first_var, Clauses, no_clauses, case, default, Function, Block, block_of, Statement, block, var, empty, expression, if_then, if_else, do_while, while, for, for_in, continue, break, return, throw, switch, labelled, try_catch, try_finally, try_both, debugger, function_declaration, Statements, no_statements, more_statements}
+use Rattle.js_ast.specs.Trees.{Ident, Expr, name, number, string, this, null, boolean, paren, array, object, function, member, index, new_with, new_bare, call, postfix, unary, binary, conditional, assign, comma, Exprs, no_exprs, more_exprs, MaybeExpr, absent, present, Items, no_items, hole, item, value, getter, setter, Properties, no_properties, more_properties, Target, target_expr, target_var, First, first_expr, first_var, Clauses, no_clauses, case, default, Function, Block, block_of, Statement, block, var, empty, expression, if_then, if_else, do_while, while, for, for_in, continue, break, return, throw, switch, labelled, try_catch, try_finally, try_both, debugger, function_declaration, Statements, no_statements, more_statements}
 use Rattle.native_protocol.specs.declared.hint.Hint.{Hint}
 use Rattle.native_protocol.specs.declared.hint.Hint.TheVariants as hint
+use Rattle.native_protocol.specs.declared.request.ErrorKind.TheVariants as error
+use Rattle.native_protocol.specs.declared.request.GivenMarks.{GivenMarks}
 use Rattle.native_protocol.specs.declared.request.Seen.{Seen}
 use Rattle.native_protocol.specs.Steps.{Steps, conversion as conversion_steps}
 use Rattle.es_meaning.specs.Environments.{Env, Leaving, thrown, returned, left_by}
 use Rattle.es_meaning.specs.Directives.{Upgrade, upgrade_of}
 use Rattle.es_meaning.specs.BuiltIns.{BuiltIns, begins_in}
-use Rattle.es_meaning.specs.Operators.{not_built}
-use Rattle.es_meaning.specs.Operations.{Ty, One, Value, Res, Act, object_of, base_needed, object_needed, has_key, Entering, Ops, Use, assigned, updated_by, prefixed, postfixed, asked, valued, deleted, given_text, called, Calling, calls, constructs, Round, Visit, Rec}
-use Rattle.es_meaning.specs.Evaluation.{is_name, is_reference, parts_of, operator_of, assigned_by, Conversion, unconverted, compared, numbers, keyed, primitives, conversion_of, takes_number, discard, give, unary_done, binary_done, compared_left, primitive_left, number_left, has_left, has_right, binary_by, binary_values, unary_by, unary_value, assign_to, assign_giving, postfix_by, prefix_by, postfix_number, prefix_number, postfix_value, prefix_value, binary_right, and_right, or_right, choose_expr, comma_right, compound_done, compound_right, used, with_key, with_base, index_key, index_base, member_base, use_step, read_value, properties, more_values, statements, more_statements_behind, entering, call_with, arguments, more_arguments, call_reference, call_value, construct_value, callee_step, instance_done, instance_right, labels_of, carries_labels, text_of_label, typeof_step, delete_step, unary_step, binary_step, expr_step, variable_list, variables, more_variables, turn_test, tested_by, tested, updated, turned_by, turned_round, turn_step, loop, looped, looped_value, first_step, still_there, visits, visited, visit_body, target_step, visit_turn, visit_step, with_keys, enumerated, falls, falls_on, from_default, case_chosen, case_compared, cases, in_switch, switched, jump_with, return_step, upgraded, behind_expression, choose_stmt, choose_stmts, block_step, handled, unhandled, label_step, named_step, stmt_step}
+use Rattle.es_meaning.specs.Operations.{Ty, One, Value, Res, Act, Shape, object_of, array_of, base_needed, object_needed, has_key, throws_error, Entering, Ops, Use, assigned, updated_by, prefixed, postfixed, asked, valued, deleted, given_text, called, Calling, calls, constructs, Round, Visit, Rec}
+use Rattle.es_meaning.specs.Evaluation.{is_name, is_reference, parts_of, places_of, count_of, operator_of, assigned_by, Conversion, unconverted, compared, numbers, keyed, primitives, conversion_of, takes_number, discard, give, unary_done, binary_done, compared_left, primitive_left, number_left, has_left, has_right, binary_by, binary_values, unary_by, unary_value, assign_to, assign_giving, postfix_by, prefix_by, postfix_number, prefix_number, postfix_value, prefix_value, binary_right, and_right, or_right, choose_expr, comma_right, compound_done, compound_right, used, with_key, with_base, index_key, index_base, member_base, use_step, read_value, items_of, more_items, properties, more_values, statements, more_statements_behind, entering, call_with, arguments, more_arguments, call_reference, call_value, construct_value, callee_step, instance_done, instance_right, labels_of, carries_labels, text_of_label, typeof_step, delete_step, unary_step, binary_step, expr_step, variable_list, variables, more_variables, turn_test, tested_by, tested, updated, turned_by, turned_round, turn_step, loop, looped, looped_value, first_step, still_there, visits, visited, visit_body, target_step, visit_turn, visit_step, with_keys, enumerated, falls, falls_on, from_default, case_chosen, case_compared, cases, in_switch, switched, jump_with, return_step, upgraded, behind_expression, choose_stmt, choose_stmts, block_step, handled, unhandled, label_step, named_step, stmt_step}
 
 -- related results
 abbrev pub Rel : {W V V' : Type 0} → (W → V → V' → Type 0) → (t : Ty) → W → Res V t → Res V' t → Type 0
@@ -91,6 +93,8 @@ pub record Link (A B : Ops) : Type 1 where
   pub put_value : {w : W} {n : A.N} {n' : B.N} {v : A.V} {v' : B.V} {E : Entering A.V A.H A.M} {D : Entering B.V B.H B.M} → RN w n n' → RV w v v' → EnteringLinked W RV RE Lift E D → Lift One w (A.put_value n v E) (B.put_value n' v' D)
   pub property : {w : W} {v u : A.V} {v' u' : B.V} → RV w v v' → RV w u u' → RN w (A.property v u) (B.property v' u')
   pub remove : {w : W} {n : A.N} {n' : B.N} → RN w n n' → Lift Value w (A.remove n) (B.remove n')
+  pub define : {w : W} (key : List ℕ) (marks : GivenMarks) (shape : Shape) {base v g set : A.V} {base' v' g' set' : B.V} {E : Entering A.V A.H A.M} {D : Entering B.V B.H B.M} → RV w base base' → RV w v v' → RV w g g' → RV w set set' → EnteringLinked W RV RE Lift E D
+      → Lift Value w (A.define key marks shape base v g set E) (B.define key marks shape base' v' g' set' D)
   pub this_of : {w : W} {n : A.N} {n' : B.N} → RN w n n' → RV w (A.this_of n) (B.this_of n')
   pub instance : {w : W} {v f : A.V} {v' f' : B.V} {E : Entering A.V A.H A.M} {D : Entering B.V B.H B.M} → RV w v v' → RV w f f' → EnteringLinked W RV RE Lift E D → Lift Value w (A.instance v f E) (B.instance v' f' D)
   -- scopes
@@ -238,7 +242,7 @@ module _ (A B : Ops) (K : Link A B) where
 
     pub postfix_by_linked : (o : BinaryOperator) {w : K.W} {n : A.N} {n' : B.N} {v : A.V} {v' : B.V} → K.RN w n n' → K.RV w v v' → K.Lift Value w (postfix_by A E o n v) (postfix_by B D o n' v')
     unfolding postfix_by
-    postfix_by_linked o {w = w} rn rv = K.bind Value Value _ _ (K.binary o rv (K.literal w (Num (pos 1)))) λ w1 l1 a b r. assign_giving_linked (K.more_n l1 rn) (K.more_v l1 rv) r
+    postfix_by_linked o {w = w} rn rv = K.bind Value Value _ _ (K.binary o rv (K.literal w (Num (Int (pos 1))))) λ w1 l1 a b r. assign_giving_linked (K.more_n l1 rn) (K.more_v l1 rv) r
 
     pub postfix_number_linked : (o : BinaryOperator) {w : K.W} {n : A.N} {n' : B.N} {v : A.V} {v' : B.V} → K.RN w n n' → K.RV w v v' → K.Lift Value w (postfix_number A E o n v) (postfix_number B D o n' v')
     unfolding postfix_number
@@ -250,7 +254,7 @@ module _ (A B : Ops) (K : Link A B) where
 
     pub prefix_by_linked : (o : BinaryOperator) {w : K.W} {n : A.N} {n' : B.N} {v : A.V} {v' : B.V} → K.RN w n n' → K.RV w v v' → K.Lift Value w (prefix_by A E o n v) (prefix_by B D o n' v')
     unfolding prefix_by
-    prefix_by_linked o {w = w} rn rv = K.bind Value Value _ _ (K.binary o rv (K.literal w (Num (pos 1)))) λ w1 l1 a b r. assign_to_linked (K.more_n l1 rn) r
+    prefix_by_linked o {w = w} rn rv = K.bind Value Value _ _ (K.binary o rv (K.literal w (Num (Int (pos 1))))) λ w1 l1 a b r. assign_to_linked (K.more_n l1 rn) r
 
     pub prefix_number_linked : (o : BinaryOperator) {w : K.W} {n : A.N} {n' : B.N} {v : A.V} {v' : B.V} → K.RN w n n' → K.RV w v v' → K.Lift Value w (prefix_number A E o n v) (prefix_number B D o n' v')
     unfolding prefix_number
@@ -367,29 +371,40 @@ module _ (A B : Ops) (K : Link A B) where
       unfolding use_step
       use_linked use_as (name at text) w i j p = K.resolve Value text _ _ p λ w1 l1 n n' rn. used_linked use_as (K.more_p l1 p) rn
       use_linked use_as (paren at e) w i j p = h.use_of use_as e w i j p
-      use_linked use_as (number there n) w i j p = K.leave Value w not_built
-      use_linked use_as (string there text v) w i j p = K.leave Value w not_built
-      use_linked use_as (this there) w i j p = K.leave Value w not_built
-      use_linked use_as (null there) w i j p = K.leave Value w not_built
-      use_linked use_as (boolean there b) w i j p = K.leave Value w not_built
-      use_linked use_as (array there is final) w i j p = K.leave Value w not_built
-      use_linked use_as (object there ps final) w i j p = K.leave Value w not_built
-      use_linked use_as (function there f) w i j p = K.leave Value w not_built
+      use_linked use_as (number there n) w i j p = K.act (throws_error error.ReferenceError) nils
+      use_linked use_as (string there text v) w i j p = K.act (throws_error error.ReferenceError) nils
+      use_linked use_as (this there) w i j p = K.act (throws_error error.ReferenceError) nils
+      use_linked use_as (null there) w i j p = K.act (throws_error error.ReferenceError) nils
+      use_linked use_as (boolean there b) w i j p = K.act (throws_error error.ReferenceError) nils
+      use_linked use_as (array there is final) w i j p = K.act (throws_error error.ReferenceError) nils
+      use_linked use_as (object there ps final) w i j p = K.act (throws_error error.ReferenceError) nils
+      use_linked use_as (function there f) w i j p = K.act (throws_error error.ReferenceError) nils
       use_linked use_as (member there e text) w i j p = K.bind Value Value _ _ (h.expr e w i j p) λ w1 l1 b b' rb. member_base_linked use_as text (K.more_p l1 p) rb
       use_linked use_as (index there e n) w i j p = K.bind Value Value _ _ (h.expr e w i j p) λ w1 l1 b b' rb. index_base_linked use_as n (K.more_p l1 p) rb
-      use_linked use_as (new_with there e fs) w i j p = K.leave Value w not_built
-      use_linked use_as (new_bare there e) w i j p = K.leave Value w not_built
-      use_linked use_as (call there e fs) w i j p = K.leave Value w not_built
-      use_linked use_as (postfix there e o) w i j p = K.leave Value w not_built
-      use_linked use_as (unary there o e) w i j p = K.leave Value w not_built
-      use_linked use_as (binary there l o r) w i j p = K.leave Value w not_built
-      use_linked use_as (conditional there c a b) w i j p = K.leave Value w not_built
-      use_linked use_as (assign there l o r) w i j p = K.leave Value w not_built
-      use_linked use_as (comma there l r) w i j p = K.leave Value w not_built
+      use_linked use_as (new_with there e fs) w i j p = K.act (throws_error error.ReferenceError) nils
+      use_linked use_as (new_bare there e) w i j p = K.act (throws_error error.ReferenceError) nils
+      use_linked use_as (call there e fs) w i j p = K.act (throws_error error.ReferenceError) nils
+      use_linked use_as (postfix there e o) w i j p = K.act (throws_error error.ReferenceError) nils
+      use_linked use_as (unary there o e) w i j p = K.act (throws_error error.ReferenceError) nils
+      use_linked use_as (binary there l o r) w i j p = K.act (throws_error error.ReferenceError) nils
+      use_linked use_as (conditional there c a b) w i j p = K.act (throws_error error.ReferenceError) nils
+      use_linked use_as (assign there l o r) w i j p = K.act (throws_error error.ReferenceError) nils
+      use_linked use_as (comma there l r) w i j p = K.act (throws_error error.ReferenceError) nils
 
       callee_linked : (b : Bool) (e : Expr) (es : Exprs) (w : K.W) (i j : ℕ) → K.RP w i j → K.Lift Value w (callee_step A E R b e es i) (callee_step B D Q b e es j)
       callee_linked true e es w i j p = h.use_of (called es) e w i j p
       callee_linked false e es w i j p = K.bind Value Value _ _ (h.expr e w i j p) λ w1 l1 f f' rf. call_value_linked es (K.more_p l1 p) rf
+
+      items_linked : (act : Act) (items : Items) {w : K.W} {i j : ℕ} {vs : List A.V} {us : List B.V} → K.RP w i j → Rels (K.RV w) vs us → K.Lift Value w (items_of A E R act vs items i) (items_of B D Q act us items j)
+      unfolding items_of
+      items_linked act no_items p rs = K.act act rs
+      items_linked act (hole items) p rs = items_linked act items p rs
+      items_linked act (item e items) p rs = K.bind Value Value _ _ (h.expr e _ _ _ p) λ w1 l1 v v' rv. items_linked act items (K.more_p l1 p) (one_more (more_rels l1 rs) rv)
+
+      pub more_items_linked : (act : Act) (items : Items) {w : K.W} {i j : ℕ} {vs : List A.V} {us : List B.V} {v : A.V} {v' : B.V} → K.RP w i j → Rels (K.RV w) vs us → K.RV w v v'
+          → K.Lift Value w (more_items A E R act vs items i v) (more_items B D Q act us items j v')
+      unfolding more_items
+      more_items_linked act items p rs rv = items_linked act items p (one_more rs rv)
 
       properties_linked : (act : Act) (ps : Properties) {w : K.W} {i j : ℕ} {vs : List A.V} {us : List B.V} → K.RP w i j → Rels (K.RV w) vs us → K.Lift Value w (properties A E R act vs ps i) (properties B D Q act us ps j)
       unfolding properties
@@ -458,13 +473,13 @@ module _ (A B : Ops) (K : Link A B) where
       pub expr_linked : (e : Expr) (w : K.W) (i j : ℕ) → K.RP w i j → K.Lift Value w (expr_step A E R e i) (expr_step B D Q e j)
       unfolding expr_step
       expr_linked (name at text) w i j p = K.resolve Value text _ _ p λ w1 l1 n n' rn. read_value_linked rn
-      expr_linked (number at n) w i j p = K.ret_value (K.literal w (Num n))
+      expr_linked (number at n) w i j p = K.ret_value (K.literal w (Num (Int n)))
       expr_linked (string at text v) w i j p = K.ret_value (K.literal w (Str v))
       expr_linked (this at) w i j p = K.resolve Value _ _ _ p λ w1 l1 n n' rn. read_value_linked rn
       expr_linked (null at) w i j p = K.ret_value (K.literal w Null)
       expr_linked (boolean at b) w i j p = K.ret_value (K.literal w (prims.Bool b))
       expr_linked (paren at e) w i j p = h.expr e w i j p
-      expr_linked (array at is final) w i j p = K.leave Value w not_built
+      expr_linked (array at items final) w i j p = items_linked (array_of (places_of 0 items) (count_of items)) items p nils
       expr_linked (object at ps final) w i j p = properties_linked (object_of (parts_of ps)) ps p nils
       expr_linked (function at f) w i j p = K.function f p
       expr_linked (member at e text) w i j p = K.bind Value Value _ _ (h.expr e w i j p) λ w1 l1 b b' rb. member_base_linked valued text (K.more_p l1 p) rb
@@ -654,7 +669,7 @@ module _ (A B : Ops) (K : Link A B) where
 
       pub handled_linked : (ident : Ident) (b : Block) {w : K.W} {e : Env A.H} {d : Env B.H} {v : A.V} {v' : B.V} → K.RE w e d → K.RV w v v' → K.Lift One w (handled A E R ident b e v) (handled B D Q ident b d v')
       unfolding handled
-      handled_linked ident b r rv = K.declare ident.text _ _ rv r λ w1 l1 e' d' r'. block_linked b r'
+      handled_linked ident b r rv = K.declare ident.text _ _ rv r λ w1 l1 e' d' r'. h.stmt (block b) w1 e' d' r'
 
       unhandled_linked : {w : K.W} {v : A.V} {v' : B.V} → K.RV w v v' → K.Lift One w (unhandled A E R v) (unhandled B D Q v')
       unfolding unhandled
@@ -706,8 +721,8 @@ module _ (A B : Ops) (K : Link A B) where
       stmt_linked (break at label semi) w e d r = K.jump (left_by false (text_of_label label)) r (K.literal w Undefined)
       stmt_linked (return at c semi) w e d r = return_linked c r
       stmt_linked (throw at c semi) w e d r = K.bind Value One _ _ (h.expr c w _ _ (K.place_of r)) λ w1 l1 v v' rv. jump_with_linked thrown (K.more_e l1 r) rv
-      stmt_linked (try_catch at b ident handler) w e d r = K.attempt true false _ _ (λ w1 l1. block_linked b (K.more_e l1 r)) (λ w1 l1 v v' rv. handled_linked ident handler (K.more_e l1 r) rv) (λ w1 l1. K.ret_one w1)
-      stmt_linked (try_finally at b last) w e d r = K.attempt false true _ _ (λ w1 l1. block_linked b (K.more_e l1 r)) (λ w1 l1 v v' rv. unhandled_linked rv) (λ w1 l1. block_linked last (K.more_e l1 r))
-      stmt_linked (try_both at b ident handler last) w e d r = K.attempt true true _ _ (λ w1 l1. block_linked b (K.more_e l1 r)) (λ w1 l1 v v' rv. handled_linked ident handler (K.more_e l1 r) rv) (λ w1 l1. block_linked last (K.more_e l1 r))
+      stmt_linked (try_catch at b ident handler) w e d r = K.attempt true false _ _ (λ w1 l1. h.stmt (block b) w1 _ _ (K.more_e l1 r)) (λ w1 l1 v v' rv. handled_linked ident handler (K.more_e l1 r) rv) (λ w1 l1. K.ret_one w1)
+      stmt_linked (try_finally at b last) w e d r = K.attempt false true _ _ (λ w1 l1. h.stmt (block b) w1 _ _ (K.more_e l1 r)) (λ w1 l1 v v' rv. unhandled_linked rv) (λ w1 l1. h.stmt (block last) w1 _ _ (K.more_e l1 r))
+      stmt_linked (try_both at b ident handler last) w e d r = K.attempt true true _ _ (λ w1 l1. h.stmt (block b) w1 _ _ (K.more_e l1 r)) (λ w1 l1 v v' rv. handled_linked ident handler (K.more_e l1 r) rv) (λ w1 l1. h.stmt (block last) w1 _ _ (K.more_e l1 r))
       stmt_linked (debugger at semi) w e d r = K.ret_one w
       stmt_linked (function_declaration at f) w e d r = K.ret_one w

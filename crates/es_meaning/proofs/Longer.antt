@@ -2,6 +2,8 @@
 use Rattle.std.proofs.Common.{◌≡◌, ℕ, zero, suc, ◌+◌, ◌-◌, ◌≤◌, List, [], ◌∷◌, Bool, true, false, length, Option, Some, None, Result, Ok, Err, slice_get, ◌&&◌, refl, ap, ap₂, subst, arith}
 use Rattle.flow_policy.specs.Policies.{Tables}
 use Rattle.flow_policy.specs.Inputs.{Given}
+use Rattle.js_number.specs.declared.int.LeftNumbers.{LeftNumbers}
+use Rattle.js_number.specs.declared.num.Num.{Num as Number}
 use Rattle.js_number.specs.declared.primitive.Primitive.{Primitive}
 use Rattle.js_number.specs.declared.primitive.Primitive.TheVariants.{Undefined, Null, Num, Str}
 use Rattle.js_number.specs.declared.primitive.Primitive.TheVariants as prims
@@ -11,6 +13,7 @@ use Rattle.js_values.specs.declared.ids.ObjId.{ObjId}
 use Rattle.js_values.specs.declared.inner.Class.{Class}
 use Rattle.js_values.specs.Objects.{Property, PlainObject}
 use Rattle.js_values.specs.Records.{Binding}
+use Rattle.js_values.specs.Arrays.{is_length}
 use Rattle.js_values.specs.Walks.{plain_chain, plain_find}
 use Rattle.js_ast.specs.Trees.{Function, Statements}
 use Rattle.js_ast.specs.Functions.{FunctionCode, functions_of}
@@ -23,15 +26,17 @@ use Rattle.es_meaning.specs.Environments.{Env, with_around, with_place, aimed}
 use Rattle.es_meaning.specs.BuiltIns.{BuiltIns}
 use Rattle.es_meaning.specs.Holders.{constructs_in}
 use Rattle.es_meaning.specs.Functions.{Callee, not_callable, empty_callee, of_script, of_built_in, Target}
-use Rattle.es_meaning.specs.Operations.{Ty, One, Res, Part, Shape, Act, object_of, base_needed, object_needed, has_key, throws_error, own_property, define, own_keys, prototype_of_object, is_extensible, prevent_extensions, new_object, bind, read_line, print_line, join_label, raise_structure, raise_existence, Ops}
+use Rattle.es_meaning.specs.Operations.{Ty, One, Res, Part, Shape, Act, object_of, array_of, base_needed, object_needed, has_key, throws_error, own_property, own_keys, prototype_of_object, is_extensible, prevent_extensions, new_object, bind, read_line, print_line, join_label, raise_structure, raise_existence, Ops}
 use Rattle.es_meaning.specs.Operations.{Value as a_value}
 use Rattle.es_meaning.specs.Operators.{truth, converts_beside, unary_of, binary_of}
 use Rattle.es_meaning.specs.Evaluation.{program_step}
 use Rattle.es_meaning.specs.Laws.{MoreTurns}
-use Rattle.es_meaning.specs.Objects.{Plan, writes, adds, refuses, calls, can_put, own_in}
+use Rattle.es_meaning.specs.Objects.{Plan, writes, adds, refuses, calls, can_put, is_length_in, own_in}
+use Rattle.es_meaning.specs.Definitions.{GivenBody, setter_in}
+use Rattle.es_meaning.specs.Primitives.{own_value_of}
 use Rattle.es_meaning.specs.Start.{global_object}
-use Rattle.es_meaning.specs.Requested.{is_function_in, is_function_at, is_array, are_origins, target_of}
-use Rattle.es_meaning.specs.Plain.{State, Jump, P, Place, in_record, on_global, nowhere, Reference, of_name, of_property, resolved, binding_at, given, seen, throw_error, bound, Access, has_value, has_getter, found_globally, property_of, as_access, named, accessed, accessed_for_typeof, assigned, assigned_to, Putting, is_put, has_setter, put_by, put_on, is_element_of, put, put_property, as_putting, put_named, put_value, removed_if, removed_own, remove, make_object, needed, has, on_object, define_by, define_in, define_on, made_new, make_new, bind_to, if_origins, key_list, with_list, choose, spend, leaves_it, ended_round, make_function, callee_at, with_call, is_return, ended_call, Enters, entered, call_target, call, prototype_of, with_fresh, ended_construction, constructed, construct_target, construct, entered_access, entered_putting, converted, converted_if, prototype_name, is_instance, instance_of, instance_if, instance, jumps_to, is_throw, handled_throw, finished, attempt, read_channel, print_text, print_channel, with_origins, act, raised_by, named_origins, may_declare, plain, timed, outermost_env, start, run_of, plain_run}
+use Rattle.es_meaning.specs.Requested.{is_function_in, is_function_at, given_body, are_origins, target_of}
+use Rattle.es_meaning.specs.Plain.{State, Jump, P, Place, in_record, on_global, nowhere, Reference, of_name, of_property, resolved, binding_at, given, seen, throw_error, bound, Access, has_value, has_getter, found_globally, property_of, as_access, named, accessed, accessed_for_typeof, assigned, assigned_to, Putting, is_put, has_setter, has_length, overwritten, put_by, put, setter_or_refused, put_beyond, put_on_primitive, primitive_chain, put_property, as_putting, put_named, put_value, removed_if, removed_own, removed_of_primitive, remove, make_object, make_array, needed, has, on_object, Defining, is_defined, has_length_given, define_by, define_given, define_in, defining, ended_at, cut_length, set_length_to, set_length_in, set_length, numbered_by, numbered, number_in, is_count, count_of, make_new, make_new_by, list_keys, bind_to, if_origins, key_list, with_list, choose, spend, leaves_it, ended_round, make_function, callee_at, with_call, is_return, ended_call, Enters, entered, call_target, call, prototype_of, with_fresh, ended_construction, constructed, construct_target, construct, entered_access, entered_putting, converted, given_count, with_count, entered_defining, converted_if, prototype_name, is_instance, instance_of, instance_if, instance, jumps_to, is_throw, handled_throw, finished, attempt, read_channel, print_text, print_channel, with_origins, act, raised_by, named_origins, may_declare, plain, timed, outermost_env, start, run_of, plain_run}
 use Rattle.es_meaning.proofs.Link.{Rels, nils, conses, Rel, EnteringLinked, Link}
 use Rattle.es_meaning.proofs.RequestLinks.{program_longer}
 
@@ -152,7 +157,7 @@ module _ (k : ℕ) where
   -- of a property of a value
   property_on : (v : Value) (key : List ℕ) → On Access (property_of v key) (property_of v key)
   unfolding property_of
-  property_on (value.Primitive p) key = record { on = λ s. ends }
+  property_on (value.Primitive p) key = record { on = λ s. goes }
   property_on (value.Object o) key = record { on = λ s. goes }
 
   named_on : (place : Place) (x : List ℕ) → On Access (named place x) (named place x)
@@ -193,26 +198,41 @@ module _ (k : ℕ) where
   as_putting_on l = bind_longer _ _ l (λ u. record { on = λ s. goes })
 
   -- a put, as is planned
+  overwritten_on : (is_length : Bool) (o : ℕ) (key : List ℕ) (v : Value) → On Putting (overwritten is_length o key v) (overwritten is_length o key v)
+  unfolding overwritten
+  overwritten_on true o key v = record { on = λ s. goes }
+  overwritten_on false o key v = record { on = λ s. goes }
+
   put_by_on : (plan : Plan) (o : ℕ) (key : List ℕ) (v : Value) → On Putting (put_by plan o key v) (put_by plan o key v)
   unfolding put_by
-  put_by_on writes o key v = record { on = λ s. goes }
+  put_by_on writes o key v = record { on = λ s. (overwritten_on (is_length_in key (slice_get s.heap o)) o key v).on s }
   put_by_on adds o key v = record { on = λ s. goes }
   put_by_on refuses o key v = record { on = λ s. (throw_on Putting _).on s }
   put_by_on (calls f) o key v = record { on = λ s. goes }
 
-  put_on_on : (element : Bool) (o : ℕ) (key : List ℕ) (v : Value) → On Putting (put_on element o key v) (put_on element o key v)
-  unfolding put_on
-  put_on_on true o key v = record { on = λ s. ends }
-  put_on_on false o key v = record { on = λ s. (put_by_on (can_put key (plain_chain s.heap o)) o key v).on s }
-
-  -- for an object, for a value, and for a name
+  -- for an object, for a primitive value, for a value, and for a name
   put_object_on : (o : ℕ) (key : List ℕ) (v : Value) → On Putting (put o key v) (put o key v)
   unfolding put
-  put_object_on o key v = record { on = λ s. (put_on_on (is_element_of (slice_get s.heap o) key) o key v).on s }
+  put_object_on o key v = record { on = λ s. (put_by_on (can_put key (plain_chain s.heap o)) o key v).on s }
+
+  setter_on : (f : Option ObjId) (base : Value) → On Putting (setter_or_refused f base) (setter_or_refused f base)
+  unfolding setter_or_refused
+  setter_on None base = record { on = λ s. (throw_on Putting _).on s }
+  setter_on (Some f) base = record { on = λ s. goes }
+
+  put_beyond_on : (base : Value) (f : Option (ℕ × Property)) → On Putting (put_beyond base f) (put_beyond base f)
+  unfolding put_beyond
+  put_beyond_on base None = record { on = λ s. (throw_on Putting _).on s }
+  put_beyond_on base (Some f) = record { on = λ s. (setter_on (setter_in f.1.body) base).on s }
+
+  put_on_primitive_on : (own : Option Primitive) (p : Primitive) (key : List ℕ) → On Putting (put_on_primitive own p key) (put_on_primitive own p key)
+  unfolding put_on_primitive
+  put_on_primitive_on (Some v) p key = record { on = λ s. (throw_on Putting _).on s }
+  put_on_primitive_on None p key = record { on = λ s. (put_beyond_on (value.Primitive p) (plain_find key (primitive_chain s.heap p))).on s }
 
   put_property_on : (base : Value) (key : List ℕ) (v : Value) → On Putting (put_property base key v) (put_property base key v)
   unfolding put_property
-  put_property_on (value.Primitive p) key v = record { on = λ s. ends }
+  put_property_on (value.Primitive p) key v = record { on = λ s. (put_on_primitive_on (own_value_of p key) p key).on s }
   put_property_on (value.Object o) key v = record { on = λ s. (put_object_on o.0 key v).on s }
 
   put_named_on : (place : Place) (x : List ℕ) (v : Value) → On Putting (put_named place x v) (put_named place x v)
@@ -237,10 +257,15 @@ module _ (k : ℕ) where
   removed_own_on None o key = record { on = λ s. goes }
   removed_own_on (Some p) o key = record { on = λ s. (removed_if_on p.marks.configurable o key).on s }
 
+  removed_of_primitive_on : (own : Option Primitive) → On Value (removed_of_primitive own) (removed_of_primitive own)
+  unfolding removed_of_primitive
+  removed_of_primitive_on None = record { on = λ s. goes }
+  removed_of_primitive_on (Some v) = record { on = λ s. (throw_on Value _).on s }
+
   remove_on : (n : Reference) → On Value (remove n) (remove n)
   unfolding remove
-  remove_on (of_name x place) = record { on = λ s. ends }
-  remove_on (of_property (value.Primitive p) key) = record { on = λ s. ends }
+  remove_on (of_name x place) = record { on = λ s. (throw_on Value _).on s }
+  remove_on (of_property (value.Primitive p) key) = record { on = λ s. (removed_of_primitive_on (own_value_of p key)).on s }
   remove_on (of_property (value.Object o) key) = record { on = λ s. (removed_own_on (own_in key (slice_get s.heap o.0)) o.0 key).on s }
 
   -- ---- acts
@@ -252,12 +277,16 @@ module _ (k : ℕ) where
 
   has_on : (key : List ℕ) (v : Value) → On Value (has key v) (has key v)
   unfolding has
-  has_on key (value.Primitive p) = record { on = λ s. ends }
+  has_on key (value.Primitive p) = record { on = λ s. goes }
   has_on key (value.Object o) = record { on = λ s. goes }
 
   make_on : (parts : List (Part × List ℕ)) (vs : List Value) → On Value (make_object parts vs) (make_object parts vs)
   unfolding make_object
   make_on parts vs = record { on = λ s. goes }
+
+  make_array_on : (places : List ℕ) (n : ℕ) (vs : List Value) → On Value (make_array places n vs) (make_array places n vs)
+  unfolding make_array
+  make_array_on places n vs = record { on = λ s. goes }
 
   -- on an object
   object_on : {X : Type 0} (v : Value) (f g : ℕ → P X) → ((o : ℕ) → On X (f o) (g o)) → On X (on_object v f) (on_object v g)
@@ -266,28 +295,72 @@ module _ (k : ℕ) where
   object_on (value.Object o) f g h = record { on = λ s. (h o.0).on s }
 
   -- a definition
-  define_by_on : (o : ℕ) (key : List ℕ) (p : Option Property) → On Value (define_by o key p) (define_by o key p)
+  define_by_on : (o : ℕ) (key : List ℕ) (p : Option Property) → On Defining (define_by o key p) (define_by o key p)
   unfolding define_by
-  define_by_on o key None = record { on = λ s. (throw_on Value _).on s }
+  define_by_on o key None = record { on = λ s. (throw_on Defining _).on s }
   define_by_on o key (Some p) = record { on = λ s. goes }
 
-  define_in_on : (p : Option PlainObject) (o : ℕ) (key : List ℕ) (marks : GivenMarks) (shape : Shape) (v get set : Value) → On Value (define_in p o key marks shape v get set) (define_in p o key marks shape v get set)
+  define_given_on : (p : PlainObject) (o : ℕ) (key : List ℕ) (marks : GivenMarks) (shape : Shape) (body : Option GivenBody) → On Defining (define_given p o key marks shape body) (define_given p o key marks shape body)
+  unfolding define_given
+  define_given_on p o key marks shape None = record { on = λ s. (throw_on Defining _).on s }
+  define_given_on p o key marks shape (Some body) = record { on = λ s. (choose_longer (is_length p.class key && shape.has_value) (record { on = λ t. goes }) (define_by_on o key _)).on s }
+
+  define_in_on : (p : Option PlainObject) (o : ℕ) (key : List ℕ) (marks : GivenMarks) (shape : Shape) (v get set : Value) → On Defining (define_in p o key marks shape v get set) (define_in p o key marks shape v get set)
   unfolding define_in
-  define_in_on None o key marks shape v get set = record { on = λ s. (throw_on Value _).on s }
-  define_in_on (Some p) o key marks shape v get set = record { on = λ s. (choose_longer (is_array p.class) (record { on = λ t. ends }) (define_by_on o key _)).on s }
+  define_in_on None o key marks shape v get set = record { on = λ s. (throw_on Defining _).on s }
+  define_in_on (Some p) o key marks shape v get set = record { on = λ s. (define_given_on p o key marks shape (given_body s.heap marks shape v get set)).on s }
 
-  define_on_on : (o : ℕ) (key : List ℕ) (marks : GivenMarks) (shape : Shape) (v get set : Value) → On Value (define_on o key marks shape v get set) (define_on o key marks shape v get set)
-  unfolding define_on
-  define_on_on o key marks shape v get set = record { on = λ s. (define_in_on (slice_get s.heap o) o key marks shape v get set).on s }
+  defining_on : (key : List ℕ) (marks : GivenMarks) (shape : Shape) (base v get set : Value) → On Defining (defining key marks shape base v get set) (defining key marks shape base v get set)
+  unfolding defining
+  defining_on key marks shape base v get set = object_on base _ _ (λ o. record { on = λ s. (define_in_on (slice_get s.heap o) o key marks shape v get set).on s })
 
-  -- a new object, and a bound function
-  made_new_on : (c : Class) (proto : Option ObjId) → On Value (made_new c proto) (made_new c proto)
-  unfolding made_new
-  made_new_on c proto = record { on = λ s. goes }
+  -- the `length` of an array is given a number
+  ended_at_on : (stays : Option ℕ) → On Value (ended_at stays) (ended_at stays)
+  unfolding ended_at
+  ended_at_on None = record { on = λ s. goes }
+  ended_at_on (Some i) = record { on = λ s. (throw_on Value _).on s }
 
+  set_length_to_on : (o n : ℕ) (q : PlainObject) (p : Option Property) → On Value (set_length_to o n q p) (set_length_to o n q p)
+  unfolding set_length_to cut_length
+  set_length_to_on o n q None = record { on = λ s. (throw_on Value _).on s }
+  set_length_to_on o n q (Some p) = record { on = λ s. (ended_at_on _).on _ }
+
+  set_length_in_on : (p : Option PlainObject) (o : ℕ) (marks : GivenMarks) (n : ℕ) → On Value (set_length_in p o marks n) (set_length_in p o marks n)
+  unfolding set_length_in
+  set_length_in_on None o marks n = record { on = λ s. (throw_on Value _).on s }
+  set_length_in_on (Some p) o marks n = record { on = λ s. (set_length_to_on o n p _).on s }
+
+  set_length_on : (o : ℕ) (marks : GivenMarks) (n : ℕ) → On Value (set_length o marks n) (set_length o marks n)
+  unfolding set_length
+  set_length_on o marks n = record { on = λ s. (set_length_in_on (slice_get s.heap o) o marks n).on s }
+
+  -- a number, or the run leaves
+  numbered_by_on : (r : Result Number LeftNumbers) → On Number (numbered_by r) (numbered_by r)
+  unfolding numbered_by
+  numbered_by_on (Ok n) = record { on = λ s. goes }
+  numbered_by_on (Err e) = record { on = λ s. ends }
+
+  numbered_on : (v : Value) → On Number (numbered v) (numbered v)
+  unfolding numbered
+  numbered_on v = numbered_by_on (number_in v)
+
+  given_count_on : (b : Bool) (n : ℕ) (f g : ℕ → P Value) → ((n : ℕ) → On Value (f n) (g n)) → On Value (given_count b n f) (given_count b n g)
+  unfolding given_count
+  given_count_on true n f g h = record { on = λ s. (h n).on s }
+  given_count_on false n f g h = record { on = λ s. (throw_on Value _).on s }
+
+  -- a new object, the own keys of one, and a bound function
   make_new_on : (c : Class) (proto : Option ObjId) → On Value (make_new c proto) (make_new c proto)
   unfolding make_new
-  make_new_on c proto = record { on = λ s. (choose_longer (is_array c) (record { on = λ t. ends }) (made_new_on c proto)).on s }
+  make_new_on c proto = record { on = λ s. goes }
+
+  make_new_by_on : (c : Class) (v : Value) → On Value (make_new_by c v) (make_new_by c v)
+  unfolding make_new_by
+  make_new_by_on c v = record { on = λ s. (make_new_on c _).on s }
+
+  list_keys_on : (all : Bool) (o : ℕ) → On Value (list_keys all o) (list_keys all o)
+  unfolding list_keys
+  list_keys_on all o = record { on = λ s. goes }
 
   bind_to_on : (is_function : Bool) (target this : Value) (args : List Value) → On Value (bind_to is_function target this args) (bind_to is_function target this args)
   unfolding bind_to
@@ -392,15 +465,27 @@ module _ (k : ℕ) where
   access_on functions (has_value v) h = record { on = λ s. goes }
   access_on functions (has_getter f this) h = record { on = λ s. (call_on functions (value.Object f) this [] h).on s }
 
-  putting_on : (functions : List FunctionCode) (v : Value) (p : Putting) {E D : Enters} → Alike E D → On (Unit {0}) (entered_putting functions E v p) (entered_putting functions D v p)
-  unfolding entered_putting
-  putting_on functions v is_put h = record { on = λ s. goes }
-  putting_on functions v (has_setter f this) h = record { on = λ s. (bind_longer _ _ (call_on functions (value.Object f) this (v ∷ []) h) (λ u. record { on = λ t. goes })).on s }
-
   converted_on : (kind : Hint) (v : Value) {E D : Enters} → Alike E D → On Value (converted E kind v) (converted D kind v)
   unfolding converted
   converted_on kind (value.Primitive p) h = record { on = λ s. goes }
   converted_on kind (value.Object o) h = record { on = λ s. (h.conversion tt kind _ _ refl).on s }
+
+  -- a value for the `length` of an array
+  with_count_on : (v : Value) (f g : ℕ → P Value) → ((n : ℕ) → On Value (f n) (g n)) → {E D : Enters} → Alike E D → On Value (with_count E v f) (with_count D v g)
+  unfolding with_count
+  with_count_on v f g next h = bind_longer _ _ (bind_longer _ _ (converted_on hint.Number v h) numbered_on) λ m.
+      bind_longer _ _ (bind_longer _ _ (converted_on hint.Number v h) numbered_on) λ n. given_count_on (is_count m n) (count_of m) f g next
+
+  defining_ends_on : (v : Value) (d : Defining) {E D : Enters} → Alike E D → On Value (entered_defining E v d) (entered_defining D v d)
+  unfolding entered_defining
+  defining_ends_on v is_defined h = record { on = λ s. goes }
+  defining_ends_on v (has_length_given o marks) h = record { on = λ s. (with_count_on v _ _ (set_length_on o marks) h).on s }
+
+  putting_on : (functions : List FunctionCode) (v : Value) (p : Putting) {E D : Enters} → Alike E D → On (Unit {0}) (entered_putting functions E v p) (entered_putting functions D v p)
+  unfolding entered_putting
+  putting_on functions v is_put h = record { on = λ s. goes }
+  putting_on functions v (has_setter f this) h = record { on = λ s. (bind_longer _ _ (call_on functions (value.Object f) this (v ∷ []) h) (λ u. record { on = λ t. goes })).on s }
+  putting_on functions v (has_length o) h = record { on = λ s. (bind_longer _ _ (with_count_on v _ _ (set_length_on o _) h) (λ u. record { on = λ t. goes })).on s }
 
   converted_if_on : (converts : Bool) (v : Value) {E D : Enters} → Alike E D → On Value (converted_if converts E v) (converted_if converts D v)
   unfolding converted_if
@@ -501,18 +586,18 @@ module _ (k : ℕ) where
     act_on : (f : Act) (vs : List Value) → On Value (act tables inputs f vs) (act tables inputs f vs)
     unfolding act
     act_on (object_of parts) vs = make_on parts vs
+    act_on (array_of places n) vs = make_array_on places n vs
     act_on base_needed vs = needed_on _ _
     act_on object_needed vs = needed_on _ _
     act_on has_key vs = has_on _ _
     act_on (throws_error kind) vs = throw_on Value kind
     act_on (own_property part key) vs = object_on _ _ _ (λ o. record { on = λ s. goes })
-    act_on (define key marks shape) vs = object_on _ _ _ (λ o. define_on_on o key marks shape _ _ _)
-    act_on (own_keys all) vs = object_on _ _ _ (λ o. record { on = λ s. ends })
+    act_on (own_keys all) vs = object_on _ _ _ (λ o. list_keys_on all o)
     act_on prototype_of_object vs = object_on _ _ _ (λ o. record { on = λ s. goes })
     act_on is_extensible vs = object_on _ _ _ (λ o. record { on = λ s. goes })
     act_on prevent_extensions vs = object_on _ _ _ (λ o. record { on = λ s. goes })
     act_on (new_object c false) vs = make_new_on c _
-    act_on (new_object c true) vs = make_new_on c _
+    act_on (new_object c true) vs = make_new_by_on c _
     act_on bind vs = record { on = λ s. (bind_to_on (is_function_at s.heap _) _ _ _).on s }
     act_on read_line vs = read_on _
     act_on print_line vs = print_on _ _
@@ -565,6 +650,9 @@ module _ (k : ℕ) where
         put_value = λ {n = n} {v = v} {v' = v'} {E = E} {D = D} r q h. at_equal (λ x. A.put_value x v E) (λ x. A.put_value x v' D) r
             (at_equal (λ x. A.put_value n x E) (λ x. A.put_value n x D) q (bind_longer _ _ (put_value_on n v) (λ p. putting_on functions v p h)));
         remove = λ {n = n} r. at_equal A.remove A.remove r (remove_on n);
+        define = λ key marks shape {base = b} {v = v} {g = g} {set = q} {base' = b'} {v' = v'} {g' = g'} {set' = q'} {E = E} {D = D} rb rv rg rq h. at_equal (λ x. A.define key marks shape x v g q E) (λ x. A.define key marks shape x v' g' q' D) rb
+            (at_equal (λ x. A.define key marks shape b x g q E) (λ x. A.define key marks shape b x g' q' D) rv (at_equal (λ x. A.define key marks shape b v x q E) (λ x. A.define key marks shape b v x q' D) rg
+            (at_equal (λ x. A.define key marks shape b v g x E) (λ x. A.define key marks shape b v g x D) rq (bind_longer _ _ (defining_on key marks shape b v g q) (λ d. defining_ends_on v d h)))));
         fork = λ t {w = w} {v = v} {m = m} {n = n} {m' = m'} {n' = n'} r l q. at_equal (λ x. A.fork t x m n) (λ x. A.fork t x m' n') r (choose_longer (truth v) (l w tt) (q w tt));
         round = λ {w = w} turn labels {e = e} f g r h. at_equal (λ d. A.round turn labels d f) (λ d. A.round turn labels d g) r
             (record { on = λ s. round_on (length e.around) _ _ ((h w tt (with_around turn labels tt e) (with_around turn labels tt e) refl).on s) });

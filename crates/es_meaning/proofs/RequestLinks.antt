@@ -14,7 +14,7 @@ use Rattle.native_protocol.specs.declared.request.Seen.{Seen}
 use Rattle.native_protocol.specs.Steps.{Steps}
 use Rattle.es_meaning.specs.Environments.{Env}
 use Rattle.es_meaning.specs.BuiltIns.{BuiltIns, steps_behind}
-use Rattle.es_meaning.specs.Operations.{Ty, One, Value, Act, has_key, base_needed, throws_error, own_property, own_marks, own_value, own_getter, own_setter, define, own_keys, prototype_of_object, is_extensible, prevent_extensions, new_object, bind, read_line, print_line, join_label, raise_structure, raise_existence, Entering, Ops, Rec}
+use Rattle.es_meaning.specs.Operations.{Ty, One, Value, Act, has_key, base_needed, throws_error, own_property, own_marks, own_value, own_getter, own_setter, own_keys, prototype_of_object, is_extensible, prevent_extensions, new_object, bind, read_line, print_line, join_label, raise_structure, raise_existence, Entering, Ops, Rec}
 use Rattle.es_meaning.specs.Evaluation.{element_or, with_element, in_register, in_registers, in_register_if, with_register, answered, answered_in, answered_by, got_from, had_by, put_behind, put_in, deleted_from, with_base_needed, own_setter_read, own_getter_read, own_value_read, own_marks_read, shape_of, made_by, request_step, native_step, parts, step, begun, Timed, ticking, eval, program_step}
 use Rattle.es_meaning.proofs.Link.{Rels, nils, conses, EnteringLinked, Link, Linked, more_rels, more_visits, discard_linked, statements_linked, entering_linked, expr_linked, use_linked, stmt_linked, named_linked, turn_linked, visit_linked}
 
@@ -148,8 +148,8 @@ module _ (A B : Ops) (K : Link A B) where
     request_linked (Delete base key to) steps rs = based_linked _ _ (register_linked base rs) λ w1 l1 b b' rb. deleted_from_linked steps key to (more_rels A B K l1 rs) rb
     request_linked (Own base key marks v g s) steps rs = K.bind Value Value _ _ (K.act (own_property own_marks key) (one_linked base rs)) λ w1 l1 a a' ra.
         own_marks_linked steps key marks v g s (more_rels A B K l1 rs) (K.more_v l1 (register_linked base rs)) ra
-    request_linked (Define base key marks v g s) steps rs = act_done_linked (define key marks (shape_of A E R v g s)) steps rs
-        (conses (register_linked base rs) (conses (register_if_linked v rs) (conses (register_if_linked g rs) (conses (register_if_linked s rs) nils))))
+    request_linked (Define base key marks v g s) steps rs = K.bind Value Value _ _ (K.define key marks (shape_of A E R v g s) (register_linked base rs) (register_if_linked v rs) (register_if_linked g rs) (register_if_linked s rs) enters)
+        λ w1 l1 a a' ra. answered_linked steps a a' (more_rels A B K l1 rs)
     request_linked (Keys base all to) steps rs = act_in_linked (own_keys all) steps to rs (one_linked base rs)
     request_linked (Proto base to) steps rs = act_in_linked prototype_of_object steps to rs (one_linked base rs)
     request_linked (Extensible base to) steps rs = act_in_linked is_extensible steps to rs (one_linked base rs)

@@ -1,6 +1,6 @@
 -- A set of built-ins, as the meanings see it: its entries, and for each built-in by its number the steps of a call with so many arguments, which may be a
 -- construction.
-use Rattle.std.specs.Prelude.{ℕ, zero, suc, ◌+◌, Bool, List, ◌∷◌, codes}
+use Rattle.std.specs.Prelude.{ℕ, zero, suc, ◌+◌, Bool, List, [], ◌∷◌, Option, Some, None, slice_get, codes}
 use Rattle.native_protocol.specs.declared.request.Answer.{Answer}
 use Rattle.native_protocol.specs.declared.request.Answer.TheVariants as answer
 use Rattle.native_protocol.specs.declared.request.Request.{Request}
@@ -30,8 +30,13 @@ built_ins_of entries begin after asks = record { entries = entries; begins = λ 
 abbrev pub in_set : ℕ → ℕ
 in_set which = 3 + which
 
+-- a number that no built-in of the set has leaves by the empty name: no function has one
+abbrev pub begins_entry : Option SeenEntry → BuiltIns → ℕ → ℕ → Bool → Steps
+begins_entry None set which argc construct = ends (Leave [])
+begins_entry (Some e) set which argc construct = set.begins which argc construct
+
 abbrev pub begins_in : BuiltIns → ℕ → ℕ → Bool → Steps
 begins_in set zero argc construct = ends (Leave (codes "caller"))
 begins_in set (suc zero) argc construct = ends (Leave (codes "arguments"))
 begins_in set (suc (suc zero)) argc construct = ends (Leave (codes "callee"))
-begins_in set (suc (suc (suc which))) argc construct = set.begins which argc construct
+begins_in set (suc (suc (suc which))) argc construct = begins_entry (slice_get set.entries which) set which argc construct

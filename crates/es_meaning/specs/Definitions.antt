@@ -2,7 +2,7 @@
 use Rattle.std.specs.Prelude.{Bool, true, false, not, ◌&&◌, ◌||◌, Option, Some, None, nat_eq}
 use Rattle.std.specs.Option.{is_some}
 use Rattle.js_number.specs.declared.primitive.Primitive.TheVariants.{Undefined}
-use Rattle.js_number.specs.Compare.{strictly_equal}
+use Rattle.js_number.specs.Compare.{same_primitive}
 use Rattle.js_values.specs.declared.ids.ObjId.{ObjId}
 use Rattle.js_values.specs.declared.value.Value.{Value}
 use Rattle.js_values.specs.declared.value.Value.TheVariants as value
@@ -39,9 +39,9 @@ same_object None (Some g) = false
 same_object (Some f) None = false
 same_object (Some f) (Some g) = nat_eq f.0 g.0
 
--- whether two values are one (9.12); there is one zero, and no NaN
+-- whether two values are one (9.12): NaN is the same as NaN, and there is one zero
 abbrev pub same_value : Value → Value → Bool
-same_value (value.Primitive v) (value.Primitive u) = strictly_equal v u
+same_value (value.Primitive v) (value.Primitive u) = same_primitive v u
 same_value (value.Object o) (value.Object p) = nat_eq o.0 p.0
 same_value _ _ = false
 

@@ -1,6 +1,7 @@
 -- The evaluator, node by node (ECMA-262 11 and 12). What is done with the value of a part stands under a name of its own.
 use Rattle.std.specs.Prelude.{ℕ, zero, suc, ◌-◌, Bool, true, false, List, [], ◌∷◌, ◌++◌, length, map, pos, Option, Some, None, codes}
 use Rattle.std.specs.Option.{is_some}
+use Rattle.js_number.specs.declared.num.Num.TheVariants.{Int}
 use Rattle.js_number.specs.declared.primitive.Primitive.TheVariants.{Undefined, Null, Num, Str}
 use Rattle.js_number.specs.declared.primitive.Primitive.TheVariants as prims
 use Rattle.js_ast.specs.declared.operators.UnaryOperator.{UnaryOperator}
@@ -11,7 +12,7 @@ use Rattle.js_ast.specs.declared.operators.BinaryOperator.TheVariants as binary_
 use Rattle.js_ast.specs.declared.operators.AssignOperator.{AssignOperator}
 use Rattle.js_ast.specs.declared.operators.AssignOperator.TheVariants as assign_operator
 use Rattle.js_ast.specs.Keys.{key_text}
-use Rattle.js_ast.specs.Trees.{Ident, Expr, name, number, string, this, null, boolean, paren, object, function, member, index, new_with, new_bare, call, postfix, unary, binary, conditional, assign, comma, Exprs, no_exprs, more_exprs, MaybeExpr, absent, present, Property, value, getter, setter, Properties, no_properties, more_properties, Target, target_expr, target_var, Declarations, one_declaration, more_declarations, First, first_expr, first_var, Clauses, no_clauses, case, default, Block, block_of, Statement, block, var, empty, expression, if_then, if_else, do_while, while, for, for_in, continue, break, return, throw, switch, labelled, try_catch, try_finally, try_both, debugger, function_declaration, Statements, no_statements, more_statements}
+use Rattle.js_ast.specs.Trees.{Ident, Expr, name, number, string, this, null, boolean, paren, array, object, function, member, index, new_with, new_bare, call, postfix, unary, binary, conditional, assign, comma, Exprs, no_exprs, more_exprs, MaybeExpr, absent, present, Items, no_items, hole, item, Property, value, getter, setter, Properties, no_properties, more_properties, Target, target_expr, target_var, Declarations, one_declaration, more_declarations, First, first_expr, first_var, Clauses, no_clauses, case, default, Block, block_of, Statement, block, var, empty, expression, if_then, if_else, do_while, while, for, for_in, continue, break, return, throw, switch, labelled, try_catch, try_finally, try_both, debugger, function_declaration, Statements, no_statements, more_statements}
 use Rattle.es_meaning.specs.Environments.{Env, Leaving, thrown, returned, left_by}
 use Rattle.es_meaning.specs.Directives.{Upgrade, upgrade_of}
 use Rattle.native_protocol.specs.declared.hint.Hint.{Hint}
@@ -25,8 +26,7 @@ use Rattle.native_protocol.specs.declared.request.Seen.{Seen}
 use Rattle.native_protocol.specs.Steps.{Steps, conversion}
 use Rattle.js_values.specs.declared.inner.Class.{Class}
 use Rattle.es_meaning.specs.BuiltIns.{BuiltIns, steps_behind, begins_in}
-use Rattle.es_meaning.specs.Operators.{not_built}
-use Rattle.es_meaning.specs.Operations.{Ty, One, Value, Res, Part, as_value, as_getter, as_setter, own_marks, own_value, own_getter, own_setter, Shape, Act, object_of, base_needed, object_needed, has_key, throws_error, own_property, define, own_keys, prototype_of_object, is_extensible, prevent_extensions, new_object, bind, read_line, print_line, join_label, raise_structure, raise_existence, Entering, Ops, Use, assigned, updated_by, prefixed, postfixed, asked, valued, deleted, given_text, called, Calling, calls, constructs, Round, Visit, Rec}
+use Rattle.es_meaning.specs.Operations.{Ty, One, Value, Res, Part, as_value, as_getter, as_setter, own_marks, own_value, own_getter, own_setter, Shape, Act, object_of, array_of, base_needed, object_needed, has_key, throws_error, own_property, own_keys, prototype_of_object, is_extensible, prevent_extensions, new_object, bind, read_line, print_line, join_label, raise_structure, raise_existence, Entering, Ops, Use, assigned, updated_by, prefixed, postfixed, asked, valued, deleted, given_text, called, Calling, calls, constructs, Round, Visit, Rec}
 
 -- whether it is a name, also in parentheses
 unfoldable pub is_name : Expr → Bool
@@ -51,6 +51,17 @@ part_of (setter at key f) = (as_setter, key_text key)
 abbrev pub parts_of : Properties → List (Part × List ℕ)
 parts_of no_properties = []
 parts_of (more_properties p ps) = part_of p ∷ parts_of ps
+
+-- the numbers of the items of an array literal that are no holes, from one on; and how many items there are (ECMA-262 11.1.4)
+abbrev pub places_of : ℕ → Items → List ℕ
+places_of n no_items = []
+places_of n (hole items) = places_of (suc n) items
+places_of n (item e items) = n ∷ places_of (suc n) items
+
+abbrev pub count_of : Items → ℕ
+count_of no_items = 0
+count_of (hole items) = suc (count_of items)
+count_of (item e items) = suc (count_of items)
 
 -- variables in their order
 abbrev pub variable_list : Declarations → List (Ident × MaybeExpr)
@@ -239,10 +250,10 @@ module _ (O : Ops) where
 
     -- `++` and `--` (ECMA-262 11.3, 11.4.4, 11.4.5): the old value as a number, and one more or less
     unfoldable pub postfix_by : BinaryOperator → O.N → O.V → O.M Value
-    postfix_by o n old = O.bind Value Value (O.binary o old (O.literal (Num (pos 1)))) (assign_giving n old)
+    postfix_by o n old = O.bind Value Value (O.binary o old (O.literal (Num (Int (pos 1))))) (assign_giving n old)
 
     unfoldable pub prefix_by : BinaryOperator → O.N → O.V → O.M Value
-    prefix_by o n old = O.bind Value Value (O.binary o old (O.literal (Num (pos 1)))) (assign_to n)
+    prefix_by o n old = O.bind Value Value (O.binary o old (O.literal (Num (Int (pos 1))))) (assign_to n)
 
     unfoldable pub postfix_number : BinaryOperator → O.N → O.V → O.M Value
     postfix_number o n v = O.bind Value Value (O.unary unary_operator.Plus v) (postfix_by o n)
@@ -325,7 +336,7 @@ module _ (O : Ops) where
       used (given_text text) i n = assign_to n (O.literal (Str text))
       used (called es) i n = O.bind Value Value (O.get_value n E) (call_reference n es i)
 
-      -- a property (ECMA-262 11.2.1): its base, whether that can have properties, its key, and then it is a reference
+      -- a property (ECMA-262 11.2.1): its base, whether that can have properties, the conversion of its key, and then it is a reference
       unfoldable pub with_key : Use → ℕ → O.V → O.V → O.M Value
       with_key use_as i b k = used use_as i (O.property b k)
 
@@ -347,13 +358,24 @@ module _ (O : Ops) where
       use_step use_as (member at e text) i = O.bind Value Value (R.expr e i) (member_base use_as text i)
       use_step use_as (index at e n) i = O.bind Value Value (R.expr e i) (index_base use_as n i)
       use_step use_as (paren at e) i = R.use_of use_as e i
-      use_step use_as _ i = O.leave Value not_built
+      -- what is no reference can't be used as one (ECMA-262 8.7.2, step 1)
+      use_step use_as _ i = O.act (throws_error error.ReferenceError) []
 
       -- ---- calls (ECMA-262 11.2.3): the callee is a reference, or else an expression
 
       abbrev pub callee_step : Bool → Expr → Exprs → ℕ → O.M Value
       callee_step true e es i = R.use_of (called es) e i
       callee_step false e es i = O.bind Value Value (R.expr e i) (call_value es i)
+
+      -- ---- arrays (ECMA-262 11.1.4): the values of their items in their order, and then the array
+
+      unfoldable pub items_of : Act → List O.V → Items → ℕ → O.M Value
+      items_of act vs no_items i = O.act act vs
+      items_of act vs (hole items) i = items_of act vs items i
+      items_of act vs (item e items) i = O.bind Value Value (R.expr e i) (λ v. items_of act (vs ++ v ∷ []) items i)
+
+      unfoldable pub more_items : Act → List O.V → Items → ℕ → O.V → O.M Value
+      more_items act vs items i v = items_of act (vs ++ v ∷ []) items i
 
       -- ---- objects (ECMA-262 11.1.5): the values of their properties, and their getters and setters, in their order, and then the object
 
@@ -399,12 +421,13 @@ module _ (O : Ops) where
 
       unfoldable pub expr_step : Expr → ℕ → O.M Value
       expr_step (name at text) i = O.resolve Value i text read_value
-      expr_step (number at n) i = O.ret Value (O.literal (Num n))
+      expr_step (number at n) i = O.ret Value (O.literal (Num (Int n)))
       expr_step (string at text v) i = O.ret Value (O.literal (Str v))
       expr_step (this at) i = O.resolve Value i (codes "this") read_value
       expr_step (null at) i = O.ret Value (O.literal Null)
       expr_step (boolean at b) i = O.ret Value (O.literal (prims.Bool b))
       expr_step (paren at e) i = R.expr e i
+      expr_step (array at items final) i = items_of (array_of (places_of 0 items) (count_of items)) [] items i
       expr_step (object at ps final) i = properties (object_of (parts_of ps)) [] ps i
       expr_step (member at e text) i = O.bind Value Value (R.expr e i) (member_base valued text i)
       expr_step (index at e n) i = O.bind Value Value (R.expr e i) (index_base valued n i)
@@ -419,7 +442,6 @@ module _ (O : Ops) where
       expr_step (conditional at c a b) i = O.bind Value Value (R.expr c i) (choose_expr a b i)
       expr_step (assign at l o r) i = R.use_of (assigned_by (operator_of o) r) l i
       expr_step (comma at l r) i = O.bind Value Value (R.expr l i) (comma_right r i)
-      expr_step _ i = O.leave Value not_built
 
       -- ---- variables (ECMA-262 12.2): those with an initialiser are assigned, in their order
 
@@ -572,9 +594,9 @@ module _ (O : Ops) where
       abbrev pub block_step : Block → Env O.H → O.M One
       block_step (block_of at ss) e = statements R ss e
 
-      -- what is caught has a name in the handler
+      -- what is caught has a name in the handler. A block of a `try` is entered as a block statement
       unfoldable pub handled : Ident → Block → Env O.H → O.V → O.M One
-      handled ident handler e v = O.declare ident.text v e (block_step handler)
+      handled ident handler e v = O.declare ident.text v e (R.stmt (block handler))
 
       unfoldable pub unhandled : O.V → O.M One
       unhandled v = O.ret One tt
@@ -605,9 +627,9 @@ module _ (O : Ops) where
       stmt_step (break at label semi) e = O.jump (left_by false (text_of_label label)) e (O.literal Undefined)
       stmt_step (return at c semi) e = return_step c e
       stmt_step (throw at c semi) e = O.bind Value One (R.expr c e.place) (jump_with thrown e)
-      stmt_step (try_catch at b ident handler) e = O.attempt true false (block_step b e) (handled ident handler e) (O.ret One tt)
-      stmt_step (try_finally at b last) e = O.attempt false true (block_step b e) unhandled (block_step last e)
-      stmt_step (try_both at b ident handler last) e = O.attempt true true (block_step b e) (handled ident handler e) (block_step last e)
+      stmt_step (try_catch at b ident handler) e = O.attempt true false (R.stmt (block b) e) (handled ident handler e) (O.ret One tt)
+      stmt_step (try_finally at b last) e = O.attempt false true (R.stmt (block b) e) unhandled (R.stmt (block last) e)
+      stmt_step (try_both at b ident handler last) e = O.attempt true true (R.stmt (block b) e) (handled ident handler e) (R.stmt (block last) e)
       stmt_step (debugger at semi) e = O.ret One tt
       stmt_step (function_declaration at f) e = O.ret One tt
       stmt_step s e = named_step [] s e
@@ -691,7 +713,7 @@ module _ (O : Ops) where
       request_step (Own base key marks v g s) steps vs =
           O.bind Value Value (O.act (own_property own_marks key) (in_register vs base ∷ [])) (own_marks_read steps vs (in_register vs base) key marks v g s)
       request_step (Define base key marks v g s) steps vs =
-          O.bind Value Value (O.act (define key marks (shape_of v g s)) (in_register vs base ∷ in_register_if vs v ∷ in_register_if vs g ∷ in_register_if vs s ∷ [])) (answered steps vs)
+          O.bind Value Value (O.define key marks (shape_of v g s) (in_register vs base) (in_register_if vs v) (in_register_if vs g) (in_register_if vs s) E) (answered steps vs)
       request_step (Keys base all to) steps vs = O.bind Value Value (O.act (own_keys all) (in_register vs base ∷ [])) (answered_in steps vs to)
       request_step (Proto base to) steps vs = O.bind Value Value (O.act prototype_of_object (in_register vs base ∷ [])) (answered_in steps vs to)
       request_step (Extensible base to) steps vs = O.bind Value Value (O.act is_extensible (in_register vs base ∷ [])) (answered_in steps vs to)
@@ -742,7 +764,7 @@ ticking T R = record {
   native = λ steps vs. behind T.ops Value T.tick (R.native steps vs);
 }
 
--- n bounds how deep the parts go: nodes in nodes, and turns behind turns
+-- n bounds how deep the parts go: nodes in nodes, turns behind turns, and requests behind requests
 unfoldable pub eval : (T : Timed) → BuiltIns → ℕ → Rec T.ops
 eval T set zero = record { expr = λ e i. T.ended Value; use_of = λ use_as e i. T.ended Value; stmt = λ s e. T.ended One; named = λ labels s e. T.ended One; turn = λ round e. T.ended One; visit = λ visit e. T.ended One; native = λ steps vs. T.ended Value }
 eval T set (suc n) = ticking T (step T.ops set (eval T set n))

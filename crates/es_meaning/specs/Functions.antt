@@ -2,7 +2,7 @@
 use Rattle.std.specs.Prelude.{ℕ, suc, pos, Bool, true, false, List, [], ◌∷◌, ◌++◌, length, map, Option, Some, None, nat_eq, slice_get, codes}
 use Rattle.std.specs.List.{position_or_len}
 use Rattle.js_number.specs.declared.primitive.Primitive.TheVariants.{Num}
-use Rattle.js_number.specs.Conversions.{text_of}
+use Rattle.js_number.specs.declared.num.Num.TheVariants.{Int}
 use Rattle.js_values.specs.declared.ids.EnvId.{EnvId}
 use Rattle.js_values.specs.declared.value.Value.{Value}
 use Rattle.js_values.specs.declared.value.Value.TheVariants as value
@@ -10,6 +10,7 @@ use Rattle.js_values.specs.declared.property.Body.TheVariants.{Data}
 use Rattle.js_values.specs.declared.property.Marks.{Marks}
 use Rattle.js_values.specs.declared.inner.Class.{Class}
 use Rattle.js_values.specs.declared.inner.Class.TheVariants as class
+use Rattle.js_values.specs.Arrays.{element_key}
 use Rattle.js_values.specs.Objects.{Rows, Property, PlainInner, plain, script, native, bound, PlainObject, fresh_plain}
 use Rattle.js_values.specs.Records.{Binding, Bindings, Record, found, rebound}
 use Rattle.js_ast.specs.Trees.{Ident, Function, function_of, name_of, params_of, body_of}
@@ -141,7 +142,7 @@ bound_behind this args rest = record { function = rest.function; this = Some (th
 
 abbrev pub elements_down : {S : Type 0} → Rows S → ℕ → List S → Rows S
 elements_down rows n [] = rows
-elements_down rows n (s ∷ ss) = defined (text_of (Num (pos n))) s (elements_down rows (suc n) ss)
+elements_down rows n (s ∷ ss) = defined (element_key n) s (elements_down rows (suc n) ss)
 
 abbrev pub arguments_rows : {S : Type 0} → S → List S → Rows S
 arguments_rows count elements = elements_down ((codes "length", count) ∷ []) 0 elements
@@ -153,7 +154,7 @@ accessor_rows = (codes "caller", fixed_accessor caller_accessor) ∷ (codes "cal
 -- of a call of the function with this number, in its record
 abbrev pub arguments_object : ℕ → ℕ → List Value → PlainObject
 arguments_object number place args = record (fresh_plain class.Arguments (script number (env_id place)) (Some object_prototype)) {
-  rows = arguments_rows (property_with (value.Primitive (Num (pos (length args)))) built_in) (map (λ v. property_with v made_by_script) args) ++ accessor_rows;
+  rows = arguments_rows (property_with (value.Primitive (Num (Int (pos (length args))))) built_in) (map (λ v. property_with v made_by_script) args) ++ accessor_rows;
 }
 
 -- ---- the record of a call
@@ -192,9 +193,13 @@ abbrev pub with_functions : {V : Type 0} → List Function → List V → Bindin
 with_functions (f ∷ fs) (v ∷ vs) bindings = with_functions fs vs (bound_by (found (name_text (name_of f)) bindings) (name_text (name_of f)) v bindings)
 with_functions _ _ bindings = bindings
 
--- the `arguments` object, which can't be replaced in strict code (step 7)
+-- the `arguments` object, which can't be replaced in strict code: there is none where the name is bound (step 7)
+abbrev pub unless_bound : {V : Type 0} → Option (Binding V) → V → Bindings V → Bindings V
+unless_bound None v bindings = bindings ++ binds false arguments_name v
+unless_bound (Some b) v bindings = bindings
+
 abbrev pub with_arguments : {V : Type 0} → Bool → V → Bindings V → Bindings V
-with_arguments true v bindings = bindings ++ binds false arguments_name v
+with_arguments true v bindings = unless_bound (found arguments_name bindings) v bindings
 with_arguments false v bindings = bindings
 
 -- and the variables (step 8)

@@ -13,5 +13,6 @@ pub mod Operations
 pub mod Operators
 pub mod Outcomes
 pub mod Plain
+pub mod Primitives
 pub mod Requested
 pub mod Start

@@ -1,14 +1,12 @@
 -- What is done with objects, without labels (ECMA-262 8.12).
-use Rattle.std.specs.Prelude.{ℕ, Bool, true, false, ◌&&◌, not, List, [], ◌∷◌, ◌++◌, Option, Some, None, slice_get, set, if◌then◌else◌}
+use Rattle.std.specs.Prelude.{ℕ, zero, suc, Bool, true, false, ◌&&◌, not, length, List, [], ◌∷◌, ◌++◌, Option, Some, None, slice_get, set, if◌then◌else◌}
 use Rattle.origin_labels.specs.Names.{has_name}
-use Rattle.js_values.specs.Numerals.{index_of}
 use Rattle.js_values.specs.declared.ids.ObjId.{ObjId}
 use Rattle.js_values.specs.declared.value.Value.{Value}
 use Rattle.js_values.specs.declared.property.Body.{Body}
 use Rattle.js_values.specs.declared.property.Body.TheVariants.{Data, Accessor}
 use Rattle.js_values.specs.declared.property.Marks.{Marks}
-use Rattle.js_values.specs.declared.inner.Class.{Class}
-use Rattle.js_values.specs.declared.inner.Class.TheVariants as class
+use Rattle.js_values.specs.Arrays.{length_key, length_body, element_of, element_key, is_length, is_past, allows_element, highest}
 use Rattle.js_values.specs.Objects.{Rows, Property, PlainObject, own, changed, without, with_row, keys_of}
 use Rattle.js_values.specs.Walks.{plain_find}
 
@@ -28,6 +26,11 @@ defined_over (Some q) key p rows = changed key (λ s. p) rows
 
 abbrev pub defined : {S : Type 0} → List ℕ → S → Rows S → Rows S
 defined key p rows = defined_over (own key rows) key p rows
+
+-- the elements with these numbers are given properties in turn: a number may stand twice
+abbrev pub elements_onto : {S : Type 0} → Rows S → List ℕ → List S → Rows S
+elements_onto rows (n ∷ ns) (s ∷ ss) = elements_onto (defined (element_key n) s rows) ns ss
+elements_onto rows _ _ = rows
 
 -- keys are given properties in turn
 abbrev pub defined_all : {S : Type 0} → List (List ℕ) → List S → Rows S → Rows S
@@ -62,30 +65,23 @@ abbrev pub beyond_plan : Bool → Option (ℕ × Property) → Plan
 beyond_plan extensible None = if_allowed extensible adds
 beyond_plan extensible (Some f) = inherited_plan extensible f.1 f.1.body
 
-abbrev pub plan_at : PlainObject → Option Property → Option (ℕ × Property) → Plan
-plan_at p (Some q) rest = own_plan q q.body
-plan_at p None rest = beyond_plan p.extensible rest
+-- whether an array may get an element that isn't there (ECMA-262 15.4.5.1, step 4.b)
+abbrev pub gets_element : Option ℕ → Option Property → Bool
+gets_element None length = true
+gets_element (Some i) None = true
+gets_element (Some i) (Some p) = allows_element i p.marks p.body
+
+-- whether an object may get a property of a key that it hasn't
+abbrev pub may_add : List ℕ → PlainObject → Bool
+may_add key p = p.extensible && gets_element (element_of p.class key) (own length_key p.rows)
+
+abbrev pub plan_at : List ℕ → PlainObject → Option Property → Option (ℕ × Property) → Plan
+plan_at key p (Some q) rest = own_plan q q.body
+plan_at key p None rest = beyond_plan (may_add key p) rest
 
 abbrev pub can_put : List ℕ → List (ℕ × PlainObject) → Plan
 can_put key [] = refuses
-can_put key (e ∷ objects) = plan_at e.1 (own key e.1.rows) (plain_find key objects)
-
--- the element of an array that a key names. What is put there changes its `length`, and isn't built yet
-abbrev pub is_index : Option ℕ → Bool
-is_index None = false
-is_index (Some n) = true
-
-abbrev pub is_element : Class → List ℕ → Bool
-is_element class.Array key = is_index (index_of key)
-is_element class.Object key = false
-is_element class.Function key = false
-is_element class.Arguments key = false
-is_element class.Error key = false
-is_element class.Math key = false
-is_element class.Json key = false
-is_element class.String key = false
-is_element class.Number key = false
-is_element class.Boolean key = false
+can_put key (e ∷ objects) = plan_at key e.1 (own key e.1.rows) (plain_find key objects)
 
 -- ---- the object with a number, in a heap
 
@@ -105,11 +101,67 @@ with_value v p = record p { body = Data v }
 abbrev pub write : ℕ → List ℕ → Value → List PlainObject → List PlainObject
 write o key v = with_object o (λ p. with_rows p (changed key (with_value v) p.rows))
 
+-- an element at or above the `length` of an array raises that (ECMA-262 15.4.5.1, step 4.e)
+abbrev pub with_length : ℕ → Property → Property
+with_length n p = record p { body = length_body n }
+
+abbrev pub stretched : Option ℕ → Option Property → Rows Property → Rows Property
+stretched None length rows = rows
+stretched (Some i) None rows = rows
+stretched (Some i) (Some p) rows = if is_past i p.body then changed length_key (with_length (suc i)) rows else rows
+
+-- an object gets a property of a key that it hasn't, and has another one of a key, whether it had one or not
+abbrev pub with_added : List ℕ → Property → PlainObject → PlainObject
+with_added key q p = with_rows p (stretched (element_of p.class key) (own length_key p.rows) (with_row key q p.rows))
+
+abbrev pub with_defined_over : Option Property → List ℕ → Property → PlainObject → PlainObject
+with_defined_over None key q p = with_added key q p
+with_defined_over (Some old) key q p = with_rows p (changed key (λ s. q) p.rows)
+
+abbrev pub with_defined : List ℕ → Property → PlainObject → PlainObject
+with_defined key q p = with_defined_over (own key p.rows) key q p
+
 abbrev pub add : ℕ → List ℕ → Value → Marks → List PlainObject → List PlainObject
-add o key v marks = with_object o (λ p. with_rows p (with_row key (record { body = Data v; marks = marks }) p.rows))
+add o key v marks = with_object o (with_added key (record { body = Data v; marks = marks }))
 
 abbrev pub remove : ℕ → List ℕ → List PlainObject → List PlainObject
 remove o key = with_object o (λ p. with_rows p (without key p.rows))
+
+-- whether the key names the `length` of the object, which is an array
+abbrev pub is_length_in : List ℕ → Option PlainObject → Bool
+is_length_in key None = false
+is_length_in key (Some p) = is_length p.class key
+
+-- ---- the elements of an array from the highest one down to a number are deleted (ECMA-262 15.4.5.1, step 3.l). One that can't be configured stays, and ends this
+
+pub record Shortened : Type 0 where
+  pub rows : Rows Property
+  pub stays : Option ℕ
+
+abbrev pub deleted_if : Bool → (Rows Property → Shortened) → ℕ → Rows Property → Shortened
+deleted_if true next i rows = next (without (element_key i) rows)
+deleted_if false next i rows = record { rows = rows; stays = Some i }
+
+abbrev pub deleted_at : Option (ℕ × Property) → (Rows Property → Shortened) → Rows Property → Shortened
+deleted_at None next rows = record { rows = rows; stays = None }
+deleted_at (Some e) next rows = deleted_if e.1.marks.configurable next e.0 rows
+
+-- so many deletions at most
+abbrev pub deleted_within : ℕ → ℕ → Rows Property → Shortened
+deleted_within zero n rows = record { rows = rows; stays = None }
+deleted_within (suc more) n rows = deleted_at (highest n rows) (deleted_within more n) rows
+
+abbrev pub deleted_down : ℕ → Rows Property → Shortened
+deleted_down n rows = deleted_within (length rows) n rows
+
+-- the `length` that the array has then: the number, or one more than that of the element that stays
+abbrev pub length_behind : ℕ → Option ℕ → ℕ
+length_behind n None = n
+length_behind n (Some i) = suc i
+
+-- the array without these elements, with another `length`
+abbrev pub cut_to : Shortened → ℕ → Property → PlainObject → PlainObject
+cut_to cut n q p = with_rows p (changed length_key (λ s. with_length (length_behind n cut.stays) q) cut.rows)
 
 -- what the key names in the object itself
 abbrev pub own_in : List ℕ → Option PlainObject → Option Property

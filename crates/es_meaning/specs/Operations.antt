@@ -39,6 +39,8 @@ pub record Shape : Type 0 where
 pub data Act : Type 0 where
   -- an object with properties of these keys is made of their values (ECMA-262 11.1.5)
   object_of : List (Part × List ℕ) → Act
+  -- an array with elements at these numbers, which have these values, and with a `length` (ECMA-262 11.1.4)
+  array_of : List ℕ → ℕ → Act
   -- the value, if it can have properties (ECMA-262 9.10), or an exception
   base_needed : Act
   -- the value, if it is an object, or an exception (ECMA-262 11.8.7)
@@ -48,9 +50,8 @@ pub data Act : Type 0 where
   -- an exception of a kind (ECMA-262 15.11)
   throws_error : ErrorKind → Act
   -- ---- what built-ins ask for besides
-  -- a part of the own property of a key (ECMA-262 8.12.1), and a definition of it (8.12.9)
+  -- a part of the own property of a key (ECMA-262 8.12.1)
   own_property : OwnPart → List ℕ → Act
-  define : List ℕ → GivenMarks → Shape → Act
   -- the own keys of an object as an array: all, or the enumerable ones
   own_keys : Bool → Act
   -- the prototype of an object, whether it may get further properties, and that it may not any more
@@ -107,19 +108,22 @@ pub record Ops : Type 1 where
   pub get_value : N → Entering V H M → M Value
   pub typeof_value : N → Entering V H M → M Value
   -- it is given a value (ECMA-262 8.7.2), by a setter where there is one
+  -- what the value for the `length` of an array is converted by is entered too (15.4.5.1)
   pub put_value : N → V → Entering V H M → M One
   -- it is deleted (ECMA-262 11.4.1)
   pub remove : N → M Value
   -- what a call of it has as `this` (ECMA-262 11.2.3): the base of a property, and undefined for a name
   pub this_of : N → V
+  -- an own property of a value is defined (ECMA-262 8.12.9, 15.4.5.1) by attributes, and by a value, a getter and a setter, of those that are given
+  pub define : List ℕ → GivenMarks → Shape → V → V → V → V → Entering V H M → M Value
   -- whether a value is an instance of a function (ECMA-262 11.8.6), whose `prototype` may have a getter
   pub instance : V → V → Entering V H M → M Value
   -- ---- scopes: those that a jump can reach hand the environment in which it can
   -- one of two computations, as a value chooses
   pub fork : (t : Ty) → V → M t → M t → M t
-  -- a loop, or a turn of a loop, with the labels by which it is left
+  -- a loop, a switch, a labelled statement, or a turn of a loop, with the labels by which it is left
   pub round : Bool → List (Option (List ℕ)) → Env H → (Env H → M One) → M One
-  -- a further turn of a loop or its end, as a value chooses
+  -- a further turn of a loop or its end, or the clauses of a `switch` from a case on or the next case, as a value chooses
   pub again : V → M One → M One → M One
   -- the keys that `for in` takes of a value (ECMA-262 12.6.4) are handed on, in the loop's frame
   pub keys : V → (List (List ℕ) → M One) → M One

@@ -1,18 +1,20 @@
 -- Operators on values (ECMA-262 11.4 to 11.11), where what they give is in the profile, and else the name by which the run leaves.
-use Rattle.std.specs.Prelude.{ℕ, ◌==◌, List, Bool, true, false, not, ℤ, neg_ℤ, ◌-ℤ◌, ◌*ℤ◌, Result, Ok, Err, codes}
+use Rattle.std.specs.Prelude.{ℕ, ◌==◌, List, Bool, true, false, not, ℤ, Option, Some, None, Result, Ok, Err, codes}
 use Rattle.js_ast.specs.declared.operators.UnaryOperator.{UnaryOperator}
 use Rattle.js_ast.specs.declared.operators.UnaryOperator.TheVariants as unary_operator
 use Rattle.js_ast.specs.declared.operators.BinaryOperator.{BinaryOperator}
 use Rattle.js_ast.specs.declared.operators.BinaryOperator.TheVariants as binary_operator
 use Rattle.js_number.specs.declared.int.LeftNumbers.{LeftNumbers}
+use Rattle.js_number.specs.declared.num.Num.{Num as Number}
+use Rattle.js_number.specs.declared.num.Num.TheVariants.{Int}
 use Rattle.js_number.specs.declared.primitive.Primitive.{Primitive}
 use Rattle.js_number.specs.declared.primitive.Primitive.TheVariants.{Undefined, Null, Num, Str}
 use Rattle.js_number.specs.declared.primitive.Primitive.TheVariants as prims
 use Rattle.js_number.specs.declared.sum.AddFault.{AddFault}
 use Rattle.js_number.specs.declared.sum.AddFault.TheVariants as faults
-use Rattle.js_number.specs.Number.{number, some_number}
+use Rattle.js_number.specs.Number.{integer_of}
 use Rattle.js_number.specs.Conversions.{boolean_of, number_of}
-use Rattle.js_number.specs.Arithmetic.{quotient, remainder}
+use Rattle.js_number.specs.Arithmetic.{subtracted, multiplied, divided, remainder_of, negated}
 use Rattle.js_number.specs.Bits.{shifted_left, shifted_right, shifted_with_zeros, and_of, xor_of, or_of, not_of}
 use Rattle.js_number.specs.Compare.{strictly_equal, loosely_equal, is_less}
 use Rattle.js_number.specs.Sum.{sum_of}
@@ -38,7 +40,7 @@ leaves_strings = codes "string"
 abbrev pub not_built : List ℕ
 not_built = codes "unbuilt"
 
-abbrev pub as_number : Result ℤ LeftNumbers → Given
+abbrev pub as_number : Result Number LeftNumbers → Given
 as_number (Ok n) = Ok (Num n)
 as_number (Err e) = Err leaves_numbers
 
@@ -46,10 +48,28 @@ abbrev pub as_boolean : Result Bool LeftNumbers → Given
 as_boolean (Ok b) = Ok (prims.Bool b)
 as_boolean (Err e) = Err leaves_numbers
 
--- that of two values turned
+-- that of two values turned (ECMA-262 11.9.2)
 abbrev pub turned : Result Bool LeftNumbers → Result Bool LeftNumbers
 turned (Ok b) = Ok (not b)
 turned (Err e) = Err e
+
+-- `<` and `>` (ECMA-262 11.8.1, 11.8.2): false where NaN takes part, which is no answer
+abbrev pub holds : Option Bool → Bool
+holds None = false
+holds (Some b) = b
+
+abbrev pub as_less : Result (Option Bool) LeftNumbers → Given
+as_less (Ok less) = Ok (prims.Bool (holds less))
+as_less (Err e) = Err leaves_numbers
+
+-- `<=` and `>=` (ECMA-262 11.8.3, 11.8.4): whether the operands, exchanged, are not less. This is false too where NaN takes part
+abbrev pub fails : Option Bool → Bool
+fails None = false
+fails (Some b) = not b
+
+abbrev pub as_not_less : Result (Option Bool) LeftNumbers → Given
+as_not_less (Ok less) = Ok (prims.Bool (fails less))
+as_not_less (Err e) = Err leaves_numbers
 
 abbrev pub as_sum : Result Primitive AddFault → Given
 as_sum (Ok v) = Ok v
@@ -59,20 +79,21 @@ as_sum (Err faults.LeftString) = Err leaves_strings
 as_sum (Err faults.OutOfMemory) = Err leaves_strings
 
 -- a function of a value as a number (ECMA-262 9.3)
-abbrev pub of_number : (ℤ → Result ℤ LeftNumbers) → Result ℤ LeftNumbers → Given
+abbrev pub of_number : (Number → Result Number LeftNumbers) → Result Number LeftNumbers → Given
 of_number f (Ok n) = as_number (f n)
 of_number f (Err e) = Err leaves_numbers
 
-abbrev pub to_number : Primitive → Result ℤ LeftNumbers
-to_number v = some_number (number_of v)
-
 -- a function of two values as numbers, of which the left one is converted first
-abbrev pub both : (ℤ → ℤ → Result ℤ LeftNumbers) → Result ℤ LeftNumbers → Result ℤ LeftNumbers → Given
+abbrev pub both : (Number → Number → Result Number LeftNumbers) → Result Number LeftNumbers → Result Number LeftNumbers → Given
 both f (Ok m) n = of_number (f m) n
 both f (Err e) n = Err leaves_numbers
 
-abbrev pub of_numbers : (ℤ → ℤ → Result ℤ LeftNumbers) → Primitive → Primitive → Given
-of_numbers f v u = both f (to_number v) (to_number u)
+abbrev pub of_numbers : (Number → Number → Result Number LeftNumbers) → Primitive → Primitive → Given
+of_numbers f v u = both f (number_of v) (number_of u)
+
+-- a function of two integers: a shift or an operator on bits, for which NaN counts as 0 (ECMA-262 9.5, 9.6)
+abbrev pub of_bits : (ℤ → ℤ → ℤ) → Primitive → Primitive → Given
+of_bits f v u = of_numbers (λ m n. Ok (Int (f (integer_of m) (integer_of n)))) v u
 
 -- what `typeof` says of a value (ECMA-262 11.4.3)
 abbrev pub type_of : Primitive → List ℕ
@@ -116,9 +137,9 @@ type_of_class _ = codes "object"
 abbrev pub unary_of_primitive : UnaryOperator → Primitive → Given
 unary_of_primitive unary_operator.Void v = Ok Undefined
 unary_of_primitive unary_operator.Typeof v = Ok (Str (type_of v))
-unary_of_primitive unary_operator.Plus v = as_number (to_number v)
-unary_of_primitive unary_operator.Minus v = of_number (λ n. number (neg_ℤ n)) (to_number v)
-unary_of_primitive unary_operator.BitNot v = of_number (λ n. Ok (not_of n)) (to_number v)
+unary_of_primitive unary_operator.Plus v = as_number (number_of v)
+unary_of_primitive unary_operator.Minus v = of_number (λ n. Ok (negated n)) (number_of v)
+unary_of_primitive unary_operator.BitNot v = of_number (λ n. Ok (Int (not_of (integer_of n)))) (number_of v)
 unary_of_primitive unary_operator.Not v = Ok (prims.Bool (not (boolean_of v)))
 unary_of_primitive unary_operator.Delete v = Ok (prims.Bool true)
 unary_of_primitive unary_operator.Increment v = Err not_built
@@ -136,28 +157,28 @@ unfoldable pub unary_of : UnaryOperator → Seen → Given
 unary_of o (seen.Prim v) = unary_of_primitive o v
 unary_of o (seen.Object c) = unary_of_object o c
 
--- ---- an operator between two operands; `&&` and `||` choose what is evaluated, and can't stand here
+-- ---- an operator between two operands; `&&` and `||` choose what is evaluated, and `in` and `instanceof` take objects: they can't stand here
 
 abbrev pub binary_of_primitives : BinaryOperator → Primitive → Primitive → Given
-binary_of_primitives binary_operator.Multiply v u = of_numbers (λ m n. number (m *ℤ n)) v u
-binary_of_primitives binary_operator.Divide v u = of_numbers (λ m n. some_number (quotient m n)) v u
-binary_of_primitives binary_operator.Remainder v u = of_numbers (λ m n. some_number (remainder m n)) v u
+binary_of_primitives binary_operator.Multiply v u = of_numbers multiplied v u
+binary_of_primitives binary_operator.Divide v u = of_numbers divided v u
+binary_of_primitives binary_operator.Remainder v u = of_numbers remainder_of v u
 binary_of_primitives binary_operator.Add v u = as_sum (sum_of v u)
-binary_of_primitives binary_operator.Subtract v u = of_numbers (λ m n. number (m -ℤ n)) v u
-binary_of_primitives binary_operator.ShiftLeft v u = of_numbers (λ m n. Ok (shifted_left m n)) v u
-binary_of_primitives binary_operator.ShiftRight v u = of_numbers (λ m n. Ok (shifted_right m n)) v u
-binary_of_primitives binary_operator.ShiftRightZero v u = of_numbers (λ m n. Ok (shifted_with_zeros m n)) v u
-binary_of_primitives binary_operator.Less v u = as_boolean (is_less v u)
-binary_of_primitives binary_operator.Greater v u = as_boolean (is_less u v)
-binary_of_primitives binary_operator.LessEqual v u = as_boolean (turned (is_less u v))
-binary_of_primitives binary_operator.GreaterEqual v u = as_boolean (turned (is_less v u))
+binary_of_primitives binary_operator.Subtract v u = of_numbers subtracted v u
+binary_of_primitives binary_operator.ShiftLeft v u = of_bits shifted_left v u
+binary_of_primitives binary_operator.ShiftRight v u = of_bits shifted_right v u
+binary_of_primitives binary_operator.ShiftRightZero v u = of_bits shifted_with_zeros v u
+binary_of_primitives binary_operator.Less v u = as_less (is_less v u)
+binary_of_primitives binary_operator.Greater v u = as_less (is_less u v)
+binary_of_primitives binary_operator.LessEqual v u = as_not_less (is_less u v)
+binary_of_primitives binary_operator.GreaterEqual v u = as_not_less (is_less v u)
 binary_of_primitives binary_operator.Equal v u = as_boolean (loosely_equal v u)
 binary_of_primitives binary_operator.NotEqual v u = as_boolean (turned (loosely_equal v u))
 binary_of_primitives binary_operator.StrictEqual v u = Ok (prims.Bool (strictly_equal v u))
 binary_of_primitives binary_operator.StrictNotEqual v u = Ok (prims.Bool (not (strictly_equal v u)))
-binary_of_primitives binary_operator.BitAnd v u = of_numbers (λ m n. Ok (and_of m n)) v u
-binary_of_primitives binary_operator.BitXor v u = of_numbers (λ m n. Ok (xor_of m n)) v u
-binary_of_primitives binary_operator.BitOr v u = of_numbers (λ m n. Ok (or_of m n)) v u
+binary_of_primitives binary_operator.BitAnd v u = of_bits and_of v u
+binary_of_primitives binary_operator.BitXor v u = of_bits xor_of v u
+binary_of_primitives binary_operator.BitOr v u = of_bits or_of v u
 binary_of_primitives binary_operator.And v u = Err not_built
 binary_of_primitives binary_operator.Or v u = Err not_built
 binary_of_primitives binary_operator.In v u = Err not_built

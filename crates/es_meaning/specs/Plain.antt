@@ -6,16 +6,23 @@ use Rattle.origin_labels.specs.Names.{same_name}
 use Rattle.flow_policy.specs.declared.policy.Channel.{Channel}
 use Rattle.flow_policy.specs.Policies.{Tables}
 use Rattle.flow_policy.specs.Inputs.{Given, given_on}
+use Rattle.js_number.specs.declared.int.LeftNumbers.{LeftNumbers}
+use Rattle.js_number.specs.declared.num.Num.{Num as Number}
+use Rattle.js_number.specs.declared.num.Num.TheVariants.{Nan, Int}
 use Rattle.js_number.specs.declared.primitive.Primitive.{Primitive}
 use Rattle.js_number.specs.declared.primitive.Primitive.TheVariants.{Undefined, Null, Num, Str}
 use Rattle.js_number.specs.declared.primitive.Primitive.TheVariants as prims
-use Rattle.js_number.specs.Conversions.{text_of}
+use Rattle.js_number.specs.Bits.{uint32}
+use Rattle.js_number.specs.Number.{integer_of}
+use Rattle.js_number.specs.Compare.{equal_numbers}
+use Rattle.js_number.specs.Conversions.{text_of, number_of}
 use Rattle.js_values.specs.declared.value.Value.{Value}
 use Rattle.js_values.specs.declared.value.Value.TheVariants as value
 use Rattle.js_values.specs.declared.property.Body.{Body}
 use Rattle.js_values.specs.declared.property.Body.TheVariants.{Data, Accessor}
 use Rattle.js_values.specs.declared.inner.Class.TheVariants as class
 use Rattle.js_values.specs.declared.ids.ObjId.{ObjId}
+use Rattle.js_values.specs.Arrays.{length_key, is_length}
 use Rattle.js_values.specs.Objects.{Property, PlainObject, plain as plain_inner, own, fresh_plain}
 use Rattle.js_values.specs.Records.{Binding, Record, rebound, lookup, bound_in}
 use Rattle.js_values.specs.Walks.{plain_chain, plain_find}
@@ -25,14 +32,14 @@ use Rattle.es_meaning.specs.Outcomes.{Exit, throws, returns, leaves, Halt, left,
 use Rattle.es_meaning.specs.Environments.{Env, with_around, with_place, called_env, aimed}
 use Rattle.native_protocol.specs.declared.hint.Hint.TheVariants as hint
 use Rattle.js_values.specs.declared.inner.Class.{Class}
-use Rattle.es_meaning.specs.Operations.{Res, Part, Shape, Act, object_of, base_needed, object_needed, has_key, throws_error, own_property, define, own_keys, prototype_of_object, is_extensible, prevent_extensions, new_object, bind, read_line, print_line, join_label, raise_structure, raise_existence, Entering, Ops}
-use Rattle.es_meaning.specs.Operators.{is_object, truth, converts_beside, unary_of, binary_of, not_built}
+use Rattle.es_meaning.specs.Operations.{Res, Part, Shape, Act, object_of, array_of, base_needed, object_needed, has_key, throws_error, own_property, own_keys, prototype_of_object, is_extensible, prevent_extensions, new_object, bind, read_line, print_line, join_label, raise_structure, raise_existence, Entering, Ops}
+use Rattle.es_meaning.specs.Operators.{is_object, truth, converts_beside, unary_of, binary_of, leaves_numbers}
 use Rattle.es_meaning.specs.Declared.{declared_statements, declared_functions}
 use Rattle.es_meaning.specs.Naming.{names_in_statements}
 use Rattle.es_meaning.specs.Functions.{env_id, property_with, function_objects, objects_of, references_of, behind_functions, closes_over, own_name, Callee, not_callable, empty_callee, of_script, of_built_in, Target, this_or, callee_of, arguments_object, binds, this_name, name_text, entry_record, made_if}
 use Rattle.es_meaning.specs.Evaluation.{Timed, program_step}
 use Rattle.es_meaning.specs.Objects as objects
-use Rattle.es_meaning.specs.Objects.{Plan, writes, adds, refuses, calls, can_put, is_element, made_by_script, declared_by_script, defined, with_rows, with_object, own_in, enumerable_keys}
+use Rattle.es_meaning.specs.Objects.{Plan, writes, adds, refuses, calls, can_put, made_by_script, declared_by_script, defined, with_rows, with_object, with_defined, is_length_in, Shortened, deleted_down, cut_to, own_in, enumerable_keys}
 use Rattle.native_protocol.specs.declared.hint.Hint.{Hint}
 use Rattle.native_protocol.specs.declared.request.ErrorKind.{ErrorKind}
 use Rattle.native_protocol.specs.declared.request.ErrorKind.TheVariants as kinds
@@ -40,10 +47,11 @@ use Rattle.native_protocol.specs.declared.request.GivenMarks.{GivenMarks}
 use Rattle.native_protocol.specs.declared.request.Seen.{Seen}
 use Rattle.native_protocol.specs.declared.request.Seen.TheVariants as seen_as
 use Rattle.es_meaning.specs.BuiltIns.{BuiltIns}
-use Rattle.es_meaning.specs.Definitions.{value_in}
+use Rattle.es_meaning.specs.Definitions.{GivenBody, a_value, value_in, setter_in}
+use Rattle.es_meaning.specs.Primitives.{own_value_of, prototype_of_primitive, chain_from}
 use Rattle.es_meaning.specs.Holders.{built_heap, constructs_in}
 use Rattle.es_meaning.specs.Start.{id, object_prototype, global_object, engine_error, shown}
-use Rattle.es_meaning.specs.Requested.{literal_object, is_function_in, is_function_at, part_or_undefined, given_body, behind_given, is_array, prototype_in, extensible_in, class_prototype, prototype_given, bound_count, bound_object, target_of, are_origins}
+use Rattle.es_meaning.specs.Requested.{literal_object, is_function_in, is_function_at, part_or_undefined, given_body, behind_definition, behind_length, no_marks, array_object, array_of_texts, listed, made_of, prototype_in, extensible_in, class_prototype, prototype_given, standing_or_default, bound_count, bound_object, target_of, are_origins}
 
 -- ---- what both meanings speak of
 
@@ -145,8 +153,8 @@ abbrev pub with_variables : List (List ℕ) → List PlainObject → List PlainO
 with_variables [] heap = heap
 with_variables (name ∷ names) heap = with_variables names (with_variable name heap)
 
--- ---- and its functions, in front of them: each is a property, whatever the prototype of the global object has. An own property that is configurable is
--- defined anew, and one that isn't is given the function where that is allowed; else the declaration is refused
+-- ---- and its functions, in front of them: each is a property. One that is found along the global object is defined anew where it is configurable, and is
+-- given the function where it isn't and that is allowed; else the declaration is refused
 
 abbrev pub with_property : List ℕ → Property → List PlainObject → List PlainObject
 with_property name p heap = with_object global_object.0 (λ g. with_rows g (defined name p g.rows)) heap
@@ -309,9 +317,16 @@ abbrev pub found : Value → Option (ℕ × Property) → Access
 found base (Some f) = held base f.1.body
 found base None = has_value undefined
 
--- the properties of primitive values aren't built yet
+-- an own property of a primitive value, and else one of its prototype, with the value as the base (ECMA-262 8.7.1)
+abbrev pub primitive_chain : List PlainObject → Primitive → List (ℕ × PlainObject)
+primitive_chain heap p = chain_from (plain_chain heap) (prototype_of_primitive p)
+
+abbrev pub primitive_access : Option Primitive → Access → Access
+primitive_access None beyond = beyond
+primitive_access (Some v) beyond = has_value (value.Primitive v)
+
 unfoldable pub property_of : Value → List ℕ → P Access
-property_of (value.Primitive p) key s = Ends (left not_built) s
+property_of (value.Primitive p) key s = Goes (primitive_access (own_value_of p key) (found (value.Primitive p) (plain_find key (primitive_chain s.heap p)))) s
 property_of (value.Object o) key s = Goes (found (value.Object o) (plain_find key (plain_chain s.heap o.0))) s
 
 abbrev pub as_access : P Value → P Access
@@ -339,31 +354,40 @@ unfoldable pub assigned_to : Option (Binding Value) → List ℕ → ℕ → Val
 assigned_to (Some b) name i v s = assigned b.mutable name i v s
 assigned_to None name i v s = throw_error kinds.ReferenceError s
 
--- what a put comes to (ECMA-262 8.12.5): it is done, or a setter is called with the base as its `this`
+-- what a put comes to (ECMA-262 8.12.5): it is done; a setter is called with the base as its `this`; or the `length` of an array is set (15.4.5.1)
 pub data Putting : Type 0 where
   is_put : Putting
   has_setter : ObjId → Value → Putting
+  has_length : ℕ → Putting
 
--- elements of arrays aren't built yet
+unfoldable pub overwritten : Bool → ℕ → List ℕ → Value → P Putting
+overwritten true o key v s = Goes (has_length o) s
+overwritten false o key v s = Goes is_put (record s { heap = objects.write o key v s.heap })
+
 unfoldable pub put_by : Plan → ℕ → List ℕ → Value → P Putting
-put_by writes o key v s = Goes is_put (record s { heap = objects.write o key v s.heap })
+put_by writes o key v s = overwritten (is_length_in key (slice_get s.heap o)) o key v s
 put_by adds o key v s = Goes is_put (record s { heap = objects.add o key v made_by_script s.heap })
 put_by refuses o key v s = throw_error kinds.TypeError s
 put_by (calls f) o key v s = Goes (has_setter f (value.Object (id o))) s
 
-unfoldable pub put_on : Bool → ℕ → List ℕ → Value → P Putting
-put_on true o key v s = Ends (left not_built) s
-put_on false o key v s = put_by (can_put key (plain_chain s.heap o)) o key v s
-
-abbrev pub is_element_of : Option PlainObject → List ℕ → Bool
-is_element_of None key = false
-is_element_of (Some p) key = is_element p.class key
-
 unfoldable pub put : ℕ → List ℕ → Value → P Putting
-put o key v s = put_on (is_element_of (slice_get s.heap o) key) o key v s
+put o key v s = put_by (can_put key (plain_chain s.heap o)) o key v s
+
+-- a primitive value gets no properties: a put on it calls the setter that its prototype has, and is refused else (ECMA-262 8.7.2)
+unfoldable pub setter_or_refused : Option ObjId → Value → P Putting
+setter_or_refused None base s = throw_error kinds.TypeError s
+setter_or_refused (Some f) base s = Goes (has_setter f base) s
+
+unfoldable pub put_beyond : Value → Option (ℕ × Property) → P Putting
+put_beyond base None s = throw_error kinds.TypeError s
+put_beyond base (Some f) s = setter_or_refused (setter_in f.1.body) base s
+
+unfoldable pub put_on_primitive : Option Primitive → Primitive → List ℕ → P Putting
+put_on_primitive (Some v) p key s = throw_error kinds.TypeError s
+put_on_primitive None p key s = put_beyond (value.Primitive p) (plain_find key (primitive_chain s.heap p)) s
 
 unfoldable pub put_property : Value → List ℕ → Value → P Putting
-put_property (value.Primitive p) key v s = Ends (left not_built) s
+put_property (value.Primitive p) key v s = put_on_primitive (own_value_of p key) p key s
 put_property (value.Object o) key v s = put o.0 key v s
 
 abbrev pub as_putting : P (Unit {0}) → P Putting
@@ -387,16 +411,26 @@ unfoldable pub removed_own : Option Property → ℕ → List ℕ → P Value
 removed_own None o key s = Goes (value.Primitive (prims.Bool true)) s
 removed_own (Some p) o key s = removed_if p.marks.configurable o key s
 
--- names aren't deleted: a script that says so is refused
+-- of a primitive value: its own properties stay (ECMA-262 8.12.7, 15.5.5)
+unfoldable pub removed_of_primitive : Option Primitive → P Value
+removed_of_primitive None s = Goes (value.Primitive (prims.Bool true)) s
+removed_of_primitive (Some v) s = throw_error kinds.TypeError s
+
+-- names aren't deleted in strict code (ECMA-262 11.4.1, step 5.a): a script that says so is refused
 unfoldable pub remove : Reference → P Value
 remove (of_property (value.Object o) key) s = removed_own (own_in key (slice_get s.heap o.0)) o.0 key s
-remove _ s = Ends (left not_built) s
+remove (of_property (value.Primitive p) key) s = removed_of_primitive (own_value_of p key) s
+remove (of_name name place) s = throw_error kinds.SyntaxError s
 
 -- ---- acts
 
 -- an object with these parts (ECMA-262 11.1.5)
 unfoldable pub make_object : List (Part × List ℕ) → List Value → P Value
 make_object parts vs s = Goes (value.Object (id (length s.heap))) (record s { heap = s.heap ++ literal_object parts vs ∷ [] })
+
+-- an array with these elements (ECMA-262 11.1.4)
+unfoldable pub make_array : List ℕ → ℕ → List Value → P Value
+make_array places n vs s = Goes (value.Object (id (length s.heap))) (record s { heap = s.heap ++ array_object n places vs ∷ [] })
 
 -- whether a value can have properties (ECMA-262 9.10)
 abbrev pub is_coercible : Value → Bool
@@ -413,8 +447,12 @@ abbrev pub is_found : {A : Type 0} → Option A → Bool
 is_found None = false
 is_found (Some a) = true
 
+abbrev pub has_of_primitive : Option Primitive → Option (ℕ × Property) → Bool
+has_of_primitive None beyond = is_found beyond
+has_of_primitive (Some v) beyond = true
+
 unfoldable pub has : List ℕ → Value → P Value
-has key (value.Primitive p) s = Ends (left not_built) s
+has key (value.Primitive p) s = Goes (value.Primitive (prims.Bool (has_of_primitive (own_value_of p key) (plain_find key (primitive_chain s.heap p))))) s
 has key (value.Object o) s = Goes (value.Primitive (prims.Bool (is_found (plain_find key (plain_chain s.heap o.0))))) s
 
 -- ---- what built-ins ask for besides
@@ -427,25 +465,87 @@ on_object (value.Object o) next s = next o.0 s
 abbrev pub truth_value : Bool → Value
 truth_value b = value.Primitive (prims.Bool b)
 
--- a definition (ECMA-262 8.12.9), unless it is refused
-unfoldable pub define_by : ℕ → List ℕ → Option Property → P Value
+-- what a definition comes to (ECMA-262 8.12.9): it is done, or the `length` of an array is given a value (15.4.5.1)
+pub data Defining : Type 0 where
+  is_defined : Defining
+  has_length_given : ℕ → GivenMarks → Defining
+
+-- it is done, unless it is refused
+unfoldable pub define_by : ℕ → List ℕ → Option Property → P Defining
 define_by o key None s = throw_error kinds.TypeError s
-define_by o key (Some p) s = Goes undefined (record s { heap = with_object o (λ q. with_rows q (defined key p q.rows)) s.heap })
+define_by o key (Some p) s = Goes is_defined (record s { heap = with_object o (with_defined key p) s.heap })
 
-unfoldable pub define_in : Option PlainObject → ℕ → List ℕ → GivenMarks → Shape → Value → Value → Value → P Value
+unfoldable pub define_given : PlainObject → ℕ → List ℕ → GivenMarks → Shape → Option GivenBody → P Defining
+define_given p o key marks shape None s = throw_error kinds.TypeError s
+define_given p o key marks shape (Some body) s =
+    choose (is_length p.class key && shape.has_value) (ret (has_length_given o marks)) (define_by o key (behind_definition (objects.may_add key p) (own key p.rows) (record { marks = marks; body = body }))) s
+
+unfoldable pub define_in : Option PlainObject → ℕ → List ℕ → GivenMarks → Shape → Value → Value → Value → P Defining
 define_in None o key marks shape v g set s = throw_error kinds.TypeError s
-define_in (Some p) o key marks shape v g set s =
-    choose (is_array p.class) (λ t. Ends (left not_built) t) (define_by o key (behind_given p.extensible (own key p.rows) marks (given_body s.heap marks shape v g set))) s
+define_in (Some p) o key marks shape v g set s = define_given p o key marks shape (given_body s.heap marks shape v g set) s
 
-unfoldable pub define_on : ℕ → List ℕ → GivenMarks → Shape → Value → Value → Value → P Value
-define_on o key marks shape v g set s = define_in (slice_get s.heap o) o key marks shape v g set s
+unfoldable pub defining : List ℕ → GivenMarks → Shape → Value → Value → Value → Value → P Defining
+defining key marks shape base v g set = on_object base (λ o s. define_in (slice_get s.heap o) o key marks shape v g set s)
 
--- a new object of a class (ECMA-262 15.2.2.1, 15.2.3.5): those of arrays aren't built yet
-unfoldable pub made_new : Class → Option ObjId → P Value
-made_new c proto s = Goes (value.Object (id (length s.heap))) (record s { heap = s.heap ++ fresh_plain c plain_inner proto ∷ [] })
+-- ---- the `length` of an array is given a number (ECMA-262 15.4.5.1, steps 3.e to 3.n): elements at or above it are deleted, from the highest one down. One
+-- that can't be configured ends this, and the engine throws
 
+unfoldable pub ended_at : Option ℕ → P Value
+ended_at None s = Goes undefined s
+ended_at (Some i) s = throw_error kinds.TypeError s
+
+unfoldable pub cut_length : ℕ → ℕ → Property → Shortened → P Value
+cut_length o n p cut s = ended_at cut.stays (record s { heap = with_object o (cut_to cut n p) s.heap })
+
+-- `length` is this behind the definition, if it isn't refused
+unfoldable pub set_length_to : ℕ → ℕ → PlainObject → Option Property → P Value
+set_length_to o n q None s = throw_error kinds.TypeError s
+set_length_to o n q (Some p) s = cut_length o n p (deleted_down n q.rows) s
+
+unfoldable pub set_length_in : Option PlainObject → ℕ → GivenMarks → ℕ → P Value
+set_length_in None o marks n s = throw_error kinds.TypeError s
+set_length_in (Some p) o marks n s = set_length_to o n p (behind_length (own length_key p.rows) (record { marks = marks; body = a_value (value.Primitive (Num (Int (pos n)))) })) s
+
+unfoldable pub set_length : ℕ → GivenMarks → ℕ → P Value
+set_length o marks n s = set_length_in (slice_get s.heap o) o marks n s
+
+-- ToNumber of a value that was converted to a primitive one (ECMA-262 9.3), or the run leaves. That of an object, which is none, is NaN
+abbrev pub number_in : Value → Result Number LeftNumbers
+number_in (value.Primitive p) = number_of p
+number_in (value.Object o) = Ok Nan
+
+unfoldable pub numbered_by : Result Number LeftNumbers → P Number
+numbered_by (Ok n) s = Goes n s
+numbered_by (Err e) s = Ends (left leaves_numbers) s
+
+unfoldable pub numbered : Value → P Number
+numbered v = numbered_by (number_in v)
+
+-- a number is the `length` of an array if ToUint32 of the first conversion is what the second one gives (steps 3.c and 3.d)
+abbrev pub count_of : Number → ℕ
+count_of n = uint32 (integer_of n)
+
+abbrev pub is_count : Number → Number → Bool
+is_count m n = equal_numbers (Int (pos (count_of m))) n
+
+-- a new object of a class (ECMA-262 15.2.2.1, 15.2.3.5, 15.4.2)
 unfoldable pub make_new : Class → Option ObjId → P Value
-make_new c proto s = choose (is_array c) (λ t. Ends (left not_built) t) (made_new c proto) s
+make_new c proto s = Goes (value.Object (id (length s.heap))) (record s { heap = s.heap ++ made_of c proto ∷ [] })
+
+-- with a prototype that a value gives
+abbrev pub standing : List PlainObject → ObjId → ObjId
+standing heap o = standing_or_default o (slice_get heap o.0)
+
+unfoldable pub make_new_by : Class → Value → P Value
+make_new_by c v s = make_new c (option_map (standing s.heap) (prototype_given v)) s
+
+-- an array of the own keys of an object
+abbrev pub keys_in : Bool → Option PlainObject → List (List ℕ)
+keys_in all None = []
+keys_in all (Some p) = listed all p.rows
+
+unfoldable pub list_keys : Bool → ℕ → P Value
+list_keys all o s = Goes (value.Object (id (length s.heap))) (record s { heap = s.heap ++ array_of_texts (keys_in all (slice_get s.heap o)) ∷ [] })
 
 -- a bound function (ECMA-262 15.3.4.5)
 unfoldable pub bind_to : Bool → Value → Value → List Value → P Value
@@ -513,7 +613,7 @@ with_call functions number f place this args s =
       heap = s.heap ++ (objects_of functions (length s.heap) here declared ++ made_if (names_in_statements (body_of f)) (arguments_object number here args));
       records = s.records ++ entry_record f place (record {
         this = this;
-        function = value.Primitive (Num (pos number));
+        function = value.Primitive (Num (Int (pos number)));
         args = args;
         missing = undefined;
         functions = references_of (length s.heap) declared;
@@ -569,7 +669,7 @@ object_or_default (value.Primitive p) = object_prototype
 object_or_default (value.Object o) = o
 
 abbrev pub prototype_of : List PlainObject → ℕ → ObjId
-prototype_of heap o = object_or_default (value_found (plain_find prototype_name (plain_chain heap o)))
+prototype_of heap o = standing heap (object_or_default (value_found (plain_find prototype_name (plain_chain heap o))))
 
 abbrev pub with_fresh : ObjId → State → State
 with_fresh proto s = record s { heap = s.heap ++ fresh_plain class.Object plain_inner (Some proto) ∷ [] }
@@ -605,13 +705,26 @@ unfoldable pub entered_access : List FunctionCode → Enters → Access → P Va
 entered_access functions E (has_value v) s = Goes v s
 entered_access functions E (has_getter f this) s = call functions (value.Object f) this [] E s
 
-unfoldable pub entered_putting : List FunctionCode → Enters → Value → Putting → P (Unit {0})
-entered_putting functions E v is_put s = Goes tt s
-entered_putting functions E v (has_setter f this) s = (call functions (value.Object f) this (v ∷ []) E >>= λ u. ret tt) s
-
 unfoldable pub converted : Enters → Hint → Value → P Value
 converted E h (value.Primitive p) s = Goes (value.Primitive p) s
 converted E h (value.Object o) s = E.conversion h (value.Object o) s
+
+-- a value for the `length` of an array is converted twice (ECMA-262 15.4.5.1, steps 3.c and 3.d), and then `length` is given the number
+unfoldable pub given_count : Bool → ℕ → (ℕ → P Value) → P Value
+given_count true n next s = next n s
+given_count false n next s = throw_error kinds.RangeError s
+
+unfoldable pub with_count : Enters → Value → (ℕ → P Value) → P Value
+with_count E v next = converted E hint.Number v >>= numbered >>= λ m. converted E hint.Number v >>= numbered >>= λ n. given_count (is_count m n) (count_of m) next
+
+unfoldable pub entered_defining : Enters → Value → Defining → P Value
+entered_defining E v is_defined s = Goes undefined s
+entered_defining E v (has_length_given o marks) s = with_count E v (set_length o marks) s
+
+unfoldable pub entered_putting : List FunctionCode → Enters → Value → Putting → P (Unit {0})
+entered_putting functions E v is_put s = Goes tt s
+entered_putting functions E v (has_setter f this) s = (call functions (value.Object f) this (v ∷ []) E >>= λ u. ret tt) s
+entered_putting functions E v (has_length o) s = (with_count E v (set_length o no_marks) >>= λ u. ret tt) s
 
 unfoldable pub converted_if : Bool → Enters → Value → P Value
 converted_if true E v s = converted E hint.Default v s
@@ -705,18 +818,18 @@ module _ (tables : Tables) (inputs : Given) where
   -- the arguments are as many as the act takes
   unfoldable pub act : Act → List Value → P Value
   act (object_of parts) vs = make_object parts vs
+  act (array_of places n) vs = make_array places n vs
   act base_needed vs = needed (is_coercible (first vs)) (first vs)
   act object_needed vs = needed (is_object (first vs)) (first vs)
   act has_key vs = has (key_text (first vs)) (second vs)
   act (throws_error kind) vs = throw_error kind
   act (own_property part key) vs = on_object (first vs) (λ o s. Goes (part_or_undefined part (own_in key (slice_get s.heap o))) s)
-  act (define key marks shape) vs = on_object (first vs) (λ o. define_on o key marks shape (second vs) (argument_or undefined 2 vs) (argument_or undefined 3 vs))
-  act (own_keys all) vs = on_object (first vs) (λ o s. Ends (left not_built) s)
+  act (own_keys all) vs = on_object (first vs) (list_keys all)
   act prototype_of_object vs = on_object (first vs) (λ o s. Goes (prototype_in (slice_get s.heap o)) s)
   act is_extensible vs = on_object (first vs) (λ o s. Goes (truth_value (extensible_in (slice_get s.heap o))) s)
   act prevent_extensions vs = on_object (first vs) (λ o s. Goes undefined (record s { heap = with_object o (λ p. record p { extensible = false }) s.heap }))
   act (new_object c false) vs = make_new c (Some (class_prototype c))
-  act (new_object c true) vs = make_new c (prototype_given (first vs))
+  act (new_object c true) vs = make_new_by c (first vs)
   act bind vs = λ s. bind_to (is_function_at s.heap (first vs)) (first vs) (second vs) (others (others vs)) s
   act read_line vs = read_channel (channel_of tables.inputs (first vs))
   act print_line vs = print_channel (channel_of tables.outputs (first vs)) (second vs)
@@ -760,6 +873,7 @@ module _ (tables : Tables) (inputs : Given) where
       typeof_value = λ n E. accessed_for_typeof n >>= entered_access functions E;
       put_value = λ n v E. put_value n v >>= entered_putting functions E v;
       remove = remove;
+      define = λ key marks shape base v g set E. defining key marks shape base v g set >>= entered_defining E v;
       this_of = base_of;
       instance = instance functions;
       fork = λ t v m n. choose (truth v) m n;

@@ -1,24 +1,26 @@
 -- What acts make of objects and find in them: the objects of literals, what is known of an own property, definitions, new objects and bound functions.
-use Rattle.std.specs.Prelude.{ℕ, zero, suc, pos, ◌+◌, ◌-◌, ◌||◌, List, [], ◌∷◌, Bool, true, false, Option, Some, None, codes, slice_get, nat_lt, if◌then◌else◌}
+use Rattle.std.specs.Prelude.{ℕ, zero, suc, map, length, pos, ◌+◌, ◌-◌, ◌||◌, List, [], ◌∷◌, Bool, true, false, Option, Some, None, codes, slice_get, nat_lt, if◌then◌else◌}
 use Rattle.std.specs.List.{list_all}
 use Rattle.std.specs.Option.{is_some}
-use Rattle.js_number.specs.declared.primitive.Primitive.TheVariants.{Undefined, Null, Num}
+use Rattle.js_number.specs.declared.num.Num.TheVariants.{Int}
+use Rattle.js_number.specs.declared.primitive.Primitive.TheVariants.{Undefined, Null, Num, Str}
 use Rattle.js_values.specs.declared.value.Value.{Value}
 use Rattle.js_values.specs.declared.value.Value.TheVariants as value
 use Rattle.js_values.specs.declared.property.Body.{Body}
 use Rattle.js_values.specs.declared.property.Body.TheVariants.{Data, Accessor}
 use Rattle.js_values.specs.declared.inner.Class.TheVariants as class
 use Rattle.js_values.specs.declared.ids.ObjId.{ObjId}
+use Rattle.js_values.specs.Arrays.{length_key}
 use Rattle.js_values.specs.Objects.{Rows, Property, PlainInner, PlainObject, plain as plain_inner, bound as bound_inner, own, fresh_plain}
 use Rattle.js_values.specs.declared.property.Marks.{Marks}
 use Rattle.js_values.specs.declared.inner.Class.{Class}
 use Rattle.es_meaning.specs.Operations.{Part, as_value, as_getter, as_setter, OwnPart, own_marks, own_value, own_getter, own_setter, Shape}
-use Rattle.es_meaning.specs.Functions.{Target, own_target, bound_behind, is_function}
-use Rattle.es_meaning.specs.Objects.{made_by_script, defined}
+use Rattle.es_meaning.specs.Functions.{Target, own_target, bound_behind, is_function, property_with}
+use Rattle.es_meaning.specs.Objects.{made_by_script, defined, elements_onto}
 use Rattle.native_protocol.specs.declared.request.ErrorKind.TheVariants as kinds
 use Rattle.native_protocol.specs.declared.request.GivenMarks.{GivenMarks}
 use Rattle.es_meaning.specs.Definitions.{GivenBody, no_body, a_value, accessors, Definition, is_accessor, value_in, getter_in, setter_in, may_define_over, defined_over as defined_by, defined_new}
-use Rattle.es_meaning.specs.Start.{object_prototype, function_prototype, boolean_prototype, number_prototype, error_prototype, function_rows, count_property}
+use Rattle.es_meaning.specs.Start.{object_prototype, function_prototype, array_prototype, string_prototype, boolean_prototype, number_prototype, error_prototype, function_rows, count_property, length_property}
 
 -- ---- object literals (ECMA-262 11.1.5)
 
@@ -81,7 +83,7 @@ function_value None = value.Primitive Undefined
 function_value (Some f) = value.Object f
 
 abbrev pub part_of_property : OwnPart → Property → Value
-part_of_property own_marks p = value.Primitive (Num (pos (marks_number p)))
+part_of_property own_marks p = value.Primitive (Num (Int (pos (marks_number p))))
 part_of_property own_value p = value_in p.body
 part_of_property own_getter p = function_value (getter_in p.body)
 part_of_property own_setter p = function_value (setter_in p.body)
@@ -121,14 +123,46 @@ abbrev pub behind_definition : Bool → Option Property → Definition → Optio
 behind_definition extensible None d = defined_if extensible (defined_new d)
 behind_definition extensible (Some p) d = defined_if (may_define_over p d) (defined_by p d)
 
+-- a `length` of an array is data (ECMA-262 15.4.5.1, step 1): one that is an accessor gets no number
+abbrev pub behind_length : Option Property → Definition → Option Property
+behind_length None d = None
+behind_length (Some p) d = if is_accessor p.body then None else behind_definition false (Some p) d
+
 abbrev pub behind_given : Bool → Option Property → GivenMarks → Option GivenBody → Option Property
 behind_given extensible old marks None = None
 behind_given extensible old marks (Some body) = behind_definition extensible old (record { marks = marks; body = body })
 
--- a definition on an array isn't built yet
-abbrev pub is_array : Class → Bool
-is_array class.Array = true
-is_array _ = false
+-- one that gives no attributes
+abbrev pub no_marks : GivenMarks
+no_marks = record { writable = None; enumerable = None; configurable = None }
+
+-- ---- arrays
+
+-- an array of which these elements have these values (ECMA-262 11.1.4)
+abbrev pub array_object : ℕ → List ℕ → List Value → PlainObject
+array_object n places vs = record (fresh_plain class.Array plain_inner (Some array_prototype)) { rows = elements_onto ((length_key, length_property n) ∷ []) places (map (λ v. property_with v made_by_script) vs) }
+
+-- the numbers from one on, one for each element of a list
+abbrev pub places_from : {A : Type 0} → ℕ → List A → List ℕ
+places_from n [] = []
+places_from n (a ∷ as_) = n ∷ places_from (suc n) as_
+
+abbrev pub text_value : List ℕ → Value
+text_value text = value.Primitive (Str text)
+
+-- of texts
+abbrev pub array_of_texts : List (List ℕ) → PlainObject
+array_of_texts texts = array_object (length texts) (places_from 0 texts) (map text_value texts)
+
+-- the own keys of an object in their order (15.2.3.4, 15.2.3.14): all, or the enumerable ones
+abbrev pub listed : Bool → Rows Property → List (List ℕ)
+listed all [] = []
+listed all (r ∷ rows) = if all || r.1.marks.enumerable then r.0 ∷ listed all rows else listed all rows
+
+-- a new object of a class; an array has a `length`
+abbrev pub made_of : Class → Option ObjId → PlainObject
+made_of class.Array proto = record (array_object 0 [] []) { proto = proto }
+made_of c proto = fresh_plain c plain_inner proto
 
 -- ---- prototypes
 
@@ -148,6 +182,8 @@ extensible_in (Some p) = p.extensible
 -- that of a new object of a class (ECMA-262 15.2.2.1, 15.2.3.5)
 abbrev pub class_prototype : Class → ObjId
 class_prototype class.Function = function_prototype
+class_prototype class.Array = array_prototype
+class_prototype class.String = string_prototype
 class_prototype class.Error = error_prototype kinds.Error
 class_prototype class.Boolean = boolean_prototype
 class_prototype class.Number = number_prototype
@@ -159,6 +195,11 @@ prototype_given (value.Primitive Null) = None
 prototype_given (value.Primitive p) = Some object_prototype
 prototype_given (value.Object o) = Some o
 
+-- an object that stands in the heap, and else `Object.prototype`
+abbrev pub standing_or_default : ObjId → Option PlainObject → ObjId
+standing_or_default o None = object_prototype
+standing_or_default o (Some p) = o
+
 -- ---- bound functions
 
 -- a bound function (ECMA-262 15.3.4.5): its `length` is that of the target without the arguments that are bound
@@ -167,7 +208,7 @@ count_in None = 0
 count_in (Some p) = count_of (value_in p.body)
   where
     count_of : Value → ℕ
-    count_of (value.Primitive (Num (pos n))) = n
+    count_of (value.Primitive (Num (Int (pos n)))) = n
     count_of _ = 0
 
 abbrev pub bound_count : Option PlainObject → ℕ → ℕ

@@ -1,7 +1,7 @@
 -- The objects that a run starts with, the errors of the engine, and what is shown of a value.
 use Rattle.std.specs.Prelude.{ℕ, pos, true, false, List, [], ◌∷◌, ◌++◌, Option, Some, None, codes, slice_get}
-use Rattle.std.specs.Fmt.{signed_decimal}
 use Rattle.flow_text.specs.Written.{escaped}
+use Rattle.js_number.specs.declared.num.Num.TheVariants.{Nan, Int}
 use Rattle.js_number.specs.declared.primitive.Primitive.{Primitive}
 use Rattle.js_number.specs.declared.primitive.Primitive.TheVariants.{Undefined, Null, Num, Str}
 use Rattle.js_number.specs.declared.primitive.Primitive.TheVariants as prims
@@ -63,15 +63,25 @@ number_prototype = id 11
 abbrev pub math_object : ObjId
 math_object = id 12
 
+-- `JSON`, and the prototypes of arrays and of strings (ECMA-262 15.12, 15.4.4, 15.5.4)
+abbrev pub json_object : ObjId
+json_object = id 13
+
+abbrev pub array_prototype : ObjId
+array_prototype = id 14
+
+abbrev pub string_prototype : ObjId
+string_prototype = id 15
+
 -- the accessors of `caller`, `arguments` and `callee` (ECMA-262 13.2.3)
 abbrev pub caller_accessor : ObjId
-caller_accessor = id 13
+caller_accessor = id 16
 
 abbrev pub arguments_accessor : ObjId
-arguments_accessor = id 14
+arguments_accessor = id 17
 
 abbrev pub callee_accessor : ObjId
-callee_accessor = id 15
+callee_accessor = id 18
 
 -- ---- these objects
 
@@ -98,7 +108,25 @@ abbrev pub fixed_accessor : ObjId → Property
 fixed_accessor f = record { body = Accessor (Some f) (Some f); marks = fixed }
 
 abbrev pub count_property : ℕ → Property
-count_property n = record { body = Data (value.Primitive (Num (pos n))); marks = fixed }
+count_property n = record { body = Data (value.Primitive (Num (Int (pos n)))); marks = fixed }
+
+-- the `length` of an array can be written (ECMA-262 15.4.5.2)
+abbrev pub length_marks : Marks
+length_marks = record { writable = true; enumerable = false; configurable = false }
+
+abbrev pub length_property : ℕ → Property
+length_property n = record { body = Data (value.Primitive (Num (Int (pos n)))); marks = length_marks }
+
+-- the constant NaN (ECMA-262 15.1.1.1, 15.7.3.4)
+abbrev pub nan_property : Property
+nan_property = record { body = Data (value.Primitive (Num Nan)); marks = fixed }
+
+-- the prototype of arrays is an array, and that of strings the object of the empty text
+abbrev pub prototype_of_arrays : PlainObject
+prototype_of_arrays = record (fresh_plain class.Array plain (Some object_prototype)) { rows = (codes "length", length_property 0) ∷ [] }
+
+abbrev pub prototype_of_strings : PlainObject
+prototype_of_strings = record (fresh_plain class.String plain (Some object_prototype)) { rows = (codes "length", count_property 0) ∷ [] }
 
 -- the properties that each function has behind its own (ECMA-262 13.2, 15.3.5)
 abbrev pub function_rows : Rows Property
@@ -106,11 +134,11 @@ function_rows = (codes "caller", fixed_accessor caller_accessor) ∷ (codes "arg
 
 -- the prototype of functions, which is a function itself (ECMA-262 15.3.4)
 abbrev pub prototype_of_functions : PlainObject
-prototype_of_functions = record (fresh_plain class.Function plain (Some object_prototype)) { rows = (codes "length", count_property 0) ∷ function_rows }
+prototype_of_functions = record (fresh_plain class.Function plain (Some object_prototype)) { rows = (codes "length", count_property 0) ∷ [] }
 
--- a built-in function (ECMA-262 15)
+-- a built-in function (ECMA-262 15). It gets the accessors of `caller` and `arguments` when all built-ins are made, so that they stand last
 abbrev pub native_function : ℕ → ℕ → Rows Property → PlainObject
-native_function which size rows = record (fresh_plain class.Function (native which) (Some function_prototype)) { rows = (codes "length", count_property size) ∷ (rows ++ function_rows) }
+native_function which size rows = record (fresh_plain class.Function (native which) (Some function_prototype)) { rows = (codes "length", count_property size) ∷ rows }
 
 abbrev pub start_heap : List PlainObject
 start_heap = fresh_plain class.Object plain None
@@ -126,6 +154,9 @@ start_heap = fresh_plain class.Object plain None
     ∷ fresh_plain class.Boolean plain (Some object_prototype)
     ∷ fresh_plain class.Number plain (Some object_prototype)
     ∷ fresh_plain class.Math plain (Some object_prototype)
+    ∷ fresh_plain class.Json plain (Some object_prototype)
+    ∷ prototype_of_arrays
+    ∷ prototype_of_strings
     ∷ native_function 0 0 [] ∷ native_function 1 0 [] ∷ native_function 2 0 [] ∷ []
 
 -- an error that the engine makes has no properties of its own
@@ -150,7 +181,7 @@ abbrev pub shown_primitive : Primitive → List ℕ
 shown_primitive Undefined = codes "undefined"
 shown_primitive Null = codes "null"
 shown_primitive (prims.Bool b) = codes "boolean " ++ text_of (prims.Bool b)
-shown_primitive (Num n) = codes "number " ++ signed_decimal n
+shown_primitive (Num n) = codes "number " ++ text_of (Num n)
 shown_primitive (Str text) = codes "string " ++ escaped text
 
 abbrev pub shown_name : Value → List ℕ

@@ -5,6 +5,7 @@ use Rattle.flow_policy.specs.Policies.{Tables}
 use Rattle.flow_policy.specs.Inputs.{Given}
 use Rattle.flow_frames.specs.declared.kind.Kind.{Kind}
 use Rattle.flow_frames.specs.declared.kind.Kind.TheVariants as kind
+use Rattle.js_values.specs.declared.ids.ObjId.{ObjId}
 use Rattle.js_values.specs.declared.value.Value.{Value}
 use Rattle.js_values.specs.declared.value.Value.TheVariants as value
 use Rattle.js_ast.specs.Trees.{Statements}
@@ -21,15 +22,15 @@ use Rattle.es_meaning.specs.Operations.{Res, Ops}
 use Rattle.es_meaning.specs.Operators.{is_object, truth, converts_beside, binary_of}
 use Rattle.es_meaning.specs.Evaluation.{program_step}
 use Rattle.es_meaning.specs.Start.{id}
-use Rattle.es_meaning.specs.Plain.{choose, is_throw, may_declare, outermost_env, prototype_name}
+use Rattle.es_meaning.specs.Plain.{choose, is_throw, may_declare, outermost_env, prototype_name, count_of, is_count}
 use Rattle.es_meaning.proofs.Link.{EnteringLinked, Link}
 use Rattle.es_meaning.proofs.RequestLinks.{program_longer}
 use Rattle.es_meaning.proofs.Longer.{beyond, few_beyond, beyond_few, Longer, wants, goes, jumps, ends, Lift, bind_longer, choose_longer, at_equal, equal_results, rels_equal, same_rels}
 use Rattle.flow_meaning.specs.Laws.{MoreTurns}
 use Rattle.flow_meaning.specs.Requested.{Aim, aim_of, is_function_in}
 use Rattle.flow_meaning.specs.Scopes.{Val, joined, Halt, as_plain, State, Jump, L, cut_to, pushed_on, Came, ended, caught, Left, popped, stay, scope, settled, settled_value, answer, construction, react, resume, finish, attempt, round_kind}
-use Rattle.flow_meaning.specs.Tracked.{spend, seen, Access, has_value, has_getter, Putting, is_put, has_setter, Enters, entered, called_value, call_by, call_aimed, call_value, constructed, construct_built_in, construct_by, construct_aimed, construct_value, entered_access, entered_putting, convert, converted_by, instance_by, instance_of, instance_if, instance_value, with_call, callee_at, with_fresh, prototype_of, with_name, named_origins, resolved, key_list, with_list, labelled, timed, start, run_of, tracked_run}
-use Rattle.flow_meaning.proofs.Steady.{with_turns, left_with, Steady, Holds, holds, ret_steady, ends_steady, given_steady, raise_steady, unary_steady, accessed_steady, typeof_steady, put_steady, property_steady, is_instance_steady, remove_steady, act_steady, throws_steady, function_steady, jump_steady, jumps_steady, raised_steady, quiet_steady, resume_steady}
+use Rattle.flow_meaning.specs.Tracked.{spend, seen, Access, has_value, has_getter, Putting, is_put, has_setter, has_length, Defining, is_defined, has_length_given, Enters, entered, called_value, call_by, call_aimed, call_value, constructed, construct_built_in, construct_by, construct_aimed, construct_value, entered_access, entered_putting, entered_defining, convert, converted_by, converted_for_length, given_count, with_count, instance_by, instance_of, instance_if, instance_value, with_call, callee_at, with_fresh, prototype_of, with_name, named_origins, resolved, key_list, with_list, labelled, timed, start, run_of, tracked_run}
+use Rattle.flow_meaning.proofs.Steady.{with_turns, left_with, Steady, Holds, holds, ret_steady, ends_steady, given_steady, raise_steady, unary_steady, accessed_steady, typeof_steady, put_steady, defining_steady, set_length_steady, numbered_steady, property_steady, is_instance_steady, remove_steady, act_steady, throws_steady, function_steady, jump_steady, jumps_steady, raised_steady, quiet_steady, resume_steady}
 
 -- the state with k more turns
 abbrev more_turns_in : ℕ → State → State
@@ -167,11 +168,6 @@ module _ (k : ℕ) where
   access_on functions (has_value v) h = act _ (ret_steady v)
   access_on functions (has_getter label f this) h = call_value_on functions label (value.Object f) this [] h
 
-  putting_on : (functions : List FunctionCode) (v : Val) (p : Putting) {E D : Enters} → Alike E D → On (Unit {0}) (entered_putting functions E v p) (entered_putting functions D v p)
-  unfolding entered_putting
-  putting_on functions v is_put h = act _ (ret_steady tt)
-  putting_on functions v (has_setter label f this) h = bind_longer _ _ (call_value_on functions label (value.Object f) this (v ∷ []) h) (λ u. act _ (ret_steady tt))
-
   convert_on : (to : Hint) (label : Label) (v : Val) {E D : Enters} → Alike E D → On Val (convert E to label v) (convert D to label v)
   unfolding convert
   convert_on to label v h = framed_on kind.Native label (h.conversion tt to v v refl)
@@ -181,22 +177,48 @@ module _ (k : ℕ) where
   converted_on true to label v given h = convert_on to label v h
   converted_on false to label v given h = act _ (ret_steady given)
 
+  -- a value for the `length` of an array
+  for_length_on : (label : Label) (v : Val) {E D : Enters} → Alike E D → On Val (converted_for_length E label v) (converted_for_length D label v)
+  unfolding converted_for_length
+  for_length_on label v h = converted_on (is_object v.value) hint.Number (union label v.label) v v h
+
+  given_count_on : (is : Bool) (n : ℕ) (given label : Label) (f g : ℕ → Label → L Val) → ((n : ℕ) (given : Label) → On Val (f n given) (g n given)) → On Val (given_count is n given label f) (given_count is n given label g)
+  unfolding given_count
+  given_count_on true n given label f g next = next n given
+  given_count_on false n given label f g next = act _ (throws_steady Val _ _)
+
+  with_count_on : (label : Label) (v : Val) (f g : ℕ → Label → L Val) → ((n : ℕ) (given : Label) → On Val (f n given) (g n given)) → {E D : Enters} → Alike E D → On Val (with_count E label v f) (with_count D label v g)
+  unfolding with_count
+  with_count_on label v f g next h = bind_longer _ _ (for_length_on label v h) λ first. bind_longer _ _ (act _ (numbered_steady first)) λ m.
+      bind_longer _ _ (for_length_on label v h) λ second. bind_longer _ _ (act _ (numbered_steady second)) λ n. given_count_on (is_count m n) (count_of m) (union first.label second.label) label f g next
+
+  defining_ends_on : (v : Val) (d : Defining) {E D : Enters} → Alike E D → On Val (entered_defining E v d) (entered_defining D v d)
+  unfolding entered_defining
+  defining_ends_on v (is_defined label) h = act _ (ret_steady _)
+  defining_ends_on v (has_length_given label o marks) h = with_count_on label v _ _ (λ n given. act _ (set_length_steady true label o marks n given)) h
+
+  putting_on : (functions : List FunctionCode) (v : Val) (p : Putting) {E D : Enters} → Alike E D → On (Unit {0}) (entered_putting functions E v p) (entered_putting functions D v p)
+  unfolding entered_putting
+  putting_on functions v is_put h = act _ (ret_steady tt)
+  putting_on functions v (has_setter label f this) h = bind_longer _ _ (call_value_on functions label (value.Object f) this (v ∷ []) h) (λ u. act _ (ret_steady tt))
+  putting_on functions v (has_length label o) h = bind_longer _ _ (with_count_on label v _ _ (λ n given. act _ (set_length_steady false label o _ n given)) h) (λ u. act _ (ret_steady tt))
+
   -- ---- `instanceof`
 
-  instance_by_on : (functions : List FunctionCode) (v : Val) (o : Value) (label : Label) (f : ℕ) {E D : Enters} → Alike E D → On Val (instance_by functions v o label f E) (instance_by functions v o label f D)
+  instance_by_on : (functions : List FunctionCode) (v : Val) (o : ObjId) (label : Label) (f : ℕ) {E D : Enters} → Alike E D → On Val (instance_by functions v o label f E) (instance_by functions v o label f D)
   unfolding instance_by
-  instance_by_on functions v (value.Primitive p) label f h = record { on = λ s. goes }
-  instance_by_on functions v (value.Object o) label f h = record {
+  instance_by_on functions v o label f h = record {
     on = λ s. (bind_longer _ _ (bind_longer _ _ (act _ (property_steady _ (called_value label f) (value.Object (id f)) prototype_name)) (λ a. access_on functions a h)) (λ proto. act _ (is_instance_steady _ o.0 proto.value))).on s;
   }
 
-  instance_of_on : (functions : List FunctionCode) (v : Val) (label : Label) (aim : Aim) {E D : Enters} → Alike E D → On Val (instance_of functions v label aim E) (instance_of functions v label aim D)
+  instance_of_on : (functions : List FunctionCode) (v : Val) (o : Value) (label : Label) (aim : Aim) {E D : Enters} → Alike E D → On Val (instance_of functions v o label aim E) (instance_of functions v o label aim D)
   unfolding instance_of
-  instance_of_on functions v label aim h = instance_by_on functions v v.value _ aim.target.function h
+  instance_of_on functions v (value.Primitive p) label aim h = act _ (ret_steady _)
+  instance_of_on functions v (value.Object o) label aim h = instance_by_on functions v o _ aim.target.function h
 
   instance_if_on : (functions : List FunctionCode) (is_function : Bool) (v : Val) (label : Label) (f : ℕ) {E D : Enters} → Alike E D → On Val (instance_if functions is_function v label f E) (instance_if functions is_function v label f D)
   unfolding instance_if
-  instance_if_on functions true v label f h = record { on = λ s. (instance_of_on functions v label (aim_of s.heap f) h).on s }
+  instance_if_on functions true v label f h = record { on = λ s. (instance_of_on functions v v.value label (aim_of s.heap f) h).on s }
   instance_if_on functions false v label f h = record { on = λ s. (act _ (throws_steady Val _ label)).on s }
 
   instance_on : (functions : List FunctionCode) (v : Val) (label : Label) (f : Value) {E D : Enters} → Alike E D → On Val (instance_value functions v label f E) (instance_value functions v label f D)
@@ -277,6 +299,9 @@ module _ (k : ℕ) where
       put_value = λ {n = n} {v = v} {v' = v'} {E = E} {D = D} r q h. at_equal (λ x. A.put_value x v E) (λ x. A.put_value x v' D) r
           (at_equal (λ x. A.put_value n x E) (λ x. A.put_value n x D) q (bind_longer _ _ (act _ (put_steady n v)) (λ p. putting_on functions v p h)));
       remove = λ {n = n} r. at_equal A.remove A.remove r (act _ (remove_steady n));
+      define = λ key marks shape {base = b} {v = v} {g = g} {set = q} {base' = b'} {v' = v'} {g' = g'} {set' = q'} {E = E} {D = D} rb rv rg rq h. at_equal (λ x. A.define key marks shape x v g q E) (λ x. A.define key marks shape x v' g' q' D) rb
+          (at_equal (λ x. A.define key marks shape b x g q E) (λ x. A.define key marks shape b x g' q' D) rv (at_equal (λ x. A.define key marks shape b v x q E) (λ x. A.define key marks shape b v x q' D) rg
+          (at_equal (λ x. A.define key marks shape b v g x E) (λ x. A.define key marks shape b v g x D) rq (bind_longer _ _ (act _ (defining_steady key marks shape b v g q)) (λ d. defining_ends_on v d h)))));
       fork = λ t {w = w} {v = v} {m = m} {n = n} {m' = m'} {n' = n'} r l q. at_equal (λ x. A.fork t x m n) (λ x. A.fork t x m' n') r
           (bind_longer _ _ (scope_on kind.Branch v.label (λ depth. choose_longer (truth v.value) (l w tt) (q w tt))) (λ c. act _ (ret_steady (settled t c))));
       round = λ {w = w} turn labels {e = e} f g r h. at_equal (λ d. A.round turn labels d f) (λ d. A.round turn labels d g) r

@@ -5,6 +5,7 @@ use Rattle.flow_policy.specs.Policies.{Tables}
 use Rattle.flow_policy.specs.Inputs.{Given}
 use Rattle.flow_frames.specs.declared.kind.Kind.{Kind}
 use Rattle.flow_frames.specs.declared.kind.Kind.TheVariants as kind
+use Rattle.js_values.specs.declared.ids.ObjId.{ObjId}
 use Rattle.js_values.specs.declared.value.Value.{Value as AnyValue}
 use Rattle.js_values.specs.declared.value.Value.TheVariants as value
 use Rattle.js_ast.specs.Trees.{body_of, Statements}
@@ -22,7 +23,8 @@ use Rattle.es_meaning.specs.Operations.{Ty, One, Value, Res, Ops, Visit, Rec}
 use Rattle.es_meaning.specs.Operators.{is_object, truth, converts_beside, binary_of}
 use Rattle.es_meaning.specs.Evaluation.{step, begun}
 use Rattle.es_meaning.specs.Start.{id}
-use Rattle.es_meaning.specs.Plain.{undefined, choose, is_throw, may_declare, outermost_env, prototype_name}
+use Rattle.es_meaning.specs.Plain.{undefined, choose, is_throw, may_declare, outermost_env, prototype_name, count_of, is_count}
+use Rattle.es_meaning.specs.Requested.{no_marks}
 use Rattle.es_meaning.proofs.Link.{EnteringLinked, Visits, visits_of, Link, Linked}
 use Rattle.es_meaning.proofs.RequestLinks.{step_linked, begun_linked}
 use Rattle.es_meaning.proofs.Longer.{equal_results, rels_equal, same_rels}
@@ -30,9 +32,9 @@ use Rattle.flow_meaning.specs.Erased.{unlabelled}
 use Rattle.flow_meaning.specs.Requested.{Aim, aim_of, is_function_in}
 use Rattle.flow_meaning.specs.Scopes.{Val, joined, Halt, State, Jump, L, cut_to, pushed_on, Came, ended, caught, Left, popped, stay, scope, settled, settled_value, answer, construction, quiet, react, resume, finish, tried, round_kind, raise}
 use Rattle.flow_meaning.specs.Tracked as tracked
-use Rattle.flow_meaning.specs.Tracked.{throw_error, seen, Access, has_value, has_getter, accessed, accessed_for_typeof, property_of, Putting, is_put, has_setter, put_value, with_call, callee_at, called_value, with_fresh, prototype_of, is_instance, with_name, named_origins, resolved, key_list, labelled}
-use Rattle.flow_meaning.specs.Planned.{Part, an_expr, a_use, a_stmt, a_named, a_turn, a_visit, a_request, Completion, gave, jumped, Plan, Give, Ask, End, Then, and_plan, with_result, as_plan, outcome_of, end_branch, end_round, end_call, end_construction, as_stayed, with_stay, end_last, do_last, end_handler, do_handle, do_react, end_block, Enters, in_frame, enter_call, call_by, call_aimed, call_value, enter_construction, construct_built_in, construct_by, construct_aimed, construct_value, with_outcome, enter_access, end_setter, enter_putting, convert_by, end_instance, instance_by, instance_if, instance_value, with_list, planned, asking, plan, program_plan, Ran, Evaluator, untyped, and_go, completed, perform, of_rec}
-use Rattle.flow_meaning.proofs.Steady.{Steady, Holds, holds, ret_steady, ends_steady, given_steady, raise_steady, unary_steady, accessed_steady, typeof_steady, put_steady, property_steady, is_instance_steady, remove_steady, act_steady, throws_steady, function_steady, jump_steady, jumps_steady, raised_steady, quiet_steady, resume_steady}
+use Rattle.flow_meaning.specs.Tracked.{throw_error, seen, Access, has_value, has_getter, accessed, accessed_for_typeof, property_of, Putting, is_put, has_setter, has_length, put_value, Defining, is_defined, has_length_given, defining, numbered, set_length, truth_of, with_call, callee_at, called_value, with_fresh, prototype_of, is_instance, with_name, named_origins, resolved, key_list, labelled}
+use Rattle.flow_meaning.specs.Planned.{Part, an_expr, a_use, a_stmt, a_named, a_turn, a_visit, a_request, Completion, gave, jumped, Plan, Give, Ask, End, Then, and_plan, with_result, as_plan, outcome_of, end_branch, end_round, end_call, end_construction, as_stayed, with_stay, end_last, do_last, end_handler, do_handle, do_react, end_block, Enters, in_frame, enter_call, call_by, call_aimed, call_value, enter_construction, construct_built_in, construct_by, construct_aimed, construct_value, with_outcome, enter_access, end_putting, enter_putting, convert_by, Counted, convert_for_length, given_count, end_second, end_first, enter_count, enter_defining, end_instance, instance_by, instance_of, instance_if, instance_value, with_list, planned, asking, plan, program_plan, Ran, Evaluator, untyped, and_go, completed, perform, of_rec}
+use Rattle.flow_meaning.proofs.Steady.{Steady, Holds, holds, ret_steady, ends_steady, given_steady, raise_steady, unary_steady, accessed_steady, typeof_steady, put_steady, defining_steady, set_length_steady, numbered_steady, property_steady, is_instance_steady, remove_steady, act_steady, throws_steady, function_steady, jump_steady, jumps_steady, raised_steady, quiet_steady, resume_steady}
 
 -- ---- no part of a plan but what it asks for changes the turns
 
@@ -332,34 +334,65 @@ module _ (tables : Tables) (inputs : Given) (set : BuiltIns) (functions : List F
   access_performed (has_value v) h = let l = act Value (ret v) (ret_steady v) in record { same = λ s. l.same s; keeps = λ s. l.keeps s }
   access_performed (has_getter label f this) h = let l = call_performed label (value.Object f) this [] h in record { same = λ s. l.same s; keeps = λ s. l.keeps s }
 
-  putting_performed : (v : Val) (p : Putting) {E : Enters} {D : tracked.Enters} → Alike E D → Lift One (enter_putting functions E v p) (tracked.entered_putting functions D v p)
-  unfolding enter_putting tracked.entered_putting end_setter
-  putting_performed v is_put h = let l = act One (ret tt) (ret_steady tt) in record { same = λ s. l.same s; keeps = λ s. l.keeps s }
-  putting_performed v (has_setter label f this) h =
-      let l = bind_performed Value One (λ u s. Give (gave (unlabelled undefined)) s) (λ u. ret tt) (call_performed label (value.Object f) this (v ∷ []) h) (λ u. act One (ret tt) (ret_steady tt)) in record { same = λ s. l.same s; keeps = λ s. l.keeps s }
-
   converted_performed : (converts : Bool) (to : Hint) (label : Label) (v given : Val) {E : Enters} {D : tracked.Enters} → Alike E D → Lift Value (convert_by converts E to label v given) (tracked.converted_by converts D to label v given)
   unfolding convert_by tracked.converted_by tracked.convert
   converted_performed true to label v given h = let l = framed kind.Native label (h.conversion tt to v v refl) in record { same = λ s. l.same s; keeps = λ s. l.keeps s }
   converted_performed false to label v given h = let l = act Value (ret given) (ret_steady given) in record { same = λ s. l.same s; keeps = λ s. l.keeps s }
 
+  -- a value for the `length` of an array
+  for_length_performed : (label : Label) (v : Val) {E : Enters} {D : tracked.Enters} → Alike E D → Lift Value (convert_for_length E label v) (tracked.converted_for_length D label v)
+  unfolding tracked.converted_for_length
+  for_length_performed label v h = let l = converted_performed (is_object v.value) hint.Number (union label v.label) v v h in record { same = λ s. l.same s; keeps = λ s. l.keeps s }
+
+  given_count_performed : (is : Bool) (n : ℕ) (given label : Label) (f : Counted) (g : ℕ → Label → L Val) → ((n : ℕ) (given : Label) → Lift Value (f n given) (g n given)) → Lift Value (given_count is n given label f) (tracked.given_count is n given label g)
+  unfolding given_count tracked.given_count
+  given_count_performed true n given label f g next = record { same = λ s. (next n given).same s; keeps = λ s. (next n given).keeps s }
+  given_count_performed false n given label f g next =
+      let l = act Value (throw_error kinds.RangeError (union label given)) (throws_steady Val kinds.RangeError (union label given)) in record { same = λ s. l.same s; keeps = λ s. l.keeps s }
+
+  with_count_performed : (label : Label) (v : Val) (f : Counted) (g : ℕ → Label → L Val) → ((n : ℕ) (given : Label) → Lift Value (f n given) (g n given)) → {E : Enters} {D : tracked.Enters} → Alike E D
+      → Lift Value (enter_count E label v f) (tracked.with_count D label v g)
+  unfolding enter_count end_first end_second tracked.with_count
+  with_count_performed label v f g next {E} {D} h =
+      let l = bind_performed Value Value _ _ (for_length_performed label v h) λ first. outcome_performed Value (numbered first) _ _ (numbered_steady first) λ m.
+      bind_performed Value Value _ _ (for_length_performed label v h) λ second. outcome_performed Value (numbered second) _ _ (numbered_steady second) λ n.
+      given_count_performed (is_count m n) (count_of m) (union first.label second.label) label f g next in
+      record { same = λ s. l.same s; keeps = λ s. l.keeps s }
+
+  defining_performed : (v : Val) (d : Defining) {E : Enters} {D : tracked.Enters} → Alike E D → Lift Value (enter_defining E v d) (tracked.entered_defining D v d)
+  unfolding enter_defining tracked.entered_defining
+  defining_performed v (is_defined label) h = let l = act Value (ret (record { value = undefined; label = label })) (ret_steady _) in record { same = λ s. l.same s; keeps = λ s. l.keeps s }
+  defining_performed v (has_length_given label o marks) h =
+      let l = with_count_performed label v _ (set_length true label o marks) (λ n given. act Value (set_length true label o marks n given) (set_length_steady true label o marks n given)) h in record { same = λ s. l.same s; keeps = λ s. l.keeps s }
+
+  putting_performed : (v : Val) (p : Putting) {E : Enters} {D : tracked.Enters} → Alike E D → Lift One (enter_putting functions E v p) (tracked.entered_putting functions D v p)
+  unfolding enter_putting tracked.entered_putting end_putting
+  putting_performed v is_put h = let l = act One (ret tt) (ret_steady tt) in record { same = λ s. l.same s; keeps = λ s. l.keeps s }
+  putting_performed v (has_setter label f this) h =
+      let l = bind_performed Value One (λ u s. Give (gave (unlabelled undefined)) s) (λ u. ret tt) (call_performed label (value.Object f) this (v ∷ []) h) (λ u. act One (ret tt) (ret_steady tt)) in record { same = λ s. l.same s; keeps = λ s. l.keeps s }
+  putting_performed v (has_length label o) h =
+      let l = bind_performed Value One (λ u s. Give (gave (unlabelled undefined)) s) (λ u. ret tt)
+      (with_count_performed label v _ (set_length false label o no_marks) (λ n given. act Value (set_length false label o no_marks n given) (set_length_steady false label o no_marks n given)) h) (λ u. act One (ret tt) (ret_steady tt)) in
+      record { same = λ s. l.same s; keeps = λ s. l.keeps s }
+
   -- ---- `instanceof`
 
-  instance_by_performed : (v : Val) (o : AnyValue) (label : Label) (f : ℕ) {E : Enters} {D : tracked.Enters} → Alike E D → Lift Value (instance_by functions v o label f E) (tracked.instance_by functions v o label f D)
-  unfolding instance_by tracked.instance_by end_instance perform completed
-  instance_by_performed v (value.Primitive p) label f h = record { same = λ s. refl; keeps = λ s. refl }
-  instance_by_performed v (value.Object o) label f {E} {D} h =
+  instance_by_performed : (v : Val) (o : ObjId) (label : Label) (f : ℕ) {E : Enters} {D : tracked.Enters} → Alike E D → Lift Value (instance_by functions v o label f E) (tracked.instance_by functions v o label f D)
+  unfolding instance_by tracked.instance_by end_instance
+  instance_by_performed v o label f {E} {D} h =
       let l = bind_performed Value Value (λ proto s. as_plan Value (is_instance (union (union v.label label) proto.label) o.0 proto.value s)) (λ proto. is_instance (union (union v.label label) proto.label) o.0 proto.value)
       (outcome_performed Value (property_of (union v.label label) (called_value label f) (value.Object (id f)) prototype_name) (enter_access functions E) (tracked.entered_access functions D) (property_steady _ _ _ _) (λ a. access_performed a h))
       (λ proto. act Value (is_instance (union (union v.label label) proto.label) o.0 proto.value) (is_instance_steady _ o.0 proto.value)) in
       record { same = λ s. l.same s; keeps = λ s. l.keeps s }
 
+  instance_of_performed : (v : Val) (o : AnyValue) (label : Label) (aim : Aim) {E : Enters} {D : tracked.Enters} → Alike E D → Lift Value (instance_of functions v o label aim E) (tracked.instance_of functions v o label aim D)
+  unfolding instance_of tracked.instance_of
+  instance_of_performed v (value.Primitive p) label aim h = let l = act Value (ret (truth_of false (union v.label label))) (ret_steady _) in record { same = λ s. l.same s; keeps = λ s. l.keeps s }
+  instance_of_performed v (value.Object o) label aim h = let l = instance_by_performed v o (union label aim.label) aim.target.function h in record { same = λ s. l.same s; keeps = λ s. l.keeps s }
+
   instance_if_performed : (is_function : Bool) (v : Val) (label : Label) (f : ℕ) {E : Enters} {D : tracked.Enters} → Alike E D → Lift Value (instance_if functions is_function v label f E) (tracked.instance_if functions is_function v label f D)
-  unfolding instance_if tracked.instance_if tracked.instance_of
-  instance_if_performed true v label f h = record {
-    same = λ s. let aim = aim_of s.heap f in (instance_by_performed v v.value (union label aim.label) aim.target.function h).same s;
-    keeps = λ s. let aim = aim_of s.heap f in (instance_by_performed v v.value (union label aim.label) aim.target.function h).keeps s;
-  }
+  unfolding instance_if tracked.instance_if
+  instance_if_performed true v label f h = record { same = λ s. (instance_of_performed v v.value label (aim_of s.heap f) h).same s; keeps = λ s. (instance_of_performed v v.value label (aim_of s.heap f) h).keeps s }
   instance_if_performed false v label f h = record { same = λ s. (throws Value label).same s; keeps = λ s. (throws Value label).keeps s }
 
   instance_performed : (v : Val) (label : Label) (f : AnyValue) {E : Enters} {D : tracked.Enters} → Alike E D → Lift Value (instance_value functions v label f E) (tracked.instance_value functions v label f D)
@@ -504,6 +537,10 @@ module _ (tables : Tables) (inputs : Given) (set : BuiltIns) (functions : List F
     put_value = λ {n = n} {v = v} {v' = v'} {E = E} {D = D} r q h. at_equal (A.put_value n v E) (λ m. B.put_value m v' D) r (at_equal (A.put_value n v E) (λ x. B.put_value n x D) q
         (outcome_performed One (put_value n v) (enter_putting functions E v) (tracked.entered_putting functions D v) (put_steady n v) (λ p. putting_performed v p h)));
     remove = λ {n = n} r. at_equal (A.remove n) B.remove r (act Value (B.remove n) (remove_steady n));
+    define = λ key marks shape {base = b} {v = v} {g = g} {set = q} {base' = b'} {v' = v'} {g' = g'} {set' = q'} {E = E} {D = D} rb rv rg rq h. at_equal (A.define key marks shape b v g q E) (λ x. B.define key marks shape x v' g' q' D) rb
+        (at_equal (A.define key marks shape b v g q E) (λ x. B.define key marks shape b x g' q' D) rv (at_equal (A.define key marks shape b v g q E) (λ x. B.define key marks shape b v x q' D) rg
+        (at_equal (A.define key marks shape b v g q E) (λ x. B.define key marks shape b v g x D) rq
+        (outcome_performed Value (defining key marks shape b v g q) (enter_defining E v) (tracked.entered_defining D v) (defining_steady key marks shape b v g q) (λ d. defining_performed v d h)))));
     fork = λ t {w = w} {v = v} {m = m} {n = n} {m' = m'} {n' = n'} r l k. at_equal (A.fork t v m n) (λ x. B.fork t x m' n') r (fork_performed t v (l w tt) (k w tt));
     round = λ {w = w} turn labels {e = e} f g r h. at_equal (A.round turn labels e f) (λ d. B.round turn labels d g) r (round_performed turn labels e (λ d. h w tt d d refl));
     again = λ {v = v} {m = m} {n = n} {m' = m'} {n' = n'} r l k. at_equal (A.again v m n) (λ x. B.again x m' n') r

@@ -1,5 +1,5 @@
 -- Acts keep the turns that are left, and don't look at them.
-use Rattle.std.proofs.Common.{◌≡◌, ℕ, List, Bool, true, false, Option, Some, None, Result, Ok, Err, slice_get, refl, sym, subst}
+use Rattle.std.proofs.Common.{◌≡◌, ℕ, zero, suc, List, Bool, true, false, ◌&&◌, Option, Some, None, Result, Ok, Err, slice_get, refl, sym, subst}
 use Rattle.origin_labels.specs.Label.{Label, bottom, union, within}
 use Rattle.flow_policy.specs.Policies.{Tables}
 use Rattle.flow_policy.specs.Inputs.{Given}
@@ -7,6 +7,8 @@ use Rattle.flow_frames.specs.declared.faults.Rule.{Rule}
 use Rattle.flow_frames.specs.Frames.{context}
 use Rattle.flow_frames.specs.Held.{meant_at}
 use Rattle.flow_frames.specs.Rules.{jump_need, raise_need}
+use Rattle.js_number.specs.declared.int.LeftNumbers.{LeftNumbers}
+use Rattle.js_number.specs.declared.num.Num.{Num as Number}
 use Rattle.js_number.specs.declared.primitive.Primitive.{Primitive}
 use Rattle.js_number.specs.declared.primitive.Primitive.TheVariants.{Undefined, Null, Num, Str}
 use Rattle.js_number.specs.declared.primitive.Primitive.TheVariants as prims
@@ -17,31 +19,34 @@ use Rattle.js_values.specs.declared.property.Body.{Body}
 use Rattle.js_values.specs.declared.property.Marks.{Marks}
 use Rattle.js_values.specs.declared.property.Slot.{Slot}
 use Rattle.js_values.specs.declared.inner.Class.{Class}
+use Rattle.js_values.specs.Arrays.{length_key, is_length, highest}
 use Rattle.js_values.specs.Objects.{Property, Object, own}
 use Rattle.js_values.specs.Records.{Binding}
-use Rattle.js_values.specs.Walks.{object_chain}
+use Rattle.js_values.specs.Walks.{Found, find, object_chain}
 use Rattle.native_protocol.specs.declared.request.ErrorKind.{ErrorKind}
 use Rattle.native_protocol.specs.declared.request.GivenMarks.{GivenMarks}
 use Rattle.object_heap.specs.Acts.{Acted}
 use Rattle.prototype_walk.specs.declared.plan.PutPlan.{PutPlan}
 use Rattle.prototype_walk.specs.declared.plan.PutPlan.TheVariants.{Write, Add, Setter, Refused}
+use Rattle.prototype_walk.specs.KeyLists.{rows_in}
 use Rattle.prototype_walk.specs.Plans.{can_put}
 use Rattle.js_ast.specs.declared.operators.UnaryOperator.{UnaryOperator}
 use Rattle.js_ast.specs.Trees.{Function}
 use Rattle.js_ast.specs.Functions.{FunctionCode}
 use Rattle.es_meaning.specs.BuiltIns.{BuiltIns}
-use Rattle.es_meaning.specs.Definitions.{GivenBody, Definition, setter_in}
+use Rattle.es_meaning.specs.Definitions.{GivenBody, Definition, is_accessor, setter_in}
 use Rattle.es_meaning.specs.Outcomes as es
 use Rattle.es_meaning.specs.Environments.{Leaving}
 use Rattle.es_meaning.specs.Outcomes.{Exit, left, Outcome, Goes, Jumps, Ends, ret, and_then, ◌>>=◌}
-use Rattle.es_meaning.specs.Operations.{Part, OwnPart, Shape, Act, object_of, base_needed, object_needed, has_key, throws_error, own_property, define, own_keys, prototype_of_object, is_extensible, prevent_extensions, new_object, bind, read_line, print_line, join_label, raise_structure as raise_structure_by, raise_existence as raise_existence_by}
-use Rattle.es_meaning.specs.Operators.{unary_of, not_built}
-use Rattle.es_meaning.specs.Plain.{Place, in_record, on_global, nowhere, binding_at, choose}
-use Rattle.es_meaning.specs.Requested.{given_body, behind_definition, is_array}
+use Rattle.es_meaning.specs.Operations.{Part, OwnPart, Shape, Act, object_of, array_of, base_needed, object_needed, has_key, throws_error, own_property, own_keys, prototype_of_object, is_extensible, prevent_extensions, new_object, bind, read_line, print_line, join_label, raise_structure as raise_structure_by, raise_existence as raise_existence_by}
+use Rattle.es_meaning.specs.Operators.{unary_of}
+use Rattle.es_meaning.specs.Primitives.{own_value_of}
+use Rattle.es_meaning.specs.Plain.{Place, in_record, on_global, nowhere, binding_at, number_in}
+use Rattle.es_meaning.specs.Requested.{given_body}
 use Rattle.flow_meaning.specs.Erased.{erased_heap}
-use Rattle.flow_meaning.specs.Requested.{property_in, is_function_at}
+use Rattle.flow_meaning.specs.Requested.{is_function_at}
 use Rattle.flow_meaning.specs.Scopes.{Val, Halt, State, Jump, L, guard, raise, reached, jump_to, jump, raise_frame, frame_of, quiet, Came, ended, caught, resume}
-use Rattle.flow_meaning.specs.Tracked.{ends, with_error, throw_error, given, seen, Reference, of_name, of_property, bound, Access, has_value, found_globally, property_of, named, accessed, accessed_for_typeof, assigned, assigned_to, acted, own_in, Putting, is_put, setter_found, setter_at, put_by, put_on, is_element_of, put, put_property, put_named, put_value, removed_if, removed_own, removed_in, remove_property, remove, make_object, needed, has, argument, on_object_in, own_property_in, set_marks, set_body_if, redefine, define_over, define_given, define_in, prototype_in, extensible_in, prevent, made_new, make_new, bind_object, bind_value, bind_to, if_origins, raise_structure, raise_existence, make_function, is_instance, jumps_to, raises, raised_by, read_channel, print_text, print_channel, with_origins, act, global_walk, labelled}
+use Rattle.flow_meaning.specs.Tracked.{ends, with_error, throw_error, given, seen, Reference, of_name, of_property, bound, Access, has_value, found_globally, property_of, named, accessed, accessed_for_typeof, assigned, assigned_to, acted, own_in, Putting, is_put, setter_found, setter_at, overwritten, is_length_in, put_by, put, setter_if, put_beyond, put_on_primitive, primitive_chain, put_property, put_named, put_value, removed_if, removed_own, removed_in, removed_of_primitive, remove_property, remove, make_object, make_array, needed, has_of_primitive, has, argument, on_object_in, own_property_in, set_marks, set_body_if, redefine, Defining, define_over, define_by, define_given, define_in, defining, Cut, delete_element, deleted_if, deleted_at, deleted_within, ended_at, cut_length, set_marks_if, set_length_to, set_length_in, set_length, numbered_by, numbered, prototype_in, extensible_in, prevent, make_new, make_new_by, list_keys, bind_object, bind_value, bind_to, if_origins, raise_structure, raise_existence, make_function, is_instance, jumps_to, raises, raised_by, read_channel, print_text, print_channel, with_origins, act, global_walk, labelled}
 
 -- the state with so many turns left
 abbrev pub with_turns : ℕ → State → State
@@ -185,25 +190,41 @@ setter_at_steady label base None = record { steady = λ n s. (throws_steady Putt
 setter_at_steady label base (Some p) = record { steady = λ n s. (setter_found_steady _ base (setter_in p.body)).steady n s }
 
 -- what a put comes to
+overwritten_steady : (is_length : Bool) (rule : Rule) (o : ℕ) (key : List ℕ) (label : Label) (v : Val) → Steady (overwritten is_length rule o key label v)
+unfolding overwritten
+overwritten_steady true rule o key label v = record { steady = λ n s. refl }
+overwritten_steady false rule o key label v = record { steady = λ n s. (acted_steady is_put _).steady n s }
+
 put_by_steady : (plan : PutPlan Label) (rule : Rule) (o : ℕ) (key : List ℕ) (label : Label) (base v : Val) → Steady (put_by plan rule o key label base v)
 unfolding put_by
-put_by_steady (Write walk) rule o key label base v = record { steady = λ n s. (acted_steady is_put _).steady n s }
+put_by_steady (Write walk) rule o key label base v = record { steady = λ n s. (overwritten_steady (is_length_in key (slice_get s.heap o)) rule o key _ v).steady n s }
 put_by_steady (Add walk) rule o key label base v = record { steady = λ n s. (acted_steady is_put _).steady n s }
 put_by_steady (Refused walk) rule o key label base v = record { steady = λ n s. (throws_steady Putting _ _).steady n s }
 put_by_steady (Setter at walk) rule o key label base v = record { steady = λ n s. (setter_at_steady _ base (own_in key (slice_get s.heap at.0))).steady n s }
 
-put_on_steady : (element : Bool) (rule : Rule) (o : ℕ) (key : List ℕ) (label : Label) (base v : Val) → Steady (put_on element rule o key label base v)
-unfolding put_on
-put_on_steady true rule o key label base v = record { steady = λ n s. refl }
-put_on_steady false rule o key label base v = record { steady = λ n s. (put_by_steady (can_put key (object_chain s.heap o)) rule o key label base v).steady n s }
-
 put_object_steady : (rule : Rule) (o : ℕ) (key : List ℕ) (label : Label) (base v : Val) → Steady (put rule o key label base v)
 unfolding put
-put_object_steady rule o key label base v = record { steady = λ n s. (put_on_steady (is_element_of (slice_get s.heap o) key) rule o key label base v).steady n s }
+put_object_steady rule o key label base v = record { steady = λ n s. (put_by_steady (can_put key (object_chain s.heap o)) rule o key label base v).steady n s }
+
+-- a put on a primitive value
+setter_if_steady : (accessor : Bool) (label : Label) (base : Val) (p : Slot Label) → Steady (setter_if accessor label base p)
+unfolding setter_if
+setter_if_steady true label base p = setter_found_steady _ base (setter_in p.body)
+setter_if_steady false label base p = throws_steady Putting _ _
+
+put_beyond_steady : (label : Label) (base : Val) (f : Option (ℕ × Slot Label)) → Steady (put_beyond label base f)
+unfolding put_beyond
+put_beyond_steady label base None = throws_steady Putting _ _
+put_beyond_steady label base (Some f) = setter_if_steady (is_accessor f.1.body) label base f.1
+
+put_on_primitive_steady : (known : Option Primitive) (label : Label) (base : Val) (p : Primitive) (key : List ℕ) → Steady (put_on_primitive known label base p key)
+unfolding put_on_primitive
+put_on_primitive_steady (Some v) label base p key = record { steady = λ n s. (throws_steady Putting _ _).steady n s }
+put_on_primitive_steady None label base p key = record { steady = λ n s. let walk = find key (primitive_chain s.heap p) in (put_beyond_steady _ base walk.at).steady n s }
 
 put_property_steady : (label : Label) (base : Val) (b : Value) (key : List ℕ) (v : Val) → Steady (put_property label base b key v)
 unfolding put_property
-put_property_steady label base (value.Primitive p) key v = record { steady = λ n s. refl }
+put_property_steady label base (value.Primitive p) key v = record { steady = λ n s. (put_on_primitive_steady (own_value_of p key) label base p key).steady n s }
 put_property_steady label base (value.Object o) key v = record { steady = λ n s. (put_object_steady _ o.0 key label base v).steady n s }
 
 put_named_steady : (place : Place) (walk : Label) (x : List ℕ) (v : Val) → Steady (put_named place walk x v)
@@ -233,14 +254,19 @@ unfolding removed_in
 removed_in_steady None label o key = record { steady = λ n s. refl }
 removed_in_steady (Some p) label o key = record { steady = λ n s. (removed_own_steady (own key p.rows) label p.structure o key).steady n s }
 
+removed_of_primitive_steady : (known : Option Primitive) (label : Label) → Steady (removed_of_primitive known label)
+unfolding removed_of_primitive
+removed_of_primitive_steady None label = record { steady = λ n s. refl }
+removed_of_primitive_steady (Some v) label = record { steady = λ n s. (throws_steady Val _ _).steady n s }
+
 remove_property_steady : (label : Label) (base : Value) (key : List ℕ) → Steady (remove_property label base key)
 unfolding remove_property
-remove_property_steady label (value.Primitive p) key = record { steady = λ n s. refl }
+remove_property_steady label (value.Primitive p) key = record { steady = λ n s. (removed_of_primitive_steady (own_value_of p key) label).steady n s }
 remove_property_steady label (value.Object o) key = record { steady = λ n s. (removed_in_steady (slice_get s.heap o.0) label o.0 key).steady n s }
 
 pub remove_steady : (r : Reference) → Steady (remove r)
 unfolding remove
-remove_steady (of_name x place walk) = record { steady = λ n s. refl }
+remove_steady (of_name x place walk) = record { steady = λ n s. (throws_steady Val _ _).steady n s }
 remove_steady (of_property base key label) = record { steady = λ n s. (remove_property_steady _ base.value key).steady n s }
 
 -- acts that enter no function
@@ -249,26 +275,30 @@ unfolding needed
 needed_steady true v = record { steady = λ n s. refl }
 needed_steady false v = record { steady = λ n s. (throws_steady Val _ _).steady n s }
 
+has_of_primitive_steady : (known : Option Primitive) (label : Label) (walk : Found) → Steady (has_of_primitive known label walk)
+unfolding has_of_primitive
+has_of_primitive_steady None label walk = record { steady = λ n s. refl }
+has_of_primitive_steady (Some v) label walk = record { steady = λ n s. refl }
+
 has_steady : (label : Label) (key : List ℕ) (v : Value) → Steady (has label key v)
 unfolding has
-has_steady label key (value.Primitive p) = record { steady = λ n s. refl }
+has_steady label key (value.Primitive p) = record { steady = λ n s. (has_of_primitive_steady (own_value_of p key) label (find key (primitive_chain s.heap p))).steady n s }
 has_steady label key (value.Object o) = record { steady = λ n s. refl }
 
 make_steady : (parts : List (Part × List ℕ)) (vs : List Val) → Steady (make_object parts vs)
 unfolding make_object
 make_steady parts vs = record { steady = λ n s. refl }
 
+make_array_steady : (places : List ℕ) (n : ℕ) (vs : List Val) → Steady (make_array places n vs)
+unfolding make_array
+make_array_steady places n vs = record { steady = λ n s. refl }
+
 -- ---- what built-ins ask for besides
 
--- one of two
-choose_steady : {X : Type 0} (b : Bool) {m n : L X} → Steady m → Steady n → Steady (choose b m n)
-choose_steady true l k = l
-choose_steady false l k = k
-
 -- a base that is an object
-on_object_steady : (label : Label) (v : Value) (next : ℕ → L Val) → ((o : ℕ) → Steady (next o)) → Steady (on_object_in label v next)
+on_object_steady : {X : Type 0} (label : Label) (v : Value) (next : ℕ → L X) → ((o : ℕ) → Steady (next o)) → Steady (on_object_in label v next)
 unfolding on_object_in
-on_object_steady label (value.Primitive p) next h = record { steady = λ n s. (throws_steady Val _ _).steady n s }
+on_object_steady {X} label (value.Primitive p) next h = record { steady = λ n s. (throws_steady X _ _).steady n s }
 on_object_steady label (value.Object o) next h = record { steady = λ n s. (h o.0).steady n s }
 
 -- a part of an own property
@@ -293,22 +323,90 @@ redefine_steady p q d place given o key = bind_steady _ (set_marks_steady _ q.ma
 
 define_over_steady : (old : Option (Slot Label)) (d : Definition) (place given : Label) (o : ℕ) (key : List ℕ) (q : Option Property) → Steady (define_over old d place given o key q)
 unfolding define_over
-define_over_steady None d place given o key None = record { steady = λ n s. (throws_steady Val _ _).steady n s }
-define_over_steady (Some p) d place given o key None = record { steady = λ n s. (throws_steady Val _ _).steady n s }
+define_over_steady None d place given o key None = record { steady = λ n s. (throws_steady Defining _ _).steady n s }
+define_over_steady (Some p) d place given o key None = record { steady = λ n s. (throws_steady Defining _ _).steady n s }
 define_over_steady None d place given o key (Some q) = record { steady = λ n s. (acted_steady _ _).steady n s }
 define_over_steady (Some p) d place given o key (Some q) = record { steady = λ n s. (redefine_steady p q d place given o key).steady n s }
 
-define_given_steady : (extensible : Bool) (old : Option (Slot Label)) (marks : GivenMarks) (body : Option GivenBody) (place given : Label) (o : ℕ) (key : List ℕ) → Steady (define_given extensible old marks body place given o key)
+define_by_steady : (of_length : Bool) (p : Object Label) (marks : GivenMarks) (body : GivenBody) (place given : Label) (o : ℕ) (key : List ℕ) → Steady (define_by of_length p marks body place given o key)
+unfolding define_by
+define_by_steady true p marks body place given o key = record { steady = λ n s. refl }
+define_by_steady false p marks body place given o key = record { steady = λ n s. (define_over_steady (own key p.rows) _ place given o key _).steady n s }
+
+define_given_steady : (valued : Bool) (p : Object Label) (marks : GivenMarks) (body : Option GivenBody) (place given : Label) (o : ℕ) (key : List ℕ) → Steady (define_given valued p marks body place given o key)
 unfolding define_given
-define_given_steady extensible old marks None place given o key = record { steady = λ n s. (throws_steady Val _ _).steady n s }
-define_given_steady extensible old marks (Some body) place given o key = record { steady = λ n s. (define_over_steady old _ place given o key (behind_definition extensible (property_in old) _)).steady n s }
+define_given_steady valued p marks None place given o key = record { steady = λ n s. (throws_steady Defining _ _).steady n s }
+define_given_steady valued p marks (Some body) place given o key = record { steady = λ n s. (define_by_steady (is_length p.class key && valued) p marks body place given o key).steady n s }
 
 define_steady : (p : Option (Object Label)) (label : Label) (o : ℕ) (key : List ℕ) (marks : GivenMarks) (shape : Shape) (v g set : Val) → Steady (define_in p label o key marks shape v g set)
 unfolding define_in
-define_steady None label o key marks shape v g set = record { steady = λ n s. (throws_steady Val _ _).steady n s }
-define_steady (Some p) label o key marks shape v g set = record {
-  steady = λ n s. (choose_steady (is_array p.class) (ends_steady Val (left not_built)) (define_given_steady p.extensible (own key p.rows) marks (given_body (erased_heap s.heap) marks shape v.value g.value set.value) _ _ o key)).steady n s;
+define_steady None label o key marks shape v g set = record { steady = λ n s. (throws_steady Defining _ _).steady n s }
+define_steady (Some p) label o key marks shape v g set = record { steady = λ n s. (define_given_steady shape.has_value p marks (given_body (erased_heap s.heap) marks shape v.value g.value set.value) _ _ o key).steady n s }
+
+pub defining_steady : (key : List ℕ) (marks : GivenMarks) (shape : Shape) (base v g set : Val) → Steady (defining key marks shape base v g set)
+unfolding defining
+defining_steady key marks shape base v g set = on_object_steady base.label base.value _ (λ o. record { steady = λ n s. (define_steady (slice_get s.heap o) base.label o key marks shape v g set).steady n s })
+
+-- ---- the `length` of an array is given a number
+
+delete_element_steady : (label : Label) (o i : ℕ) → Steady (delete_element label o i)
+unfolding delete_element
+delete_element_steady label o i = record { steady = λ n s. (acted_steady tt _).steady n s }
+
+deleted_if_steady : (configurable : Bool) (next : Label → L Cut) (label : Label) (o i : ℕ) (tested : Label) → ((tested : Label) → Steady (next tested)) → Steady (deleted_if configurable next label o i tested)
+unfolding deleted_if
+deleted_if_steady true next label o i tested h = record { steady = λ n s. (bind_steady _ (delete_element_steady _ o i) (λ u. h tested)).steady n s }
+deleted_if_steady false next label o i tested h = record { steady = λ n s. refl }
+
+deleted_at_steady : (e : Option (ℕ × Slot Label)) (next : Label → L Cut) (label : Label) (o : ℕ) (tested : Label) → ((tested : Label) → Steady (next tested)) → Steady (deleted_at e next label o tested)
+unfolding deleted_at
+deleted_at_steady None next label o tested h = record { steady = λ n s. refl }
+deleted_at_steady (Some e) next label o tested h = record { steady = λ n s. (deleted_if_steady e.1.marks.configurable next label o e.0 _ h).steady n s }
+
+deleted_within_steady : (most : ℕ) (label : Label) (o count : ℕ) (tested : Label) → Steady (deleted_within most label o count tested)
+unfolding deleted_within
+deleted_within_steady zero label o count tested = record { steady = λ n s. refl }
+deleted_within_steady (suc more) label o count tested = record {
+  steady = λ n s. (deleted_at_steady (highest count (rows_in (slice_get s.heap o))) _ label o tested (deleted_within_steady more label o count)).steady n s;
 }
+
+ended_at_steady : (stays : Option ℕ) (place label : Label) → Steady (ended_at stays place label)
+unfolding ended_at
+ended_at_steady None place label = record { steady = λ n s. refl }
+ended_at_steady (Some i) place label = record { steady = λ n s. (throws_steady Val _ _).steady n s }
+
+cut_length_steady : (place label : Label) (o n : ℕ) (cut : Cut) → Steady (cut_length place label o n cut)
+unfolding cut_length
+cut_length_steady place label o n cut = bind_steady _ (set_body_steady true _ _ _ o length_key) (λ u. ended_at_steady cut.stays _ _)
+
+set_marks_if_steady : (defines : Bool) (label : Label) (marks : Marks) (o : ℕ) (key : List ℕ) → Steady (set_marks_if defines label marks o key)
+set_marks_if_steady true label marks o key = set_marks_steady label marks o key
+set_marks_if_steady false label marks o key = ret_steady tt
+
+set_length_to_steady : (defines : Bool) (p : Object Label) (place given : Label) (o n : ℕ) (q : Option Property) → Steady (set_length_to defines p place given o n q)
+unfolding set_length_to
+set_length_to_steady defines p place given o n None = throws_steady Val _ _
+set_length_to_steady defines p place given o n (Some q) =
+    bind_steady _ (set_marks_if_steady defines _ q.marks o length_key) (λ u. bind_steady _ (deleted_within_steady _ _ o n bottom) (λ cut. cut_length_steady place _ o n cut))
+
+set_length_in_steady : (defines : Bool) (p : Option (Object Label)) (place given : Label) (o : ℕ) (marks : GivenMarks) (n : ℕ) → Steady (set_length_in defines p place given o marks n)
+unfolding set_length_in
+set_length_in_steady defines None place given o marks n = throws_steady Val _ _
+set_length_in_steady defines (Some p) place given o marks n = set_length_to_steady defines p _ given o n _
+
+pub set_length_steady : (defines : Bool) (place : Label) (o : ℕ) (marks : GivenMarks) (n : ℕ) (given : Label) → Steady (set_length defines place o marks n given)
+unfolding set_length
+set_length_steady defines place o marks n given = record { steady = λ m s. (set_length_in_steady defines (slice_get s.heap o) place given o marks n).steady m s }
+
+-- a number, or the run leaves
+numbered_by_steady : (r : Result Number LeftNumbers) → Steady (numbered_by r)
+unfolding numbered_by
+numbered_by_steady (Ok n) = record { steady = λ m s. refl }
+numbered_by_steady (Err e) = record { steady = λ m s. refl }
+
+pub numbered_steady : (v : Val) → Steady (numbered v)
+unfolding numbered
+numbered_steady v = numbered_by_steady (number_in v.value)
 
 -- a prototype, and whether there may be further properties
 prototype_steady : (label : Label) (p : Option (Object Label)) → Steady (prototype_in label p)
@@ -325,14 +423,18 @@ prevent_steady : (label : Label) (o : ℕ) → Steady (prevent label o)
 unfolding prevent
 prevent_steady label o = record { steady = λ n s. (acted_steady _ _).steady n s }
 
--- a new object
-made_new_steady : (c : Class) (proto : Option ObjId) (label : Label) → Steady (made_new c proto label)
-unfolding made_new
-made_new_steady c proto label = record { steady = λ n s. refl }
-
+-- a new object, and an array of the own keys of one
 make_new_steady : (c : Class) (proto : Option ObjId) (label : Label) → Steady (make_new c proto label)
 unfolding make_new
-make_new_steady c proto label = choose_steady (is_array c) (ends_steady Val (left not_built)) (made_new_steady c proto label)
+make_new_steady c proto label = record { steady = λ n s. refl }
+
+make_new_by_steady : (c : Class) (v : Val) → Steady (make_new_by c v)
+unfolding make_new_by
+make_new_by_steady c v = record { steady = λ n s. (make_new_steady c _ v.label).steady n s }
+
+list_keys_steady : (all : Bool) (label : Label) (o : ℕ) → Steady (list_keys all label o)
+unfolding list_keys
+list_keys_steady all label o = record { steady = λ n s. refl }
 
 -- a bound function
 bind_object_steady : (o : ObjId) (target this : Val) (args : List Val) → Steady (bind_object o target this args)
@@ -448,18 +550,18 @@ module _ (tables : Tables) (inputs : Given) where
   pub act_steady : (a : Act) (vs : List Val) → Steady (act tables inputs a vs)
   unfolding act
   act_steady (object_of parts) vs = make_steady parts vs
+  act_steady (array_of places n) vs = make_array_steady places n vs
   act_steady base_needed vs = needed_steady _ _
   act_steady object_needed vs = needed_steady _ _
   act_steady has_key vs = has_steady _ _ _
   act_steady (throws_error kind) vs = throws_steady Val kind bottom
   act_steady (own_property part key) vs = on_object_steady _ _ _ (λ o. record { steady = λ n s. (own_property_steady part key _ (slice_get s.heap o)).steady n s })
-  act_steady (define key marks shape) vs = on_object_steady _ _ _ (λ o. record { steady = λ n s. (define_steady (slice_get s.heap o) _ o key marks shape _ _ _).steady n s })
-  act_steady (own_keys all) vs = on_object_steady _ _ _ (λ o. ends_steady Val (left not_built))
+  act_steady (own_keys all) vs = on_object_steady _ _ _ (list_keys_steady all _)
   act_steady prototype_of_object vs = on_object_steady _ _ _ (λ o. record { steady = λ n s. (prototype_steady _ (slice_get s.heap o)).steady n s })
   act_steady is_extensible vs = on_object_steady _ _ _ (λ o. record { steady = λ n s. (extensible_steady _ (slice_get s.heap o)).steady n s })
   act_steady prevent_extensions vs = on_object_steady _ _ _ (prevent_steady _)
   act_steady (new_object c false) vs = make_new_steady c _ _
-  act_steady (new_object c true) vs = make_new_steady c _ _
+  act_steady (new_object c true) vs = make_new_by_steady c _
   act_steady bind vs = record { steady = λ n s. (bind_to_steady (is_function_at s.heap (argument 0 vs).value) _ _ _).steady n s }
   act_steady read_line vs = read_steady _ _
   act_steady print_line vs = print_steady _ _ _

@@ -7,6 +7,8 @@ use Rattle.flow_frames.specs.declared.kind.Kind.{Kind}
 use Rattle.flow_frames.specs.declared.kind.Kind.TheVariants as kind
 use Rattle.origin_labels.specs.Label.{Label, bottom, union}
 use Rattle.prototype_walk.specs.KeyLists.{Keys}
+use Rattle.js_number.specs.declared.num.Num.{Num as Number}
+use Rattle.js_values.specs.declared.ids.ObjId.{ObjId}
 use Rattle.js_values.specs.declared.value.Value.{Value as AnyValue}
 use Rattle.js_values.specs.declared.value.Value.TheVariants as value
 use Rattle.js_ast.specs.Trees.{Expr, body_of, Statement, Statements}
@@ -25,11 +27,12 @@ use Rattle.es_meaning.specs.Operations.{Ty, One, Value, Res, Entering, Ops, Use,
 use Rattle.es_meaning.specs.Operators.{is_object, converts_beside, truth}
 use Rattle.es_meaning.specs.Evaluation.{step, begun, eval}
 use Rattle.es_meaning.specs.Start.{id}
-use Rattle.es_meaning.specs.Plain.{undefined, choose, is_throw, leaves_wrappers, may_declare, outermost_env, prototype_name}
+use Rattle.es_meaning.specs.Plain.{undefined, choose, is_throw, leaves_wrappers, may_declare, outermost_env, prototype_name, count_of, is_count}
+use Rattle.es_meaning.specs.Requested.{no_marks}
 use Rattle.flow_meaning.specs.Erased.{unlabelled}
 use Rattle.flow_meaning.specs.Scopes.{Val, joined, Halt, as_plain, State, Jump, pushed_on, popped, Came, ended, caught, stay, settled, answer, construction, quiet, resume, round_kind, raise}
 use Rattle.flow_meaning.specs.Requested.{Aim, aim_of, is_function_in}
-use Rattle.flow_meaning.specs.Tracked.{throw_error, seen, resolved, key_list, Access, has_value, has_getter, accessed, accessed_for_typeof, property_of, Putting, is_put, has_setter, put_value, truth_of, with_call, callee_at, called_value, with_fresh, prototype_of, is_instance, with_name, labelled, timed, start}
+use Rattle.flow_meaning.specs.Tracked.{throw_error, numbered, set_length, Defining, is_defined, has_length_given, defining, seen, resolved, key_list, Access, has_value, has_getter, accessed, accessed_for_typeof, property_of, Putting, is_put, has_setter, has_length, put_value, truth_of, with_call, callee_at, called_value, with_fresh, prototype_of, is_instance, with_name, labelled, timed, start}
 
 -- what costs a turn to enter
 pub data Part : Type 0 where
@@ -189,29 +192,57 @@ unfoldable pub enter_access : List FunctionCode → Enters → Access → State 
 enter_access functions E (has_value v) s = Give (gave v) s
 enter_access functions E (has_getter label f this) s = call_value functions label (value.Object f) this [] E s
 
--- what a setter gives is of no use
-unfoldable pub end_setter : Then
-end_setter = with_result Value (λ v s. Give (gave (unlabelled undefined)) s)
-
-unfoldable pub enter_putting : List FunctionCode → Enters → Val → Putting → State → Plan
-enter_putting functions E v is_put s = Give (gave (unlabelled undefined)) s
-enter_putting functions E v (has_setter label f this) s = and_plan (call_value functions label (value.Object f) this (v ∷ []) E s) end_setter
-
 unfoldable pub convert_by : Bool → Enters → Hint → Label → Val → Val → State → Plan
 convert_by true E h label v given s = in_frame kind.Native label (E.conversion h v) s
 convert_by false E h label v given s = Give (gave given) s
+
+-- the two conversions of a value for the `length` of an array, and then what is done with the number
+abbrev pub Counted : Type 0
+Counted = ℕ → Label → State → Plan
+
+abbrev pub convert_for_length : Enters → Label → Val → State → Plan
+convert_for_length E label v s = convert_by (is_object v.value) E hint.Number (union label v.label) v v s
+
+unfoldable pub given_count : Bool → ℕ → Label → Label → Counted → State → Plan
+given_count true n given label next s = next n given s
+given_count false n given label next s = as_plan Value (throw_error kinds.RangeError (union label given) s)
+
+unfoldable pub end_second : Label → Counted → Val → Number → Then
+end_second label next first m = with_result Value (λ second s. with_outcome (numbered second s) (λ n. given_count (is_count m n) (count_of m) (union first.label second.label) label next))
+
+unfoldable pub end_first : Enters → Label → Val → Counted → Then
+end_first E label v next = with_result Value (λ first s. with_outcome (numbered first s) (λ m t. and_plan (convert_for_length E label v t) (end_second label next first m)))
+
+unfoldable pub enter_count : Enters → Label → Val → Counted → State → Plan
+enter_count E label v next s = and_plan (convert_for_length E label v s) (end_first E label v next)
+
+unfoldable pub enter_defining : Enters → Val → Defining → State → Plan
+enter_defining E v (is_defined label) s = Give (gave (record { value = undefined; label = label })) s
+enter_defining E v (has_length_given label o marks) s = enter_count E label v (λ n given t. as_plan Value (set_length true label o marks n given t)) s
+
+-- what a setter gives is of no use, and so is what a `length` gives
+unfoldable pub end_putting : Then
+end_putting = with_result Value (λ v s. Give (gave (unlabelled undefined)) s)
+
+unfoldable pub enter_putting : List FunctionCode → Enters → Val → Putting → State → Plan
+enter_putting functions E v is_put s = Give (gave (unlabelled undefined)) s
+enter_putting functions E v (has_setter label f this) s = and_plan (call_value functions label (value.Object f) this (v ∷ []) E s) end_putting
+enter_putting functions E v (has_length label o) s = and_plan (enter_count E label v (λ n given t. as_plan Value (set_length false label o no_marks n given t)) s) end_putting
 
 -- `instanceof`, behind the read of `prototype`
 unfoldable pub end_instance : Label → ℕ → Then
 end_instance label o = with_result Value (λ proto s. as_plan Value (is_instance (union label proto.label) o proto.value s))
 
-unfoldable pub instance_by : List FunctionCode → Val → AnyValue → Label → ℕ → Enters → State → Plan
-instance_by functions v (value.Primitive p) label f E s = Give (gave (truth_of false (union v.label label))) s
-instance_by functions v (value.Object o) label f E s =
+unfoldable pub instance_by : List FunctionCode → Val → ObjId → Label → ℕ → Enters → State → Plan
+instance_by functions v o label f E s =
     and_plan (with_outcome (property_of (union v.label label) (called_value label f) (value.Object (id f)) prototype_name s) (enter_access functions E)) (end_instance (union v.label label) o.0)
 
+unfoldable pub instance_of : List FunctionCode → Val → AnyValue → Label → Aim → Enters → State → Plan
+instance_of functions v (value.Primitive p) label aim E s = Give (gave (truth_of false (union v.label label))) s
+instance_of functions v (value.Object o) label aim E s = instance_by functions v o (union label aim.label) aim.target.function E s
+
 unfoldable pub instance_if : List FunctionCode → Bool → Val → Label → ℕ → Enters → State → Plan
-instance_if functions true v label f E s = let aim = aim_of s.heap f in instance_by functions v v.value (union label aim.label) aim.target.function E s
+instance_if functions true v label f E s = instance_of functions v v.value label (aim_of s.heap f) E s
 instance_if functions false v label f E s = as_plan Value (throw_error kinds.TypeError label s)
 
 unfoldable pub instance_value : List FunctionCode → Val → Label → AnyValue → Enters → State → Plan
@@ -256,6 +287,7 @@ module _ (tables : Tables) (inputs : Given) (set : BuiltIns) (functions : List F
     typeof_value = λ n E s. with_outcome (accessed_for_typeof n s) (enter_access functions E);
     put_value = λ n v E s. with_outcome (put_value n v s) (enter_putting functions E v);
     remove = λ n s. as_plan Value (T.remove n s);
+    define = λ key marks shape base v g set E s. with_outcome (defining key marks shape base v g set s) (enter_defining E v);
     this_of = T.this_of;
     instance = λ v f E s. instance_value functions v f.label f.value E s;
     fork = λ t v m n s. and_plan (choose (truth v.value) m n (pushed_on kind.Branch v.label s)) (end_branch t (length s.frames));

@@ -1,6 +1,7 @@
 -- What acts make of labelled objects and find in them, with the labels of that.
 use Rattle.std.specs.Prelude.{ℕ, zero, suc, pos, List, [], ◌∷◌, ◌++◌, Bool, true, false, length, map, Option, Some, None, slice_get, codes}
 use Rattle.origin_labels.specs.Label.{Label, bottom, union}
+use Rattle.js_number.specs.declared.num.Num.TheVariants.{Int}
 use Rattle.js_number.specs.declared.primitive.Primitive.TheVariants.{Num}
 use Rattle.js_values.specs.declared.ids.ObjId.{ObjId}
 use Rattle.js_values.specs.declared.value.Value.{Value}
@@ -10,11 +11,12 @@ use Rattle.js_values.specs.declared.property.Slot.{Slot}
 use Rattle.js_values.specs.declared.inner.Class.TheVariants as class
 use Rattle.js_values.specs.declared.inner.Inner.{Inner}
 use Rattle.js_values.specs.declared.inner.Inner.TheVariants.{Plain, Script, Bound}
+use Rattle.js_values.specs.Arrays.{length_key, element_of, element_label}
 use Rattle.js_values.specs.Objects.{Rows, Property, PlainObject, Object, own, fresh_object}
 use Rattle.es_meaning.specs.Operations.{Part, as_value, OwnPart, own_marks}
 use Rattle.es_meaning.specs.Functions.{env_id, Target, own_target, bound_behind, is_function, accessor_rows, arguments_rows}
-use Rattle.es_meaning.specs.Objects.{made_by_script, defined}
-use Rattle.es_meaning.specs.Start.{built_in, count_property, function_rows, object_prototype, function_prototype}
+use Rattle.es_meaning.specs.Objects.{made_by_script, defined, elements_onto}
+use Rattle.es_meaning.specs.Start.{built_in, count_property, length_property, function_rows, object_prototype, function_prototype, array_prototype}
 use Rattle.es_meaning.specs.Plain.{undefined}
 use Rattle.es_meaning.specs.Requested.{part_body, part_marks, part_of_property}
 use Rattle.flow_meaning.specs.Erased.{erased_slot, erased_object, made_rows}
@@ -51,8 +53,15 @@ literal_object parts vs label = record (fresh_object class.Object Plain (Some ob
 -- the `arguments` object of a call: the arguments have their labels besides
 abbrev pub arguments_object : ℕ → ℕ → List Val → Label → Object Label
 arguments_object number place args label = record (fresh_object class.Arguments (Script number (env_id place)) (Some object_prototype) label label) {
-  rows = arguments_rows (record { body = Data (value.Primitive (Num (pos (length args)))); label = label; existence = label; marks = built_in }) (map (data_slot label) args) ++ made_rows label accessor_rows;
+  rows = arguments_rows (record { body = Data (value.Primitive (Num (Int (pos (length args))))); label = label; existence = label; marks = built_in }) (map (data_slot label) args) ++ made_rows label accessor_rows;
 }
+
+-- an array: its elements have their labels besides
+abbrev pub made_slot : Label → Property → Slot Label
+made_slot label p = record { body = p.body; label = label; existence = label; marks = p.marks }
+
+abbrev pub array_object : ℕ → List ℕ → List Val → Label → Object Label
+array_object n places vs label = record (fresh_object class.Array Plain (Some array_prototype) label label) { rows = elements_onto ((length_key, made_slot label (length_property n)) ∷ []) places (map (data_slot label) vs) }
 
 -- ---- own properties
 
@@ -75,6 +84,11 @@ known_of part label structure None = record { value = undefined; label = union l
 known_of part label structure (Some p) = record { value = part_of_property part (erased_slot p); label = union (union label p.existence) (part_label part p.label) }
 
 -- ---- definitions
+
+-- the own test of a definition: that an array hasn't an element makes it depend on `length` too (ECMA-262 15.4.5.1, step 4.b)
+abbrev pub definition_test : List ℕ → Option (Slot Label) → Object Label → Label
+definition_test key None p = union p.structure (element_label (element_of p.class key) (own length_key p.rows))
+definition_test key (Some s) p = s.existence
 
 -- the value label of a property that there may be
 abbrev pub value_label : Option (Slot Label) → Label

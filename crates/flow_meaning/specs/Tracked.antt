@@ -1,5 +1,6 @@
 -- The labelled meaning: the evaluator over values with labels, under the flow rules.
-use Rattle.std.specs.Prelude.{ℕ, zero, suc, pos, nat_eq, if◌then◌else◌, List, [], ◌∷◌, ◌++◌, Bool, true, false, length, replicate, map, Option, Some, None, Result, Ok, Err, slice_get}
+use Rattle.std.specs.Prelude.{ℕ, zero, suc, pos, ◌&&◌, nat_eq, if◌then◌else◌, List, [], ◌∷◌, ◌++◌, Bool, true, false, length, replicate, map, Option, Some, None, Result, Ok, Err, slice_get}
+use Rattle.std.specs.Option.{option_map}
 use Rattle.origin_labels.specs.Label.{Label, bottom, union, label_of}
 use Rattle.flow_policy.specs.declared.policy.Channel.{Channel}
 use Rattle.flow_policy.specs.Policies.{Tables}
@@ -9,6 +10,9 @@ use Rattle.flow_frames.specs.declared.faults.Rule.{Rule}
 use Rattle.flow_frames.specs.declared.faults.Rule.TheVariants.{W1, W2, W11, W12}
 use Rattle.flow_frames.specs.Frames.{context}
 use Rattle.flow_frames.specs.Changes.{pushed}
+use Rattle.js_number.specs.declared.int.LeftNumbers.{LeftNumbers}
+use Rattle.js_number.specs.declared.num.Num.{Num as Number}
+use Rattle.js_number.specs.declared.num.Num.TheVariants.{Int}
 use Rattle.js_number.specs.declared.primitive.Primitive.{Primitive}
 use Rattle.js_number.specs.declared.primitive.Primitive.TheVariants.{Undefined, Null, Num, Str}
 use Rattle.js_number.specs.declared.primitive.Primitive.TheVariants as prims
@@ -22,6 +26,7 @@ use Rattle.js_values.specs.declared.property.Slot.{Slot}
 use Rattle.js_values.specs.declared.inner.Class.{Class}
 use Rattle.js_values.specs.declared.inner.Class.TheVariants as class
 use Rattle.js_values.specs.declared.inner.Inner.TheVariants.{Plain}
+use Rattle.js_values.specs.Arrays.{length_key, length_body, element_key, is_length, highest}
 use Rattle.js_values.specs.Objects.{Property, Object, own, fresh_object}
 use Rattle.js_values.specs.Records.{Binding, lookup, Record}
 use Rattle.js_values.specs.Walks.{Found, find, object_chain}
@@ -36,28 +41,29 @@ use Rattle.object_heap.specs.Acts as heap_acts
 use Rattle.object_heap.specs.Acts.{Acted}
 use Rattle.prototype_walk.specs.declared.plan.PutPlan.{PutPlan}
 use Rattle.prototype_walk.specs.declared.plan.PutPlan.TheVariants.{Write, Add, Setter, Refused}
-use Rattle.prototype_walk.specs.Plans.{can_put}
-use Rattle.prototype_walk.specs.KeyLists.{Keys, keys}
+use Rattle.prototype_walk.specs.Plans.{can_put, may_add}
+use Rattle.prototype_walk.specs.KeyLists.{Keys, keys, existences, rows_in}
 use Rattle.js_ast.specs.Trees.{Function, name_of, body_of, Statements}
 use Rattle.js_ast.specs.Functions.{FunctionCode, functions_of}
 use Rattle.es_meaning.specs.BuiltIns.{BuiltIns}
-use Rattle.es_meaning.specs.Definitions.{GivenBody, Definition, setter_in, value_in, changes_body, keeps_a_half}
+use Rattle.es_meaning.specs.Definitions.{GivenBody, a_value, Definition, is_accessor, setter_in, value_in, changes_body, keeps_a_half}
 use Rattle.es_meaning.specs.Holders.{constructs_in}
 use Rattle.es_meaning.specs.Outcomes as es
 use Rattle.es_meaning.specs.Outcomes.{Exit, throws, left, out_of_turns, Ending, done, threw, halted, Outcome, Goes, Jumps, Ends, ret, ◌>>=◌}
 use Rattle.es_meaning.specs.Environments.{Env, with_place, called_env, Leaving, aimed}
-use Rattle.es_meaning.specs.Operations.{Res, Part, OwnPart, Shape, Act, object_of, base_needed, object_needed, has_key, throws_error, own_property, define, own_keys, prototype_of_object, is_extensible, prevent_extensions, new_object, bind, read_line, print_line, join_label, raise_structure as raise_structure_by, raise_existence as raise_existence_by, Entering, Ops}
-use Rattle.es_meaning.specs.Operators.{is_object, converts_beside, unary_of, binary_of, not_built}
+use Rattle.es_meaning.specs.Operations.{Res, Part, OwnPart, Shape, Act, object_of, array_of, base_needed, object_needed, has_key, throws_error, own_property, own_keys, prototype_of_object, is_extensible, prevent_extensions, new_object, bind, read_line, print_line, join_label, raise_structure as raise_structure_by, raise_existence as raise_existence_by, Entering, Ops}
+use Rattle.es_meaning.specs.Operators.{is_object, converts_beside, unary_of, binary_of, leaves_numbers}
 use Rattle.es_meaning.specs.Evaluation.{Timed, program_step}
 use Rattle.es_meaning.specs.Declared.{declared_functions}
 use Rattle.es_meaning.specs.Naming.{names_in_statements}
 use Rattle.es_meaning.specs.Functions.{env_id, function_objects, objects_of, references_of, behind_functions, closes_over, own_name, Callee, not_callable, empty_callee, of_script, of_built_in, this_or, callee_of, binds, entry_record, made_if}
-use Rattle.es_meaning.specs.Objects.{is_element, made_by_script}
+use Rattle.es_meaning.specs.Objects.{made_by_script, length_behind}
+use Rattle.es_meaning.specs.Primitives.{own_value_of, prototype_of_primitive, chain_from}
 use Rattle.es_meaning.specs.Start.{id, global_object, error_prototype, shown}
-use Rattle.es_meaning.specs.Plain.{undefined, leaves_channels, leaves_origins, leaves_wrappers, argument_or, others, channel_of, origins_of, value_read, positions_behind, line_at, channel_name, choose, seen_of, first_heap, may_declare, outermost, outermost_env, prototype_name, object_or_default, assigned_in, Place, in_record, on_global, nowhere, place_from, key_text, binding_at, is_coercible, is_found}
-use Rattle.es_meaning.specs.Requested.{given_body, behind_definition, is_array, reference_or_null, class_prototype, prototype_given, bound_count, are_origins}
-use Rattle.flow_meaning.specs.Erased.{erased_slot, erased_inner, erased_heap, labelled_by, labelled_values, made_objects, unlabelled, unlabelled_heap}
-use Rattle.flow_meaning.specs.Requested.{property_in, literal_object, own_test, own_walk, known_of, value_label, body_label, length_label, bound_object, erased_in, Aim, aim_of, arguments_object, is_function_in, is_function_at}
+use Rattle.es_meaning.specs.Plain.{undefined, leaves_channels, leaves_origins, leaves_wrappers, argument_or, others, channel_of, origins_of, value_read, positions_behind, line_at, channel_name, choose, seen_of, first_heap, may_declare, outermost, outermost_env, prototype_name, object_or_default, assigned_in, Place, in_record, on_global, nowhere, place_from, key_text, binding_at, is_coercible, is_found, number_in, count_of, is_count}
+use Rattle.es_meaning.specs.Requested.{given_body, behind_definition, behind_length, no_marks, array_of_texts, listed, made_of, reference_or_null, class_prototype, prototype_given, standing_or_default, bound_count, are_origins}
+use Rattle.flow_meaning.specs.Erased.{erased_slot, erased_rows, erased_inner, erased_heap, labelled_by, labelled_values, made_object, made_objects, unlabelled, unlabelled_heap}
+use Rattle.flow_meaning.specs.Requested.{property_in, literal_object, array_object, definition_test, own_walk, known_of, value_label, body_label, length_label, bound_object, erased_in, Aim, aim_of, arguments_object, is_function_in, is_function_at}
 use Rattle.flow_meaning.specs.Scopes.{Val, joined, LabelledLine, Halt, as_plain, stopped, State, Jump, L, under, raise, jump, raise_frame, frame_of, scope, settled_value, fork, round, again, answer, construction, attempt}
 
 abbrev pub ends : {X : Type 0} → es.Halt → L X
@@ -143,9 +149,17 @@ found place base None = has_value (record { value = undefined; label = place })
 abbrev pub found_by : Label → Val → Found → Access
 found_by label base walk = found (union label walk.walk) base walk.at
 
+-- an own property of a primitive value has an empty walk, and else it is one of its prototype
+abbrev pub primitive_chain : List (Object Label) → Primitive → List (ℕ × Object Label)
+primitive_chain heap p = chain_from (object_chain heap) (prototype_of_primitive p)
+
+abbrev pub primitive_access : Label → Option Primitive → Access → Access
+primitive_access label None beyond = beyond
+primitive_access label (Some v) beyond = has_value (record { value = value.Primitive v; label = label })
+
 -- the label is that of all that tells which property is read
 unfoldable pub property_of : Label → Val → Value → List ℕ → L Access
-property_of label base (value.Primitive p) key s = ends (left not_built) s
+property_of label base (value.Primitive p) key s = Goes (primitive_access label (own_value_of p key) (found_by label base (find key (primitive_chain s.heap p)))) s
 property_of label base (value.Object o) key s = Goes (found_by label base (find key (object_chain s.heap o.0))) s
 
 abbrev pub as_access : L Val → L Access
@@ -188,10 +202,17 @@ abbrev pub own_in : List ℕ → Option (Object Label) → Option (Slot Label)
 own_in key None = None
 own_in key (Some p) = own key p.rows
 
--- what a put comes to: it is done; or a setter is called with the base as its `this`, in a frame of which this is the label
+-- whether the key names the `length` of the object, which is an array
+abbrev pub is_length_in : List ℕ → Option (Object Label) → Bool
+is_length_in key None = false
+is_length_in key (Some p) = is_length p.class key
+
+-- what a put comes to: it is done; a setter is called with the base as its `this`, in a frame of which this is the label; or the `length` of an array is
+-- set, by a base, a key and a walk with this label
 pub data Putting : Type 0 where
   is_put : Putting
   has_setter : Label → ObjId → Val → Putting
+  has_length : Label → ℕ → Putting
 
 -- the setter depends on the value label of its property besides
 unfoldable pub setter_found : Label → Val → Option ObjId → L Putting
@@ -204,26 +225,34 @@ setter_at label base (Some p) s = setter_found (union label p.label) base (sette
 
 -- a put: the property has another value by the rule, W1 for a name and W2 for a member, or is added by W3. The need is the context, the labels of base
 -- and key, and the walk; a refusal is caused by the last three
+unfoldable pub overwritten : Bool → Rule → ℕ → List ℕ → Label → Val → L Putting
+overwritten true rule o key label v s = Goes (has_length label o) s
+overwritten false rule o key label v s = acted is_put (heap_acts.write rule o key (union (context s.frames) label) v s.heap) s
+
 unfoldable pub put_by : PutPlan Label → Rule → ℕ → List ℕ → Label → Val → Val → L Putting
-put_by (Write walk) rule o key label base v s = acted is_put (heap_acts.write rule o key (union (context s.frames) (union label walk)) v s.heap) s
+put_by (Write walk) rule o key label base v s = overwritten (is_length_in key (slice_get s.heap o)) rule o key (union label walk) v s
 put_by (Add walk) rule o key label base v s = acted is_put (heap_acts.add o key (union (context s.frames) (union label walk)) (Data v.value) v.label made_by_script s.heap) s
 put_by (Refused walk) rule o key label base v s = throw_error kinds.TypeError (union label walk) s
 put_by (Setter at walk) rule o key label base v s = setter_at (union label walk) base (own_in key (slice_get s.heap at.0)) s
 
--- elements of arrays aren't built yet
-unfoldable pub put_on : Bool → Rule → ℕ → List ℕ → Label → Val → Val → L Putting
-put_on true rule o key label base v s = ends (left not_built) s
-put_on false rule o key label base v s = put_by (can_put key (object_chain s.heap o)) rule o key label base v s
-
-abbrev pub is_element_of : Option (Object Label) → List ℕ → Bool
-is_element_of None key = false
-is_element_of (Some p) key = is_element p.class key
-
 unfoldable pub put : Rule → ℕ → List ℕ → Label → Val → Val → L Putting
-put rule o key label base v s = put_on (is_element_of (slice_get s.heap o) key) rule o key label base v s
+put rule o key label base v s = put_by (can_put key (object_chain s.heap o)) rule o key label base v s
+
+-- a primitive value gets no properties: a put on it calls the setter that its prototype has, and is refused else. Its own properties have an empty walk
+unfoldable pub setter_if : Bool → Label → Val → Slot Label → L Putting
+setter_if true label base p = setter_found (union label p.label) base (setter_in p.body)
+setter_if false label base p = throw_error kinds.TypeError label
+
+unfoldable pub put_beyond : Label → Val → Option (ℕ × Slot Label) → L Putting
+put_beyond label base None = throw_error kinds.TypeError label
+put_beyond label base (Some f) = setter_if (is_accessor f.1.body) label base f.1
+
+unfoldable pub put_on_primitive : Option Primitive → Label → Val → Primitive → List ℕ → L Putting
+put_on_primitive (Some v) label base p key s = throw_error kinds.TypeError label s
+put_on_primitive None label base p key s = let walk = find key (primitive_chain s.heap p) in put_beyond (union label walk.walk) base walk.at s
 
 unfoldable pub put_property : Label → Val → Value → List ℕ → Val → L Putting
-put_property label base (value.Primitive p) key v s = ends (left not_built) s
+put_property label base (value.Primitive p) key v s = put_on_primitive (own_value_of p key) label base p key s
 put_property label base (value.Object o) key v s = put W2 o.0 key label base v s
 
 abbrev pub as_putting : L (Unit {0}) → L Putting
@@ -256,12 +285,17 @@ unfoldable pub removed_in : Option (Object Label) → Label → ℕ → List ℕ
 removed_in None label o key s = Goes (truth_of true label) s
 removed_in (Some p) label o key s = removed_own (own key p.rows) label p.structure o key s
 
+-- of a primitive value: its own properties stay
+unfoldable pub removed_of_primitive : Option Primitive → Label → L Val
+removed_of_primitive None label s = Goes (truth_of true label) s
+removed_of_primitive (Some v) label s = throw_error kinds.TypeError label s
+
 unfoldable pub remove_property : Label → Value → List ℕ → L Val
-remove_property label (value.Primitive p) key s = ends (left not_built) s
+remove_property label (value.Primitive p) key s = removed_of_primitive (own_value_of p key) label s
 remove_property label (value.Object o) key s = removed_in (slice_get s.heap o.0) label o.0 key s
 
 unfoldable pub remove : Reference → L Val
-remove (of_name name place walk) s = ends (left not_built) s
+remove (of_name name place walk) s = throw_error kinds.SyntaxError bottom s
 remove (of_property base key label) s = remove_property (union base.label label) base.value key s
 
 -- ---- acts on values that enter no function
@@ -269,12 +303,19 @@ remove (of_property base key label) s = remove_property (union base.label label)
 unfoldable pub make_object : List (Part × List ℕ) → List Val → L Val
 make_object parts vs s = Goes (unlabelled (value.Object (id (length s.heap)))) (record s { heap = s.heap ++ literal_object parts vs (context s.frames) ∷ [] })
 
+unfoldable pub make_array : List ℕ → ℕ → List Val → L Val
+make_array places n vs s = Goes (unlabelled (value.Object (id (length s.heap)))) (record s { heap = s.heap ++ array_object n places vs (context s.frames) ∷ [] })
+
 unfoldable pub needed : Bool → Val → L Val
 needed true v s = Goes v s
 needed false v s = throw_error kinds.TypeError v.label s
 
+unfoldable pub has_of_primitive : Option Primitive → Label → Found → L Val
+has_of_primitive None label walk s = Goes (truth_of (is_found walk.at) (union label walk.walk)) s
+has_of_primitive (Some v) label walk s = Goes (truth_of true label) s
+
 unfoldable pub has : Label → List ℕ → Value → L Val
-has label key (value.Primitive p) s = ends (left not_built) s
+has label key (value.Primitive p) s = has_of_primitive (own_value_of p key) label (find key (primitive_chain s.heap p)) s
 has label key (value.Object o) s = let walk = find key (object_chain s.heap o.0) in Goes (truth_of (is_found walk.at) (union label walk.walk)) s
 
 -- the keys that `for in` takes of a value, and on what they depend besides
@@ -307,11 +348,11 @@ argument n vs = argument_or (unlabelled undefined) n vs
 
 -- ---- what built-ins ask for besides: the base is an object, or its label causes an error
 
-unfoldable pub on_object_in : Label → Value → (ℕ → L Val) → L Val
+unfoldable pub on_object_in : {X : Type 0} → Label → Value → (ℕ → L X) → L X
 on_object_in label (value.Primitive p) next s = throw_error kinds.TypeError label s
 on_object_in label (value.Object o) next s = next o.0 s
 
-abbrev pub on_object : Val → (ℕ → L Val) → L Val
+abbrev pub on_object : {X : Type 0} → Val → (ℕ → L X) → L X
 on_object v next = on_object_in v.label v.value next
 
 unfoldable pub own_property_in : OwnPart → List ℕ → Label → Option (Object Label) → L Val
@@ -320,7 +361,12 @@ own_property_in part key label (Some p) s = Goes (known_of part label p.structur
 
 -- a definition. Its place is the context, the base and the own test; the descriptor's labels are those of what it is given. Over a present property W6 needs
 -- both, and then W2, where a value, a getter or a setter is given anew or the kind changes, the place alone; an absent one is added by W3, which needs both.
--- A refusal is caused by all of it but the context, and by the value label of the present property
+-- A refusal is caused by all of it but the context, and by the value label of the present property. What a definition comes to: it is done, and depends on
+-- this label; or the `length` of an array is given a value, by a base and a key with this label
+pub data Defining : Type 0 where
+  is_defined : Label → Defining
+  has_length_given : Label → ℕ → GivenMarks → Defining
+
 unfoldable pub set_marks : Label → Marks → ℕ → List ℕ → L (Unit {0})
 set_marks label marks o key s = acted tt (heap_acts.set_attributes o key (union (context s.frames) label) marks s.heap) s
 
@@ -328,27 +374,97 @@ unfoldable pub set_body_if : Bool → Label → Body → Label → ℕ → List 
 set_body_if true place body label o key s = acted tt (heap_acts.set_body o key (union (context s.frames) place) body label s.heap) s
 set_body_if false place body label o key s = Goes tt s
 
-unfoldable pub redefine : Slot Label → Property → Definition → Label → Label → ℕ → List ℕ → L Val
+unfoldable pub redefine : Slot Label → Property → Definition → Label → Label → ℕ → List ℕ → L Defining
 redefine p q d place given o key =
     set_marks (union place given) q.marks o key
     >>= λ u. set_body_if (changes_body (erased_slot p) d) place q.body (body_label (keeps_a_half (erased_slot p) d) given p.label) o key
-    >>= λ w. ret (record { value = undefined; label = place })
+    >>= λ w. ret (is_defined place)
 
-unfoldable pub define_over : Option (Slot Label) → Definition → Label → Label → ℕ → List ℕ → Option Property → L Val
+unfoldable pub define_over : Option (Slot Label) → Definition → Label → Label → ℕ → List ℕ → Option Property → L Defining
 define_over old d place given o key None s = throw_error kinds.TypeError (union (union place given) (value_label old)) s
-define_over None d place given o key (Some q) s = acted (record { value = undefined; label = place }) (heap_acts.add o key (union (context s.frames) (union place given)) q.body given q.marks s.heap) s
+define_over None d place given o key (Some q) s = acted (is_defined place) (heap_acts.add o key (union (context s.frames) (union place given)) q.body given q.marks s.heap) s
 define_over (Some p) d place given o key (Some q) s = redefine p q d place given o key s
 
-unfoldable pub define_given : Bool → Option (Slot Label) → GivenMarks → Option GivenBody → Label → Label → ℕ → List ℕ → L Val
-define_given extensible old marks None place given o key s = throw_error kinds.TypeError (union (union place given) (value_label old)) s
-define_given extensible old marks (Some body) place given o key s =
-    let d : Definition = record { marks = marks; body = body } in define_over old d place given o key (behind_definition extensible (property_in old) d) s
+-- the value of a `length` is converted first
+unfoldable pub define_by : Bool → Object Label → GivenMarks → GivenBody → Label → Label → ℕ → List ℕ → L Defining
+define_by true p marks body place given o key s = Goes (has_length_given place o marks) s
+define_by false p marks body place given o key s =
+    let d : Definition = record { marks = marks; body = body } in define_over (own key p.rows) d place given o key (behind_definition (may_add key p) (property_in (own key p.rows)) d) s
 
-unfoldable pub define_in : Option (Object Label) → Label → ℕ → List ℕ → GivenMarks → Shape → Val → Val → Val → L Val
+unfoldable pub define_given : Bool → Object Label → GivenMarks → Option GivenBody → Label → Label → ℕ → List ℕ → L Defining
+define_given valued p marks None place given o key s = throw_error kinds.TypeError (union (union place given) (value_label (own key p.rows))) s
+define_given valued p marks (Some body) place given o key s = define_by (is_length p.class key && valued) p marks body place given o key s
+
+unfoldable pub define_in : Option (Object Label) → Label → ℕ → List ℕ → GivenMarks → Shape → Val → Val → Val → L Defining
 define_in None label o key marks shape v g set s = throw_error kinds.TypeError label s
 define_in (Some p) label o key marks shape v g set s =
-    choose (is_array p.class) (ends (left not_built))
-    (define_given p.extensible (own key p.rows) marks (given_body (erased_heap s.heap) marks shape v.value g.value set.value) (union label (own_test (own key p.rows) p.structure)) (union v.label (union g.label set.label)) o key) s
+    define_given shape.has_value p marks (given_body (erased_heap s.heap) marks shape v.value g.value set.value) (union label (definition_test key (own key p.rows) p)) (union v.label (union g.label set.label)) o key s
+
+unfoldable pub defining : List ℕ → GivenMarks → Shape → Val → Val → Val → Val → L Defining
+defining key marks shape base v g set = on_object base (λ o s. define_in (slice_get s.heap o) base.label o key marks shape v g set s)
+
+-- ---- the `length` of an array is given a number (ECMA-262 15.4.5.1, steps 3.e to 3.n), which has this label. `place` is that of base, key and walk. In a
+-- definition W6 comes first. Each deletion depends on the number, the array's structure, and the existence of the elements tested so far, its own among them;
+-- so does the new value of `length`, for which W2 needs the place alone, and the throw by an element that can't be deleted
+
+-- the number of the element that stays, if one does, and the existence labels of the elements tested
+pub record Cut : Type 0 where
+  pub stays : Option ℕ
+  pub tested : Label
+
+unfoldable pub delete_element : Label → ℕ → ℕ → L (Unit {0})
+delete_element label o i s = acted tt (heap_acts.remove o (element_key i) (union (context s.frames) label) s.heap) s
+
+unfoldable pub deleted_if : Bool → (Label → L Cut) → Label → ℕ → ℕ → Label → L Cut
+deleted_if true next label o i tested s = (delete_element (union label tested) o i >>= λ u. next tested) s
+deleted_if false next label o i tested s = Goes (record { stays = Some i; tested = tested }) s
+
+unfoldable pub deleted_at : Option (ℕ × Slot Label) → (Label → L Cut) → Label → ℕ → Label → L Cut
+deleted_at None next label o tested s = Goes (record { stays = None; tested = tested }) s
+deleted_at (Some e) next label o tested s = deleted_if e.1.marks.configurable next label o e.0 (union tested e.1.existence) s
+
+-- so many deletions at most
+unfoldable pub deleted_within : ℕ → Label → ℕ → ℕ → Label → L Cut
+deleted_within zero label o n tested s = Goes (record { stays = None; tested = tested }) s
+deleted_within (suc more) label o n tested s = deleted_at (highest n (rows_in (slice_get s.heap o))) (deleted_within more label o n) label o tested s
+
+-- what is done behind the deletions, of which this is the label
+unfoldable pub ended_at : Option ℕ → Label → Label → L Val
+ended_at None place label s = Goes (record { value = undefined; label = place }) s
+ended_at (Some i) place label s = throw_error kinds.TypeError label s
+
+unfoldable pub cut_length : Label → Label → ℕ → ℕ → Cut → L Val
+cut_length place label o n cut =
+    set_body_if true place (length_body (length_behind n cut.stays)) (union label cut.tested) o length_key
+    >>= λ u. ended_at cut.stays place (union place (union label cut.tested))
+
+abbrev pub set_marks_if : Bool → Label → Marks → ℕ → List ℕ → L (Unit {0})
+set_marks_if true label marks o key = set_marks label marks o key
+set_marks_if false label marks o key = ret tt
+
+-- `length` is this behind the definition, if it isn't refused
+unfoldable pub set_length_to : Bool → Object Label → Label → Label → ℕ → ℕ → Option Property → L Val
+set_length_to defines p place given o n None = throw_error kinds.TypeError (union (union place given) (value_label (own length_key p.rows)))
+set_length_to defines p place given o n (Some q) =
+    set_marks_if defines (union place given) q.marks o length_key
+    >>= λ u. deleted_within (length p.rows) (union place (union given p.structure)) o n bottom
+    >>= cut_length place (union given p.structure) o n
+
+unfoldable pub set_length_in : Bool → Option (Object Label) → Label → Label → ℕ → GivenMarks → ℕ → L Val
+set_length_in defines None place given o marks n = throw_error kinds.TypeError (union place given)
+set_length_in defines (Some p) place given o marks n =
+    set_length_to defines p (union place (definition_test length_key (own length_key p.rows) p)) given o n (behind_length (property_in (own length_key p.rows)) (record { marks = marks; body = a_value (value.Primitive (Num (Int (pos n)))) }))
+
+unfoldable pub set_length : Bool → Label → ℕ → GivenMarks → ℕ → Label → L Val
+set_length defines place o marks n given s = set_length_in defines (slice_get s.heap o) place given o marks n s
+
+-- ToNumber of a value that was converted to a primitive one, or the run leaves
+unfoldable pub numbered_by : Result Number LeftNumbers → L Number
+numbered_by (Ok n) s = Goes n s
+numbered_by (Err e) s = ends (left leaves_numbers) s
+
+unfoldable pub numbered : Val → L Number
+numbered v = numbered_by (number_in v.value)
 
 -- the prototype depends on the link, and whether there may be further properties on the structure
 unfoldable pub prototype_in : Label → Option (Object Label) → L Val
@@ -362,12 +478,30 @@ extensible_in label (Some p) s = Goes (truth_of p.extensible (union label p.stru
 unfoldable pub prevent : Label → ℕ → L Val
 prevent label o s = acted (record { value = undefined; label = label }) (heap_acts.prevent_extensions o (union (context s.frames) label) s.heap) s
 
--- a new object: its link depends on the value that gave the prototype. Those of arrays aren't built yet
-unfoldable pub made_new : Class → Option ObjId → Label → L Val
-made_new c proto label s = Goes (unlabelled (value.Object (id (length s.heap)))) (record s { heap = s.heap ++ fresh_object c Plain proto (union (context s.frames) label) (context s.frames) ∷ [] })
+-- a new object: its link depends on the value that gave the prototype
+abbrev pub with_link : Label → Object Label → Object Label
+with_link label p = record p { link = union p.link label }
 
 unfoldable pub make_new : Class → Option ObjId → Label → L Val
-make_new c proto label = choose (is_array c) (ends (left not_built)) (made_new c proto label)
+make_new c proto label s = Goes (unlabelled (value.Object (id (length s.heap)))) (record s { heap = s.heap ++ with_link label (made_object (context s.frames) (made_of c proto)) ∷ [] })
+
+abbrev pub standing : List (Object Label) → ObjId → ObjId
+standing heap o = standing_or_default o (erased_in (slice_get heap o.0))
+
+unfoldable pub make_new_by : Class → Val → L Val
+make_new_by c v s = make_new c (option_map (standing s.heap) (prototype_given v.value)) v.label s
+
+-- an array of the own keys of an object: its reference depends on which there are, and on their marks
+abbrev pub keys_label : Option (Object Label) → Label
+keys_label None = bottom
+keys_label (Some p) = union p.structure (existences p.rows)
+
+abbrev pub keys_in : Bool → Option (Object Label) → List (List ℕ)
+keys_in all found = listed all (erased_rows (rows_in found))
+
+unfoldable pub list_keys : Bool → Label → ℕ → L Val
+list_keys all label o s = let found = slice_get s.heap o in
+    Goes (record { value = value.Object (id (length s.heap)); label = union label (keys_label found) }) (record s { heap = s.heap ++ made_object (context s.frames) (array_of_texts (keys_in all found)) ∷ [] })
 
 unfoldable pub bind_object : ObjId → Val → Val → List Val → L Val
 bind_object o target this args s = let found = slice_get s.heap o.0 in
@@ -420,7 +554,7 @@ with_call functions number f place this args s =
       heap = s.heap ++ (made_objects here (objects_of functions (length s.heap) (length s.records) declared) ++ made_if (names_in_statements (body_of f)) (arguments_object number (length s.records) args here));
       records = s.records ++ entry_record f place (record {
         this = this;
-        function = unlabelled (value.Primitive (Num (pos number)));
+        function = unlabelled (value.Primitive (Num (Int (pos number))));
         args = map (joined here) args;
         missing = labelled_by here undefined;
         functions = labelled_values here (references_of (length s.heap) declared);
@@ -471,7 +605,7 @@ prototype_of heap o = let walk = find prototype_name (object_chain heap o) in va
 
 -- what `new` makes: its link depends on the value that gave the prototype
 abbrev pub with_fresh : Val → State → State
-with_fresh proto s = record s { heap = s.heap ++ fresh_object class.Object Plain (Some (object_or_default proto.value)) (union (context s.frames) proto.label) (context s.frames) ∷ [] }
+with_fresh proto s = record s { heap = s.heap ++ fresh_object class.Object Plain (Some (standing s.heap (object_or_default proto.value))) (union (context s.frames) proto.label) (context s.frames) ∷ [] }
 
 unfoldable pub constructed : List FunctionCode → Callee → Label → ℕ → List Val → Enters → ℕ → L (Unit {0})
 constructed functions not_callable label o args E depth s = throw_error kinds.TypeError label s
@@ -505,10 +639,6 @@ unfoldable pub entered_access : List FunctionCode → Enters → Access → L Va
 entered_access functions E (has_value v) = ret v
 entered_access functions E (has_getter label f this) = call_value functions label (value.Object f) this [] E
 
-unfoldable pub entered_putting : List FunctionCode → Enters → Val → Putting → L (Unit {0})
-entered_putting functions E v is_put = ret tt
-entered_putting functions E v (has_setter label f this) = call_value functions label (value.Object f) this (v ∷ []) E >>= λ u. ret tt
-
 -- an object is converted in a frame that has this label
 unfoldable pub convert : Enters → Hint → Label → Val → L Val
 convert E h label v = scope kind.Native label (λ depth. E.conversion h v) >>= λ c. ret (settled_value c)
@@ -520,6 +650,32 @@ converted_by false E h label v given = ret given
 
 abbrev pub converted : Enters → Hint → Val → L Val
 converted E h v = converted_by (is_object v.value) E h v.label v v
+
+-- a value for the `length` of an array is converted twice (ECMA-262 15.4.5.1, steps 3.c and 3.d), each time in a frame that begins with the labels of base,
+-- key and walk too; and then `length` is given the number. What is no number of a `length` throws by these labels and the value's
+unfoldable pub converted_for_length : Enters → Label → Val → L Val
+converted_for_length E label v = converted_by (is_object v.value) E hint.Number (union label v.label) v v
+
+unfoldable pub given_count : Bool → ℕ → Label → Label → (ℕ → Label → L Val) → L Val
+given_count true n given label next = next n given
+given_count false n given label next = throw_error kinds.RangeError (union label given)
+
+unfoldable pub with_count : Enters → Label → Val → (ℕ → Label → L Val) → L Val
+with_count E label v next =
+    converted_for_length E label v
+    >>= λ first. numbered first
+    >>= λ m. converted_for_length E label v
+    >>= λ second. numbered second
+    >>= λ n. given_count (is_count m n) (count_of m) (union first.label second.label) label next
+
+unfoldable pub entered_defining : Enters → Val → Defining → L Val
+entered_defining E v (is_defined label) = ret (record { value = undefined; label = label })
+entered_defining E v (has_length_given label o marks) = with_count E label v (set_length true label o marks)
+
+unfoldable pub entered_putting : List FunctionCode → Enters → Val → Putting → L (Unit {0})
+entered_putting functions E v is_put = ret tt
+entered_putting functions E v (has_setter label f this) = call_value functions label (value.Object f) this (v ∷ []) E >>= λ u. ret tt
+entered_putting functions E v (has_length label o) = with_count E label v (set_length false label o no_marks) >>= λ u. ret tt
 
 -- an operand of `==` depends on the other one, which decides whether it is converted
 abbrev pub compared : Enters → Val → Val → L Val
@@ -553,16 +709,17 @@ is_instance label o (value.Primitive p) s = throw_error kinds.TypeError label s
 is_instance label o (value.Object proto) s = let walk = linked proto.0 (object_chain s.heap o) in Goes (truth_of walk.is (union label walk.links)) s
 
 -- a getter of the `prototype`, which is that of the target of a bound function, has the left operand's label in its frame
-unfoldable pub instance_by : List FunctionCode → Val → Value → Label → ℕ → Enters → L Val
-instance_by functions v (value.Primitive p) label f E s = Goes (truth_of false (union v.label label)) s
-instance_by functions v (value.Object o) label f E s =
+unfoldable pub instance_by : List FunctionCode → Val → ObjId → Label → ℕ → Enters → L Val
+instance_by functions v o label f E s =
     (property_of (union v.label label) (called_value label f) (value.Object (id f)) prototype_name >>= entered_access functions E >>= λ proto. is_instance (union (union v.label label) proto.label) o.0 proto.value) s
 
-unfoldable pub instance_of : List FunctionCode → Val → Label → Aim → Enters → L Val
-instance_of functions v label aim E = instance_by functions v v.value (union label aim.label) aim.target.function E
+-- of a primitive value nothing is read
+unfoldable pub instance_of : List FunctionCode → Val → Value → Label → Aim → Enters → L Val
+instance_of functions v (value.Primitive p) label aim E = ret (truth_of false (union v.label label))
+instance_of functions v (value.Object o) label aim E = instance_by functions v o (union label aim.label) aim.target.function E
 
 unfoldable pub instance_if : List FunctionCode → Bool → Val → Label → ℕ → Enters → L Val
-instance_if functions true v label f E s = instance_of functions v label (aim_of s.heap f) E s
+instance_if functions true v label f E s = instance_of functions v v.value label (aim_of s.heap f) E s
 instance_if functions false v label f E s = throw_error kinds.TypeError label s
 
 unfoldable pub instance_value : List FunctionCode → Val → Label → Value → Enters → L Val
@@ -622,18 +779,18 @@ module _ (tables : Tables) (inputs : Given) where
   -- the arguments are as many as the act takes
   unfoldable pub act : Act → List Val → L Val
   act (object_of parts) vs = make_object parts vs
+  act (array_of places n) vs = make_array places n vs
   act base_needed vs = needed (is_coercible (argument 0 vs).value) (argument 0 vs)
   act object_needed vs = needed (is_object (argument 0 vs).value) (argument 0 vs)
   act has_key vs = has (union (argument 0 vs).label (argument 1 vs).label) (key_text (argument 0 vs).value) (argument 1 vs).value
   act (throws_error kind) vs = throw_error kind bottom
   act (own_property part key) vs = on_object (argument 0 vs) (λ o s. own_property_in part key (argument 0 vs).label (slice_get s.heap o) s)
-  act (define key marks shape) vs = on_object (argument 0 vs) (λ o s. define_in (slice_get s.heap o) (argument 0 vs).label o key marks shape (argument 1 vs) (argument 2 vs) (argument 3 vs) s)
-  act (own_keys all) vs = on_object (argument 0 vs) (λ o. ends (left not_built))
+  act (own_keys all) vs = on_object (argument 0 vs) (list_keys all (argument 0 vs).label)
   act prototype_of_object vs = on_object (argument 0 vs) (λ o s. prototype_in (argument 0 vs).label (slice_get s.heap o) s)
   act is_extensible vs = on_object (argument 0 vs) (λ o s. extensible_in (argument 0 vs).label (slice_get s.heap o) s)
   act prevent_extensions vs = on_object (argument 0 vs) (prevent (argument 0 vs).label)
   act (new_object c false) vs = make_new c (Some (class_prototype c)) bottom
-  act (new_object c true) vs = make_new c (prototype_given (argument 0 vs).value) (argument 0 vs).label
+  act (new_object c true) vs = make_new_by c (argument 0 vs)
   act bind vs = λ s. bind_to (is_function_at s.heap (argument 0 vs).value) (argument 0 vs) (argument 1 vs) (others (others vs)) s
   act read_line vs = read_channel (channel_of tables.inputs (argument 0 vs).value) (argument 0 vs).label
   act print_line vs = print_channel (channel_of tables.outputs (argument 0 vs).value) (argument 0 vs).label (argument 1 vs)
@@ -684,6 +841,7 @@ module _ (tables : Tables) (inputs : Given) where
       typeof_value = λ n E. accessed_for_typeof n >>= entered_access functions E;
       put_value = λ n v E. put_value n v >>= entered_putting functions E v;
       remove = remove;
+      define = λ key marks shape base v g set E. defining key marks shape base v g set >>= entered_defining E v;
       this_of = base_of;
       instance = instance functions;
       fork = fork;

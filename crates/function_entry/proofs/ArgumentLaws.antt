@@ -14,8 +14,8 @@ use Rattle.origin_labels.specs.Names.{same_name}
 use Rattle.origin_labels.specs.Stores.{IsKept}
 use Rattle.origin_labels.proofs.LabelLaws.{within-refl}
 use Rattle.flow_frames.specs.declared.faults.Rule.TheVariants.{W3}
+use Rattle.js_number.specs.declared.num.Num.TheVariants.{Int}
 use Rattle.js_number.specs.declared.primitive.Primitive.TheVariants.{Num}
-use Rattle.js_number.specs.Conversions.{text_of}
 use Rattle.js_values.specs.declared.ids.EnvId.{EnvId}
 use Rattle.js_values.specs.declared.ids.ObjId.{ObjId}
 use Rattle.js_values.specs.declared.property.Body.{Body}
@@ -28,7 +28,7 @@ use Rattle.js_values.specs.Objects.{Rows, Object, own, changed, with_row}
 use Rattle.js_values.specs.Readings.{IsReading, read_value, read_slot, read_object, read_heap}
 use Rattle.js_values.proofs.ReadingLaws.{IsReading-earlier}
 use Rattle.object_heap.specs.Acts.{added, with_rows, put_back, on_object, stretched, add_absent, add_own, add, given_over, given, give}
-use Rattle.object_heap.specs.Arrays.{length_key, element_of}
+use Rattle.js_values.specs.Arrays.{element_key, element_of, length_key}
 use Rattle.object_heap.specs.Formed.{own_in}
 use Rattle.object_heap.proofs.ReadLaws.{read_own}
 use Rattle.es_meaning.specs.Functions.{property_with, elements_down, accessor_rows}
@@ -83,10 +83,10 @@ open_after c old new o rows (Some p) there opens is = subst (Opens c) (sym (ap (
 
 module _ {S T : Type 0} (made : S → T → Type 0) (meaning : S → T → Label) (room : S → ℕ) (firm : S → Bool) (s t : S) (kept : IsKept made meaning room firm s t) (here : T) (o : ℕ) where
   -- one element
-  pub gets_one : (i : ℕ) (v : Labelled T) (old new : List (Object T)) → IsOpen made meaning s old o here → own_in (text_of (Num (pos i))) (slice_get old o) ≡ None → AddsValue made meaning t here o (text_of (Num (pos i))) v old new → Gets made meaning t here o i (v ∷ []) old new
+  pub gets_one : (i : ℕ) (v : Labelled T) (old new : List (Object T)) → IsOpen made meaning s old o here → own_in (element_key i) (slice_get old o) ≡ None → AddsValue made meaning t here o (element_key i) v old new → Gets made meaning t here o i (v ∷ []) old new
   gets_one i v old new opened absent adds = record {
     says = λ reading is p there.
-        let key = text_of (Num (pos i)) in
+        let key = element_key i in
         let heap = read_heap reading old in
         let none : own key p.rows ≡ None = sym (ap (own_in key) there) ∙ absent_read reading key old o absent in
         let opens : Opens (reading here) (Some p) = subst (Opens (reading here)) there (opened.says reading (IsReading-earlier made meaning room firm s t reading kept is)) in
@@ -149,7 +149,7 @@ is_false : (b : Bool) → (b ≡ true → ⊥) → b ≡ false
 is_false true isnt = absurd (isnt refl)
 is_false false isnt = refl
 
-key_differs : (n c : ℕ) (rest : List ℕ) → n < 2 ^ 64 → 58 ≤ c → same_name (text_of (Num (pos n))) (c ∷ rest) ≡ false
+key_differs : (n c : ℕ) (rest : List ℕ) → n < 2 ^ 64 → 58 ≤ c → same_name (element_key n) (c ∷ rest) ≡ false
 key_differs n c rest small letter =
     is_false (same_name (decimal n) (c ∷ rest)) (λ e. let below : c < 58 = subst BelowLetters ((bytes_eq-Decides (decimal n) (c ∷ rest)).0 e) (decimal_below n small) in omega (arith, below, letter))
 
@@ -178,10 +178,10 @@ module _ {S : Type 0} (key : List ℕ) where
   lacks_defined None rows k s none differs = lacks_row rows k s none differs
   lacks_defined (Some t) rows k s none differs = lacks_changed rows k s none
 
-  lacks_elements : (rows : Rows S) (n : ℕ) (ss : List S) → own key rows ≡ None → ((i : ℕ) → i < n + length ss → same_name (text_of (Num (pos i))) key ≡ false) → own key (elements_down rows n ss) ≡ None
+  lacks_elements : (rows : Rows S) (n : ℕ) (ss : List S) → own key rows ≡ None → ((i : ℕ) → i < n + length ss → same_name (element_key i) key ≡ false) → own key (elements_down rows n ss) ≡ None
   lacks_elements rows n [] none differs = none
   lacks_elements rows n (s ∷ ss) none differs =
-      lacks_defined (own (text_of (Num (pos n))) (elements_down rows (suc n) ss)) (elements_down rows (suc n) ss) (text_of (Num (pos n))) s
+      lacks_defined (own (element_key n) (elements_down rows (suc n) ss)) (elements_down rows (suc n) ss) (element_key n) s
       (lacks_elements rows (suc n) ss none (λ i lt. differs i (omega (arith, lt)))) (differs n (omega arith))
 
 -- ---- the whole object: it is made with its `length`, gets its elements, and then the accessors
@@ -210,7 +210,7 @@ module _ {S T : Type 0} (made : S → T → Type 0) (meaning : S → T → Label
     object rows = record (object_with c (counted_object function env.0 count)) { rows = rows }
 
     abbrev size : ℕ → Rows (Slot Label)
-    size n = (codes "length", slot_with c (property_with (value.Primitive (Num (pos n))) built_in)) ∷ []
+    size n = (codes "length", slot_with c (property_with (value.Primitive (Num (Int (pos n)))) built_in)) ∷ []
 
     abbrev elements : ℕ → Rows (Slot Label)
     elements n = elements_down (size n) 0 (map (data_slot c) vs)

@@ -13,6 +13,7 @@ use Rattle.js_ast.specs.Trees.{Function, Statements, params_of, body_of}
 use Rattle.js_ast.specs.Functions.{FunctionCode}
 use Rattle.js_ast.specs.Held.{code_of}
 use Rattle.js_ast.specs.Views.{view_function}
+use Rattle.js_number.specs.declared.num.Num.TheVariants.{Int}
 use Rattle.js_number.specs.declared.primitive.Primitive.TheVariants.{Num}
 use Rattle.js_values.specs.declared.ids.EnvId.{EnvId}
 use Rattle.js_values.specs.declared.ids.ObjId.{ObjId}
@@ -90,7 +91,7 @@ module _ {S T : Type 0} (made : S → T → Type 0) (meaning : S → T → Label
 abbrev entry_of : ℕ → Val → List Val → Statements → Label → ℕ → Entry Val
 entry_of number this args body c n = record {
   this = this;
-  function = unlabelled (value.Primitive (Num (pos number)));
+  function = unlabelled (value.Primitive (Num (Int (pos number))));
   args = map (joined c) args;
   missing = labelled_by c undefined;
   functions = labelled_values c (references_of n (declared_functions body));
@@ -131,7 +132,7 @@ module _ {S T : Type 0} (made : S → T → Type 0) (meaning : S → T → Label
         (entry_has (made new) f place.0 (entry_with this function none binds.values here references arguments) (kept.labels this.label this_made).0 none_made binds.has here_later
         (subst (All (HasValue (made new))) (sym references_are) (labelled_has (made new) here here_later (references_of (length w.heap) (declared_functions body)))) here_later))
 
-    module _ (first second : S) (first_kept : IsKept made meaning room firm first new) (second_kept : IsKept made meaning room firm second new) (names : Bool) (names_are : names ≡ names_in_statements (body_of f)) (none_is : meaning new none ≡ bottom) (function_is : function ≡ value.Primitive (Num (pos number)))
+    module _ (first second : S) (first_kept : IsKept made meaning room firm first new) (second_kept : IsKept made meaning room firm second new) (names : Bool) (names_are : names ≡ names_in_statements (body_of f)) (none_is : meaning new none ≡ bottom) (function_is : function ≡ value.Primitive (Num (Int (pos number))))
         (middle heap : List (Object T)) (records : List (Record (Labelled T))) (arguments_are : arguments.0 ≡ length middle) (behind : length middle ≡ behind_functions (length w.heap) (declared_functions body))
         (makes : Makes made meaning first here (objects_of functions (length w.heap) own.0 (declared_functions body)) w.heap middle) (makes_named : MakesNamed made meaning second here names number own.0 args middle heap)
         (binds : Binds records) where
@@ -148,7 +149,7 @@ module _ {S T : Type 0} (made : S → T → Type 0) (meaning : S → T → Label
         values_read : read_entry reading (entry_with this function none binds.values here references arguments) ≡ record (entry_of number (read_value reading this) (map (read_value reading) args) body (reading here) (length w.heap)) { args = take (length (params_of f)) (map (joined (reading here)) (map (read_value reading) args)) }
         values_read =
             ap₂ (λ (v : Value) (l : Label). record (read_entry reading (entry_with this function none binds.values here references arguments)) { function = labelled_by l v }) function_is (is.agrees none none_made ∙ none_is)
-            ∙ ap₂ (λ (vs us : List Val). record { this = read_value reading this; function = unlabelled (value.Primitive (Num (pos number))); args = vs; missing = labelled_by (reading here) undefined; functions = us; arguments = labelled_by (reading here) (value.Object arguments) })
+            ∙ ap₂ (λ (vs us : List Val). record { this = read_value reading this; function = unlabelled (value.Primitive (Num (Int (pos number)))); args = vs; missing = labelled_by (reading here) undefined; functions = us; arguments = labelled_by (reading here) (value.Object arguments) })
             (binds.joins.says reading is ∙ ap (map (joined (reading here))) (sym (take-map (read_value reading) (length (params_of f)) args)) ∙ sym (take-map (joined (reading here)) (length (params_of f)) (map (read_value reading) args))) (ap (map (read_value reading)) references_are ∙ labelled_read reading here (references_of (length w.heap) (declared_functions body)))
             ∙ ap (λ (n : ℕ). record (entry_of number (read_value reading this) (map (read_value reading) args) body (reading here) (length w.heap)) { args = take (length (params_of f)) (map (joined (reading here)) (map (read_value reading) args)); arguments = labelled_by (reading here) (value.Object (id n)) }) (arguments_are ∙ behind)
 

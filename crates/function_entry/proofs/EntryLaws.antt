@@ -11,7 +11,7 @@ use Rattle.js_values.specs.declared.value.Labelled.{Labelled}
 use Rattle.js_values.specs.Records.{Binding, Bindings, found, rebound}
 use Rattle.js_values.specs.Readings.{HasRecord, HasValue, read_value, read_binding, read_record}
 use Rattle.es_meaning.specs.Declared.{declared_functions, declared_statements}
-use Rattle.es_meaning.specs.Functions.{this_name, function_name, binds, bound_by, kept_by, name_text, with_parameters, with_functions, with_arguments, with_variables, Entry, entry_bindings, entry_record}
+use Rattle.es_meaning.specs.Functions.{this_name, function_name, binds, bound_by, kept_by, name_text, with_parameters, with_functions, unless_bound, with_arguments, with_variables, Entry, entry_bindings, entry_record}
 use Rattle.es_meaning.specs.Naming.{arguments_name, names_in_statements}
 
 -- ---- its arguments
@@ -79,8 +79,12 @@ module _ {T : Type 0} (reading : T → Label) where
   functions_read (f ∷ fs) [] bindings = refl
   functions_read (f ∷ fs) (v ∷ vs) bindings = ap (λ (bs : Bindings (Labelled Label)). with_functions fs (map reads vs) bs) (bound_read (name_text (name_of f)) v bindings) ∙ functions_read fs vs (bound_by (found (name_text (name_of f)) bindings) (name_text (name_of f)) v bindings)
 
+  unless_at : (b : Option (Binding (Labelled T))) (v : Labelled T) (bindings : Bindings (Labelled T)) → unless_bound (option_map (read_binding reading) b) (reads v) (read_all bindings) ≡ read_all (unless_bound b v bindings)
+  unless_at None v bindings = sym (map-append (read_binding reading) bindings (binds false arguments_name v))
+  unless_at (Some b) v bindings = refl
+
   arguments_read : (names : Bool) (v : Labelled T) (bindings : Bindings (Labelled T)) → with_arguments names (reads v) (read_all bindings) ≡ read_all (with_arguments names v bindings)
-  arguments_read true v bindings = sym (map-append (read_binding reading) bindings (binds false arguments_name v))
+  arguments_read true v bindings = ap (λ (b : Option (Binding (Labelled Label))). unless_bound b (reads v) (read_all bindings)) (found_read arguments_name bindings) ∙ unless_at (found arguments_name bindings) v bindings
   arguments_read false v bindings = refl
 
   variables_read : (missing : Labelled T) (names : List (List ℕ)) (bindings : Bindings (Labelled T)) → with_variables (reads missing) names (read_all bindings) ≡ read_all (with_variables missing names bindings)
@@ -142,8 +146,12 @@ module _ {T : Type 0} (made : T → Type 0) where
   functions_have (f ∷ fs) (v ∷ vs) all bindings has =
       functions_have fs vs (All-tail (HasValue made) v vs all) (bound_by (found (name_text (name_of f)) bindings) (name_text (name_of f)) v bindings) (bound_has (found (name_text (name_of f)) bindings) (name_text (name_of f)) v (All-head (HasValue made) v vs all) bindings has)
 
+  unless_has : (x : Option (Binding (Labelled T))) (v : Labelled T) → made v.label → (bindings : Bindings (Labelled T)) → All IsOf bindings → All IsOf (unless_bound x v bindings)
+  unless_has None v m bindings has = All-push IsOf bindings (record { name = arguments_name; mutable = false; value = v }) has m
+  unless_has (Some b) v m bindings has = has
+
   arguments_have : (names : Bool) (v : Labelled T) → made v.label → (bindings : Bindings (Labelled T)) → All IsOf bindings → All IsOf (with_arguments names v bindings)
-  arguments_have true v m bindings has = All-push IsOf bindings (record { name = arguments_name; mutable = false; value = v }) has m
+  arguments_have true v m bindings has = unless_has (found arguments_name bindings) v m bindings has
   arguments_have false v m bindings has = has
 
   variables_have : (missing : Labelled T) → made missing.label → (names : List (List ℕ)) (bindings : Bindings (Labelled T)) → All IsOf bindings → All IsOf (with_variables missing names bindings)

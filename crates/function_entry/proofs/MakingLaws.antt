@@ -1,16 +1,18 @@
 -- Objects that are made in a context, in a reading of their labels.
-use Rattle.std.proofs.Common.{arith, refl, sym, ap, ap₂, subst, ◌∙◌, ◌≡◌, ◌+◌, ℕ, suc, pos, Bool, true, List, [], ◌∷◌, ◌++◌, append_assoc, length, codes, Option, Some, None, Result, Ok, Err, is_ok, if◌then◌else◌}
+use Rattle.std.proofs.Common.{arith, refl, sym, ap, ap₂, subst, ◌∙◌, ◌≡◌, ◌+◌, ◌<◌, ◌≤◌, ℕ, zero, suc, pos, Bool, true, List, [], ◌∷◌, ◌++◌, append_assoc, length, codes, Option, Some, None, Result, Ok, Err, is_ok, if◌then◌else◌}
 use Rattle.std.specs.List.{slice_get}
 use Rattle.std.proofs.lemmas.Bool.{false≢true}
 use Rattle.std.proofs.lemmas.List.{map-append, length-map, length-append}
+use Rattle.std.proofs.lemmas.Option.{slice_get_past}
 use Rattle.std.proofs.lemmas.List.Elements.{All-push}
-use Rattle.origin_labels.specs.Label.{Label, IsLabel, union, within}
+use Rattle.origin_labels.specs.Label.{Label, IsLabel, bottom, union, within}
 use Rattle.origin_labels.specs.Stores.{IsKept}
 use Rattle.origin_labels.proofs.LabelLaws.{within-refl}
 use Rattle.flow_frames.specs.declared.faults.FlowStop.{FlowStop}
 use Rattle.flow_frames.specs.declared.faults.Rule.TheVariants.{W3}
 use Rattle.flow_frames.specs.Frames.{context}
 use Rattle.flow_frames.specs.Held.{seen}
+use Rattle.js_number.specs.declared.num.Num.TheVariants.{Int}
 use Rattle.js_number.specs.declared.primitive.Primitive.TheVariants.{Num}
 use Rattle.js_values.specs.declared.ids.EnvId.{EnvId}
 use Rattle.js_values.specs.declared.ids.ObjId.{ObjId}
@@ -23,17 +25,21 @@ use Rattle.js_values.specs.declared.inner.Inner.TheVariants.{Plain, Script, Boun
 use Rattle.js_values.specs.declared.value.Labelled.{Labelled}
 use Rattle.js_values.specs.declared.value.Value.{Value}
 use Rattle.js_values.specs.declared.value.Value.TheVariants as value
-use Rattle.js_values.specs.Objects.{Rows, Property, Object, PlainObject, PlainInner, plain, script, native, bound, own, with_row, fresh_plain, fresh_object}
+use Rattle.js_values.specs.Objects.{Rows, Property, Object, PlainObject, PlainInner, plain, script, native, bound, own, with_row, fresh_plain, fresh_object, number_of}
 use Rattle.js_values.specs.Readings.{IsReading, HasObject, HasHeap, read_value, read_object, read_heap}
 use Rattle.js_values.proofs.ReadingLaws.{IsReading-earlier, HasHeap-kept}
 use Rattle.object_heap.specs.Acts.{Acted, added, put_back, on_object, stretched, add_absent, add_own, add, new_object, give}
 use Rattle.object_heap.specs.Answers.{read_stop}
-use Rattle.object_heap.specs.Arrays.{length_key, element_of}
+use Rattle.js_values.specs.Arrays.{length_key, element_of}
 use Rattle.es_meaning.specs.Functions.{function_object, constructed_prototype, kept, property_with}
-use Rattle.es_meaning.specs.Plain.{object_or_default}
+use Rattle.es_meaning.specs.Plain.{object_or_default, prototype_name, undefined}
 use Rattle.es_meaning.specs.Start.{id, built_in, count_property, fixed_accessor, function_rows, caller_accessor, arguments_accessor, function_prototype, object_prototype}
 use Rattle.flow_meaning.specs.Erased.{labelled_by, labelled_values, made_inner, made_rows, made_object, made_objects}
-use Rattle.flow_meaning.specs.Tracked.{with_fresh}
+use Rattle.es_meaning.specs.Requested.{standing_or_default}
+use Rattle.flow_meaning.specs.Requested.{erased_in}
+use Rattle.js_values.specs.Chains.{beginning, chain_within, onwards}
+use Rattle.js_values.specs.Walks.{find, object_chain}
+use Rattle.flow_meaning.specs.Tracked.{prototype_of, standing, value_found, with_fresh}
 use Rattle.plain_heap.specs.PlainObjects.{values_with, inner_with, slot_with, rows_with, object_with, objects_with}
 use Rattle.plain_heap.proofs.GiveLaws.{last_gives}
 use Rattle.plain_heap.proofs.ReadLaws.{read_with}
@@ -41,7 +47,7 @@ use Rattle.run_state.specs.declared.world.World.{World}
 use Rattle.run_state.specs.Worlds.{Belongs, state_of}
 use Rattle.function_entry.specs.ArgumentRows.{counted_object}
 use Rattle.function_entry.specs.Changing.{Changes}
-use Rattle.function_entry.specs.Making.{Opens, IsOpen, Makes}
+use Rattle.function_entry.specs.Making.{Opens, IsOpen, Makes, standing_if, standing_in}
 use Rattle.function_entry.proofs.WorldLaws.{last_there, with_heap, heap_belongs, context_read}
 
 -- ---- no rule stops a property that is added in the context in which its object was made
@@ -151,9 +157,9 @@ module _ {T : Type 0} (c : T) (heap fresh sized constructing called last : List 
   constructed_made f makes gives = last_gives heap fresh last _ o.0 (codes "constructor") (slot_with c (property_with (value.Object f) built_in)) place makes gives
 
   -- the `arguments` object with its `length`
-  pub counted_made : fresh ≡ new_object class.Arguments (Some object_prototype) c c (Script function env) heap → last ≡ give o.0 (codes "length") (slot_with c (property_with (value.Primitive (Num (pos count))) built_in)) fresh
+  pub counted_made : fresh ≡ new_object class.Arguments (Some object_prototype) c c (Script function env) heap → last ≡ give o.0 (codes "length") (slot_with c (property_with (value.Primitive (Num (Int (pos count)))) built_in)) fresh
       → last ≡ heap ++ objects_with c (counted_object function env.0 count ∷ [])
-  counted_made makes gives = last_gives heap fresh last _ o.0 (codes "length") (slot_with c (property_with (value.Primitive (Num (pos count))) built_in)) place makes gives
+  counted_made makes gives = last_gives heap fresh last _ o.0 (codes "length") (slot_with c (property_with (value.Primitive (Num (Int (pos count)))) built_in)) place makes gives
 
 -- it is open in its context
 pub counted_open : {S T : Type 0} (made : S → T → Type 0) (meaning : S → T → Label) (store : S) (here : T) (heap last : List (Object T)) (o function place count : ℕ) → o ≡ length heap → last ≡ heap ++ objects_with here (counted_object function place count ∷ []) → IsOpen made meaning store last o here
@@ -171,9 +177,43 @@ counted_open made meaning store here heap last o function place count number is 
 
 -- ---- what `new` makes
 
+-- what is no object of the heap has no prototype
+pub no_prototype : {T : Type 0} (heap : List (Object T)) (o : ℕ) (reading : T → Label) (label : T) → reading label ≡ bottom → length heap ≤ o → read_value reading (record { value = undefined; label = label }) ≡ prototype_of (read_heap reading heap) o
+no_prototype heap o reading label none past =
+    let all = read_heap reading heap in
+    let away : slice_get all o ≡ None = slice_get_past all o (let same = length-map heap (read_object reading) in omega (arith, same, past)) in
+    let empty : object_chain all o ≡ [] = ap (λ (p : Option (Object Label)). beginning o p (λ q. onwards (number_of q.proto) (chain_within (λ (r : Object Label). number_of r.proto) all o))) away in
+    ap (λ l. labelled_by l undefined) none ∙ sym (ap (λ objects. value_found (find prototype_name objects).walk (find prototype_name objects).at) empty)
+
+-- an object stands in a heap where it stands in the heap that is read
+module _ {T : Type 0} where
+  standing_by : (reading : T → Label) (o : ObjId) (heap : List (Object T)) (n : ℕ) → standing_or_default o (erased_in (slice_get (read_heap reading heap) n)) ≡ standing_if o (slice_get heap n)
+  standing_by reading o [] n = refl
+  standing_by reading o (p ∷ heap) zero = refl
+  standing_by reading o (p ∷ heap) (suc n) = standing_by reading o heap n
+
+  standing_read : (reading : T → Label) (heap : List (Object T)) (o : ObjId) → standing (read_heap reading heap) o ≡ standing_in heap o
+  standing_read reading heap o = standing_by reading o heap o.0
+
+  stands_at : (o : ObjId) (heap : List (Object T)) (n : ℕ) → n < length heap → o ≡ standing_if o (slice_get heap n)
+  stands_at o [] n lt = absurd (omega (arith, lt))
+  stands_at o (p ∷ heap) zero lt = refl
+  stands_at o (p ∷ heap) (suc n) lt = stands_at o heap n (omega (arith, lt))
+
+  pub stands : (heap : List (Object T)) (o : ObjId) → o.0 < length heap → o ≡ standing_in heap o
+  stands heap o lt = stands_at o heap o.0 lt
+
+  falls_at : (o : ObjId) (heap : List (Object T)) (n : ℕ) → length heap ≤ n → object_prototype ≡ standing_if o (slice_get heap n)
+  falls_at o [] n past = refl
+  falls_at o (p ∷ heap) zero past = absurd (omega (arith, past))
+  falls_at o (p ∷ heap) (suc n) past = falls_at o heap n (omega (arith, past))
+
+  pub falls : (heap : List (Object T)) (o : ObjId) → length heap ≤ o.0 → object_prototype ≡ standing_in heap o
+  falls heap o past = falls_at o heap o.0 past
+
 module _ {S T : Type 0} (made : S → T → Type 0) (meaning : S → T → Label) (room : S → ℕ) (firm : S → Bool) (old new : S) (kept : IsKept made meaning room firm old new) (rising : (store : S) (label : T) → made store label → IsLabel (meaning store label)) (w : World T) (belongs : Belongs made meaning old w) where
   module _ (v : Labelled T) (m : made old v.label) (here link : T) (here_made : made old here) (here_is : meaning old here ≡ context (seen meaning old w.frames.frames)) (link_made : made new link) (link_is : meaning new link ≡ union (meaning old here) (meaning old v.label)) (heap : List (Object T)) where
-    pub fresh_made : (o : ObjId) → o ≡ object_or_default v.value → heap ≡ new_object class.Object (Some o) link here Plain w.heap → Changes made meaning new (λ reading. with_fresh (read_value reading v)) w (with_heap heap w)
+    pub fresh_made : (o : ObjId) → o ≡ standing_in w.heap (object_or_default v.value) → heap ≡ new_object class.Object (Some o) link here Plain w.heap → Changes made meaning new (λ reading. with_fresh (read_value reading v)) w (with_heap heap w)
     fresh_made o is_proto more = record {
       says = λ reading is told turns.
           let earlier = IsReading-earlier made meaning room firm old new reading kept is in
@@ -181,8 +221,8 @@ module _ {S T : Type 0} (made : S → T → Type 0) (meaning : S → T → Label
           let means : reading link ≡ union (context (state_of reading w told turns).frames) (reading v.label) = is.agrees link link_made ∙ link_is ∙ ap₂ union (sym (earlier.agrees here here_made) ∙ sym before) (sym (earlier.agrees v.label m)) in
           ap (λ (h : List (Object Label)). record (state_of reading w told turns) { heap = h })
           (ap (read_heap reading) more ∙ map-append (read_object reading) w.heap (fresh_object class.Object Plain (Some o) link here ∷ [])
-          ∙ ap (λ (i : ObjId). read_heap reading w.heap ++ fresh_object class.Object Plain (Some i) (reading link) (reading here) ∷ []) is_proto
-          ∙ ap₂ (λ (l c : Label). read_heap reading w.heap ++ fresh_object class.Object Plain (Some (object_or_default v.value)) l c ∷ []) means (sym before));
+          ∙ ap (λ (i : ObjId). read_heap reading w.heap ++ fresh_object class.Object Plain (Some i) (reading link) (reading here) ∷ []) (is_proto ∙ sym (standing_read reading w.heap (object_or_default v.value)))
+          ∙ ap₂ (λ (l c : Label). read_heap reading w.heap ++ fresh_object class.Object Plain (Some (standing (read_heap reading w.heap) (object_or_default v.value))) l c ∷ []) means (sym before));
     }
 
     pub fresh_belongs : (proto : Option ObjId) → heap ≡ new_object class.Object proto link here Plain w.heap → length heap ≡ length w.heap + 1 → Belongs made meaning new (with_heap heap w)

@@ -1,6 +1,7 @@
 -- The `arguments` object of a call: its elements are added from the last one down.
 use Rattle.std.specs.Prelude.{◌≡◌, ℕ, pos, List, [], ◌∷◌, ◌++◌, map, Some, Ok, codes, slice_get, set}
 use Rattle.origin_labels.specs.Label.{Label}
+use Rattle.js_number.specs.declared.num.Num.TheVariants.{Int}
 use Rattle.js_number.specs.declared.primitive.Primitive.TheVariants.{Num}
 use Rattle.js_values.specs.declared.inner.Class.TheVariants as class
 use Rattle.js_values.specs.declared.property.Body.TheVariants.{Data}
@@ -16,7 +17,7 @@ use Rattle.flow_meaning.specs.Requested.{data_slot, arguments_object}
 
 -- the `arguments` object with its `length` alone
 abbrev pub counted_object : ℕ → ℕ → ℕ → PlainObject
-counted_object function place n = record (fresh_plain class.Arguments (script function (env_id place)) (Some object_prototype)) { rows = (codes "length", property_with (value.Primitive (Num (pos n))) built_in) ∷ [] }
+counted_object function place n = record (fresh_plain class.Arguments (script function (env_id place)) (Some object_prototype)) { rows = (codes "length", property_with (value.Primitive (Num (Int (pos n)))) built_in) ∷ [] }
 
 module _ {S T : Type 0} (made : S → T → Type 0) (meaning : S → T → Label) (store : S) where
   -- a property with a value is added in a context: it depends on that, and on what the value does

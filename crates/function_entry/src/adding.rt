@@ -8,7 +8,7 @@ ghost use Rattle.plain_heap.specs.PlainObjects.{slot_with};
 ghost use Rattle.function_entry.specs.Making.{count_body};
 
 use flow_text::OutOfMemory;
-use js_number::{Int, Primitive};
+use js_number::{Int, Num, Primitive};
 use js_values::{Body, Key, Marks, ObjId, Slot, Value};
 use object_heap::Heap;
 use origin_labels::Labels;
@@ -19,7 +19,8 @@ use std::alloc::Global;
 pub(crate) fn count_body(n: u32) -> Body
     ensures { result ≡ count_body n }
 {
-    Body::Data(Value::Primitive(Primitive::Num(Int::new(i64::from(n)).unwrap())))
+    let count = Int::new(i64::from(n)).unwrap();
+    Body::Data(Value::Primitive(Primitive::Num(Num::Int(count))))
 }
 
 /// Gives an object that was made in the context a property, which depends on that alone.

@@ -1,10 +1,9 @@
 //! The `arguments` object of a call (ECMA-262 10.6).
 
-ghost use Rattle.std.specs.Prelude.{◌≡◌, ◌≤◌, ◌<◌, ◌+◌, ◌^◌, [], ◌∷◌, ◌++◌, None, pos, IfOk, OnOk, length, slice_get};
+ghost use Rattle.std.specs.Prelude.{◌≡◌, ◌≤◌, ◌<◌, ◌+◌, ◌^◌, [], ◌∷◌, ◌++◌, None, IfOk, OnOk, length, slice_get};
 ghost use Rattle.std.specs.List.{All};
 ghost use Rattle.origin_labels.specs.Stores.{IsKept};
-ghost use Rattle.js_number.specs.declared.primitive.Primitive.TheVariants.{Num};
-ghost use Rattle.js_number.specs.Conversions.{text_of};
+ghost use Rattle.js_values.specs.Arrays.{element_key};
 ghost use Rattle.js_values.specs.Readings.{HasHeap, HasValue};
 ghost use Rattle.object_heap.specs.Formed.{own_in};
 ghost use Rattle.plain_heap.specs.PlainObjects.{objects_with};
@@ -15,7 +14,7 @@ use crate::adding::{count_body, give, give_accessor};
 use flow_frames::FlowFault;
 use flow_text::OutOfMemory;
 use function_table::KnownKeys;
-use js_number::{Int, number_to_text};
+use js_number::{Int, Num, number_to_text};
 use js_values::{Body, Class, EnvId, Inner, Key, Labelled, Marks, ObjId};
 use object_heap::Heap;
 use origin_labels::Labels;
@@ -35,9 +34,10 @@ fn count<T>(args: &[Labelled<T>]) -> Result<u32, OutOfMemory>
 
 // The key of an element.
 fn element_key(alloc: Global, i: u32) -> Result<Key, OutOfMemory>
-    ensures { IfOk result (λ k. k ≡ text_of (Num (pos i))) }
+    ensures { IfOk result (λ k. k ≡ element_key i) }
 {
-    let text = number_to_text(alloc, Int::new(i64::from(i)).unwrap())?;
+    let number = Num::Int(Int::new(i64::from(i)).unwrap());
+    let text = number_to_text(alloc, number)?;
     Ok(Key::new(text))
 }
 

@@ -9,11 +9,13 @@ ghost use Rattle.es_meaning.specs.Definitions.{value_in};
 ghost use Rattle.es_meaning.specs.Plain.{object_or_default};
 ghost use Rattle.run_state.specs.Worlds.{Belongs, Grows};
 ghost use Rattle.function_entry.specs.Changing.{Changes};
+ghost use Rattle.function_entry.specs.Making.{standing_in};
 
 use flow_text::OutOfMemory;
 use function_table::Functions;
 use js_number::Primitive;
 use js_values::{Body, Class, Inner, Labelled, ObjId, Value};
+use object_heap::Heap;
 use origin_labels::Labels;
 use plain_heap::OBJECT_PROTOTYPE;
 use prototype_walk::find_slot_named;
@@ -28,6 +30,16 @@ fn object_or_default(value: &Value) -> ObjId
         Value::Primitive(_) => OBJECT_PROTOTYPE,
         Value::Object(o) => *o,
     }
+}
+
+// An object that stands in the heap, and else the prototype of all objects.
+fn standing<T: Copy>(heap: &Heap<T>, o: ObjId) -> ObjId
+    requires { 0 < length heap.now }
+    ensures is { result ≡ standing_in heap.now o }
+    ensures there { result.0 < length heap.now }
+{
+    let stands = o.0 < heap.len();
+    if stands { o } else { OBJECT_PROTOTYPE }
 }
 
 /// Makes an object without properties, whose prototype is this value (ECMA-262 13.2.2). Its link depends on the value besides the present context.
@@ -48,10 +60,7 @@ pub fn fresh<T: Copy, L: Labels<Label = T>>(
     ensures grows { Grows world.old world.new }
     ensures kept { IsKept L.made L.meaning L.room L.firm labels.old labels.new }
 {
-    let o = object_or_default(&proto.value);
-    if o.0 >= world.heap.len() {
-        return Err(OutOfMemory);
-    }
+    let o = standing(&world.heap, object_or_default(&proto.value));
     let context = world.frames.context(labels);
     let link = labels.join(context, proto.label)?;
     let heap = &mut world.heap;
@@ -86,8 +95,13 @@ pub fn prototype_of<T: Copy, L: Labels<Label = T>>(
     ensures belongs { Belongs L.made L.meaning labels.new world.now }
     ensures kept { IsKept L.made L.meaning L.room L.firm labels.old labels.new }
 {
-    if function.0 >= world.heap.len() {
-        return Err(OutOfMemory);
+    let past = function.0 >= world.heap.len();
+    if past {
+        let none = labels.bottom();
+        return Ok(Labelled {
+            value: Value::Primitive(Primitive::Undefined),
+            label: none,
+        });
     }
     let name = functions.keys().prototype().text();
     let (place, walk) = find_slot_named(&world.heap, labels, function, name)?;

@@ -5,7 +5,8 @@ ghost use Rattle.std.specs.List.{All};
 ghost use Rattle.origin_labels.specs.Stores.{IsKept};
 ghost use Rattle.js_ast.specs.Held.{code_of};
 ghost use Rattle.js_ast.specs.Views.{view_function};
-ghost use Rattle.js_number.specs.declared.primitive.Primitive.TheVariants.{Num};
+ghost use Rattle.js_number.specs.declared.num.Num.TheVariants as nums;
+ghost use Rattle.js_number.specs.declared.primitive.Primitive.TheVariants as prims;
 ghost use Rattle.js_values.specs.declared.value.Value.TheVariants.{Primitive as PrimitiveValue};
 ghost use Rattle.js_values.specs.Readings.{HasHeap, HasValue, read_value};
 ghost use Rattle.flow_meaning.specs.Tracked.{with_call};
@@ -20,7 +21,7 @@ use call_records::Entry;
 use flow_text::OutOfMemory;
 use function_table::{Functions, KnownKeys};
 use js_ast::Function;
-use js_number::{Int, Primitive};
+use js_number::{Int, Num, Primitive};
 use js_values::{EnvId, Labelled, ObjId, Value};
 use object_heap::Heap;
 use origin_labels::Labels;
@@ -30,9 +31,10 @@ use std::alloc::Global;
 // A number as a value.
 #[inline(always)]
 fn number_value(n: u32) -> Value
-    ensures { result ≡ PrimitiveValue (Num (pos n)) }
+    ensures { result ≡ PrimitiveValue (prims.Num (nums.Int (pos n))) }
 {
-    Value::Primitive(Primitive::Num(Int::new(i64::from(n)).unwrap()))
+    let number = Int::new(i64::from(n)).unwrap();
+    Value::Primitive(Primitive::Num(Num::Int(number)))
 }
 
 // Makes the `arguments` object, if the code of the function names it. Its number is that of the object that is made next.

@@ -5,8 +5,10 @@ use Rattle.std.proofs.lemmas.Bool.{cases_lt, cond-false}
 use Rattle.std.proofs.Math.Nat.{pow-le-pow_right, mul-le-mul_right}
 use Rattle.std.proofs.lemmas.List.{drop_all}
 use Rattle.js_number.specs.declared.numeric_text.PowerOfTen.{PowerOfTen}
-use Rattle.js_number.specs.NumericText.{scaled_up, scaled_down, scaled, scaled_where, with_exponent, exponent_of, all_zero}
-use Rattle.js_number.specs.Bounded.{bounded, capped, cut}
+use Rattle.js_number.specs.declared.numeric_text.Spelled.{Spelled}
+use Rattle.js_number.specs.declared.numeric_text.Spelled.TheVariants.{NoLiteral}
+use Rattle.js_number.specs.NumericText.{scaled_up, scaled_down, scaled, integer_if, scaled_where, with_exponent, exponent_of, all_zero}
+use Rattle.js_number.specs.Bounded.{bounded, bounded_spelled, capped, cut}
 use Rattle.js_number.proofs.DigitValues.{product_too_large}
 
 -- a list has no more than its length
@@ -60,17 +62,24 @@ by_sign : (whole fraction : List ℕ) (negative : Bool) (n : ℕ) → length who
 by_sign whole fraction true n h i = ap bounded (down_cut whole fraction n h)
 by_sign whole fraction false n h i = up_cut whole fraction n i
 
+-- an integer that is cut, as a text spells it
+bounded_integer : (o : Option ℕ) → bounded_spelled (integer_if o) ≡ integer_if (bounded o)
+bounded_integer None = refl
+bounded_integer (Some n) = refl
+
 -- the same of an exponent that may be missing
-where_cut : (whole fraction : List ℕ) (power : Option PowerOfTen) → length whole < 2 ^ 63 → length fraction < 2 ^ 63 → bounded (scaled_where whole fraction (cut power)) ≡ bounded (scaled_where whole fraction power)
+where_cut : (whole fraction : List ℕ) (power : Option PowerOfTen) → length whole < 2 ^ 63 → length fraction < 2 ^ 63 → bounded_spelled (scaled_where whole fraction (cut power)) ≡ bounded_spelled (scaled_where whole fraction power)
 unfolding scaled_where scaled
 where_cut whole fraction None h i = refl
-where_cut whole fraction (Some p) h i = by_sign whole fraction p.negative p.size h i
+where_cut whole fraction (Some p) h i =
+    let q : PowerOfTen = record { negative = p.negative; size = capped p.size } in
+    bounded_integer (scaled whole fraction q) ∙ ap integer_if (by_sign whole fraction p.negative p.size h i) ∙ sym (bounded_integer (scaled whole fraction p))
 
 -- the same behind a mantissa that has a digit
-pub with_cut : (whole fraction rest : List ℕ) (power : Option PowerOfTen) (r : Option ℕ) → length whole < 2 ^ 63 → length fraction < 2 ^ 63 → (length whole == 0 && length fraction == 0) ≡ false → power ≡ cut (exponent_of rest) → r ≡ bounded (scaled_where whole fraction power) → r ≡ bounded (with_exponent whole fraction rest)
+pub with_cut : (whole fraction rest : List ℕ) (power : Option PowerOfTen) (r : Spelled) → length whole < 2 ^ 63 → length fraction < 2 ^ 63 → (length whole == 0 && length fraction == 0) ≡ false → power ≡ cut (exponent_of rest) → r ≡ bounded_spelled (scaled_where whole fraction power) → r ≡ bounded_spelled (with_exponent whole fraction rest)
 unfolding with_exponent
 with_cut whole fraction rest power r h i some e f =
-    f ∙ ap (λ p. bounded (scaled_where whole fraction p)) e ∙ where_cut whole fraction (exponent_of rest) h i ∙ sym (ap bounded (cond-false (length whole == 0 && length fraction == 0) None (scaled_where whole fraction (exponent_of rest)) some))
+    f ∙ ap (λ p. bounded_spelled (scaled_where whole fraction p)) e ∙ where_cut whole fraction (exponent_of rest) h i ∙ sym (ap bounded_spelled (cond-false (length whole == 0 && length fraction == 0) NoLiteral (scaled_where whole fraction (exponent_of rest)) some))
 
 -- digits that are too large without their power of ten
 pub up_too_large : (whole fraction taken : List ℕ) (by m : ℕ) → m ≡ min by (length fraction) → taken ≡ take m fraction → bounded (Some (digits_value 10 (whole ++ taken))) ≡ None → bounded (scaled_up whole fraction by) ≡ None

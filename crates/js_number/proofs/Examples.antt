@@ -1,14 +1,15 @@
 -- The definitions at worked values.
 use Rattle.std.proofs.Common.{◌≡◌, [], ◌∷◌, refl, codes, pos, negsuc, Some, None, Ok, Err, true, false}
+use Rattle.js_number.specs.declared.num.Num.TheVariants.{Nan, Int}
 use Rattle.js_number.specs.declared.primitive.Primitive.TheVariants.{Undefined, Null, Num, Str}
 use Rattle.js_number.specs.Number.{number}
 use Rattle.js_number.specs.Arithmetic.{quotient, remainder}
 use Rattle.js_number.specs.Bits.{shifted_left, shifted_right, shifted_with_zeros, and_of, not_of}
 use Rattle.js_number.specs.Compare.{loosely_equal, is_less}
-use Rattle.js_number.specs.NumericText.{lone_digits, power_of, signed_power, exponent_of, scaled_up, scaled_down, scaled, scaled_where, with_exponent, with_fraction, decimal_of, hexadecimal_of, unsigned_of, number_behind_blanks, number_of_text}
+use Rattle.js_number.specs.NumericText.{lone_digits, power_of, signed_power, exponent_of, scaled_up, scaled_down, scaled, scaled_where, with_exponent, with_fraction, decimal_of, hexadecimal_of, unsigned_of, is_infinity, number_behind_blanks, number_of_text}
 
 -- 9007199254740990 + 1, and one more
-last_sum : number (pos 9007199254740991) ≡ Ok (pos 9007199254740991)
+last_sum : number (pos 9007199254740991) ≡ Ok (Int (pos 9007199254740991))
 last_sum = refl
 
 -- one more has no number
@@ -56,7 +57,7 @@ complement : not_of (pos 5) ≡ negsuc 5
 complement = refl
 
 -- null == 0, null == undefined, "" == 0 and null < 1
-null_and_zero : loosely_equal Null (Num (pos 0)) ≡ Ok false
+null_and_zero : loosely_equal Null (Num (Int (pos 0))) ≡ Ok false
 null_and_zero = refl
 
 -- null equals undefined
@@ -64,40 +65,40 @@ null_and_undefined : loosely_equal Null Undefined ≡ Ok true
 null_and_undefined = refl
 
 -- the empty text counts as 0
-empty_and_zero : loosely_equal (Str []) (Num (pos 0)) ≡ Ok true
+empty_and_zero : loosely_equal (Str []) (Num (Int (pos 0))) ≡ Ok true
 unfolding number_of_text number_behind_blanks
 empty_and_zero = refl
 
 -- null counts as 0 in an order
-null_below_one : is_less Null (Num (pos 1)) ≡ Ok true
+null_below_one : is_less Null (Num (Int (pos 1))) ≡ Ok (Some true)
 null_below_one = refl
 
 -- 1.5e1, 100e-2, 1e-1, 0x1F, +0x1 and a blank text
-fifteen : number_of_text (codes "1.5e1 ") ≡ Some (pos 15)
-unfolding number_of_text number_behind_blanks unsigned_of decimal_of with_fraction with_exponent exponent_of signed_power power_of lone_digits scaled_where scaled scaled_up scaled_down
+fifteen : number_of_text (codes "1.5e1 ") ≡ Ok (Int (pos 15))
+unfolding number_of_text number_behind_blanks unsigned_of decimal_of is_infinity with_fraction with_exponent exponent_of signed_power power_of lone_digits scaled_where scaled scaled_up scaled_down
 fifteen = refl
 
 -- an exponent that takes zeros away
-one : number_of_text (codes " -100e-2") ≡ Some (negsuc 0)
-unfolding number_of_text number_behind_blanks unsigned_of decimal_of with_fraction with_exponent exponent_of signed_power power_of lone_digits scaled_where scaled scaled_up scaled_down
+one : number_of_text (codes " -100e-2") ≡ Ok (Int (negsuc 0))
+unfolding number_of_text number_behind_blanks unsigned_of decimal_of is_infinity with_fraction with_exponent exponent_of signed_power power_of lone_digits scaled_where scaled scaled_up scaled_down
 one = refl
 
--- a fraction is no number
-no_tenth : number_of_text (codes "1e-1") ≡ None
-unfolding number_of_text number_behind_blanks unsigned_of decimal_of with_fraction with_exponent exponent_of signed_power power_of lone_digits scaled_where scaled scaled_up scaled_down
+-- a fraction is a literal, and no integer
+no_tenth : number_of_text (codes "1e-1") ≡ Err (record {})
+unfolding number_of_text number_behind_blanks unsigned_of decimal_of is_infinity with_fraction with_exponent exponent_of signed_power power_of lone_digits scaled_where scaled scaled_up scaled_down
 no_tenth = refl
 
 -- digits in base 16
-in_hexadecimal : number_of_text (codes "0x1F") ≡ Some (pos 31)
+in_hexadecimal : number_of_text (codes "0x1F") ≡ Ok (Int (pos 31))
 unfolding number_of_text number_behind_blanks unsigned_of hexadecimal_of lone_digits
 in_hexadecimal = refl
 
--- they have no sign
-no_signed_hexadecimal : number_of_text (codes "+0x1") ≡ None
-unfolding number_of_text number_behind_blanks decimal_of with_fraction with_exponent exponent_of scaled_where
+-- they have no sign: that is no literal
+no_signed_hexadecimal : number_of_text (codes "+0x1") ≡ Ok Nan
+unfolding number_of_text number_behind_blanks decimal_of is_infinity with_fraction with_exponent exponent_of scaled_where
 no_signed_hexadecimal = refl
 
 -- blanks alone are 0
-blank : number_of_text (8233 ∷ 160 ∷ 65279 ∷ []) ≡ Some (pos 0)
+blank : number_of_text (8233 ∷ 160 ∷ 65279 ∷ []) ≡ Ok (Int (pos 0))
 unfolding number_of_text number_behind_blanks
 blank = refl

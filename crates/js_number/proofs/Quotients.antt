@@ -1,13 +1,15 @@
 -- The quotient of two integers is the number whose product with the divisor is the dividend.
-use Rattle.std.proofs.Common.{◌≡◌, ◌≢◌, ℕ, zero, suc, ◌*◌, ◌/◌, ◌%◌, ◌==◌, ◌<◌, refl, sym, ap, ◌∙◌, arith, ℤ, pos, negsuc, neg_ℤ, ◌*ℤ◌, unsigned_abs, Some, None, if◌then◌else◌, Result, Ok, ◌↔◌}
-use Rattle.std.proofs.lemmas.Bool.{eqb-true, eqb-false, eq-eqb, ne_eqb, cond-true, cond-false}
+use Rattle.std.proofs.Common.{◌≡◌, ◌≢◌, Bool, true, false, ◌&&◌, ap₂, ℕ, zero, suc, ◌*◌, ◌/◌, ◌%◌, ◌==◌, ◌<◌, refl, sym, ap, ◌∙◌, arith, ℤ, pos, negsuc, neg_ℤ, ◌*ℤ◌, unsigned_abs, Some, None, if◌then◌else◌, Result, Ok, ◌↔◌}
+use Rattle.std.proofs.lemmas.Bool.{and_parts, eqb-true, eqb-false, eq-eqb, ne_eqb, cond-true, cond-false}
 use Rattle.std.proofs.lemmas.Int.{unsigned_abs-mul}
 use Rattle.std.proofs.lemmas.Nat.{div-add-mod'}
 use Rattle.std.proofs.Math.Nat.{mul-mod_right, mul-div_cancel, mul_comm}
 use Rattle.js_number.specs.declared.int.LeftNumbers.{LeftNumbers}
+use Rattle.js_number.specs.declared.num.Num.{Num}
+use Rattle.js_number.specs.declared.num.Num.TheVariants.{Nan, Int}
 use Rattle.js_number.specs.Profile.{IsProfile}
 use Rattle.js_number.specs.Number.{some_number}
-use Rattle.js_number.specs.Arithmetic.{signed_like, quotient, IsQuotient}
+use Rattle.js_number.specs.Arithmetic.{signed_like, quotient, IsQuotient, quotient_of, divided}
 use Rattle.js_number.proofs.Answered.{through, some_of, answered, answers}
 
 -- a product by its size and sign
@@ -83,6 +85,17 @@ quotient_read a b n q =
     cond-false (unsigned_abs b == 0) None (if unsigned_abs a % unsigned_abs b == 0 then Some (signed_like a b (unsigned_abs a / unsigned_abs b)) else None) (ne_eqb (unsigned_abs b) 0 some) ∙ cond-true (unsigned_abs a % unsigned_abs b == 0) (Some (signed_like a b (unsigned_abs a / unsigned_abs b))) None (eq-eqb (unsigned_abs a % unsigned_abs b) 0 rest) ∙ ap (λ m. Some (signed_like a b m)) part ∙ ap Some sign
 
 -- the number that is answered is the quotient, where it is of the profile
-pub division_exact : (a b : ℤ) (r : Result ℤ LeftNumbers) (n : ℤ) → r ≡ some_number (quotient a b) → (r ≡ Ok n) ↔ (IsProfile n × IsQuotient a b n)
+pub division_exact : (a b : ℤ) (r : Result Num LeftNumbers) (n : ℤ) → r ≡ some_number (quotient a b) → (r ≡ Ok (Int n)) ↔ (IsProfile n × IsQuotient a b n)
 division_exact a b r n e =
     (λ h. let p = answered (quotient a b) n (sym e ∙ h) in (p.0, quotient_found a b n p.1), λ p. e ∙ answers (quotient a b) n p.0 (quotient_read a b n p.1))
+
+-- 0 by 0 has no quotient
+division_by : (t : Bool) (a b : ℤ) (r : Result Num LeftNumbers) (n : ℤ) → (unsigned_abs a == 0 && unsigned_abs b == 0) ≡ t → r ≡ (if t then Ok Nan else some_number (quotient a b)) → (r ≡ Ok (Int n)) ↔ (IsProfile n × IsQuotient a b n)
+division_by true a b r n t e =
+    let z : unsigned_abs b ≡ 0 = eqb-true (unsigned_abs b) 0 (and_parts (unsigned_abs a == 0) (unsigned_abs b == 0) t).1 in
+    (λ h. let clash : Ok Nan ≡ Ok (Int n) = sym e ∙ h in cc clash, λ p. absurd (p.1.0 (size_zero b z)))
+division_by false a b r n t e = division_exact a b r n e
+
+-- the quotient of two numbers that are integers
+pub division_of : (a b : Num) (r : Result Num LeftNumbers) (m k n : ℤ) → r ≡ divided a b → a ≡ Int m → b ≡ Int k → (r ≡ Ok (Int n)) ↔ (IsProfile n × IsQuotient m k n)
+division_of a b r m k n e f g = division_by (unsigned_abs m == 0 && unsigned_abs k == 0) m k r n refl (e ∙ ap₂ divided f g)

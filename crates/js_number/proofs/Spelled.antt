@@ -1,5 +1,5 @@
--- A text that a literal spells is read as that literal's value.
-use Rattle.std.proofs.Common.{◌≡◌, ℕ, ◌*◌, ◌^◌, ◌<◌, ◌≤◌, ◌==◌, ◌⊎◌, ◌&&◌, ◌||◌, not, List, [], ◌∷◌, ◌++◌, length, take, drop, Bool, true, false, refl, sym, ap, subst, ◌∙◌, arith, inl, inr, ⊎_elim, append_assoc, append-nil, Some, None, if◌then◌else◌, ℤ, pos}
+-- A text that a literal spells is read as that literal's value: a number, or none where it is no integer of the profile.
+use Rattle.std.proofs.Common.{◌≡◌, ℕ, ◌*◌, ◌^◌, ◌<◌, ◌≤◌, ◌==◌, ◌⊎◌, ◌&&◌, ◌||◌, not, List, [], ◌∷◌, ◌++◌, length, take, drop, Bool, true, false, refl, sym, ap, subst, ◌∙◌, arith, inl, inr, ⊎_elim, append_assoc, append-nil, codes, bytes_eq, Option, Some, None, Result, Ok, Err, if◌then◌else◌, ℤ, pos}
 use Rattle.std.specs.List.{list_all}
 use Rattle.std.specs.Option.{option_map}
 use Rattle.std.specs.Char.{digit_value, is_digit}
@@ -7,9 +7,15 @@ use Rattle.std.specs.Str.Parse.{digits_value, AllDigits}
 use Rattle.std.proofs.Math.Nat.{mul-one}
 use Rattle.std.proofs.Math.Seq.{take-append_seam, drop-append_seam}
 use Rattle.std.proofs.lemmas.Bool.{and_parts, or_cases, eqb-true, ne_eqb, cond-true, cond-false, or_from, and_left, true≢false, lt-ltb}
+use Rattle.js_number.specs.declared.int.LeftNumbers.{LeftNumbers}
+use Rattle.js_number.specs.declared.num.Num.{Num}
+use Rattle.js_number.specs.declared.num.Num.TheVariants.{Int}
 use Rattle.js_number.specs.declared.numeric_text.PowerOfTen.{PowerOfTen}
-use Rattle.js_number.specs.Literal.{Sign, unsigned, plus, minus, Mantissa, integer, pointed, fraction, Exponent, none, power, Literal, empty, hexadecimal, decimal, infinity, is_blank, AreBlank, AreDigits, spelled_sign, spelled_mantissa, spelled_exponent, spelling, IsMantissa, IsExponent, IsLiteral, mantissa_value, at_exponent, HasValue, SpellsNumber}
-use Rattle.js_number.specs.NumericText.{digit_count, after_blanks, lone_digits, power_of, signed_power, exponent_of, scaled, scaled_where, with_exponent, with_fraction, decimal_of, hexadecimal_of, unsigned_of, negated, not_negated, number_behind_blanks, number_of_text}
+use Rattle.js_number.specs.declared.numeric_text.Spelled.{Spelled}
+use Rattle.js_number.specs.declared.numeric_text.Spelled.TheVariants.{NoLiteral, NoInteger, Integer}
+use Rattle.js_number.specs.Number.{number}
+use Rattle.js_number.specs.Literal.{Sign, unsigned, plus, minus, Mantissa, integer, pointed, fraction, Exponent, none, power, Literal, empty, hexadecimal, decimal, infinity, is_blank, AreBlank, AreDigits, spelled_sign, spelled_mantissa, spelled_exponent, spelling, IsMantissa, IsExponent, IsLiteral, mantissa_value, at_exponent, SpellsLiteral}
+use Rattle.js_number.specs.NumericText.{digit_count, after_blanks, lone_digits, power_of, signed_power, exponent_of, scaled, scaled_where, with_exponent, with_fraction, integer_if, infinity_word, is_infinity, decimal_of, hexadecimal_if, hexadecimal_of, unsigned_of, number_spelled, number_behind_blanks, number_of_text}
 use Rattle.js_number.proofs.Blanks.{is_apart, blank_apart, digit_no_blank, blank_no_digit, NoDigitFirst, blanks_apart, count_digits, skip_blanks, only_blanks}
 use Rattle.js_number.proofs.Scaling.{value_append, up_read, down_read}
 
@@ -115,11 +121,22 @@ fraction_of (integer ds) = []
 fraction_of (pointed ds fs) = fs
 fraction_of (fraction fs) = fs
 
+-- a text that doesn't begin with an I isn't the word Infinity
+no_infinity : (u : ℕ) (us : List ℕ) → (u == 73) ≡ false → is_infinity (u ∷ us) ≡ false
+unfolding is_infinity
+no_infinity u us h = ap (λ b. (b && bytes_eq (take 7 us) (codes "nfinity")) && list_all is_blank (drop 8 (u ∷ us))) h
+
+-- nor is the empty one, nor one that begins with digits
+digits_no_infinity : (ds us : List ℕ) → AllDigits 10 ds → is_infinity us ≡ false → is_infinity (ds ++ us) ≡ false
+digits_no_infinity [] us a h = h
+digits_no_infinity (d ∷ ds) us a h = no_infinity d (ds ++ us) (differs (λ u. is_digit u 10) d 73 (lt-ltb (digit_value d) 10 a.0) refl)
+
 -- the first digits are read
-decimal_at : (ds us : List ℕ) → AllDigits 10 ds → NoDigitFirst 10 us → decimal_of (ds ++ us) ≡ with_fraction ds us
+decimal_at : (ds us : List ℕ) → AllDigits 10 ds → NoDigitFirst 10 us → is_infinity (ds ++ us) ≡ false → decimal_of (ds ++ us) ≡ with_fraction ds us
 unfolding decimal_of
-decimal_at ds us a n =
-    ap (λ k. with_fraction (take k (ds ++ us)) (drop k (ds ++ us))) (count_digits 10 ds us a n) ∙ ap (λ xs. with_fraction xs (drop (length ds) (ds ++ us))) (take-append_seam ds us) ∙ ap (with_fraction ds) (drop-append_seam ds us)
+decimal_at ds us a n h =
+    cond-false (is_infinity (ds ++ us)) NoInteger (with_fraction (take (digit_count 10 (ds ++ us)) (ds ++ us)) (drop (digit_count 10 (ds ++ us)) (ds ++ us))) h
+    ∙ ap (λ k. with_fraction (take k (ds ++ us)) (drop k (ds ++ us))) (count_digits 10 ds us a n) ∙ ap (λ xs. with_fraction xs (drop (length ds) (ds ++ us))) (take-append_seam ds us) ∙ ap (with_fraction ds) (drop-append_seam ds us)
 
 -- a mantissa without a point is read
 no_point : (ds us : List ℕ) → IsTail us → with_fraction ds us ≡ with_exponent ds [] us
@@ -133,14 +150,19 @@ unfolding with_fraction
 point ds fs us a t =
     ap (λ k. with_exponent ds (take k (fs ++ us)) (drop k (fs ++ us))) (count_digits 10 fs us a (tail_no_digit us t)) ∙ ap (λ xs. with_exponent ds xs (drop (length fs) (fs ++ us))) (take-append_seam fs us) ∙ ap (with_exponent ds fs) (drop-append_seam fs us)
 
+-- one digit and more, and a point, aren't the word Infinity
+some_no_infinity : (ds us : List ℕ) → AreDigits 10 ds → is_infinity (ds ++ us) ≡ false
+some_no_infinity [] us a = absurd (omega arith)
+some_no_infinity (d ∷ ds) us a = no_infinity d (ds ++ us) (differs (λ u. is_digit u 10) d 73 (lt-ltb (digit_value d) 10 a.1.0) refl)
+
 -- a mantissa is read
 mantissa_read : (m : Mantissa) (us : List ℕ) → IsMantissa m → IsTail us → decimal_of (spelled_mantissa m ++ us) ≡ with_exponent (whole_of m) (fraction_of m) us
-mantissa_read (integer ds) us i t = decimal_at ds us i.1 (tail_no_digit us t) ∙ no_point ds us t
-mantissa_read (pointed ds fs) us i t = ap decimal_of (append_assoc ds (46 ∷ fs) us) ∙ decimal_at ds (46 ∷ (fs ++ us)) i.0.1 refl ∙ point ds fs us i.1 t
-mantissa_read (fraction fs) us i t = decimal_at [] (46 ∷ (fs ++ us)) tt refl ∙ point [] fs us i.1 t
+mantissa_read (integer ds) us i t = decimal_at ds us i.1 (tail_no_digit us t) (some_no_infinity ds us i) ∙ no_point ds us t
+mantissa_read (pointed ds fs) us i t = ap decimal_of (append_assoc ds (46 ∷ fs) us) ∙ decimal_at ds (46 ∷ (fs ++ us)) i.0.1 refl (some_no_infinity ds (46 ∷ (fs ++ us)) i.0) ∙ point ds fs us i.1 t
+mantissa_read (fraction fs) us i t = decimal_at [] (46 ∷ (fs ++ us)) tt refl (no_infinity 46 (fs ++ us) refl) ∙ point [] fs us i.1 t
 
 -- a mantissa has a digit
-has_digit : (m : Mantissa) → IsMantissa m → (length (whole_of m) == 0 && length (fraction_of m) == 0) ≡ false
+pub has_digit : (m : Mantissa) → IsMantissa m → (length (whole_of m) == 0 && length (fraction_of m) == 0) ≡ false
 has_digit (integer ds) i = and_left (length ds == 0) true (some_digits ds i.0)
 has_digit (pointed ds fs) i = and_left (length ds == 0) (length fs == 0) (some_digits ds i.0.0)
 has_digit (fraction fs) i = some_digits fs i.0
@@ -164,18 +186,27 @@ below_is (pointed ds fs) = refl
 below_is (fraction fs) = refl
 
 -- the exact value is read
-value_read : (m : Mantissa) (e : Exponent) (n : ℕ) → IsMantissa m → n * (at_exponent (mantissa_value m) e).below ≡ (at_exponent (mantissa_value m) e).above → scaled (whole_of m) (fraction_of m) (power_value e) ≡ Some n
+pub value_read : (m : Mantissa) (e : Exponent) (n : ℕ) → IsMantissa m → n * (at_exponent (mantissa_value m) e).below ≡ (at_exponent (mantissa_value m) e).above → scaled (whole_of m) (fraction_of m) (power_value e) ≡ Some n
 unfolding scaled
 value_read m none n i h = up_read (whole_of m) (fraction_of m) 0 n (are_digits m i).1 (ap (λ b. n * b) (sym (below_is m)) ∙ h ∙ above_is m ∙ sym (mul-one (digits_value 10 (whole_of m ++ fraction_of m))))
 value_read m (power x minus ds) n i h = down_read (whole_of m) (fraction_of m) (digits_value 10 ds) n (are_digits m i).0 (are_digits m i).1 (ap (λ b. n * (b * 10 ^ digits_value 10 ds)) (sym (below_is m)) ∙ h ∙ above_is m)
 value_read m (power x plus ds) n i h = up_read (whole_of m) (fraction_of m) (digits_value 10 ds) n (are_digits m i).1 (ap (λ b. n * b) (sym (below_is m)) ∙ h ∙ ap (λ v. v * 10 ^ digits_value 10 ds) (above_is m))
 value_read m (power x unsigned ds) n i h = up_read (whole_of m) (fraction_of m) (digits_value 10 ds) n (are_digits m i).1 (ap (λ b. n * b) (sym (below_is m)) ∙ h ∙ ap (λ v. v * 10 ^ digits_value 10 ds) (above_is m))
 
+-- what a mantissa with an exponent comes to
+abbrev pub scaled_value : Mantissa → Exponent → Spelled
+scaled_value m e = integer_if (scaled (whole_of m) (fraction_of m) (power_value e))
+
 -- a decimal number is read
-decimal_read : (m : Mantissa) (e : Exponent) (us : List ℕ) (n : ℕ) → IsMantissa m → IsExponent e → AreBlank us → n * (at_exponent (mantissa_value m) e).below ≡ (at_exponent (mantissa_value m) e).above → decimal_of (spelled_mantissa m ++ (spelled_exponent e ++ us)) ≡ Some n
+decimal_read : (m : Mantissa) (e : Exponent) (us : List ℕ) → IsMantissa m → IsExponent e → AreBlank us → decimal_of (spelled_mantissa m ++ (spelled_exponent e ++ us)) ≡ scaled_value m e
 unfolding with_exponent scaled_where
-decimal_read m e us n i j b h =
-    mantissa_read m (spelled_exponent e ++ us) i (exponent_tail e us j b) ∙ cond-false (length (whole_of m) == 0 && length (fraction_of m) == 0) None (scaled_where (whole_of m) (fraction_of m) (exponent_of (spelled_exponent e ++ us))) (has_digit m i) ∙ ap (scaled_where (whole_of m) (fraction_of m)) (exponent_read e us j b) ∙ value_read m e n i h
+decimal_read m e us i j b =
+    mantissa_read m (spelled_exponent e ++ us) i (exponent_tail e us j b) ∙ cond-false (length (whole_of m) == 0 && length (fraction_of m) == 0) NoLiteral (scaled_where (whole_of m) (fraction_of m) (exponent_of (spelled_exponent e ++ us))) (has_digit m i) ∙ ap (scaled_where (whole_of m) (fraction_of m)) (exponent_read e us j b)
+
+-- the word Infinity is read
+infinity_read : (us : List ℕ) → AreBlank us → decimal_of (infinity_word ++ us) ≡ NoInteger
+unfolding decimal_of is_infinity
+infinity_read us b = ap (λ t. if t then NoInteger else with_fraction (take (digit_count 10 (infinity_word ++ us)) (infinity_word ++ us)) (drop (digit_count 10 (infinity_word ++ us)) (infinity_word ++ us))) b
 
 -- a unit that begins a number without a sign
 IsPlain : ℕ → Type 0
@@ -199,9 +230,9 @@ unfolding number_of_text
 number_at u us h = ap number_behind_blanks (cond-false (is_blank u) (after_blanks us) (u ∷ us) h)
 
 -- `0x` begins no decimal number
-hex_none : (x : ℕ) (us : List ℕ) → (x ≡ 120) ⊎ (x ≡ 88) → decimal_of (48 ∷ x ∷ us) ≡ None
-unfolding decimal_of with_fraction with_exponent scaled_where exponent_of
-hex_none x us h = ⊎_elim (λ e. subst (λ y. decimal_of (48 ∷ y ∷ us) ≡ None) (sym e) refl) (λ e. subst (λ y. decimal_of (48 ∷ y ∷ us) ≡ None) (sym e) refl) h
+hex_none : (x : ℕ) (us : List ℕ) → (x ≡ 120) ⊎ (x ≡ 88) → decimal_of (48 ∷ x ∷ us) ≡ NoLiteral
+unfolding decimal_of is_infinity with_fraction with_exponent scaled_where exponent_of
+hex_none x us h = ⊎_elim (λ e. subst (λ y. decimal_of (48 ∷ y ∷ us) ≡ NoLiteral) (sym e) refl) (λ e. subst (λ y. decimal_of (48 ∷ y ∷ us) ≡ NoLiteral) (sym e) refl) h
 
 -- the test for a hexadecimal number
 unfoldable pub hex_test : ℕ → ℕ → Bool
@@ -215,66 +246,89 @@ hex_units u x h =
     (eqb-true u 48 p.0, ⊎_elim (λ e. inl (eqb-true x 120 e)) (λ e. inr (eqb-true x 88 e)) (or_cases (x == 120) (x == 88) p.1))
 
 -- a decimal number by that test
-decimal_first : (b : Bool) (u x : ℕ) (us : List ℕ) (n : ℕ) → hex_test u x ≡ b → decimal_of (u ∷ x ∷ us) ≡ Some n → unsigned_of (u ∷ x ∷ us) ≡ Some n
+decimal_first : (b : Bool) (u x : ℕ) (us : List ℕ) → hex_test u x ≡ b → (decimal_of (u ∷ x ∷ us) ≡ NoLiteral → ⊥) → unsigned_of (u ∷ x ∷ us) ≡ decimal_of (u ∷ x ∷ us)
 unfolding unsigned_of hex_test
-decimal_first false u x us n t e = cond-false (u == 48 && (x == 120 || x == 88)) (hexadecimal_of us) (decimal_of (u ∷ x ∷ us)) t ∙ e
-decimal_first true u x us n t e =
+decimal_first false u x us t some = cond-false (u == 48 && (x == 120 || x == 88)) (hexadecimal_of us) (decimal_of (u ∷ x ∷ us)) t
+decimal_first true u x us t some =
     let p = hex_units u x t in
-    let none : decimal_of (u ∷ x ∷ us) ≡ None = ap (λ y. decimal_of (y ∷ x ∷ us)) p.0 ∙ hex_none x us p.1 in
-    let clash : None ≡ Some n = sym none ∙ e in
-    cc clash
+    absurd (some (ap (λ y. decimal_of (y ∷ x ∷ us)) p.0 ∙ hex_none x us p.1))
 
 -- a decimal number is read as a number without a sign
-unsigned_is : (us : List ℕ) (n : ℕ) → decimal_of us ≡ Some n → unsigned_of us ≡ Some n
+unsigned_is : (us : List ℕ) → (decimal_of us ≡ NoLiteral → ⊥) → unsigned_of us ≡ decimal_of us
 unfolding unsigned_of
-unsigned_is [] n e = e
-unsigned_is (u ∷ []) n e = e
-unsigned_is (u ∷ x ∷ us) n e = decimal_first (hex_test u x) u x us n refl e
+unsigned_is [] some = refl
+unsigned_is (u ∷ []) some = refl
+unsigned_is (u ∷ x ∷ us) some = decimal_first (hex_test u x) u x us refl some
+
+-- an integer, and where there is none, is what a literal comes to
+some_scaled : (o : Option ℕ) → integer_if o ≡ NoLiteral → ⊥
+some_scaled None e = cc e
+some_scaled (Some n) e = cc e
 
 -- and as a text
-unsigned_at : (u : ℕ) (us : List ℕ) (n : ℕ) → IsPlain u → decimal_of (u ∷ us) ≡ Some n → number_of_text (u ∷ us) ≡ Some (pos n)
+unsigned_at : (u : ℕ) (us : List ℕ) → IsPlain u → (decimal_of (u ∷ us) ≡ NoLiteral → ⊥) → number_of_text (u ∷ us) ≡ number_spelled false (decimal_of (u ∷ us))
 unfolding IsPlain number_behind_blanks
-unsigned_at u us n p e =
-    number_at u us p.0 ∙ cond-false (u == 45) (negated (decimal_of us)) (if u == 43 then not_negated (decimal_of us) else not_negated (unsigned_of (u ∷ us))) p.1 ∙ cond-false (u == 43) (not_negated (decimal_of us)) (not_negated (unsigned_of (u ∷ us))) p.2 ∙ ap not_negated (unsigned_is (u ∷ us) n e)
+unsigned_at u us p some =
+    number_at u us p.0 ∙ cond-false (u == 45) (number_spelled true (decimal_of us)) (if u == 43 then number_spelled false (decimal_of us) else number_spelled false (unsigned_of (u ∷ us))) p.1 ∙ cond-false (u == 43) (number_spelled false (decimal_of us)) (number_spelled false (unsigned_of (u ∷ us))) p.2 ∙ ap (number_spelled false) (unsigned_is (u ∷ us) some)
 
 -- a mantissa begins a text so
-unsigned_read : (m : Mantissa) (us : List ℕ) (n : ℕ) → IsMantissa m → decimal_of (spelled_mantissa m ++ us) ≡ Some n → number_of_text (spelled_mantissa m ++ us) ≡ Some (pos n)
-unsigned_read (integer []) us n i e = absurd (omega arith)
-unsigned_read (integer (d ∷ ds)) us n i e = unsigned_at d (ds ++ us) n (digit_plain d i.1.0) e
-unsigned_read (pointed [] fs) us n i e = absurd (omega arith)
-unsigned_read (pointed (d ∷ ds) fs) us n i e = unsigned_at d ((ds ++ 46 ∷ fs) ++ us) n (digit_plain d i.0.1.0) e
-unsigned_read (fraction fs) us n i e = unsigned_at 46 (fs ++ us) n point_plain e
+unsigned_read : (m : Mantissa) (us : List ℕ) → IsMantissa m → (decimal_of (spelled_mantissa m ++ us) ≡ NoLiteral → ⊥) → number_of_text (spelled_mantissa m ++ us) ≡ number_spelled false (decimal_of (spelled_mantissa m ++ us))
+unsigned_read (integer []) us i e = absurd (omega arith)
+unsigned_read (integer (d ∷ ds)) us i e = unsigned_at d (ds ++ us) (digit_plain d i.1.0) e
+unsigned_read (pointed [] fs) us i e = absurd (omega arith)
+unsigned_read (pointed (d ∷ ds) fs) us i e = unsigned_at d ((ds ++ 46 ∷ fs) ++ us) (digit_plain d i.0.1.0) e
+unsigned_read (fraction fs) us i e = unsigned_at 46 (fs ++ us) point_plain e
 
 -- a text that begins with `0x`
-hex_at : (x : ℕ) (us : List ℕ) → (x ≡ 120) ⊎ (x ≡ 88) → number_of_text (48 ∷ x ∷ us) ≡ not_negated (hexadecimal_of us)
+hex_at : (x : ℕ) (us : List ℕ) → (x ≡ 120) ⊎ (x ≡ 88) → number_of_text (48 ∷ x ∷ us) ≡ number_spelled false (hexadecimal_of us)
 unfolding number_of_text number_behind_blanks unsigned_of
-hex_at x us h = ⊎_elim (λ e. subst (λ y. number_of_text (48 ∷ y ∷ us) ≡ not_negated (hexadecimal_of us)) (sym e) refl) (λ e. subst (λ y. number_of_text (48 ∷ y ∷ us) ≡ not_negated (hexadecimal_of us)) (sym e) refl) h
+hex_at x us h = ⊎_elim (λ e. subst (λ y. number_of_text (48 ∷ y ∷ us) ≡ number_spelled false (hexadecimal_of us)) (sym e) refl) (λ e. subst (λ y. number_of_text (48 ∷ y ∷ us) ≡ number_spelled false (hexadecimal_of us)) (sym e) refl) h
 
 -- a hexadecimal number is read
-hex_read : (ds us : List ℕ) → AreDigits 16 ds → AreBlank us → hexadecimal_of (ds ++ us) ≡ Some (digits_value 16 ds)
+hex_read : (ds us : List ℕ) → AreDigits 16 ds → AreBlank us → hexadecimal_of (ds ++ us) ≡ Integer (digits_value 16 ds)
 unfolding hexadecimal_of
-hex_read ds us a b = ap (option_map (digits_value 16)) (lone_is 16 ds us (omega arith) a b)
+hex_read ds us a b = ap hexadecimal_if (lone_is 16 ds us (omega arith) a b)
 
 -- a text that begins with a sign
-sign_at : (us : List ℕ) → (number_of_text (45 ∷ us) ≡ negated (decimal_of us)) × (number_of_text (43 ∷ us) ≡ not_negated (decimal_of us))
+sign_at : (us : List ℕ) → (number_of_text (45 ∷ us) ≡ number_spelled true (decimal_of us)) × (number_of_text (43 ∷ us) ≡ number_spelled false (decimal_of us))
 unfolding number_of_text number_behind_blanks
 sign_at us = (refl, refl)
 
--- a literal is read as its value
-literal_read : (l : Literal) (us : List ℕ) (z : ℤ) → IsLiteral l → AreBlank us → HasValue l z → number_of_text (spelling l ++ us) ≡ Some z
-unfolding number_of_text number_behind_blanks
-literal_read empty us z i b h = ap number_behind_blanks (only_blanks us b) ∙ ap Some (sym h)
-literal_read (hexadecimal x ds) us z i b h = hex_at x (ds ++ us) i.0 ∙ ap not_negated (hex_read ds us i.1 b) ∙ ap Some (sym h)
-literal_read (decimal minus m e) us z i b h = (sign_at ((spelled_mantissa m ++ spelled_exponent e) ++ us)).0 ∙ ap negated (ap decimal_of (append_assoc (spelled_mantissa m) (spelled_exponent e) us) ∙ decimal_read m e us h.0 i.0 i.1 b h.2) ∙ ap Some (sym h.1)
-literal_read (decimal plus m e) us z i b h = (sign_at ((spelled_mantissa m ++ spelled_exponent e) ++ us)).1 ∙ ap not_negated (ap decimal_of (append_assoc (spelled_mantissa m) (spelled_exponent e) us) ∙ decimal_read m e us h.0 i.0 i.1 b h.2) ∙ ap Some (sym h.1)
-literal_read (decimal unsigned m e) us z i b h = ap number_of_text (append_assoc (spelled_mantissa m) (spelled_exponent e) us) ∙ unsigned_read m (spelled_exponent e ++ us) h.0 i.0 (decimal_read m e us h.0 i.0 i.1 b h.2) ∙ ap Some (sym h.1)
-literal_read (infinity s) us z i b h = absurd h
+-- the number that a literal is, or none where its value is no integer of the profile
+abbrev pub is_minus : Sign → Bool
+is_minus minus = true
+is_minus plus = false
+is_minus unsigned = false
+
+abbrev pub literal_number : Literal → Result Num LeftNumbers
+literal_number empty = Ok (Int (pos 0))
+literal_number (hexadecimal x ds) = number (pos (digits_value 16 ds))
+literal_number (decimal s m e) = number_spelled (is_minus s) (scaled_value m e)
+literal_number (infinity s) = Err (record {})
+
+-- a decimal number behind its sign
+decimal_parts : (m : Mantissa) (e : Exponent) (us : List ℕ) → IsMantissa m → IsExponent e → AreBlank us → decimal_of ((spelled_mantissa m ++ spelled_exponent e) ++ us) ≡ scaled_value m e
+decimal_parts m e us i j b = ap decimal_of (append_assoc (spelled_mantissa m) (spelled_exponent e) us) ∙ decimal_read m e us i j b
+
+-- a literal is read so
+literal_read : (l : Literal) (us : List ℕ) → IsLiteral l → AreBlank us → number_of_text (spelling l ++ us) ≡ literal_number l
+unfolding number_of_text number_behind_blanks unsigned_of
+literal_read empty us i b = ap number_behind_blanks (only_blanks us b)
+literal_read (hexadecimal x ds) us i b = hex_at x (ds ++ us) i.0 ∙ ap (number_spelled false) (hex_read ds us i.1 b)
+literal_read (decimal minus m e) us i b = (sign_at ((spelled_mantissa m ++ spelled_exponent e) ++ us)).0 ∙ ap (number_spelled true) (decimal_parts m e us i.0 i.1 b)
+literal_read (decimal plus m e) us i b = (sign_at ((spelled_mantissa m ++ spelled_exponent e) ++ us)).1 ∙ ap (number_spelled false) (decimal_parts m e us i.0 i.1 b)
+literal_read (decimal unsigned m e) us i b =
+    let d = decimal_read m e us i.0 i.1 b in
+    ap number_of_text (append_assoc (spelled_mantissa m) (spelled_exponent e) us) ∙ unsigned_read m (spelled_exponent e ++ us) i.0 (λ n. some_scaled (scaled (whole_of m) (fraction_of m) (power_value e)) (sym d ∙ n)) ∙ ap (number_spelled false) d
+literal_read (infinity minus) us i b = ap (number_spelled true) (infinity_read us b)
+literal_read (infinity plus) us i b = ap (number_spelled false) (infinity_read us b)
+literal_read (infinity unsigned) us i b = ap (number_spelled false) (infinity_read us b)
 
 -- blanks in front change nothing
 skipped : (bs us : List ℕ) → AreBlank bs → number_of_text (bs ++ us) ≡ number_of_text us
 unfolding number_of_text
 skipped bs us b = ap number_behind_blanks (skip_blanks bs us b)
 
--- a text that spells a number is read as that number
-pub number_read : (text : List ℕ) (z : ℤ) → SpellsNumber text z → number_of_text text ≡ Some z
-number_read text z s = ap number_of_text s.spelled ∙ skipped s.before (spelling s.literal ++ s.after) s.blank_before ∙ literal_read s.literal s.after z s.is_literal s.blank_after s.value
+-- a text that spells a literal is read as that literal's number
+pub spelled_read : (text : List ℕ) (l : Literal) → SpellsLiteral text l → number_of_text text ≡ literal_number l
+spelled_read text l s = ap number_of_text s.spelled ∙ skipped s.before (spelling l ++ s.after) s.blank_before ∙ literal_read l s.after s.is_literal s.blank_after

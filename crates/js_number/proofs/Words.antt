@@ -23,5 +23,10 @@ pub false_units : units_of (codes "false") ≡ codes "false"
 unfolding units_of chars
 false_units = refl
 
+-- the word for NaN
+pub nan_units : units_of (codes "NaN") ≡ codes "NaN"
+unfolding units_of chars
+nan_units = refl
+
 -- all of them
-pub ruleset words = (undefined_units, null_units, true_units, false_units)
+pub ruleset words = (undefined_units, null_units, true_units, false_units, nan_units)

@@ -1,4 +1,4 @@
--- Numbers of 32 bits (ECMA-262 9.5, 9.6), shifts (11.7) and operators on bits (11.10).
+-- Integers of 32 bits (ECMA-262 9.5, 9.6), shifts (11.7) and operators on bits (11.10). NaN counts as 0 in each of them: it is converted by `integer_of`.
 use Rattle.std.specs.Prelude.{◌≡◌, ℕ, ◌-◌, ◌/◌, ◌%◌, ◌^◌, ℤ, pos, ◌*ℤ◌, ◌+ℤ◌, ◌-ℤ◌, unsigned_abs, nat_lt, if◌then◌else◌, bit_and, bit_or, bit_xor}
 use Rattle.std.specs.Int.{int_rem_euclid, int_div_euclid}
 

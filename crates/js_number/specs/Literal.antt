@@ -118,13 +118,21 @@ HasValue (hexadecimal x ds) z = z ≡ pos (digits_value 16 ds)
 HasValue (decimal sign m e) z = (n : ℕ) × (z ≡ signed sign n) × (let r = at_exponent (mantissa_value m) e in n * r.below ≡ r.above)
 HasValue (infinity sign) z = ⊥
 
--- the text is a literal between blanks, and its exact value is the integer z
-pub record SpellsNumber (text : List ℕ) (z : ℤ) : Type 0 where
-  pub literal : Literal
+-- the text is a literal between blanks
+pub record SpellsLiteral (text : List ℕ) (literal : Literal) : Type 0 where
   pub before : List ℕ
   pub after : List ℕ
   pub is_literal : IsLiteral literal
   pub blank_before : AreBlank before
   pub blank_after : AreBlank after
   pub spelled : text ≡ before ++ (spelling literal ++ after)
+
+-- it is some literal, and one whose exact value is the integer z
+pub record IsNumeric (text : List ℕ) : Type 0 where
+  pub literal : Literal
+  pub spells : SpellsLiteral text literal
+
+pub record SpellsNumber (text : List ℕ) (z : ℤ) : Type 0 where
+  pub literal : Literal
+  pub spells : SpellsLiteral text literal
   pub value : HasValue literal z

@@ -1,10 +1,17 @@
--- The integer that a text spells, read from left to right. It is the value of StringNumericLiteral (`Literal`): a clause of `text_to_number` says so.
-use Rattle.std.specs.Prelude.{ℕ, ◌-◌, ◌*◌, ◌^◌, ◌==◌, Bool, true, false, ◌&&◌, ◌||◌, not, List, [], ◌∷◌, ◌++◌, length, take, drop, ℤ, pos, neg_ℤ, Option, Some, None, if◌then◌else◌}
+-- The number that a text spells, read from left to right. It is the value of StringNumericLiteral (`Literal`): the clauses of `text_to_number` say so.
+use Rattle.std.specs.Prelude.{ℕ, ◌-◌, ◌*◌, ◌^◌, ◌==◌, Bool, true, false, ◌&&◌, ◌||◌, not, List, [], ◌∷◌, ◌++◌, length, take, drop, codes, ℤ, pos, neg_ℤ, Option, Some, None, Result, Ok, Err, if◌then◌else◌}
 use Rattle.std.specs.List.{prefix_len, list_all}
 use Rattle.std.specs.Option.{option_map}
 use Rattle.std.specs.Char.{is_digit}
+use Rattle.std.specs.Str.{bytes_eq}
 use Rattle.std.specs.Str.Parse.{digits_value}
+use Rattle.js_number.specs.declared.int.LeftNumbers.{LeftNumbers}
+use Rattle.js_number.specs.declared.num.Num.{Num}
+use Rattle.js_number.specs.declared.num.Num.TheVariants.{Nan, Int}
 use Rattle.js_number.specs.declared.numeric_text.PowerOfTen.{PowerOfTen}
+use Rattle.js_number.specs.declared.numeric_text.Spelled.{Spelled}
+use Rattle.js_number.specs.declared.numeric_text.Spelled.TheVariants.{NoLiteral, NoInteger, Integer}
+use Rattle.js_number.specs.Number.{number}
 use Rattle.js_number.specs.Literal.{is_blank}
 
 -- how many digits stand first
@@ -50,47 +57,65 @@ scaled_down whole fraction by = if all_zero (drop (length whole - by) whole) && 
 unfoldable pub scaled : List ℕ → List ℕ → PowerOfTen → Option ℕ
 scaled whole fraction power = if power.negative then scaled_down whole fraction power.size else scaled_up whole fraction power.size
 
--- digits times a power of ten, where it was read
-unfoldable pub scaled_where : List ℕ → List ℕ → Option PowerOfTen → Option ℕ
-scaled_where whole fraction None = None
-scaled_where whole fraction (Some power) = scaled whole fraction power
+-- an integer, where there is one
+abbrev pub integer_if : Option ℕ → Spelled
+integer_if None = NoInteger
+integer_if (Some n) = Integer n
+
+-- digits with an exponent behind them: no literal where that isn't one, and else their product, where it is an integer
+unfoldable pub scaled_where : List ℕ → List ℕ → Option PowerOfTen → Spelled
+scaled_where whole fraction None = NoLiteral
+scaled_where whole fraction (Some power) = integer_if (scaled whole fraction power)
 
 -- a mantissa has a digit before its point or behind it
-unfoldable pub with_exponent : List ℕ → List ℕ → List ℕ → Option ℕ
-with_exponent whole fraction rest = if length whole == 0 && length fraction == 0 then None else scaled_where whole fraction (exponent_of rest)
+unfoldable pub with_exponent : List ℕ → List ℕ → List ℕ → Spelled
+with_exponent whole fraction rest = if length whole == 0 && length fraction == 0 then NoLiteral else scaled_where whole fraction (exponent_of rest)
 
 -- what stands behind the digits before the point: a point and digits, or none
-unfoldable pub with_fraction : List ℕ → List ℕ → Option ℕ
+unfoldable pub with_fraction : List ℕ → List ℕ → Spelled
 with_fraction whole [] = with_exponent whole [] []
 with_fraction whole (u ∷ us) = if u == 46 then with_exponent whole (take (digit_count 10 us) us) (drop (digit_count 10 us) us) else with_exponent whole [] (u ∷ us)
 
+-- the word Infinity, and then only blanks: a literal whose value is no integer
+abbrev pub infinity_word : List ℕ
+infinity_word = codes "Infinity"
+
+unfoldable pub is_infinity : List ℕ → Bool
+is_infinity units = bytes_eq (take 8 units) infinity_word && list_all is_blank (drop 8 units)
+
 -- a decimal number without a sign, and then only blanks
-unfoldable pub decimal_of : List ℕ → Option ℕ
-decimal_of units = with_fraction (take (digit_count 10 units) units) (drop (digit_count 10 units) units)
+unfoldable pub decimal_of : List ℕ → Spelled
+decimal_of units = if is_infinity units then NoInteger else with_fraction (take (digit_count 10 units) units) (drop (digit_count 10 units) units)
 
 -- digits in base 16, and then only blanks
-unfoldable pub hexadecimal_of : List ℕ → Option ℕ
-hexadecimal_of units = option_map (digits_value 16) (lone_digits 16 units)
+abbrev pub hexadecimal_if : Option (List ℕ) → Spelled
+hexadecimal_if None = NoLiteral
+hexadecimal_if (Some ds) = Integer (digits_value 16 ds)
+
+unfoldable pub hexadecimal_of : List ℕ → Spelled
+hexadecimal_of units = hexadecimal_if (lone_digits 16 units)
 
 -- a number without a sign
-unfoldable pub unsigned_of : List ℕ → Option ℕ
+unfoldable pub unsigned_of : List ℕ → Spelled
 unsigned_of [] = decimal_of []
 unsigned_of (u ∷ []) = decimal_of (u ∷ [])
 unsigned_of (u ∷ x ∷ us) = if u == 48 && (x == 120 || x == 88) then hexadecimal_of us else decimal_of (u ∷ x ∷ us)
 
--- a number by its size, below zero
-abbrev pub negated : Option ℕ → Option ℤ
-negated size = option_map (λ n. neg_ℤ (pos n)) size
+-- a number by its size, with its sign: a text that is no literal gives NaN (9.3.1)
+abbrev pub signed_integer : Bool → ℕ → ℤ
+signed_integer true n = neg_ℤ (pos n)
+signed_integer false n = pos n
 
--- a number by its size
-abbrev pub not_negated : Option ℕ → Option ℤ
-not_negated size = option_map pos size
+abbrev pub number_spelled : Bool → Spelled → Result Num LeftNumbers
+number_spelled negative NoLiteral = Ok Nan
+number_spelled negative NoInteger = Err (record {})
+number_spelled negative (Integer n) = number (signed_integer negative n)
 
 -- nothing, a sign and a decimal number, or a number without a sign
-unfoldable pub number_behind_blanks : List ℕ → Option ℤ
-number_behind_blanks [] = Some (pos 0)
-number_behind_blanks (u ∷ us) = if u == 45 then negated (decimal_of us) else (if u == 43 then not_negated (decimal_of us) else not_negated (unsigned_of (u ∷ us)))
+unfoldable pub number_behind_blanks : List ℕ → Result Num LeftNumbers
+number_behind_blanks [] = Ok (Int (pos 0))
+number_behind_blanks (u ∷ us) = if u == 45 then number_spelled true (decimal_of us) else (if u == 43 then number_spelled false (decimal_of us) else number_spelled false (unsigned_of (u ∷ us)))
 
--- ToNumber of a text (ECMA-262 9.3.1), where it is an integer
-unfoldable pub number_of_text : List ℕ → Option ℤ
+-- ToNumber of a text (ECMA-262 9.3.1): NaN where it is no literal; LeftNumbers where it is one whose value is no integer of the profile; and else that integer
+unfoldable pub number_of_text : List ℕ → Result Num LeftNumbers
 number_of_text text = number_behind_blanks (after_blanks text)

@@ -2,8 +2,9 @@
 
 ghost use Rattle.std.specs.Prelude.{◌≡◌, SomeIff};
 ghost use Rattle.js_number.specs.Profile.{IsProfile};
-ghost use Rattle.js_number.specs.Number.{number, number_of_bool, some_number};
+ghost use Rattle.js_number.specs.Number.{number, number_of_bool, some_number, number_or_nan};
 
+use crate::num::Num;
 use std::marker::Model;
 
 /// An integer between -2^53 and 2^53, without these two. There is one zero.
@@ -70,18 +71,31 @@ impl Int {
 }
 
 /// The number `n`, or that there is none.
-pub(crate) fn number(n: i64) -> Result<Int, LeftNumbers>
+pub(crate) fn number(n: i64) -> Result<Num, LeftNumbers>
     ensures { result ≡ number n }
 {
-    Int::new(n).ok_or(LeftNumbers)
+    match Int::new(n) {
+        Some(n) => Ok(Num::Int(n)),
+        None => Err(LeftNumbers),
+    }
 }
 
 /// The number, where there is one and it is of the profile.
-pub(crate) fn some_number(n: Option<i64>) -> Result<Int, LeftNumbers>
+pub(crate) fn some_number(n: Option<i64>) -> Result<Num, LeftNumbers>
     ensures { result ≡ some_number n }
 {
     match n {
         Some(n) => number(n),
         None => Err(LeftNumbers),
+    }
+}
+
+/// The number, or NaN where there is none.
+pub(crate) fn number_or_nan(n: Option<i64>) -> Result<Num, LeftNumbers>
+    ensures { result ≡ number_or_nan n }
+{
+    match n {
+        Some(n) => number(n),
+        None => Ok(Num::Nan),
     }
 }

@@ -1,59 +1,80 @@
 //! ToNumber of a text (ECMA-262 9.3.1).
 
-ghost use Rattle.std.specs.Prelude.{◌≡◌, ◌<◌, ◌^◌, ◌++◌, ◌↔◌, ℤ, Ok, Some, pos, neg_ℤ, IfSome, if◌then◌else◌};
-ghost use Rattle.std.specs.Option.{option_map};
+ghost use Rattle.std.specs.Prelude.{◌≡◌, ◌<◌, ◌^◌, ◌++◌, ◌↔◌, ℤ, Ok, Some};
 ghost use Rattle.std.specs.Str.Parse.{digits_value};
-ghost use Rattle.js_number.specs.Bounded.{bounded, cut};
-ghost use Rattle.js_number.specs.Literal.{SpellsNumber};
+ghost use Rattle.js_number.specs.Bounded.{bounded, bounded_spelled, cut};
+ghost use Rattle.js_number.specs.Literal.{IsNumeric, SpellsNumber};
 ghost use Rattle.js_number.specs.Profile.{IsProfile};
-ghost use Rattle.js_number.specs.Number.{some_number};
-ghost use Rattle.js_number.specs.NumericText.{power_of, signed_power, exponent_of, scaled_up, scaled_down, scaled_where, with_exponent, with_fraction, decimal_of, hexadecimal_of, unsigned_of, number_behind_blanks, number_of_text};
+ghost use Rattle.js_number.specs.declared.num.Num.TheVariants as nums;
+ghost use Rattle.js_number.specs.NumericText.{power_of, signed_power, exponent_of, scaled_up, scaled_down, scaled_where, with_exponent, with_fraction, is_infinity, decimal_of, hexadecimal_of, unsigned_of, integer_if, number_spelled, number_behind_blanks, number_of_text};
 
 use crate::digits::{
     after_blanks, all_blank, all_zero, capped_value, digit_count, lone_digits, times_power,
     value_after,
 };
 use crate::int::{Int, LeftNumbers};
+use crate::num::Num;
 use flow_text::Text;
 
-/// The number that the text spells.
+/// The number that the text spells: NaN where it is no numeric literal.
 #[tactic(auto, unfolding(crate::specs::NumericText::number_of_text))]
-pub fn text_to_number(t: &Text) -> Result<Int, LeftNumbers>
-    ensures value { result ≡ some_number (number_of_text t.now) }
-    ensures grammar { (n : ℤ) → (result ≡ Ok n) ↔ (IsProfile n × SpellsNumber t.now n) }
-    ensures spelled { (n : ℤ) → (number_of_text t.now ≡ Some n) ↔ SpellsNumber t.now n }
+pub fn text_to_number(t: &Text) -> Result<Num, LeftNumbers>
+    ensures value { result ≡ number_of_text t.now }
+    ensures grammar { (n : ℤ) → (result ≡ Ok (nums.Int n)) ↔ (IsProfile n × SpellsNumber t.now n) }
+    ensures nan { (result ≡ Ok nums.Nan) ↔ (IsNumeric t.now → ⊥) }
 {
     number_behind_blanks(after_blanks(t.units()))
 }
 
 #[tactic(auto, unfolding(crate::specs::NumericText::number_behind_blanks))]
-fn number_behind_blanks(units: &[u16]) -> Result<Int, LeftNumbers>
-    ensures { result ≡ some_number (number_behind_blanks units.now) }
+fn number_behind_blanks(units: &[u16]) -> Result<Num, LeftNumbers>
+    ensures { result ≡ number_behind_blanks units.now }
 {
     match units {
-        [] => Ok(Int::of(0)),
-        [0x2D, rest @ ..] => number_of_size(true, decimal(rest)),
-        [0x2B, rest @ ..] => number_of_size(false, decimal(rest)),
-        _ => number_of_size(false, unsigned(units)),
+        [] => Ok(Num::Int(Int::of(0))),
+        [0x2D, rest @ ..] => number_spelled(true, decimal(rest)),
+        [0x2B, rest @ ..] => number_spelled(false, decimal(rest)),
+        _ => number_spelled(false, unsigned(units)),
+    }
+}
+
+// What a text spells.
+#[derive(Clone, Copy)]
+enum Spelled {
+    /// It is no numeric literal.
+    NoLiteral,
+    /// It is one, and its value is no integer below 2^53.
+    NoInteger,
+    Integer(u64),
+}
+
+// The integer, where there is one.
+fn integer_if(n: Option<u64>) -> Spelled
+    ensures { result ≡ integer_if n }
+{
+    match n {
+        Some(n) => Spelled::Integer(n),
+        None => Spelled::NoInteger,
     }
 }
 
 // The number of this size, with its sign.
-fn number_of_size(negative: bool, size: Option<u64>) -> Result<Int, LeftNumbers>
-    requires { IfSome size (λ n. n < 2 ^ 53) }
-    ensures { result ≡ some_number (option_map (λ n. if negative then neg_ℤ (pos n) else pos n) size) }
+fn number_spelled(negative: bool, size: Spelled) -> Result<Num, LeftNumbers>
+    requires { bounded_spelled size ≡ size }
+    ensures { result ≡ number_spelled negative size }
 {
     match size {
-        Some(n) if negative => Ok(Int::of(-(n as i64))),
-        Some(n) => Ok(Int::of(n as i64)),
-        None => Err(LeftNumbers),
+        Spelled::NoLiteral => Ok(Num::Nan),
+        Spelled::NoInteger => Err(LeftNumbers),
+        Spelled::Integer(n) if negative => Ok(Num::Int(Int::of(-(n as i64)))),
+        Spelled::Integer(n) => Ok(Num::Int(Int::of(n as i64))),
     }
 }
 
 // A number without a sign.
 #[tactic(auto, unfolding(crate::specs::NumericText::unsigned_of))]
-fn unsigned(units: &[u16]) -> Option<u64>
-    ensures { result ≡ bounded (unsigned_of units.now) }
+fn unsigned(units: &[u16]) -> Spelled
+    ensures { result ≡ bounded_spelled (unsigned_of units.now) }
 {
     match units {
         [0x30, 0x78 | 0x58, digits @ ..] => hexadecimal(digits),
@@ -63,25 +84,41 @@ fn unsigned(units: &[u16]) -> Option<u64>
 
 // Digits in base 16, and then only blanks.
 #[tactic(auto, unfolding(crate::specs::NumericText::hexadecimal_of))]
-fn hexadecimal(units: &[u16]) -> Option<u64>
-    ensures { result ≡ bounded (hexadecimal_of units.now) }
+fn hexadecimal(units: &[u16]) -> Spelled
+    ensures { result ≡ bounded_spelled (hexadecimal_of units.now) }
 {
-    let digits = lone_digits(16, units)?;
-    value_after(16, 0, digits)
+    match lone_digits(16, units) {
+        Some(digits) => integer_if(value_after(16, 0, digits)),
+        None => Spelled::NoLiteral,
+    }
+}
+
+// The word Infinity, and then only blanks.
+#[tactic(auto, unfolding(crate::specs::NumericText::is_infinity))]
+fn infinity(units: &[u16]) -> bool
+    ensures { result ≡ is_infinity units.now }
+{
+    match units {
+        [0x49, 0x6E, 0x66, 0x69, 0x6E, 0x69, 0x74, 0x79, rest @ ..] => all_blank(rest),
+        _ => false,
+    }
 }
 
 // A decimal number without a sign, and then only blanks.
 #[tactic(auto, unfolding(crate::specs::NumericText::decimal_of))]
-fn decimal(units: &[u16]) -> Option<u64>
-    ensures { result ≡ bounded (decimal_of units.now) }
+fn decimal(units: &[u16]) -> Spelled
+    ensures { result ≡ bounded_spelled (decimal_of units.now) }
 {
+    if infinity(units) {
+        return Spelled::NoInteger;
+    }
     let (whole, rest) = units.split_at(digit_count(10, units));
     with_fraction(whole, rest)
 }
 
 #[tactic(auto, unfolding(crate::specs::NumericText::with_fraction))]
-fn with_fraction(whole: &[u16], rest: &[u16]) -> Option<u64>
-    ensures { result ≡ bounded (with_fraction whole.now rest.now) }
+fn with_fraction(whole: &[u16], rest: &[u16]) -> Spelled
+    ensures { result ≡ bounded_spelled (with_fraction whole.now rest.now) }
 {
     match rest {
         [0x2E, digits @ ..] => {
@@ -93,23 +130,23 @@ fn with_fraction(whole: &[u16], rest: &[u16]) -> Option<u64>
 }
 
 #[tactic(auto, unfolding(crate::specs::NumericText::with_exponent))]
-fn with_exponent(whole: &[u16], fraction: &[u16], rest: &[u16]) -> Option<u64>
-    ensures { result ≡ bounded (with_exponent whole.now fraction.now rest.now) }
+fn with_exponent(whole: &[u16], fraction: &[u16], rest: &[u16]) -> Spelled
+    ensures { result ≡ bounded_spelled (with_exponent whole.now fraction.now rest.now) }
 {
     if whole.is_empty() && fraction.is_empty() {
-        return None;
+        return Spelled::NoLiteral;
     }
     scaled_where(whole, fraction, exponent_of(rest))
 }
 
 #[tactic(auto, unfolding(crate::specs::NumericText::scaled_where, crate::specs::NumericText::scaled))]
-fn scaled_where(whole: &[u16], fraction: &[u16], power: Option<PowerOfTen>) -> Option<u64>
-    ensures { result ≡ bounded (scaled_where whole.now fraction.now power) }
+fn scaled_where(whole: &[u16], fraction: &[u16], power: Option<PowerOfTen>) -> Spelled
+    ensures { result ≡ bounded_spelled (scaled_where whole.now fraction.now power) }
 {
     match power {
-        Some(power) if power.negative => scaled_down(whole, fraction, power.size),
-        Some(power) => scaled_up(whole, fraction, power.size),
-        None => None,
+        Some(power) if power.negative => integer_if(scaled_down(whole, fraction, power.size)),
+        Some(power) => integer_if(scaled_up(whole, fraction, power.size)),
+        None => Spelled::NoLiteral,
     }
 }
 

@@ -1,11 +1,10 @@
 //! Primitive values, and their conversions (ECMA-262 9.2, 9.3, 9.8).
 
 ghost use Rattle.std.specs.Prelude.{◌≡◌, IfOk};
-ghost use Rattle.std.specs.Fmt.{signed_decimal};
-ghost use Rattle.js_number.specs.Number.{some_number};
-ghost use Rattle.js_number.specs.Conversions.{boolean_of, number_of, text_of};
+ghost use Rattle.js_number.specs.Conversions.{boolean_of, number_of, number_text, text_of};
 
-use crate::int::{Int, LeftNumbers, number};
+use crate::int::{Int, LeftNumbers};
+use crate::num::Num;
 use crate::numeric_text::text_to_number;
 use flow_text::{OutOfMemory, Text};
 use std::alloc::Global;
@@ -16,7 +15,7 @@ pub enum Primitive {
     Undefined,
     Null,
     Bool(bool),
-    Num(Int),
+    Num(Num),
     Str(Text),
 }
 
@@ -42,20 +41,21 @@ pub fn to_boolean(v: &Primitive) -> bool
     match v {
         Primitive::Undefined | Primitive::Null => false,
         Primitive::Bool(b) => *b,
-        Primitive::Num(n) => n.get() != 0,
+        Primitive::Num(Num::Nan) => false,
+        Primitive::Num(Num::Int(n)) => n.get() != 0,
         Primitive::Str(text) => text.len() != 0,
     }
 }
 
 /// ToNumber.
-pub fn to_number(v: &Primitive) -> Result<Int, LeftNumbers>
-    ensures { result ≡ some_number (number_of v.now) }
+pub fn to_number(v: &Primitive) -> Result<Num, LeftNumbers>
+    ensures { result ≡ number_of v.now }
 {
     match v {
-        Primitive::Undefined => Err(LeftNumbers),
-        Primitive::Null => Ok(Int::of(0)),
-        Primitive::Bool(b) => Ok(Int::of_bool(*b)),
-        Primitive::Num(n) => number(n.get()),
+        Primitive::Undefined => Ok(Num::Nan),
+        Primitive::Null => Ok(Num::Int(Int::of(0))),
+        Primitive::Bool(b) => Ok(Num::Int(Int::of_bool(*b))),
+        Primitive::Num(n) => Ok(*n),
         Primitive::Str(text) => text_to_number(text),
     }
 }
@@ -76,10 +76,16 @@ pub fn to_text(alloc: Global, v: &Primitive) -> Result<Text, OutOfMemory>
 }
 
 /// ToString of a number.
-pub fn number_to_text(alloc: Global, a: Int) -> Result<Text, OutOfMemory>
-    ensures { IfOk result (λ t. t ≡ signed_decimal a) }
+#[tactic(auto, using(crate::proofs::Words::words))]
+pub fn number_to_text(alloc: Global, a: Num) -> Result<Text, OutOfMemory>
+    ensures { IfOk result (λ t. t ≡ number_text a) }
 {
-    let mut text = Text::new(alloc);
-    text.push_decimal(a.get())?;
-    Ok(text)
+    match a {
+        Num::Nan => Text::spelled(alloc, "NaN"),
+        Num::Int(n) => {
+            let mut text = Text::new(alloc);
+            text.push_decimal(n.get())?;
+            Ok(text)
+        }
+    }
 }

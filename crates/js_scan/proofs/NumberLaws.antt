@@ -1,5 +1,5 @@
 -- What is read of a number is the longest numeric literal at the front.
-use Rattle.std.proofs.Common.{◌≡◌, ℕ, ◌+◌, ◌<◌, ◌≤◌, ◌==◌, ◌⊎◌, ◌&&◌, ◌||◌, List, [], ◌∷◌, ◌++◌, length, take, drop, Bool, true, false, refl, sym, ap, subst, ◌∙◌, arith, inl, inr, ⊎_elim, append_assoc, length-append, Some, ℤ, if◌then◌else◌}
+use Rattle.std.proofs.Common.{◌≡◌, ℕ, ◌+◌, ◌<◌, ◌≤◌, ◌==◌, ◌⊎◌, ◌&&◌, ◌||◌, List, [], ◌∷◌, ◌++◌, length, take, drop, Bool, true, false, refl, sym, ap, subst, ◌∙◌, arith, inl, inr, ⊎_elim, append_assoc, length-append, Some, Ok, ℤ, if◌then◌else◌}
 use Rattle.std.specs.Char.{digit_value, is_digit}
 use Rattle.std.specs.Str.Parse.{AllDigits}
 use Rattle.std.proofs.Math.Seq.{drop-append_seam}
@@ -7,18 +7,23 @@ use Rattle.std.proofs.lemmas.List.{take-append-drop}
 use Rattle.std.proofs.lemmas.List.Folds.{length-prefix_len}
 use Rattle.std.proofs.lemmas.Bool.{or_cases, or_from, and_parts, eqb-true, eqb-false, ne_eqb, cond-true, cond-false, true≢false, lt-ltb}
 use Rattle.js_number.specs.Literal.{Sign, unsigned, plus, minus, Mantissa, integer, pointed, fraction, Exponent, none, power, Literal, empty, hexadecimal, decimal, infinity, AreDigits, spelled_sign, spelled_mantissa, spelled_exponent, spelling, IsMantissa, IsExponent, SpellsNumber}
-use Rattle.js_number.specs.NumericText.{digit_count}
+use Rattle.js_number.specs.NumericText.{digit_count, number_of_text}
 use Rattle.js_number.proofs.Blanks.{NoDigitFirst, count_digits, digits_first}
-use Rattle.js_number.proofs.Spelled.{IsTail, differs, hex_test, hex_units, number_read}
+use Rattle.js_number.specs.Profile.{IsProfile}
+use Rattle.js_number.specs.declared.num.Num.TheVariants.{Int}
+use Rattle.js_number.proofs.Found.{answer_exact}
+use Rattle.js_number.proofs.Spelled.{IsTail, differs, hex_test, hex_units}
 use Rattle.js_scan.specs.Units.{begins_with, begins_with_digit}
 use Rattle.js_scan.specs.Numbers.{IsDecimalInteger, IsMantissaOfSource, IsNumeric}
 use Rattle.js_scan.specs.NumberReading.{whole_length, fraction_length, power_length, signed_power_length, exponent_length, mantissa_length, decimal_length, hexadecimal_length, number_length}
 use Rattle.js_scan.specs.Found.{begins_number, FindsNumber}
 
--- the number that a text spells is one
-pub one_value : (us : List ℕ) (m n : ℤ) → SpellsNumber us m → SpellsNumber us n → m ≡ n
-one_value us m n s t =
-    let same : Some m ≡ Some n = sym (number_read us m s) ∙ number_read us n t in
+-- the number of the profile that a text spells is one
+pub one_value : (us : List ℕ) (m n : ℤ) → IsProfile m → SpellsNumber us m → IsProfile n → SpellsNumber us n → m ≡ n
+one_value us m n p s q t =
+    let first = (answer_exact us (number_of_text us) m refl).1 (p, s) in
+    let second = (answer_exact us (number_of_text us) n refl).1 (q, t) in
+    let same : Ok (Int m) ≡ Ok (Int n) = sym first ∙ second in
     cc same
 
 -- a digit by its value

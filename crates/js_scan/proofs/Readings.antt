@@ -45,7 +45,7 @@ one_kind s (line_comment body) rest k k' a b = absurd a
 one_kind s (block_comment body) rest k k' a b = absurd a
 one_kind s (name parts) rest k k' a b = a.2 ∙ sym b.2
 one_kind s (punctuator text) rest k k' a b = a.1 ∙ sym b.1
-one_kind s (number l) rest k k' a b = a.5 ∙ ap kind.Number (one_value (spelling l) a.0 b.0 a.2 b.2) ∙ sym b.5
+one_kind s (number l) rest k k' a b = a.5 ∙ ap kind.Number (one_value (spelling l) a.0 b.0 a.1 a.2 b.1 b.2) ∙ sym b.5
 one_kind s (string q parts) rest k k' a b = a ∙ sym b
 
 -- the same lexeme makes the same token

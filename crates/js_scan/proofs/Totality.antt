@@ -1,14 +1,13 @@
 -- Each source has tokens, or a fault.
-use Rattle.std.proofs.Common.{◌≡◌, ℕ, zero, suc, ◌+◌, ◌-◌, ◌^◌, ◌<◌, nat_lt, Bool, true, false, not, ◌&&◌, ◌||◌, ◌⊎◌, inl, inr, ⊎_elim, List, [], ◌∷◌, ◌++◌, length, take, drop, refl, sym, subst, ◌∙◌, arith, Option, Some, None, ℤ}
-use Rattle.std.specs.Prelude.{unsigned_abs}
+use Rattle.std.proofs.Common.{◌≡◌, ℕ, zero, suc, ◌+◌, ◌-◌, ◌^◌, ◌<◌, nat_lt, Bool, true, false, not, ◌&&◌, ◌||◌, ◌⊎◌, inl, inr, ⊎_elim, List, [], ◌∷◌, ◌++◌, length, take, drop, refl, sym, subst, ◌∙◌, arith, Option, Some, None, Result, Ok, Err}
 use Rattle.std.specs.List.{list_any}
 use Rattle.std.proofs.lemmas.Bool.{cases_Bool, cases_lt, ltb-true, ltb-false, and_parts, not-true}
 use Rattle.std.proofs.lemmas.List.{length-drop}
-use Rattle.js_number.specs.Literal.{SpellsNumber}
-use Rattle.js_number.specs.Profile.{IsProfile, in_profile}
 use Rattle.js_number.specs.NumericText.{number_of_text}
-use Rattle.js_number.proofs.Found.{number_found as number_spelled}
-use Rattle.js_number.proofs.Spelled.{number_read}
+use Rattle.js_number.proofs.Found.{answer_exact, answer_nan}
+use Rattle.js_number.specs.declared.int.LeftNumbers.{LeftNumbers}
+use Rattle.js_number.specs.declared.num.Num.{Num}
+use Rattle.js_number.specs.declared.num.Num.TheVariants.{Int, Nan}
 use Rattle.js_ast.specs.declared.token.TokenKind.TheVariants as kind
 use Rattle.js_ast.specs.declared.token.Token.{Token}
 use Rattle.js_scan.specs.declared.class.Class.{Class}
@@ -34,7 +33,7 @@ use Rattle.js_scan.specs.Found.{class_at, FindsName, FindsWord, FindsNumber, Fin
 use Rattle.js_scan.proofs.NameLaws.{first_read, more_read, all_read, less_left, none_begins}
 use Rattle.js_scan.proofs.StringReadingLaws.{ReadTo, quote_read, on_within, value_read, nothing_read, quote_found, line_end_found, bad_escape_found}
 use Rattle.js_scan.proofs.CommentLaws.{line_found as line_stands, block_found as block_stands, block_open}
-use Rattle.js_scan.proofs.NumberLaws.{one_value, finds as number_stands}
+use Rattle.js_scan.proofs.NumberLaws.{finds as number_stands}
 use Rattle.js_scan.proofs.PunctuatorLaws.{longest_at, finds as punctuator_stands}
 use Rattle.js_scan.proofs.Finding.{line_begins, block_begins, quote_begins, number_begins, blank_found, blank_some, line_found, block_found, string_found, number_found, number_digit, number_name, number_value, name_found, name_backslash, name_reserved, punctuator_found, expression_fault, none_fault_at}
 use Rattle.js_scan.proofs.Steps.{Read, read_start, separated, taken, read_whole}
@@ -94,19 +93,15 @@ string_outcome s us (quoted.Closed value n) c f = finds (Lexeme (record { kind =
 string_outcome s us quoted.Open c f = faults (fault.Unterminated s.at) (open_string s.at f refl)
 string_outcome s us (quoted.BadEscape at) c f = faults (fault.BadToken (s.at + at)) (bad_escape (s.at + at) at f refl)
 
--- the value of a number, where it is of the profile
-profile_outcome : (s : State) (us : List ℕ) (n : ℕ) (v : ℤ) (b : Bool) → class_at us ≡ class.Number → FindsNumber us n → begins_with_digit (drop n us) ≡ false → (BeginsName (drop n us) → ⊥) → SpellsNumber (take n us) v → in_profile v ≡ b → Outcome s us
-profile_outcome s us n v true c f d none spelled p =
-    finds (Lexeme (record { kind = kind.Number v; text = take n us; from = s.at; to = s.at + n; newline = s.newline })) (number_found s us n v _ c f (ltb-true (unsigned_abs v) (2 ^ 53) p) spelled d none refl)
-profile_outcome s us n v false c f d none spelled p =
-    let large = ltb-false (unsigned_abs v) (2 ^ 53) p in
-    faults (fault.NumberLiteral s.at) (number_value s us n c f (λ w h.
-    let same : w ≡ v = one_value (take n us) w v h.1 spelled in
-    let small : IsProfile v = subst IsProfile same h.0 in omega arith))
-
-value_outcome : (s : State) (us : List ℕ) (n : ℕ) (o : Option ℤ) → class_at us ≡ class.Number → FindsNumber us n → begins_with_digit (drop n us) ≡ false → (BeginsName (drop n us) → ⊥) → number_of_text (take n us) ≡ o → Outcome s us
-value_outcome s us n (Some v) c f d none h = profile_outcome s us n v (in_profile v) c f d none (number_spelled (take n us) v h) refl
-value_outcome s us n None c f d none h = faults (fault.NumberLiteral s.at) (number_value s us n c f (λ w k. let clash : None ≡ Some w = sym h ∙ number_read (take n us) w k.1 in cc clash))
+-- the value of a number, where it has one of the profile
+value_outcome : (s : State) (us : List ℕ) (n : ℕ) (o : Result Num LeftNumbers) → class_at us ≡ class.Number → FindsNumber us n → begins_with_digit (drop n us) ≡ false → (BeginsName (drop n us) → ⊥) → number_of_text (take n us) ≡ o → Outcome s us
+value_outcome s us n (Ok (Int v)) c f d none h =
+    let both = (answer_exact (take n us) (number_of_text (take n us)) v refl).0 h in
+    finds (Lexeme (record { kind = kind.Number v; text = take n us; from = s.at; to = s.at + n; newline = s.newline })) (number_found s us n v _ c f both.0 both.1 d none refl)
+value_outcome s us n (Ok Nan) c f d none h =
+    faults (fault.NumberLiteral s.at) (number_value s us n c f (λ w k. absurd ((answer_nan (take n us) (number_of_text (take n us)) refl).0 h (record { literal = k.1.literal; spells = k.1.spells }))))
+value_outcome s us n (Err e) c f d none h =
+    faults (fault.NumberLiteral s.at) (number_value s us n c f (λ w k. let clash : Err e ≡ Ok (Int w) = sym h ∙ (answer_exact (take n us) (number_of_text (take n us)) w refl).1 k in cc clash))
 
 behind_number : (s : State) (us : List ℕ) (n : ℕ) (o : Option Word) → class_at us ≡ class.Number → FindsNumber us n → begins_with_digit (drop n us) ≡ false → FindsWord (drop n us) o → Outcome s us
 behind_number s us n (Some w) c f d g = faults (fault.NumberLiteral s.at) (number_name s us n c f (g.parts, drop w.length (drop n us), g.is, g.whole))

@@ -16,7 +16,7 @@ use crate::strings::{Quoted, read_quoted};
 use crate::units::is_line_terminator;
 use flow_text::{OutOfMemory, Text};
 use js_ast::{Token, TokenKind};
-use js_number::text_to_number;
+use js_number::{Num, text_to_number};
 use std::alloc::Global;
 
 /// What stands next.
@@ -109,7 +109,10 @@ fn number(alloc: Global, state: State, units: &[u16]) -> Result<Found, ScanFault
     }
     let text = copied(alloc, &units[..length])?;
     match text_to_number(&text) {
-        Ok(value) => Ok(lexeme(state, TokenKind::Number(value), text, length)),
+        Ok(number) => match number {
+            Num::Int(value) => Ok(lexeme(state, TokenKind::Number(value), text, length)),
+            Num::Nan => Err(ScanFault::NumberLiteral { at: state.at }),
+        },
         Err(_) => Err(ScanFault::NumberLiteral { at: state.at }),
     }
 }

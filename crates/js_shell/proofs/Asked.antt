@@ -8,8 +8,8 @@ use Rattle.flow_policy.specs.Inputs.{Given}
 use Rattle.js_ast.specs.Trees.{Statements}
 use Rattle.js_shell.specs.declared.refusals.Refusal.{Refusal}
 use Rattle.js_shell.specs.declared.refusals.Refusal.TheVariants as refusal
-use Rattle.js_shell.specs.Sources.{SourceFault, long_source, source_utf8, bad_source, IsScriptOf, RefusesProgram, RefusesSource}
-use Rattle.js_shell.specs.Replies.{IsProgramAt, HasNoProgram, HasScript, HasNoScript, RefusesScript, source_reply, HasNoPolicy, HasNoInput, IsReply, FileFault, too_long, bad_line, policy_reply, input_reply, Paths, Command, run, check, script_path, Reaches, command_of, refuses_script, refuses_policy, refuses_input, reaches_script, reaches_policy, reaches_input}
+use Rattle.js_shell.specs.Sources.{SourceFault, long_source, source_utf8, bad_source, HasProgram, RefusesProgram}
+use Rattle.js_shell.specs.Replies.{IsProgramAt, HasNoProgram, HasScript, RefusesScript, source_reply, HasNoPolicy, HasNoInput, IsReply, FileFault, too_long, bad_line, policy_reply, input_reply, Paths, Command, run, check, script_path, Reaches, command_of, refuses_script, refuses_policy, refuses_input, reaches_script, reaches_policy, reaches_input}
 use Rattle.js_shell.specs.Accepting.{OfFiles, Takes, TakesProgram, TakesScript, AcceptsSource, AcceptsProgram, AcceptsScript, AcceptsPolicy, AcceptsInput, a_run, a_check, Accepts}
 
 -- what follows of all files follows of those that are told
@@ -50,7 +50,7 @@ module _ (contents : Option Files) (path bytes : List ℕ) (there : OfFiles cont
 
   pub script_accepted : (result : Result Statements Refusal) → TakesScript bytes result → AcceptsScript contents path result
   script_accepted result p =
-      file_taken (IsScriptOf bytes) (RefusesSource bytes) (λ program files. HasScript files path program) (λ fault files. HasNoScript files path fault) contents path bytes there
+      file_taken (HasProgram bytes) (RefusesProgram bytes) (λ program files. HasScript files path program) (λ fault files. HasNoProgram files path fault) contents path bytes there
       (λ files at x h. record { bytes = bytes; there = at; spelled = h }) (λ files at fault h. record { bytes = bytes; there = at; refused = h }) result p
 
 module _ (words : List (List ℕ)) (contents : Option Files) where

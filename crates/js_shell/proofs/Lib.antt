@@ -1,7 +1,6 @@
 pub mod Answering
 pub mod Appending
 pub mod Asked
-pub mod InOrder
 pub mod Isolating
 pub mod PolicyFormed
 pub mod Promised

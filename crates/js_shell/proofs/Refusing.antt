@@ -1,24 +1,15 @@
 -- From what a part refuses to what is refused of the bytes of a source.
-use Rattle.std.proofs.Common.{◌≡◌, ℕ, ◌≤◌, List, length, Option, Some, Ok, Err, sym, ap, subst}
-use Rattle.std.specs.List.{All}
-use Rattle.std.specs.List.Sorted.{IsNonDecreasingBy}
+use Rattle.std.proofs.Common.{◌≡◌, ℕ, List, Ok, Err, ap}
 use Rattle.flow_text.specs.declared.places.Place.{Place}
 use Rattle.flow_text.specs.Places.{place_of}
 use Rattle.js_ast.specs.declared.token.Token.{Token}
 use Rattle.js_ast.specs.Trees.{Statements}
-use Rattle.js_ast.specs.Grammar.{SpellsProgram}
-use Rattle.js_scan.proofs.Beginnings.{tokens_within}
 use Rattle.js_parse.specs.Programs.{IsProgram}
-use Rattle.js_unbuilt.specs.Unbuilt.{first_unbuilt}
 use Rattle.js_shell.specs.declared.refusals.SourceKind.{SourceKind}
-use Rattle.js_shell.specs.declared.refusals.SourceKind.TheVariants as kind
 use Rattle.js_shell.specs.declared.refusals.Refusal.{Refusal}
 use Rattle.js_shell.specs.declared.refusals.Refusal.TheVariants as refusal
-use Rattle.js_ast.specs.Views.{view_program}
-use Rattle.js_shell.specs.declared.sources.Source.{Source}
-use Rattle.js_shell.specs.Sources.{SourceFault, bad_source, source_text, HasTokens, RefusesProgram, has_no_text, has_no_tokens, is_no_program, has_early_error, RefusesSource, unbuilt}
-use Rattle.js_shell.proofs.InOrder.{tokens_in_order}
-use Rattle.js_shell.specs.Accepting.{IsBadText, AreBadTokens, IsBadProgram, TakesText, TakesTokens, TakesTree, TakesEarly, IsSourceOf, Takes}
+use Rattle.js_shell.specs.Sources.{SourceFault, bad_source, source_text, HasTokens, RefusesProgram, has_no_text, has_no_tokens, is_no_program, has_early_error}
+use Rattle.js_shell.specs.Accepting.{IsBadText, AreBadTokens, IsBadProgram, TakesText, TakesTokens, TakesTree, TakesEarly, Takes}
 
 module _ {X : Type 0} (bytes : List ℕ) (Is : X → Type 0) where
   pub text_refused : (r : Refusal) → TakesText bytes (Err r) → Takes Is (RefusesProgram bytes) (Err r)
@@ -94,24 +85,3 @@ module _ {X Y : Type 0} (Is : X → Type 0) (Wanted : Y → Type 0) (Refuses Oth
   refused_too (refusal.BadInput line k) p = absurd p
   refused_too refusal.ReadFault p = absurd p
   refused_too refusal.OutOfMemory p = tt
-
--- ---- what isn't built of a program
-
-module _ (bytes : List ℕ) (source : Source) (is : IsSourceOf bytes source) where
-  -- the place lies in the text
-  pub unbuilt_within : (at : ℕ) → ((tokens : List Token) (end : ℕ) → SpellsProgram (view_program source.program) tokens → All (λ (t : Token). t.from ≤ end) tokens → at ≤ end) → at ≤ length source.text
-  unbuilt_within at within =
-      let has = is.0 in
-      subst (λ (t : List ℕ). at ≤ length t) is.1
-      (within has.tokens (length has.has_tokens.text) has.parsed.tree.spelled (tokens_within has.has_tokens.text has.tokens has.has_tokens.scanned))
-
-  -- it is the least one, since the tokens of a source stand in order
-  pub unbuilt_first : (found : Option ℕ) → ((tokens : List Token) → SpellsProgram (view_program source.program) tokens → IsNonDecreasingBy (λ (t : Token). t.from) tokens → found ≡ first_unbuilt (view_program source.program))
-      → first_unbuilt (view_program source.program) ≡ found
-  unbuilt_first found is_first =
-      let has = is.0 in
-      sym (is_first has.tokens has.parsed.tree.spelled (tokens_in_order has.has_tokens.text has.tokens has.has_tokens.scanned))
-
-pub refused_unbuilt : {X : Type 0} (bytes : List ℕ) (Is : X → Type 0) (source : Source) → IsSourceOf bytes source → (at : ℕ) → first_unbuilt (view_program source.program) ≡ Some at
-    → (r : Refusal) → r ≡ refusal.BadSource kind.Unbuilt (place_of source.text at) → Takes Is (RefusesSource bytes) (Err r)
-refused_unbuilt bytes Is source is at e r h = rw h (unbuilt (view_program source.program) is.0 at e (ap (λ (t : List ℕ). bad_source kind.Unbuilt (place_of t at)) (sym is.1)))

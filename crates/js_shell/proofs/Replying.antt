@@ -6,11 +6,11 @@ use Rattle.flow_policy.specs.Inputs.{Given}
 use Rattle.flow_policy.specs.declared.fault.PolicyKind.{PolicyKind}
 use Rattle.flow_policy.specs.declared.fault.InputKind.{InputKind}
 use Rattle.js_ast.specs.Trees.{Statements}
-use Rattle.js_shell.specs.Sources.{SourceFault, HasProgram, IsScriptOf, RefusesProgram, RefusesSource}
-use Rattle.js_shell.specs.Replies.{Paths, Command, run, check, command_of, Task, IsProgramAt, HasNoProgram, HasScript, HasNoScript, RefusesScript, HasPolicy, HasNoPolicy, HasInput, HasNoInput, Reply, IsReply, refuses_words, refuses_script, accepts_script, refuses_policy, refuses_input, runs, run_reply, usage_reply, source_reply, accepted_reply, policy_reply, input_reply, FileFault, policy_in, input_in, ReachesAbsent, reaches_script, reaches_policy, reaches_input}
+use Rattle.js_shell.specs.Sources.{SourceFault, HasProgram, RefusesProgram}
+use Rattle.js_shell.specs.Replies.{Paths, Command, run, check, command_of, Task, IsProgramAt, HasNoProgram, HasScript, RefusesScript, HasPolicy, HasNoPolicy, HasInput, HasNoInput, Reply, IsReply, refuses_words, refuses_script, accepts_script, refuses_policy, refuses_input, runs, run_reply, usage_reply, source_reply, accepted_reply, policy_reply, input_reply, FileFault, policy_in, input_in, ReachesAbsent, reaches_script, reaches_policy, reaches_input}
 use Rattle.js_shell.specs.Promises.{RepliesOnce}
 use Rattle.js_shell.proofs.Sourced as sourced
-use Rattle.js_shell.proofs.Sourced.{some_is, ok_is, err_is, ok_or_err, ProgramOrFault, ScriptOrFault, program_judged, script_judged}
+use Rattle.js_shell.proofs.Sourced.{some_is, ok_is, err_is, ok_or_err, ProgramOrFault, program_judged}
 
 -- ---- one at most
 
@@ -20,13 +20,10 @@ module _ (files : Files) (path : List ℕ) where
   same_file P p q at at' h = subst P (some_is p q (file_at files path) at at') h
 
   script_is : (s t : Statements) → HasScript files path s → HasScript files path t → s ≡ t
-  script_is s t p q = sourced.script_is q.bytes s t (same_file (λ b. IsScriptOf b s) p.bytes q.bytes p.there q.there p.spelled) q.spelled
+  script_is s t p q = sourced.program_is q.bytes s t (same_file (λ b. HasProgram b s) p.bytes q.bytes p.there q.there p.spelled) q.spelled
 
-  script_or_not : (s : Statements) (fault : SourceFault) → HasScript files path s → HasNoScript files path fault → ⊥
-  script_or_not s fault p q = sourced.script_or_fault q.bytes s fault (same_file (λ b. IsScriptOf b s) p.bytes q.bytes p.there q.there p.spelled) q.refused
-
-  source_fault : (s t : SourceFault) → HasNoScript files path s → HasNoScript files path t → s ≡ t
-  source_fault s t p q = sourced.source_fault q.bytes s t (same_file (λ b. RefusesSource b s) p.bytes q.bytes p.there q.there p.refused) q.refused
+  script_or_not : (s : Statements) (fault : SourceFault) → HasScript files path s → HasNoProgram files path fault → ⊥
+  script_or_not s fault p q = sourced.program_or_fault q.bytes s fault (same_file (λ b. HasProgram b s) p.bytes q.bytes p.there q.there p.spelled) q.refused
 
   program_or_not : (fault : SourceFault) → IsProgramAt files path → HasNoProgram files path fault → ⊥
   program_or_not fault p q = sourced.program_or_fault q.bytes p.program fault (same_file (λ b. HasProgram b p.program) p.bytes q.bytes p.there q.there p.has_program) q.refused
@@ -79,7 +76,7 @@ module _ (words : List (List ℕ)) (files : Files) where
 
   -- how far the work of a run goes, without the reply
   pub data Goes (reply : Reply) (paths : Paths) : Type 0 where
-    to_script : (fault : SourceFault) → HasNoScript files paths.script fault → reply ≡ source_reply fault → Goes reply paths
+    to_script : (fault : SourceFault) → HasNoProgram files paths.script fault → reply ≡ source_reply fault → Goes reply paths
     to_policy : (program : Statements) (fault : FileFault PolicyKind) → HasScript files paths.script program → HasNoPolicy files paths.policy fault
         → reply ≡ policy_reply fault → Goes reply paths
     to_input : (program : Statements) (tables : Tables) (fault : FileFault InputKind) → HasScript files paths.script program → HasPolicy files paths.policy tables
@@ -108,7 +105,7 @@ module _ (words : List (List ℕ)) (files : Files) where
   taken_or_not c t f k q n q' r = input_or_not files c.input k.tables k.given f r (subst (λ (x : Tables). HasNoInput files c.input x f) (policy_same files c.policy t k.tables q q') n)
 
   goes_once : (paths : Paths) (first second : Reply) → Goes first paths → Goes second paths → first ≡ second
-  goes_once c a b (to_script x n e) (to_script y m f) = e ∙ ap source_reply (source_fault files c.script x y n m) ∙ sym f
+  goes_once c a b (to_script x n e) (to_script y m f) = e ∙ ap source_reply (program_fault files c.script x y n m) ∙ sym f
   goes_once c a b (to_script y n e) (to_policy s x p m f) = absurd (script_or_not files c.script s y p n)
   goes_once c a b (to_script y n e) (to_input s t x p q m f) = absurd (script_or_not files c.script s y p n)
   goes_once c a b (to_script y n e) (to_run t p q r f) = absurd (script_or_not files c.script t.program y p n)
@@ -188,12 +185,12 @@ module _ (words : List (List ℕ)) (files : Files) where
       from_policy (Some bytes) at = with_policy bytes at (policy_in bytes) refl
       from_policy None at = inr (paths.policy, reaches_policy paths stated refl (program, script), at)
 
-    with_script : (bytes : List ℕ) → file_at files paths.script ≡ Some bytes → ScriptOrFault bytes → Answered
+    with_script : (bytes : List ℕ) → file_at files paths.script ≡ Some bytes → ProgramOrFault bytes → Answered
     with_script bytes at (inl h) = from_policy h.0 (record { bytes = bytes; there = at; spelled = h.1 }) (file_at files paths.policy) refl
     with_script bytes at (inr h) = inl (source_reply h.0, refuses_script (run paths) h.0 stated (record { bytes = bytes; there = at; refused = h.1 }) refl)
 
     from_script : (o : Option (List ℕ)) → file_at files paths.script ≡ o → Answered
-    from_script (Some bytes) at = with_script bytes at (script_judged bytes)
+    from_script (Some bytes) at = with_script bytes at (program_judged bytes)
     from_script None at = inr (paths.script, reaches_script (run paths) stated refl, at)
 
   module _ (path : List ℕ) (stated : command_of words ≡ Some (check path)) where

@@ -10,6 +10,7 @@ use Rattle.flow_policy.specs.Policies.{Tables}
 use Rattle.flow_policy.specs.Inputs.{Given}
 use Rattle.js_ast.specs.Functions.{functions_of}
 use Rattle.js_ast.specs.Trees.{Statements}
+use Rattle.js_number.specs.declared.num.Num.TheVariants as nums
 use Rattle.js_number.specs.declared.primitive.Primitive.{Primitive}
 use Rattle.js_number.specs.declared.primitive.Primitive.TheVariants as prims
 use Rattle.js_values.specs.declared.value.Value.{Value}
@@ -77,7 +78,8 @@ primitive_line prims.Undefined = whole_line (codes "undefined") (record { ascii 
 primitive_line prims.Null = whole_line (codes "null") (record { ascii = refl; line = refl })
 primitive_line (prims.Bool true) = whole_line (codes "boolean true") (record { ascii = refl; line = refl })
 primitive_line (prims.Bool false) = whole_line (codes "boolean false") (record { ascii = refl; line = refl })
-primitive_line (prims.Num n) = front_line (codes "number ") (signed_decimal n) (record { ascii = refl; line = refl }) (whole_line (signed_decimal n) (number_simple n))
+primitive_line (prims.Num nums.Nan) = whole_line (codes "number NaN") (record { ascii = refl; line = refl })
+primitive_line (prims.Num (nums.Int n)) = front_line (codes "number ") (signed_decimal n) (record { ascii = refl; line = refl }) (whole_line (signed_decimal n) (number_simple n))
 primitive_line (prims.Str text) = front_line (codes "string ") (escaped text) (record { ascii = refl; line = refl }) (no_line_end text)
 
 nothing_line : on_line (utf8_of []) ≡ true

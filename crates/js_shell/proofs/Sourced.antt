@@ -1,4 +1,4 @@
--- What the bytes of a source are: a program, or none for one fault; and a script, or none for one fault.
+-- What the bytes of a source are: a program, or none for one fault.
 use Rattle.std.proofs.Common.{◌≡◌, ℕ, List, length, Option, Some, None, Result, Ok, Err, refl, sym, ap, subst, ◌∙◌, inl, inr, ◌⊎◌}
 use Rattle.flow_text.specs.Places.{place_of}
 use Rattle.js_ast.specs.declared.token.Token.{Token}
@@ -14,10 +14,9 @@ use Rattle.js_parse_expr.specs.Parsed.{fault_at as parse_fault_at}
 use Rattle.js_parse.specs.Programs.{IsProgram, IsFault as IsNoProgram}
 use Rattle.js_parse.proofs.Laws as parsed
 use Rattle.js_early.specs.EarlyErrors.{early_error}
-use Rattle.js_unbuilt.specs.Unbuilt.{first_unbuilt}
 use Rattle.js_shell.specs.declared.refusals.SourceKind.{SourceKind}
 use Rattle.js_shell.specs.declared.refusals.SourceKind.TheVariants as kind
-use Rattle.js_shell.specs.Sources.{SourceFault, bad_source, source_text, scan_kind, parse_kind, early_kind, HasTokens, HasProgram, IsScriptOf, RefusesProgram, has_no_text, has_no_tokens, is_no_program, has_early_error, RefusesSource, refuses_program, unbuilt}
+use Rattle.js_shell.specs.Sources.{SourceFault, bad_source, source_text, scan_kind, parse_kind, early_kind, HasTokens, HasProgram, RefusesProgram, has_no_text, has_no_tokens, is_no_program, has_early_error}
 use Rattle.js_shell.specs.Promises.{IsProgramOnce, IsProgramOrRefused}
 
 pub ok_is : {X E : Type 0} (x y : X) (r : Result X E) → r ≡ Ok x → r ≡ Ok y → x ≡ y
@@ -122,25 +121,6 @@ module _ (bytes : List ℕ) where
   program_fault x y (has_early_error tokens has program f tree early is) (is_no_program tokens' has' f' k' bad' called' is') = absurd (tree_or_none tokens tokens' has has' program (length has'.text) f' tree bad')
   program_fault x y (has_early_error tokens has program f tree early is) (has_early_error tokens' has' program' f' tree' early' is') = two_early_errors tokens tokens' has has' x y program program' f f' tree tree' early early' is is'
 
-  -- what of one program isn't built
-  same_unbuilt : (p q : Statements) (o : Option ℕ) → HasProgram bytes p → HasProgram bytes q → first_unbuilt p ≡ o → first_unbuilt q ≡ o
-  same_unbuilt p q o h j e = ap first_unbuilt (sym (program_is p q h j)) ∙ e
-
-  pub script_is : (s t : Statements) → IsScriptOf bytes s → IsScriptOf bytes t → s ≡ t
-  script_is s t p q = program_is s t p.has_program q.has_program
-
-  pub script_or_fault : (s : Statements) (x : SourceFault) → IsScriptOf bytes s → RefusesSource bytes x → ⊥
-  script_or_fault s x is (refuses_program r) = program_or_fault s x is.has_program r
-  script_or_fault s x is (unbuilt program has at e f) = none_or_some at (first_unbuilt program) (same_unbuilt s program None is.has_program has is.built) e
-
-  pub source_fault : (x y : SourceFault) → RefusesSource bytes x → RefusesSource bytes y → x ≡ y
-  source_fault x y (refuses_program r) (refuses_program q) = program_fault x y r q
-  source_fault x y (refuses_program r) (unbuilt program has at e is) = absurd (program_or_fault program x has r)
-  source_fault x y (unbuilt program has at e is) (refuses_program q) = absurd (program_or_fault program y has q)
-  source_fault x y (unbuilt p has at e is) (unbuilt q has' at' e' is') =
-      fault_is x y kind.Unbuilt kind.Unbuilt has.has_tokens.text has'.has_tokens.text at at' is is' refl (same_text has.tokens has'.tokens has.has_tokens has'.has_tokens)
-      (some_is at at' (first_unbuilt q) (same_unbuilt p q (Some at) has has' e) e')
-
 -- ---- one at least
 
 -- a fault of the scanner has a kind, and so has one of the parser
@@ -162,10 +142,6 @@ module _ (bytes : List ℕ) where
   -- the bytes are a program, or are refused
   abbrev pub ProgramOrFault : Type 0
   ProgramOrFault = ((program : Statements) × HasProgram bytes program) ⊎ ((x : SourceFault) × RefusesProgram bytes x)
-
-  -- the same of a script
-  abbrev pub ScriptOrFault : Type 0
-  ScriptOrFault = ((program : Statements) × IsScriptOf bytes program) ⊎ ((x : SourceFault) × RefusesSource bytes x)
 
   module _ (tokens : List Token) (has : HasTokens bytes tokens) where
     with_early : (program : Statements) → IsProgram tokens program → (o : Option EarlyError) → early_error program ≡ o → ProgramOrFault
@@ -191,17 +167,6 @@ module _ (bytes : List ℕ) where
       by : (r : Result (List ℕ) SourceFault) → source_text bytes ≡ r → ProgramOrFault
       by (Ok text) e = with_text text e (scanned.reads_all text)
       by (Err x) e = inr (x, has_no_text e)
-
-  with_program : (program : Statements) (has : HasProgram bytes program) (o : Option ℕ) → first_unbuilt program ≡ o → ScriptOrFault
-  with_program program has None e = inl (program, record { has_program = has; built = e })
-  with_program program has (Some at) e = inr (bad_source kind.Unbuilt (place_of has.has_tokens.text at), unbuilt program has at e refl)
-
-  pub script_judged : ScriptOrFault
-  script_judged = by program_judged
-    where
-      by : ProgramOrFault → ScriptOrFault
-      by (inl h) = with_program h.0 h.1 (first_unbuilt h.0) refl
-      by (inr h) = inr (h.0, refuses_program h.1)
 
 -- ---- the laws
 

@@ -28,8 +28,8 @@ use Rattle.js_shell.specs.declared.sources.Source.{Source}
 use Rattle.js_shell.specs.declared.refusals.SourceKind.{SourceKind}
 use Rattle.js_shell.specs.declared.refusals.Refusal.{Refusal}
 use Rattle.js_shell.specs.declared.refusals.Refusal.TheVariants as refusal
-use Rattle.js_shell.specs.Sources.{SourceFault, long_source, source_utf8, bad_source, source_limit, source_text, HasProgram, IsScriptOf, RefusesProgram, RefusesSource, scan_kind, parse_kind, early_kind}
-use Rattle.js_shell.specs.Replies.{Task, IsAsked, IsChecked, IsProgramAt, HasNoProgram, HasScript, HasNoScript, HasPolicy, HasNoPolicy, HasInput, HasNoInput, too_long, bad_line, Reply, IsReply, read_fault_report, accepted_report, usage_reply, source_reply, policy_reply, input_reply}
+use Rattle.js_shell.specs.Sources.{SourceFault, long_source, source_utf8, bad_source, source_limit, source_text, HasProgram, RefusesProgram, scan_kind, parse_kind, early_kind}
+use Rattle.js_shell.specs.Replies.{Task, IsAsked, IsChecked, IsProgramAt, HasNoProgram, HasScript, HasPolicy, HasNoPolicy, HasInput, HasNoInput, too_long, bad_line, Reply, IsReply, read_fault_report, accepted_report, usage_reply, source_reply, policy_reply, input_reply}
 
 -- what is said of the files, where the store tells them
 abbrev pub OfFiles : Option Files → (Files → Type 0) → Type 0
@@ -100,7 +100,7 @@ abbrev pub TakesProgram : List ℕ → Result (Unit {0}) Refusal → Type 0
 TakesProgram bytes result = Takes (λ _. (program : Statements) × HasProgram bytes program) (RefusesProgram bytes) result
 
 abbrev pub TakesScript : List ℕ → Result Statements Refusal → Type 0
-TakesScript bytes result = Takes (IsScriptOf bytes) (RefusesSource bytes) result
+TakesScript bytes result = Takes (HasProgram bytes) (RefusesProgram bytes) result
 
 -- ---- files
 
@@ -126,7 +126,7 @@ abbrev pub AcceptsProgram : Option Files → List ℕ → Result (Unit {0}) Refu
 AcceptsProgram contents path result = AcceptsSource (λ _ files. IsProgramAt files path) (λ fault files. HasNoProgram files path fault) contents result
 
 abbrev pub AcceptsScript : Option Files → List ℕ → Result Statements Refusal → Type 0
-AcceptsScript contents path result = AcceptsSource (λ program files. HasScript files path program) (λ fault files. HasNoScript files path fault) contents result
+AcceptsScript contents path result = AcceptsSource (λ program files. HasScript files path program) (λ fault files. HasNoProgram files path fault) contents result
 
 abbrev pub AcceptsPolicy : Option Files → List ℕ → Result Tables Refusal → Type 0
 AcceptsPolicy contents path (Ok tables) = OfFiles contents (λ files. HasPolicy files path tables)

@@ -19,7 +19,7 @@ use Rattle.flow_meaning.specs.Scopes.{Halt, as_plain, stopped}
 use Rattle.flow_meaning.specs.Tracked as tracked
 use Rattle.js_shell.specs.declared.refusals.SourceKind.{SourceKind}
 use Rattle.js_shell.specs.declared.refusals.SourceKind.TheVariants as source_kind
-use Rattle.js_shell.specs.Sources.{SourceFault, long_source, source_utf8, bad_source, HasProgram, IsScriptOf, RefusesProgram, RefusesSource}
+use Rattle.js_shell.specs.Sources.{SourceFault, long_source, source_utf8, bad_source, HasProgram, RefusesProgram}
 use Rattle.flow_meaning.specs.Written.{written}
 use Rattle.all_natives.specs.Together.{all_entries, all_begin, all_after, all_asks}
 
@@ -69,18 +69,11 @@ pub record HasNoProgram (files : Files) (path : List ℕ) (fault : SourceFault) 
 pub record HasScript (files : Files) (path : List ℕ) (program : Statements) : Type 0 where
   pub bytes : List ℕ
   pub there : file_at files path ≡ Some bytes
-  pub spelled : IsScriptOf bytes program
+  pub spelled : HasProgram bytes program
 
--- a file is there, and is no script for this fault
-pub record HasNoScript (files : Files) (path : List ℕ) (fault : SourceFault) : Type 0 where
-  pub bytes : List ℕ
-  pub there : file_at files path ≡ Some bytes
-  pub refused : RefusesSource bytes fault
-
--- the script of a command is refused for this fault: a check asks for a program, and a run for one that can be run
+-- the script of a command is refused for this fault
 abbrev pub RefusesScript : Files → Command → SourceFault → Type 0
-RefusesScript files (run paths) fault = HasNoScript files paths.script fault
-RefusesScript files (check path) fault = HasNoProgram files path fault
+RefusesScript files command fault = HasNoProgram files (script_path command) fault
 
 -- why a file isn't of its format: it is longer than the format allows, or its first bad line
 pub data FileFault (Kind : Type 0) : Type 0 where
@@ -199,7 +192,6 @@ source_kind_name source_kind.DeleteName = codes "DeleteName"
 source_kind_name source_kind.Jump = codes "Jump"
 source_kind_name source_kind.RepeatedLabel = codes "RepeatedLabel"
 source_kind_name source_kind.StrictWord = codes "StrictWord"
-source_kind_name source_kind.Unbuilt = codes "Unbuilt"
 
 abbrev pub source_report : SourceFault → List ℕ
 source_report long_source = codes "! source TooLong\n"

@@ -1,4 +1,4 @@
--- The bytes of a script file: their text, its tokens, the program that these spell, and the script that this is, or why there is none.
+-- The bytes of a script file: their text, its tokens, and the program that these spell, or why there is none.
 use Rattle.std.specs.Prelude.{◌≡◌, ℕ, List, length, nat_lt, Option, Some, None, Result, Ok, Err, if◌then◌else◌}
 use Rattle.flow_text.specs.Utf8.{text_of_utf8}
 use Rattle.flow_text.specs.Places.{place_of}
@@ -18,13 +18,12 @@ use Rattle.js_parse.specs.Programs.{IsProgram, IsFault as IsNoProgram}
 use Rattle.js_early.specs.EarlyErrors.{early_error}
 use Rattle.js_shell.specs.declared.refusals.SourceKind.{SourceKind}
 use Rattle.js_shell.specs.declared.refusals.SourceKind.TheVariants as kind
-use Rattle.js_unbuilt.specs.Unbuilt.{first_unbuilt}
 
 -- the most bytes of a source
 abbrev pub source_limit : ℕ
 source_limit = 1048576
 
--- why a file is no program, or none that can be run yet: it is too long; it isn't UTF-8 behind so many bytes; or it has a fault of this kind at
+-- why a file is no program: it is too long; it isn't UTF-8 behind so many bytes; or it has a fault of this kind at
 -- this place
 pub data SourceFault : Type 0 where
   long_source : SourceFault
@@ -51,11 +50,6 @@ pub record HasProgram (bytes : List ℕ) (program : Statements) : Type 0 where
   pub has_tokens : HasTokens bytes tokens
   pub parsed : IsProgram tokens program
   pub faultless : early_error program ≡ None
-
--- the bytes are this program, all of whose nodes are built
-pub record IsScriptOf (bytes : List ℕ) (program : Statements) : Type 0 where
-  pub has_program : HasProgram bytes program
-  pub built : first_unbuilt program ≡ None
 
 -- how a fault of the scanner is called
 abbrev pub scan_kind : ScanFault → Option SourceKind
@@ -93,9 +87,3 @@ pub data RefusesProgram (bytes : List ℕ) (fault : SourceFault) : Type 0 where
       → fault ≡ bad_source k (place_of has.text (parse_fault_at f)) → RefusesProgram bytes fault
   has_early_error : (tokens : List Token) (has : HasTokens bytes tokens) (program : Statements) (f : EarlyError) → IsProgram tokens program → early_error program ≡ Some f
       → fault ≡ bad_source (early_kind f.kind) (place_of has.text f.at) → RefusesProgram bytes fault
-
--- the bytes are no script, for this fault: they are no program, or one with a node that isn't built yet
-pub data RefusesSource (bytes : List ℕ) (fault : SourceFault) : Type 0 where
-  refuses_program : RefusesProgram bytes fault → RefusesSource bytes fault
-  unbuilt : (program : Statements) (has : HasProgram bytes program) (at : ℕ) → first_unbuilt program ≡ Some at → fault ≡ bad_source kind.Unbuilt (place_of has.has_tokens.text at)
-      → RefusesSource bytes fault

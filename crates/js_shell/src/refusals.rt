@@ -30,8 +30,6 @@ pub(crate) enum SourceKind {
     Jump,
     RepeatedLabel,
     StrictWord,
-    /// It is a program that can't be run so far.
-    Unbuilt,
 }
 
 /// Why there is no run, or a script that is checked isn't accepted.
@@ -156,7 +154,6 @@ fn source_kind_name(kind: SourceKind) -> &'static [u8]
         SourceKind::Jump => b"Jump",
         SourceKind::RepeatedLabel => b"RepeatedLabel",
         SourceKind::StrictWord => b"StrictWord",
-        SourceKind::Unbuilt => b"Unbuilt",
     }
 }
 

@@ -1,4 +1,4 @@
-//! Sources: the program that bytes are, or why they are none, or none that can be run yet.
+//! Sources: the program that bytes are, or why they are none.
 
 ghost use Rattle.std.specs.Prelude.{◌≡◌, ◌≤◌, length, Some, Err, IfOk};
 ghost use Rattle.flow_text.specs.Places.{place_of};
@@ -18,7 +18,6 @@ use js_ast::{Program, Token};
 use js_early::{EarlyFault, early};
 use js_parse::{ParseFault, parse};
 use js_scan::{ScanFault, scan};
-use js_unbuilt::first_unbuilt;
 use std::alloc::Global;
 
 /// A text and the program that it is.
@@ -37,17 +36,14 @@ pub(crate) fn check_program(alloc: Global, bytes: &[u8]) -> Result<(), Refusal>
     Ok(())
 }
 
-/// The program that the bytes of a source are, all of whose nodes are built.
+/// The program that the bytes of a source are.
 pub(crate) fn script_of(alloc: Global, bytes: &[u8]) -> Result<Program, Refusal>
     requires { length bytes.now ≤ source_limit }
     ensures takes { TakesScript bytes.now (seen_script result) }
     ensures marked { IfOk result IsMarked }
 {
     let source = source_of(alloc, bytes)?;
-    match first_unbuilt(&source.program) {
-        None => Ok(source.program),
-        Some(at) => Err(bad_source(&source.text, SourceKind::Unbuilt, at)),
-    }
+    Ok(source.program)
 }
 
 /// The program that the bytes of a source are, with its text.

@@ -97,7 +97,7 @@ impl Key {
         ensures named { IfSome result (IsArrayIndex self.now) }
         ensures names { (n : ℕ) → IsArrayIndex self.now n → result ≡ Some n }
     {
-        index_of(self.text.units())
+        array_index(self.text.units())
     }
 
     /// The same key.
@@ -113,9 +113,9 @@ impl Key {
 // Array indices are below it.
 const LIMIT: u64 = u32::MAX as u64;
 
-// The array index that the units spell: a 0 stands first only where it stands alone.
+/// The array index that the units spell: a 0 stands first only where it stands alone.
 #[tactic(auto, unfolding(crate::specs::Numerals::index_of))]
-fn index_of(units: &[u16]) -> Option<u32>
+pub fn array_index(units: &[u16]) -> Option<u32>
     ensures { result ≡ index_of units.now }
 {
     match units {

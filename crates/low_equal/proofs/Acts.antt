@@ -145,7 +145,7 @@ module _ (observer : Label) (tables : Tables) where
 
   -- the start objects stand
   pub has_start : {β : Pairing} {h g : List (Object Label)} → HeapsAgree observer β h g → length start_heap ≤ length h
-  has_start r = let b = start_stands observer r 15 (omega arith) in omega arith
+  has_start r = let b = start_stands observer r 18 (omega arith) in omega arith
 
   -- an error made where the context is hidden can't be told
   same_error : (kind : ErrorKind) (s : State) → Same observer tables s (with_error kind s)

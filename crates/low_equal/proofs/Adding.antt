@@ -8,6 +8,9 @@ use Rattle.flow_frames.specs.declared.kind.Kind.TheVariants as kind
 use Rattle.native_protocol.specs.declared.hint.Hint.{Hint}
 use Rattle.native_protocol.specs.declared.hint.Hint.TheVariants as hint
 use Rattle.native_protocol.specs.declared.request.ErrorKind.TheVariants as kinds
+use Rattle.native_protocol.specs.declared.request.GivenMarks.{GivenMarks}
+use Rattle.js_number.specs.declared.num.Num.{Num as Number}
+use Rattle.js_values.specs.declared.ids.ObjId.{ObjId}
 use Rattle.js_values.specs.declared.value.Value.{Value as AnyValue}
 use Rattle.js_values.specs.declared.value.Value.TheVariants as value
 use Rattle.js_ast.specs.Trees.{Statements, body_of}
@@ -19,16 +22,17 @@ use Rattle.es_meaning.specs.Environments.{Env, with_around, with_place, called_e
 use Rattle.es_meaning.specs.Functions.{Callee, not_callable, empty_callee, of_script, of_built_in, this_or}
 use Rattle.es_meaning.specs.Operations.{Ty, One, Value, Res}
 use Rattle.es_meaning.specs.Operators.{is_object, truth, converts_beside, binary_of}
-use Rattle.es_meaning.specs.Plain.{undefined, leaves_wrappers, is_throw, choose, prototype_name}
+use Rattle.es_meaning.specs.Plain.{undefined, leaves_wrappers, is_throw, choose, prototype_name, is_count, count_of}
+use Rattle.es_meaning.specs.Requested.{no_marks}
 use Rattle.es_meaning.specs.Start.{id}
 use Rattle.prototype_walk.specs.KeyLists.{Keys}
 use Rattle.es_meaning.proofs.Link.{Rel, Rels, nils, conses, EnteringLinked, Link, Linked}
 use Rattle.flow_meaning.specs.Erased.{unlabelled}
 use Rattle.flow_meaning.specs.Scopes.{Val, joined, LabelledLine, Halt, as_plain, State, Jump, L, cut_to, pushed_on, Came, ended, caught, Left, popped, stay, settled, answer, construction, resume, round_kind}
 use Rattle.flow_meaning.specs.Requested.{Aim, aim_of, is_function_in}
-use Rattle.flow_meaning.specs.Tracked.{seen, resolved, key_list, Access, has_value, has_getter, accessed, accessed_for_typeof, property_of, Putting, is_put, has_setter, put_value, truth_of, with_call, callee_at, called_value, with_fresh, prototype_of, is_instance, with_name, named_origins}
+use Rattle.flow_meaning.specs.Tracked.{seen, resolved, key_list, Access, has_value, has_getter, accessed, accessed_for_typeof, property_of, Putting, is_put, has_setter, has_length, put_value, Defining, is_defined, has_length_given, defining, numbered, set_length, truth_of, with_call, callee_at, called_value, with_fresh, prototype_of, is_instance, with_name, named_origins}
 use Rattle.flow_meaning.specs.Laws.{performed_run}
-use Rattle.flow_meaning.specs.Planned.{Part, an_expr, a_use, a_stmt, a_named, a_turn, a_visit, a_request, Completion, gave, jumped, Plan, Give, Ask, End, Then, and_plan, with_result, as_plan, outcome_of, end_branch, end_round, end_call, end_construction, as_stayed, with_stay, end_last, do_last, end_handler, do_handle, do_react, end_block, Enters, in_frame, enter_call, call_by, call_aimed, call_value, enter_construction, construct_built_in, construct_by, construct_aimed, construct_value, with_outcome, enter_access, end_setter, enter_putting, convert_by, end_instance, instance_by, instance_if, instance_value, with_list, planned, asking, Ran, untyped, and_go, completed, perform, meaning}
+use Rattle.flow_meaning.specs.Planned.{Part, an_expr, a_use, a_stmt, a_named, a_turn, a_visit, a_request, Completion, gave, jumped, Plan, Give, Ask, End, Then, and_plan, with_result, as_plan, outcome_of, end_branch, end_round, end_call, end_construction, as_stayed, with_stay, end_last, do_last, end_handler, do_handle, do_react, end_block, Enters, in_frame, enter_call, call_by, call_aimed, call_value, enter_construction, construct_built_in, construct_by, construct_aimed, construct_value, with_outcome, enter_access, end_putting, enter_putting, convert_by, Counted, convert_for_length, given_count, end_second, end_first, enter_count, enter_defining, end_instance, instance_by, instance_of, instance_if, instance_value, with_list, planned, asking, Ran, untyped, and_go, completed, perform, meaning}
 use Rattle.flow_meaning.proofs.Performing.{perform_and, perform_asked}
 use Rattle.low_equal.specs.Observed.{Front, empty, longer}
 use Rattle.low_equal.specs.Runs.{state_of, Confined}
@@ -37,6 +41,9 @@ use Rattle.low_equal.proofs.Steps.{conf_ret, conf_ends}
 use Rattle.low_equal.proofs.Acts.{conf_throw, conf_raise, conf_given, conf_unary}
 use Rattle.low_equal.proofs.References.{conf_accessed, conf_typeof, conf_property}
 use Rattle.low_equal.proofs.Puts.{conf_put}
+use Rattle.low_equal.proofs.Lengths.{conf_set_length}
+use Rattle.low_equal.proofs.Defines.{conf_define}
+use Rattle.low_equal.proofs.Accesses.{conf_numbered}
 use Rattle.low_equal.proofs.Deletions.{conf_remove}
 use Rattle.low_equal.proofs.AllActs.{conf_act}
 use Rattle.low_equal.proofs.Looks.{conf_throw_value}
@@ -203,14 +210,40 @@ module _ (tables : Tables) (inputs : Given) (set : BuiltIns) (functions : List F
   outcome_adds s (Jumps j r) next f h = f
   outcome_adds s (Ends halt r) next f h = f
 
-  -- behind a setter, and behind the read of `prototype`
-  pub setter_adds : (c : Completion) (s : State) → Adds s (end_setter c s)
-  unfolding end_setter
-  setter_adds = result_adds Value (λ v s. Give (gave (unlabelled undefined)) s) (λ v. record { adds = λ s. give_adds (gave (unlabelled undefined)) s })
+  -- behind a put that enters something, and behind the read of `prototype`
+  pub putting_end_adds : (c : Completion) (s : State) → Adds s (end_putting c s)
+  unfolding end_putting
+  putting_end_adds = result_adds Value (λ v s. Give (gave (unlabelled undefined)) s) (λ v. record { adds = λ s. give_adds (gave (unlabelled undefined)) s })
 
   pub instance_end_adds : (label : Label) (o : ℕ) (c : Completion) (s : State) → Adds s (end_instance label o c s)
   unfolding end_instance
   instance_end_adds label o = result_adds Value (λ proto s. as_plan Value (is_instance (union label proto.label) o proto.value s)) (λ proto. act_adding Value (conf_is bottom tables functions (union label proto.label) o proto.value))
+
+  -- a number for a `length` that both conversions gave, or a RangeError
+  pub count_adding : (b : Bool) (n : ℕ) (given label : Label) (next : Counted) → ((k : ℕ) (l : Label) → Adding (next k l)) → Adding (given_count b n given label next)
+  unfolding given_count
+  count_adding true n given label next h = record { adds = λ s. (h n given).adds s }
+  count_adding false n given label next h = act_adding Value (conf_throw bottom tables kinds.RangeError (union label given))
+
+  -- behind the second conversion of a value for a `length`
+  pub second_end_adds : (label : Label) (next : Counted) (first : Val) (m : Number) → ((k : ℕ) (l : Label) → Adding (next k l)) → (c : Completion) (s : State) → Adds s (end_second label next first m c s)
+  unfolding end_second
+  second_end_adds label next first m h = result_adds Value _ (λ second. record {
+    adds = λ s. outcome_adds s (numbered second s) _ ((conf_numbered bottom tables functions second).adds s) (λ n. count_adding (is_count m n) (count_of m) (union first.label second.label) label next h);
+  })
+
+  -- the same with the number that the first came to taken there
+  pub both_end_adds : (label : Label) (next : Counted) (first : Val) → ((k : ℕ) (l : Label) → Adding (next k l)) → (c : Completion) (s : State)
+      → Adds s (with_result Value (λ second t. with_outcome (numbered first t) (λ m r. with_outcome (numbered second r) (λ n. given_count (is_count m n) (count_of m) (union first.label second.label) label next))) c s)
+  both_end_adds label next first h = result_adds Value _ (λ second. record {
+    adds = λ s. outcome_adds s (numbered first s) _ ((conf_numbered bottom tables functions first).adds s) (λ m. record {
+      adds = λ t. outcome_adds t (numbered second t) _ ((conf_numbered bottom tables functions second).adds t) (λ n. count_adding (is_count m n) (count_of m) (union first.label second.label) label next h);
+    });
+  })
+
+  -- the `length` of an array gets a number
+  pub length_adding : (b : Bool) (label : Label) (o : ℕ) (marks : GivenMarks) (n : ℕ) (given : Label) → Adding (λ s. as_plan Value (set_length b label o marks n given s))
+  length_adding b label o marks n given = act_adding Value (conf_set_length bottom tables b label o marks n given)
 
   -- what is done in a frame that gives a value
   pub frame_adding : (kind : Kind) (label : Label) {m : State → Plan} → Adding m → Adding (in_frame kind label m)
@@ -290,30 +323,61 @@ module _ (tables : Tables) (inputs : Given) (set : BuiltIns) (functions : List F
     access_adding (has_value v) = record { adds = λ s. give_adds (gave v) s }
     access_adding (has_getter label f this) = record { adds = λ s. (call_adding label (value.Object f) this []).adds s }
 
-    pub putting_adding : (v : Val) (p : Putting) → Adding (enter_putting functions E v p)
-    unfolding enter_putting
-    putting_adding v is_put = record { adds = λ s. give_adds (gave (unlabelled undefined)) s }
-    putting_adding v (has_setter label f this) = record { adds = λ s. and_adds s (call_value functions label (value.Object f) this (v ∷ []) E s) end_setter ((call_adding label (value.Object f) this (v ∷ [])).adds s) setter_adds }
-
     pub convert_adding : (b : Bool) (h : Hint) (label : Label) (v given : Val) → Adding (convert_by b E h label v given)
     unfolding convert_by
     convert_adding true h label v given = record { adds = λ s. (frame_adding kind.Native label (c.conversion h v)).adds s }
     convert_adding false h label v given = record { adds = λ s. give_adds (gave given) s }
 
+    -- both conversions of a value for a `length`
+    pub convert_length_adding : (label : Label) (v : Val) → Adding (convert_for_length E label v)
+    convert_length_adding label v = record { adds = λ s. (convert_adding (is_object v.value) hint.Number (union label v.label) v v).adds s }
+
+    pub first_end_adds : (label : Label) (v : Val) (next : Counted) → ((k : ℕ) (l : Label) → Adding (next k l)) → (c : Completion) (s : State) → Adds s (end_first E label v next c s)
+    unfolding end_first
+    first_end_adds label v next h = result_adds Value _ (λ first. record {
+      adds = λ s. outcome_adds s (numbered first s) _ ((conf_numbered bottom tables functions first).adds s) (λ m. record {
+        adds = λ t. and_adds t (convert_for_length E label v t) (end_second label next first m) ((convert_length_adding label v).adds t) (second_end_adds label next first m h);
+      });
+    })
+
+    count_entered : (label : Label) (v : Val) (next : Counted) → ((k : ℕ) (l : Label) → Adding (next k l)) → Adding (enter_count E label v next)
+    unfolding enter_count
+    count_entered label v next h = record { adds = λ s. and_adds s (convert_for_length E label v s) (end_first E label v next) ((convert_length_adding label v).adds s) (first_end_adds label v next h) }
+
+    pub putting_adding : (v : Val) (p : Putting) → Adding (enter_putting functions E v p)
+    unfolding enter_putting
+    putting_adding v is_put = record { adds = λ s. give_adds (gave (unlabelled undefined)) s }
+    putting_adding v (has_setter label f this) = record { adds = λ s. and_adds s (call_value functions label (value.Object f) this (v ∷ []) E s) end_putting ((call_adding label (value.Object f) this (v ∷ [])).adds s) putting_end_adds }
+    putting_adding v (has_length label o) = record {
+      adds = λ s. and_adds s (enter_count E label v (λ n given t. as_plan Value (set_length false label o no_marks n given t)) s) end_putting
+          ((count_entered label v (λ n given t. as_plan Value (set_length false label o no_marks n given t)) (λ n given. length_adding false label o no_marks n given)).adds s) putting_end_adds;
+    }
+
+    pub defining_adding : (v : Val) (d : Defining) → Adding (enter_defining E v d)
+    unfolding enter_defining
+    defining_adding v (is_defined label) = record { adds = λ s. give_adds _ s }
+    defining_adding v (has_length_given label o marks) = record {
+      adds = λ s. (count_entered label v (λ n given t. as_plan Value (set_length true label o marks n given t)) (λ n given. length_adding true label o marks n given)).adds s;
+    }
+
     -- ---- `instanceof`
 
-    instance_by_adding : (v : Val) (x : AnyValue) (label : Label) (f : ℕ) → Adding (instance_by functions v x label f E)
+    instance_by_adding : (v : Val) (o : ObjId) (label : Label) (f : ℕ) → Adding (instance_by functions v o label f E)
     unfolding instance_by
-    instance_by_adding v (value.Primitive p) label f = record { adds = λ s. give_adds (gave (truth_of false (union v.label label))) s }
-    instance_by_adding v (value.Object o) label f = record {
+    instance_by_adding v o label f = record {
       adds = λ s. and_adds s (with_outcome (property_of (union v.label label) (called_value label f) (value.Object (id f)) prototype_name s) (enter_access functions E)) (end_instance (union v.label label) o.0)
           (outcome_adds s (property_of (union v.label label) (called_value label f) (value.Object (id f)) prototype_name s) (enter_access functions E)
           ((conf_property bottom tables (union v.label label) (called_value label f) (value.Object (id f)) prototype_name).adds s) access_adding) (instance_end_adds (union v.label label) o.0);
     }
 
+    instance_of_adding : (v : Val) (x : AnyValue) (label : Label) (aim : Aim) → Adding (instance_of functions v x label aim E)
+    unfolding instance_of
+    instance_of_adding v (value.Primitive p) label aim = record { adds = λ s. give_adds (gave (truth_of false (union v.label label))) s }
+    instance_of_adding v (value.Object o) label aim = record { adds = λ s. (instance_by_adding v o (union label aim.label) aim.target.function).adds s }
+
     instance_if_adding : (b : Bool) (v : Val) (label : Label) (f : ℕ) → Adding (instance_if functions b v label f E)
     unfolding instance_if
-    instance_if_adding true v label f = record { adds = λ s. (instance_by_adding v v.value (union label (aim_of s.heap f).label) (aim_of s.heap f).target.function).adds s }
+    instance_if_adding true v label f = record { adds = λ s. (instance_of_adding v v.value label (aim_of s.heap f)).adds s }
     instance_if_adding false v label f = act_adding Value (conf_throw bottom tables kinds.TypeError label)
 
     pub instance_adding : (v : Val) (label : Label) (f : AnyValue) → Adding (instance_value functions v label f E)
@@ -417,6 +481,9 @@ module _ (tables : Tables) (inputs : Given) (set : BuiltIns) (functions : List F
     typeof_value = λ {n = n} {E = E} r h. record { adds = λ s. outcome_adds s (accessed_for_typeof n s) (enter_access functions E) ((conf_typeof bottom tables n).adds s) (access_adding (entered h)) };
     put_value = λ {n = n} {v = v} {E = E} r q h. record { adds = λ s. outcome_adds s (put_value n v s) (enter_putting functions E v) ((conf_put bottom tables n v).adds s) (putting_adding (entered h) v) };
     remove = λ {n = n} r. act_adding Value (conf_remove bottom tables n);
+    define = λ key marks shape {base = base} {v = v} {g = g} {set = x} {E = E} r q t u h. record {
+      adds = λ s. outcome_adds s (defining key marks shape base v g x s) (enter_defining E v) ((conf_define bottom tables key marks shape base v g x).adds s) (defining_adding (entered h) v);
+    };
     fork = λ t {v = v} r l k. scope_adding kind.Branch v.label (end_branch t) (λ depth. choose_adding (truth v.value) (l tt tt) (k tt tt)) (branch_adds t);
     round = λ turn labels {e = e} f g r h. scope_adding (round_kind turn) bottom end_round (λ depth. h tt tt (with_around turn labels depth e) (with_around turn labels depth e) tt) round_adds;
     again = λ {v = v} r l k. bind_adding One One _ (act_adding One (conf_raise bottom tables v.label)) (λ u. choose_adding (truth v.value) l k);

@@ -9,7 +9,7 @@ use Rattle.js_values.specs.declared.property.Body.{Body}
 use Rattle.js_values.specs.declared.property.Body.TheVariants.{Data, Accessor}
 use Rattle.js_values.specs.declared.property.Slot.{Slot}
 use Rattle.js_values.specs.Objects.{Rows, Object, own, changed, with_row}
-use Rattle.object_heap.specs.Arrays.{length_key, element_of, length_body, is_past_value, is_past}
+use Rattle.js_values.specs.Arrays.{length_key, element_of, length_body, is_past_value, is_past}
 use Rattle.object_heap.specs.Acts.{under, with_rows, value_have, added, lengthened, stretched, add_absent, add_own, add}
 use Rattle.flow_meaning.specs.Scopes.{Val}
 use Rattle.low_equal.specs.Observed.{Sees, Hides}

@@ -1,14 +1,12 @@
 -- `arguments` objects in two runs: no key of one stands twice, and two of one function with arguments that agree do so.
-use Rattle.std.proofs.Common.{◌≡◌, ℕ, zero, suc, pos, ◌<◌, ◌≤◌, List, [], ◌∷◌, ◌++◌, length, map, Bool, true, false, Option, Some, None, if◌then◌else◌, codes, refl, sym, ap, subst, true≢false, arith}
-use Rattle.std.proofs.lemmas.Bool.{lt-ltb}
+use Rattle.std.proofs.Common.{◌≡◌, ℕ, suc, pos, ◌<◌, ◌≤◌, List, [], ◌∷◌, ◌++◌, length, map, Bool, true, false, Option, Some, None, codes, refl, sym, ap, subst, true≢false, arith}
 use Rattle.std.proofs.lemmas.Option.{same_Some}
-use Rattle.std.specs.Prelude.{◌+◌, ◌%◌, ◌/◌, ◌==◌}
-use Rattle.std.specs.Fmt.{digit_glyph, digits_onto, digits}
 use Rattle.origin_labels.specs.Label.{Label}
 use Rattle.origin_labels.specs.Names.{same_name}
 use Rattle.flow_policy.specs.Policies.{Tables}
+use Rattle.js_number.specs.declared.num.Num.TheVariants.{Int}
 use Rattle.js_number.specs.declared.primitive.Primitive.TheVariants.{Num}
-use Rattle.js_number.specs.Conversions.{text_of}
+use Rattle.js_values.specs.Arrays.{element_key}
 use Rattle.js_values.specs.declared.ids.ObjId.{ObjId}
 use Rattle.js_values.specs.declared.value.Value.TheVariants as value
 use Rattle.js_values.specs.declared.property.Body.TheVariants.{Data}
@@ -25,35 +23,9 @@ use Rattle.low_equal.specs.Observed.{Sees}
 use Rattle.low_equal.specs.LowEqual.{Pairing, seen, primitives, both, Agree, data_bodies, SlotsAgree, RowsAgree, no_rows, row, scripts, seen_shape, IsAbsent, nowhere, elsewhere, AreDistinct, no_keys, one_more}
 use Rattle.low_equal.proofs.Agreement.{alike_join}
 use Rattle.low_equal.proofs.Makes.{accessor_row, News, no_news, news}
+use Rattle.low_equal.proofs.Keys.{IsNumeral, element_numeral, no_numeral}
 use Rattle.low_equal.proofs.Rows.{own_absent, still_absent, absent_with_row, own_agree}
 use Rattle.low_equal.proofs.ObjectActs.{distinct_over, rows_over}
-
--- ---- the texts of numbers begin with digits, if with anything
-
-data IsNumeral : List ℕ → Type 0 where
-  no_digit : IsNumeral []
-  a_digit : {c : ℕ} {cs : List ℕ} → c < 58 → IsNumeral (c ∷ cs)
-
-glyph_low : (d : ℕ) → d < 10 → digit_glyph false d < 58
-glyph_low d h = subst (λ b. (if b then 48 + d else (if false then 55 + d else 87 + d)) < 58) (sym (lt-ltb d 10 h)) (omega arith)
-
-digits_numeral : (k n : ℕ) (acc : List ℕ) → IsNumeral acc → IsNumeral (digits_onto k 10 false n acc)
-digits_numeral zero n acc a = a
-digits_numeral (suc k) n acc a =
-    let h : n % 10 < 10 = omega arith in
-    let first : IsNumeral (digit_glyph false (n % 10) ∷ acc) = a_digit (glyph_low (n % 10) h) in
-    by_test (n / 10 == 0) first (digits_numeral k (n / 10) (digit_glyph false (n % 10) ∷ acc) first)
-  where
-    by_test : (b : Bool) {x y : List ℕ} → IsNumeral x → IsNumeral y → IsNumeral (if b then x else y)
-    by_test true p q = p
-    by_test false p q = q
-
-text_numeral : (n : ℕ) → IsNumeral (text_of (Num (pos n)))
-unfolding digits
-text_numeral n = digits_numeral 64 n [] no_digit
-
-no_numeral : {c : ℕ} {cs : List ℕ} → IsNumeral (c ∷ cs) → 58 ≤ c → ⊥
-no_numeral (a_digit l) h = absurd (omega arith)
 
 -- ---- keys of the rows
 
@@ -66,7 +38,7 @@ module _ {S : Type 0} where
   elements_absent : (c : ℕ) (cs : List ℕ) → 58 ≤ c → (n : ℕ) (xs : List S) {rs : Rows S} → IsAbsent (c ∷ cs) rs → IsAbsent (c ∷ cs) (elements_down rs n xs)
   elements_absent c cs h n [] a = a
   elements_absent c cs h n (x ∷ xs) {rs} a =
-      over_absent (own (text_of (Num (pos n))) (elements_down rs (suc n) xs)) x (λ e. no_numeral (subst IsNumeral e (text_numeral n)) h) (elements_absent c cs h (suc n) xs a)
+      over_absent (own (element_key n) (elements_down rs (suc n) xs)) x (λ e. no_numeral (subst IsNumeral e (element_numeral n)) h) (elements_absent c cs h (suc n) xs a)
 
   -- two rows behind others
   absent_two : {key : List ℕ} (a b : List ℕ) (s t : S) {rs : Rows S} → (a ≡ key → ⊥) → (b ≡ key → ⊥) → IsAbsent key rs → IsAbsent key (rs ++ (a, s) ∷ (b, t) ∷ [])
@@ -80,7 +52,7 @@ module _ {S : Type 0} where
 module _ (observer : Label) (tables : Tables) where
   elements_distinct : (n : ℕ) (xs : List (Slot Label)) {rs : Rows (Slot Label)} → AreDistinct rs → AreDistinct (elements_down rs n xs)
   elements_distinct n [] d = d
-  elements_distinct n (x ∷ xs) {rs} d = let key = text_of (Num (pos n)) in let more = elements_down rs (suc n) xs in distinct_over observer tables (own key more) key x refl (elements_distinct (suc n) xs d)
+  elements_distinct n (x ∷ xs) {rs} d = let key = element_key n in let more = elements_down rs (suc n) xs in distinct_over observer tables (own key more) key x refl (elements_distinct (suc n) xs d)
 
   callee_differs : codes "callee" ≡ codes "caller" → ⊥
   callee_differs e = true≢false (ap (λ (xs : List ℕ). same_name xs (codes "callee")) e)
@@ -99,10 +71,10 @@ module _ (observer : Label) (tables : Tables) where
     elements_agree : (n : ℕ) (l : Label) {rs qs : Rows (Slot Label)} {vs us : List Val} → Sees observer l → RowsAgree observer δ rs qs → Rels (Agree observer δ) vs us → RowsAgree observer δ (elements_down rs n (map (data_slot l) vs)) (elements_down qs n (map (data_slot l) us))
     elements_agree n l v r nils = r
     elements_agree n l v r (conses a more) = let q = elements_agree (suc n) l v r more in
-        rows_over observer tables (text_of (Num (pos n))) (own_agree observer (text_of (Num (pos n))) q) (seen v refl (refl, data_bodies (alike_join observer (λ x (y : Unit {0}). x) a (seen v refl tt)))) q
+        rows_over observer tables (element_key n) (own_agree observer (element_key n) q) (seen v refl (refl, data_bodies (alike_join observer (λ x (y : Unit {0}). x) a (seen v refl tt)))) q
 
     abbrev count_of : Label → ℕ → Slot Label
-    count_of l n = record { body = Data (value.Primitive (Num (pos n))); label = l; existence = l; marks = built_in }
+    count_of l n = record { body = Data (value.Primitive (Num (Int (pos n)))); label = l; existence = l; marks = built_in }
 
     counts_agree : {m n : ℕ} {l : Label} → Sees observer l → m ≡ n → SlotsAgree observer δ (count_of l m) (count_of l n)
     counts_agree {m} {n} {l} v e = subst (λ k. SlotsAgree observer δ (count_of l m) (count_of l k)) e (seen v refl (refl, data_bodies (seen v refl primitives)))
@@ -112,7 +84,7 @@ module _ (observer : Label) (tables : Tables) where
     rows_behind (row s a) b = row s (rows_behind a b)
 
     accessors_agree : (l : Label) → Sees observer l → ((o : ℕ) → o < length start_heap → δ.objects o o ≡ true) → RowsAgree observer δ (made_rows l accessor_rows) (made_rows l accessor_rows)
-    accessors_agree l v starts = accessor_row observer (codes "caller") caller_accessor l v (starts 13 (omega arith)) (accessor_row observer (codes "callee") callee_accessor l v (starts 15 (omega arith)) no_rows)
+    accessors_agree l v starts = accessor_row observer (codes "caller") caller_accessor l v (starts caller_accessor.0 (omega arith)) (accessor_row observer (codes "callee") callee_accessor l v (starts callee_accessor.0 (omega arith)) no_rows)
 
     pub arguments_news : (b : Bool) (number i j o q : ℕ) (l : Label) {vs us : List Val} → Sees observer l → δ.records i j ≡ true → ((n : ℕ) → n < length start_heap → δ.objects n n ≡ true) → 0 < o → 0 < q → Rels (Agree observer δ) vs us
         → News observer δ o q (made_if b (arguments_object number i vs l)) (made_if b (arguments_object number j us l))

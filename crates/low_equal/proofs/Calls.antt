@@ -17,7 +17,7 @@ use Rattle.es_meaning.specs.BuiltIns.{BuiltIns}
 use Rattle.es_meaning.specs.Holders.{constructs_in}
 use Rattle.es_meaning.specs.Outcomes.{ret, ◌>>=◌}
 use Rattle.es_meaning.specs.Environments.{Env, called_env}
-use Rattle.es_meaning.specs.Functions.{Callee, not_callable, empty_callee, of_script, of_built_in, script_callee, is_function, callee_if, callee_of, binds, bound_by, kept_by, with_parameters, with_functions, with_arguments, with_variables, name_text, Entry, entry_bindings, this_name, function_name}
+use Rattle.es_meaning.specs.Functions.{Callee, not_callable, empty_callee, of_script, of_built_in, script_callee, is_function, callee_if, callee_of, unless_bound, binds, bound_by, kept_by, with_parameters, with_functions, with_arguments, with_variables, name_text, Entry, entry_bindings, this_name, function_name}
 use Rattle.es_meaning.specs.Declared.{declared_functions, declared_statements}
 use Rattle.es_meaning.specs.Naming.{arguments_name, names_in_statements}
 use Rattle.es_meaning.specs.Plain.{undefined, choose}
@@ -131,8 +131,12 @@ module _ (observer : Label) (β : Pairing) where
   functions_both (f ∷ fs) nils r = r
   functions_both (f ∷ fs) (conses a l) r = functions_both fs l (bound_both (name_text (name_of f)) (found_agree observer β (name_text (name_of f)) r) a r)
 
+  unless_both : {o p : Option (Binding Val)} {v u : Val} {bs cs : Bindings Val} → FoundAgree observer β o p → Agree observer β v u → Bound bs cs → Bound (unless_bound o v bs) (unless_bound p u cs)
+  unless_both missing a r = with_both r (named_both false arguments_name a)
+  unless_both (there x) a r = r
+
   arguments_both : (b : Bool) {v u : Val} {bs cs : Bindings Val} → (b ≡ true → Agree observer β v u) → Bound bs cs → Bound (with_arguments b v bs) (with_arguments b u cs)
-  arguments_both true a r = with_both r (named_both false arguments_name (a refl))
+  arguments_both true {v} {u} {bs} {cs} a r = unless_both (found_agree observer β arguments_name r) (a refl) r
   arguments_both false a r = r
 
   variables_both : (names : List (List ℕ)) {m n : Val} {bs cs : Bindings Val} → Agree observer β m n → Bound bs cs → Bound (with_variables m names bs) (with_variables n names cs)

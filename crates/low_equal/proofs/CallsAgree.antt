@@ -6,6 +6,7 @@ use Rattle.flow_policy.specs.Policies.{Tables}
 use Rattle.flow_frames.specs.declared.kind.Kind.TheVariants as kind
 use Rattle.flow_frames.specs.Frames.{Frame, context}
 use Rattle.flow_frames.specs.Changes.{pushed}
+use Rattle.js_number.specs.declared.num.Num.TheVariants.{Int}
 use Rattle.js_number.specs.declared.primitive.Primitive.TheVariants.{Num}
 use Rattle.native_protocol.specs.declared.request.ErrorKind.TheVariants as kinds
 use Rattle.js_values.specs.declared.ids.EnvId.{EnvId}
@@ -122,7 +123,7 @@ module _ (observer : Label) (tables : Tables) (functions : List FunctionCode) wh
     heap = s.heap ++ begun_with number (length s.heap) (length s.records) f args l;
     records = s.records ++ entry_record f place (record {
       this = this;
-      function = unlabelled (value.Primitive (Num (pos number)));
+      function = unlabelled (value.Primitive (Num (Int (pos number))));
       args = map (joined l) args;
       missing = labelled_by l undefined;
       functions = labelled_values l (references_of (length s.heap) (declared_functions (body_of f)));

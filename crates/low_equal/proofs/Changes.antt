@@ -49,14 +49,14 @@ becomes_under p rule need have {x} b = go (within need have)
 pub formed_rows : (p : Object Label) (rows : Rows (Slot Label)) → (AreDistinct p.rows → AreDistinct rows) → StaysFormed (with_rows p rows) p
 formed_rows p rows f = record { distinct = f; proto = refl; link = refl; inner = refl }
 
-makes_change : (rule : Rule) (have : Slot Label → Label) (new : Slot Label → Slot Label) (key : List ℕ) (need : Label) (p : Object Label) → Makes (with_rows p (changed key new p.rows)) p (change rule have new key need p)
+pub makes_change : (rule : Rule) (have : Slot Label → Label) (new : Slot Label → Slot Label) (key : List ℕ) (need : Label) (p : Object Label) → Makes (with_rows p (changed key new p.rows)) p (change rule have new key need p)
 makes_change rule have new key need p = record { becomes = with_slot (own key p.rows) refl; formed = formed_rows p _ (distinct_altered key (λ s. Some (new s))) }
   where
     with_slot : (x : Option (Slot Label)) → own key p.rows ≡ x → Becomes (with_rows p (changed key new p.rows)) (on_slot x p (λ s. under rule need (have s) (Ok (with_rows p (changed key new p.rows)))))
     with_slot None e = makes (sym (ap (with_rows p) (absent_altered (λ s. Some (new s)) (own_absent key p.rows e))))
     with_slot (Some s) e = becomes_under _ rule need (have s) (makes refl)
 
-makes_remove : (key : List ℕ) (need : Label) (p : Object Label) → Makes (with_rows p (without key p.rows)) p (remove_own key need p)
+pub makes_remove : (key : List ℕ) (need : Label) (p : Object Label) → Makes (with_rows p (without key p.rows)) p (remove_own key need p)
 makes_remove key need p = record { becomes = with_slot (own key p.rows) refl; formed = formed_rows p _ (distinct_altered key (λ s. None)) }
   where
     with_slot : (x : Option (Slot Label)) → own key p.rows ≡ x → Becomes (with_rows p (without key p.rows)) (on_slot x p (λ s. under W4 need s.existence (under W5 need p.structure (Ok (with_rows p (without key p.rows))))))

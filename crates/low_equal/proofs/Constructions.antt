@@ -13,15 +13,17 @@ use Rattle.js_values.specs.declared.inner.Inner.TheVariants.{Plain}
 use Rattle.js_values.specs.Objects.{Object, fresh_object}
 use Rattle.js_values.specs.Walks.{find, object_chain}
 use Rattle.es_meaning.specs.Definitions.{value_in}
+use Rattle.es_meaning.specs.Start.{object_prototype}
 use Rattle.es_meaning.specs.Plain.{prototype_name, object_or, object_or_default}
 use Rattle.flow_meaning.specs.Scopes.{Val, Came, Left, State, given_back, construction}
-use Rattle.flow_meaning.specs.Tracked.{value_found, prototype_of, with_fresh}
+use Rattle.flow_meaning.specs.Tracked.{value_found, prototype_of, standing, with_fresh}
 use Rattle.low_equal.specs.Observed.{Sees, Hides, IsSeen}
 use Rattle.low_equal.specs.LowEqual.{Pairing, Alike, seen, hidden, SameValue, primitives, objects, SameObject, both, Agree, BodiesAgree, data_bodies, accessors, plains, no_rows, seen_shape, no_keys, HeapsAgree, LowEqual}
 use Rattle.low_equal.specs.Laws.{Nothing}
 use Rattle.low_equal.proofs.Labels.{not_both, hides_first, hides_second, sees_second}
 use Rattle.low_equal.proofs.Agreement.{agree_joined, agree_seen, alike_map, alike_join, records_more, both_map, two}
 use Rattle.low_equal.proofs.Heaps.{get_below, with_objects, extends_objects, new_both}
+use Rattle.low_equal.proofs.Standing.{standing_both}
 use Rattle.low_equal.proofs.Walks as walks
 use Rattle.low_equal.proofs.Walks.{FoundSame, not_found, level_find}
 use Rattle.low_equal.proofs.States.{low_heap, same_context}
@@ -53,31 +55,36 @@ module _ (observer : Label) (tables : Tables) where
 
   -- ---- what is made
 
-  same_default : {γ : Pairing} {v u : Value} → γ.objects 0 0 ≡ true → SameValue γ v u → SameObject γ (Some (object_or_default v)) (Some (object_or_default u))
-  same_default z primitives = both z
-  same_default z (objects p) = both p
+  default_pair : {γ : Pairing} {h g : List (Object Label)} {v u : Value} → HeapsAgree observer γ h g → SameValue γ v u → γ.objects (standing h (object_or_default v)).0 (standing g (object_or_default u)).0 ≡ true
+  default_pair r primitives = standing_both observer r object_prototype object_prototype (r.starts 0 (omega arith))
+  default_pair r (objects {o = o} {q = q} p) = standing_both observer r o q p
 
-  default_below : {γ : Pairing} {h g : List (Object Label)} {v u : Value} → HeapsAgree observer γ h g → SameValue γ v u → ((object_or_default v).0 < length h) × ((object_or_default u).0 < length g)
-  default_below r primitives = let t = two (r.paired 0 0 (r.starts 0 (omega arith))) in (get_below _ t.one 0 t.is_one, get_below _ t.other 0 t.is_other)
-  default_below r (objects {o = o} {q = q} p) = let t = two (r.paired o.0 q.0 p) in (get_below _ t.one o.0 t.is_one, get_below _ t.other q.0 t.is_other)
+  same_default : {γ : Pairing} {h g : List (Object Label)} {v u : Value} → HeapsAgree observer γ h g → SameValue γ v u → SameObject γ (Some (standing h (object_or_default v))) (Some (standing g (object_or_default u)))
+  same_default r z = both (default_pair r z)
 
-  abbrev fresh : Val → Label → Object Label
-  fresh proto l = fresh_object class.Object Plain (Some (object_or_default proto.value)) (union l proto.label) l
+  default_below : {γ : Pairing} {h g : List (Object Label)} {v u : Value} → HeapsAgree observer γ h g → SameValue γ v u → ((standing h (object_or_default v)).0 < length h) × ((standing g (object_or_default u)).0 < length g)
+  default_below {h = h} {g = g} {v = v} {u = u} r z =
+      let i = (standing h (object_or_default v)).0 in
+      let j = (standing g (object_or_default u)).0 in
+      let t = two (r.paired i j (default_pair r z)) in (get_below h t.one i t.is_one, get_below g t.other j t.is_other)
+
+  abbrev fresh : List (Object Label) → Val → Label → Object Label
+  fresh heap proto l = fresh_object class.Object Plain (Some (standing heap (object_or_default proto.value))) (union l proto.label) l
 
   pub fresh_both : {γ : Pairing} {a b : Val} (s t : State) → Agree observer γ a b → LowEqual observer tables γ s t → IsSeen observer s → LowEqual observer tables (with_objects γ (length s.heap) (length t.heap)) (with_fresh a s) (with_fresh b t)
   fresh_both {γ} {a} {b} s t q r w =
-      subst (λ l. LowEqual observer tables δ (with_fresh a s) (record t { heap = t.heap ++ fresh b l ∷ [] })) (same_context observer tables r w)
+      subst (λ l. LowEqual observer tables δ (with_fresh a s) (record t { heap = t.heap ++ fresh t.heap b l ∷ [] })) (same_context observer tables r w)
       (low_heap observer tables r
-      (new_both observer (fresh a (context s.frames)) (fresh b (context s.frames))
+      (new_both observer (fresh s.heap a (context s.frames)) (fresh t.heap b (context s.frames))
       (record { below = λ v n e. subst (λ (x : ObjId). x.0 < length s.heap) (same_Some _ n e) (default_below r.heap (agree_seen observer q (sees_second observer (context s.frames) a.label v))).0; target = tt; distinct = no_keys })
       (record { below = λ v n e. subst (λ (x : ObjId). x.0 < length t.heap) (same_Some _ n e) (by_label q (sees_second observer (context s.frames) b.label v)); target = tt; distinct = no_keys })
-      (record { class = refl; inner = plains; links = alike_join observer (λ (k : Unit {0}) z. same_default (r.heap.starts 0 (omega arith)) z) (seen w refl tt) q; shapes = seen_shape w refl refl no_rows }) r.heap)
+      (record { class = refl; inner = plains; links = alike_join observer (λ (k : Unit {0}) z. same_default r.heap z) (seen w refl tt) q; shapes = seen_shape w refl refl no_rows }) r.heap)
       (record { paired = λ i j p. both_map (λ c d x. records_more observer (extends_objects γ (length s.heap) (length t.heap)) x) (r.records.paired i j p); one_to_one = r.records.one_to_one; left = r.records.left; right = r.records.right }))
     where
       δ : Pairing
       δ = with_objects γ (length s.heap) (length t.heap)
 
-      by_label : Agree observer γ a b → Sees observer b.label → (object_or_default b.value).0 < length t.heap
+      by_label : Agree observer γ a b → Sees observer b.label → (standing t.heap (object_or_default b.value)).0 < length t.heap
       by_label (seen x e z) v = (default_below r.heap z).1
       by_label (hidden x y) v = absurd (not_both observer b.label v y)
 

@@ -21,12 +21,14 @@ use Rattle.prototype_walk.specs.declared.plan.PutPlan.TheVariants.{Write, Add, S
 use Rattle.prototype_walk.specs.Answers.{walk_of}
 use Rattle.prototype_walk.specs.Plans.{can_put}
 use Rattle.prototype_walk.specs.KeyLists.{Keys}
+use Rattle.es_meaning.specs.Definitions.{is_accessor}
+use Rattle.es_meaning.specs.Primitives.{own_value_of, prototype_of_primitive, chain_from}
 use Rattle.es_meaning.specs.Outcomes.{Outcome, ret}
 use Rattle.es_meaning.specs.Operations.{Ty, One, Res}
 use Rattle.es_meaning.specs.Start.{global_object}
 use Rattle.es_meaning.specs.Plain.{Place, in_record, on_global, nowhere, binding_at}
 use Rattle.flow_meaning.specs.Scopes.{Val, joined, Halt, State, Jump, L}
-use Rattle.flow_meaning.specs.Tracked.{given, Reference, of_name, of_property, walk_from, bound, Access, has_value, has_getter, getter_or_none, held, global_value, found_globally, found, property_of, named, accessed, accessed_for_typeof, assigned, assigned_to, acted, own_in, Putting, is_put, has_setter, setter_found, setter_at, put_by, put_on, is_element_of, put, put_property, put_named, put_value, removed_if, removed_own, removed_in, remove_property, remove, key_list, with_list, spend, base_of}
+use Rattle.flow_meaning.specs.Tracked.{given, Reference, of_name, of_property, walk_from, bound, Access, has_value, has_getter, getter_or_none, held, global_value, found_globally, found, property_of, named, accessed, accessed_for_typeof, assigned, assigned_to, acted, own_in, Putting, is_put, has_setter, has_length, setter_found, setter_at, overwritten, is_length_in, put_by, put, setter_if, put_beyond, put_on_primitive, primitive_chain, primitive_access, put_property, put_named, put_value, removed_if, removed_own, removed_in, removed_of_primitive, remove_property, remove, key_list, with_list, spend, base_of}
 use Rattle.low_equal.proofs.DeclaredLabels as labels
 use Rattle.low_equal.proofs.DeclaredLabels.{Each, IfThere, each_at, own_bottom, own_union, own_context}
 use Rattle.low_equal.proofs.DeclaredHeaps as heaps
@@ -110,9 +112,21 @@ module _ (count : ℕ) where
   pub own_walk_to : (key : List ℕ) (o : ℕ) (s : State) → OwnState s → OwnFound (find key (object_chain s.heap o))
   own_walk_to key o s h = own_find count key (object_chain s.heap o) (own_chain count s.heap o h.heap)
 
+  -- and along the prototype of a primitive value
+  own_chain_from : (o : Option ObjId) (s : State) → OwnState s → heaps.OwnChain count (chain_from (object_chain s.heap) o)
+  own_chain_from None s h = tt
+  own_chain_from (Some o) s h = own_chain count s.heap o.0 h.heap
+
+  pub own_walk_along : (key : List ℕ) (p : Primitive) (s : State) → OwnState s → OwnFound (find key (primitive_chain s.heap p))
+  own_walk_along key p s h = own_find count key (primitive_chain s.heap p) (own_chain_from (prototype_of_primitive p) s h)
+
+  own_primitive_access : (label : Label) (known : Option Primitive) (beyond : Access) → Own label → OwnAccess beyond → OwnAccess (primitive_access label known beyond)
+  own_primitive_access label None beyond q k = k
+  own_primitive_access label (Some v) beyond q k = q
+
   pub property_keeps : (label : Label) (base : Val) (v : Value) (key : List ℕ) (s : State) → Own label → OwnVal base → OwnState s → Keeps OwnAccess (property_of label base v key s)
   unfolding property_of
-  property_keeps label base (value.Primitive p) key s q b h = ends_in tt h
+  property_keeps label base (value.Primitive p) key s q b h = let w = own_walk_along key p s h in goes (own_primitive_access label (own_value_of p key) _ q (own_access_found _ base _ (own_union count label _ q w.walk) b w.at)) h
   property_keeps label base (value.Object o) key s q b h = let w = own_walk_to key o.0 s h in goes (own_access_found _ base _ (own_union count label _ q w.walk) b w.at) h
 
   named_keeps : (place : Place) (walk : Label) (x : List ℕ) (s : State) → Own walk → OwnState s → Keeps OwnAccess (named place walk x s)
@@ -179,6 +193,7 @@ module _ (count : ℕ) where
   abbrev pub OwnPutting : Putting → Type 0
   OwnPutting is_put = Unit {0}
   OwnPutting (has_setter label f base) = Own label × OwnVal base
+  OwnPutting (has_length label o) = Own label
 
   -- a setter that is found
   setter_keeps : (label : Label) (base : Val) (f : Option ObjId) (s : State) → Own label → OwnVal base → OwnState s → Keeps OwnPutting (setter_found label base f s)
@@ -197,25 +212,41 @@ module _ (count : ℕ) where
   own_named_in key (Some p) h = own_own count key p.rows h.rows
 
   -- a put
+  overwritten_keeps : (b : Bool) (rule : Rule) (o : ℕ) (key : List ℕ) (label : Label) (v : Val) (s : State) → Own label → OwnVal v → OwnState s → Keeps OwnPutting (overwritten b rule o key label v s)
+  unfolding overwritten
+  overwritten_keeps true rule o key label v s p q h = goes p h
+  overwritten_keeps false rule o key label v s p q h = acted_keeps OwnPutting is_put _ s tt (own_write count rule o key _ v s.heap (own_need label s p h) q h.heap) h
+
   put_by_keeps : (plan : PutPlan Label) (rule : Rule) (o : ℕ) (key : List ℕ) (label : Label) (base v : Val) (s : State) → Own (walk_of plan) → Own label → OwnVal base → OwnVal v → OwnState s → Keeps OwnPutting (put_by plan rule o key label base v s)
   unfolding put_by
-  put_by_keeps (Write walk) rule o key label base v s w p b q h = acted_keeps OwnPutting is_put _ s tt (own_write count rule o key _ v s.heap (own_need _ s (own_union count label walk p w) h) q h.heap) h
+  put_by_keeps (Write walk) rule o key label base v s w p b q h = overwritten_keeps (is_length_in key (slice_get s.heap o)) rule o key _ v s (own_union count label walk p w) q h
   put_by_keeps (Add walk) rule o key label base v s w p b q h = acted_keeps OwnPutting is_put _ s tt (own_add count o key _ (Data v.value) v.label _ s.heap (own_need _ s (own_union count label walk p w) h) q h.heap) h
   put_by_keeps (Refused walk) rule o key label base v s w p b q h = throw_keeps count OwnPutting _ _ s (own_union count label walk p w) h
   put_by_keeps (Setter at walk) rule o key label base v s w p b q h = setter_at_keeps _ base (own_in key (slice_get s.heap at.0)) s (own_union count label walk p w) b (own_named_in key (slice_get s.heap at.0) (each_at OwnObject s.heap at.0 h.heap)) h
 
-  put_on_keeps : (element : Bool) (rule : Rule) (o : ℕ) (key : List ℕ) (label : Label) (base v : Val) (s : State) → Own label → OwnVal base → OwnVal v → OwnState s → Keeps OwnPutting (put_on element rule o key label base v s)
-  unfolding put_on
-  put_on_keeps true rule o key label base v s p b q h = ends_in tt h
-  put_on_keeps false rule o key label base v s p b q h = put_by_keeps (can_put key (object_chain s.heap o)) rule o key label base v s (own_can_put count key (object_chain s.heap o) (own_chain count s.heap o h.heap)) p b q h
-
   put_object_keeps : (rule : Rule) (o : ℕ) (key : List ℕ) (label : Label) (base v : Val) (s : State) → Own label → OwnVal base → OwnVal v → OwnState s → Keeps OwnPutting (put rule o key label base v s)
   unfolding put
-  put_object_keeps rule o key label base v s p b q h = put_on_keeps (is_element_of (slice_get s.heap o) key) rule o key label base v s p b q h
+  put_object_keeps rule o key label base v s p b q h = put_by_keeps (can_put key (object_chain s.heap o)) rule o key label base v s (own_can_put count key (object_chain s.heap o) (own_chain count s.heap o h.heap)) p b q h
+
+  -- on a primitive value
+  setter_if_keeps : (b : Bool) (label : Label) (base : Val) (p : Slot Label) (s : State) → Own label → OwnVal base → OwnSlot p → OwnState s → Keeps OwnPutting (setter_if b label base p s)
+  unfolding setter_if
+  setter_if_keeps true label base p s q b k h = setter_keeps _ base _ s (own_union count label p.label q k.0) b h
+  setter_if_keeps false label base p s q b k h = throw_keeps count OwnPutting _ _ s q h
+
+  beyond_keeps : (label : Label) (base : Val) (f : Option (ℕ × Slot Label)) (s : State) → Own label → OwnVal base → IfThere (λ x. OwnSlot x.1) f → OwnState s → Keeps OwnPutting (put_beyond label base f s)
+  unfolding put_beyond
+  beyond_keeps label base None s q b k h = throw_keeps count OwnPutting _ _ s q h
+  beyond_keeps label base (Some f) s q b k h = setter_if_keeps (is_accessor f.1.body) label base f.1 s q b k h
+
+  on_primitive_keeps : (known : Option Primitive) (label : Label) (base : Val) (p : Primitive) (key : List ℕ) (s : State) → Own label → OwnVal base → OwnState s → Keeps OwnPutting (put_on_primitive known label base p key s)
+  unfolding put_on_primitive
+  on_primitive_keeps (Some v) label base p key s q b h = throw_keeps count OwnPutting _ _ s q h
+  on_primitive_keeps None label base p key s q b h = let w = own_walk_along key p s h in beyond_keeps _ base (find key (primitive_chain s.heap p)).at s (own_union count label _ q w.walk) b w.at h
 
   put_property_keeps : (label : Label) (base : Val) (b : Value) (key : List ℕ) (v : Val) (s : State) → Own label → OwnVal base → OwnVal v → OwnState s → Keeps OwnPutting (put_property label base b key v s)
   unfolding put_property
-  put_property_keeps label base (value.Primitive b) key v s p k q h = ends_in tt h
+  put_property_keeps label base (value.Primitive b) key v s p k q h = on_primitive_keeps (own_value_of b key) label base b key s p k h
   put_property_keeps label base (value.Object o) key v s p k q h = put_object_keeps _ o.0 key label base v s p k q h
 
   put_named_keeps : (place : Place) (walk : Label) (x : List ℕ) (v : Val) (s : State) → Own walk → OwnVal v → OwnState s → Keeps OwnPutting (put_named place walk x v s)
@@ -245,14 +276,19 @@ module _ (count : ℕ) where
   removed_in_keeps None label o key s k q h = goes q h
   removed_in_keeps (Some p) label o key s k q h = removed_own_keeps (own key p.rows) label p.structure o key s (own_own count key p.rows k.rows) q k.structure h
 
+  removed_of_primitive_keeps : (known : Option Primitive) (label : Label) (s : State) → Own label → OwnState s → Keeps OwnVal (removed_of_primitive known label s)
+  unfolding removed_of_primitive
+  removed_of_primitive_keeps None label s q h = goes q h
+  removed_of_primitive_keeps (Some v) label s q h = throw_keeps count OwnVal _ _ s q h
+
   remove_property_keeps : (label : Label) (base : Value) (key : List ℕ) (s : State) → Own label → OwnState s → Keeps OwnVal (remove_property label base key s)
   unfolding remove_property
-  remove_property_keeps label (value.Primitive p) key s q h = ends_in tt h
+  remove_property_keeps label (value.Primitive p) key s q h = removed_of_primitive_keeps (own_value_of p key) label s q h
   remove_property_keeps label (value.Object o) key s q h = removed_in_keeps (slice_get s.heap o.0) label o.0 key s (each_at OwnObject s.heap o.0 h.heap) q h
 
   pub remove_keeps : (n : Reference) (s : State) → OwnReference n → OwnState s → Keeps OwnVal (remove n s)
   unfolding remove
-  remove_keeps (of_name x place walk) s q h = ends_in tt h
+  remove_keeps (of_name x place walk) s q h = throw_keeps count OwnVal _ _ s (own_bottom count) h
   remove_keeps (of_property base key label) s q h = remove_property_keeps _ base.value key s (own_union count base.label label q.0 q.1) h
 
   -- the keys of a value

@@ -1,5 +1,5 @@
 -- Heaps of which each label speaks of declared origins alone, and what acts and walks make of them.
-use Rattle.std.proofs.Common.{ℕ, zero, suc, Bool, true, false, ◌&&◌, cond, nat_eq, List, [], ◌∷◌, map, Option, Some, None, Ok, Err, slice_get, set}
+use Rattle.std.proofs.Common.{ℕ, zero, suc, Bool, true, false, ◌&&◌, cond, nat_eq, nat_le, nat_lt, List, [], ◌∷◌, map, Option, Some, None, Ok, Err, slice_get, set}
 use Rattle.origin_labels.specs.Label.{Label, union, within}
 use Rattle.origin_labels.specs.Names.{same_name}
 use Rattle.flow_frames.specs.declared.faults.Rule.{Rule}
@@ -15,20 +15,22 @@ use Rattle.js_values.specs.declared.inner.Inner.{Inner}
 use Rattle.js_values.specs.declared.inner.Inner.TheVariants.{Plain, Script, Native, Bound}
 use Rattle.js_values.specs.Objects.{Rows, Property, PlainInner, plain, script, native, bound, PlainObject, Object, own, row_or_none, altered, number_of}
 use Rattle.js_values.specs.Walks.{Found, found_at, find, object_chain}
-use Rattle.object_heap.specs.Arrays.{element_of, length_key, is_past}
+use Rattle.js_values.specs.Arrays.{element_of, element_label, element_key, highest, higher_if, length_key, is_past}
+use Rattle.js_values.specs.Numerals.{index_of}
+use Rattle.prototype_walk.specs.KeyLists.{rows_in}
 use Rattle.object_heap.specs.Acts.{Acted, under, on_slot, change, with_rows, lengthened, stretched, add_absent, put_back, on_object, act_on, write, set_body, set_attributes, raise_existence, add, remove, raise_structure, prevent_extensions}
 use Rattle.prototype_walk.specs.declared.plan.PutPlan.{PutPlan}
 use Rattle.prototype_walk.specs.declared.plan.PutPlan.TheVariants.{Write, Add}
 use Rattle.prototype_walk.specs.Answers.{walk_of}
-use Rattle.prototype_walk.specs.Plans.{if_allowed, setter_plan, own_plan, inherited_plan, beyond_plan, plan_at, can_put}
+use Rattle.prototype_walk.specs.Plans.{if_allowed, setter_plan, own_plan, inherited_plan, beyond_plan, may_add, absence_label, plan_at, can_put}
 use Rattle.prototype_walk.specs.KeyLists.{existences, keys_after, keys}
 use Rattle.es_meaning.specs.Operations.{Part, as_value, as_getter, as_setter, OwnPart, own_marks, own_value, own_getter, own_setter}
-use Rattle.es_meaning.specs.Objects.{defined_over}
+use Rattle.es_meaning.specs.Objects.{defined, defined_over, elements_onto}
 use Rattle.es_meaning.specs.Functions.{this_or, elements_down, accessor_rows, made_if}
 use Rattle.es_meaning.specs.Start.{function_rows}
-use Rattle.flow_meaning.specs.Erased.{made_inner, made_rows, made_objects}
+use Rattle.flow_meaning.specs.Erased.{made_inner, made_rows, made_object, made_objects}
 use Rattle.flow_meaning.specs.Scopes.{Val}
-use Rattle.flow_meaning.specs.Requested.{data_slot, half_label, with_part, with_parts, arguments_object, own_test, own_walk, part_label, known_of, value_label, body_label, length_name, own_label, length_label, bound_object, Aim, aim_behind, aim_in, aim_within, aim_of}
+use Rattle.flow_meaning.specs.Requested.{data_slot, half_label, with_part, with_parts, arguments_object, array_object, definition_test, own_test, own_walk, part_label, known_of, value_label, body_label, length_name, own_label, length_label, bound_object, Aim, aim_behind, aim_in, aim_within, aim_of}
 use Rattle.flow_meaning.specs.Tracked.{linked_from, linked_beyond, linked}
 use Rattle.low_equal.proofs.DeclaredLabels.{Each, IfThere, each_push, each_append, each_at, Own, own_bottom, own_union}
 use Rattle.low_equal.proofs.DeclaredRecords.{own_labelled}
@@ -123,9 +125,12 @@ module _ (count : ℕ) where
   own_made_inner label (bound target this args) q = (q, q, own_labelled count label args q)
 
   -- objects
+  pub own_made_object : (label : Label) (p : PlainObject) → Own count label → OwnObject (made_object label p)
+  own_made_object label p q = record { link = q; structure = q; inner = own_made_inner label p.inner q; rows = own_made_rows label p.rows q }
+
   pub own_made : (label : Label) (objects : List PlainObject) → Own count label → OwnHeap (made_objects label objects)
   own_made label [] q = tt
-  own_made label (p ∷ objects) q = (record { link = q; structure = q; inner = own_made_inner label p.inner q; rows = own_made_rows label p.rows q }, own_made label objects q)
+  own_made label (p ∷ objects) q = (own_made_object label p q, own_made label objects q)
 
   -- properties with values
   pub own_slots : (label : Label) (vs : List Val) → Own count label → Each (λ v. Own count v.label) vs → Each OwnSlot (map (data_slot label) vs)
@@ -136,6 +141,15 @@ module _ (count : ℕ) where
   own_elements : (rows : Rows (Slot Label)) (n : ℕ) (slots : List (Slot Label)) → OwnRows rows → Each OwnSlot slots → OwnRows (elements_down rows n slots)
   own_elements rows n [] r h = r
   own_elements rows n (s ∷ slots) r h = own_defined_over _ _ s (elements_down rows (suc n) slots) h.0 (own_elements rows (suc n) slots r h.1)
+
+  -- an array of a literal
+  own_element_rows : (ns : List ℕ) (slots : List (Slot Label)) (rows : Rows (Slot Label)) → OwnRows rows → Each OwnSlot slots → OwnRows (elements_onto rows ns slots)
+  own_element_rows [] slots rows r h = r
+  own_element_rows (n ∷ ns) [] rows r h = r
+  own_element_rows (n ∷ ns) (s ∷ slots) rows r h = own_element_rows ns slots (defined (element_key n) s rows) (own_defined_over (own (element_key n) rows) (element_key n) s rows h.0 r) h.1
+
+  pub own_array_object : (n : ℕ) (places : List ℕ) (vs : List Val) (label : Label) → Own count label → Each (λ v. Own count v.label) vs → OwnObject (array_object n places vs label)
+  own_array_object n places vs label q h = record { link = q; structure = q; inner = tt; rows = own_element_rows places _ _ ((q, q), tt) (own_slots label vs q h) }
 
   -- that object
   pub own_arguments_object : (number place : ℕ) (args : List Val) (label : Label) → Own count label → Each (λ v. Own count v.label) args → OwnObject (arguments_object number place args label)
@@ -298,16 +312,29 @@ module _ (count : ℕ) where
   own_beyond b None walk q k = own_allowed b (Add walk) walk k k
   own_beyond b (Some f) walk q k = own_inherited b f.0 f.1 f.1.body walk q k
 
-  own_plan_at : (o : ℕ) (p : Object Label) (s : Option (Slot Label)) (rest : Found) → OwnObject p → IfThere OwnSlot s → OwnFound rest → Own count (walk_of (plan_at o p s rest))
-  own_plan_at o p (Some s) rest h q r = own_own_plan o s s.body s.existence q q.1
-  own_plan_at o p None rest h q r = own_beyond p.extensible rest.at _ r.at (own_union count p.structure _ h.structure (own_union count p.link rest.walk h.link r.walk))
+  -- an element that isn't there depends on the `length` too
+  own_marked : (b : Bool) (s : Slot Label) → OwnSlot s → Own count (cond b s.existence (union s.existence s.label))
+  own_marked true s h = h.1
+  own_marked false s h = own_union count s.existence s.label h.1 h.0
+
+  own_element_label : (i : Option ℕ) (s : Option (Slot Label)) → IfThere OwnSlot s → Own count (element_label i s)
+  own_element_label None s h = own_bottom count
+  own_element_label (Some i) None h = own_bottom count
+  own_element_label (Some i) (Some s) h = own_marked s.marks.writable s h
+
+  own_absence : (key : List ℕ) (p : Object Label) → OwnObject p → Own count (absence_label key p)
+  own_absence key p h = own_union count p.structure _ h.structure (own_element_label (element_of p.class key) (own length_key p.rows) (own_own length_key p.rows h.rows))
+
+  own_plan_at : (key : List ℕ) (o : ℕ) (p : Object Label) (s : Option (Slot Label)) (rest : Found) → OwnObject p → IfThere OwnSlot s → OwnFound rest → Own count (walk_of (plan_at key o p s rest))
+  own_plan_at key o p (Some s) rest h q r = own_own_plan o s s.body s.existence q q.1
+  own_plan_at key o p None rest h q r = own_beyond (may_add key p) rest.at _ r.at (own_union count (absence_label key p) _ (own_absence key p h) (own_union count p.link rest.walk h.link r.walk))
 
   pub own_can_put : (key : List ℕ) (objects : List (ℕ × Object Label)) → OwnChain objects → Own count (walk_of (can_put key objects))
   own_can_put key [] h = own_bottom count
-  own_can_put key (e ∷ objects) h = own_plan_at e.0 e.1 (own key e.1.rows) (find key objects) h.0 (own_own key e.1.rows h.0.rows) (own_find key objects h.1)
+  own_can_put key (e ∷ objects) h = own_plan_at key e.0 e.1 (own key e.1.rows) (find key objects) h.0 (own_own key e.1.rows h.0.rows) (own_find key objects h.1)
 
   -- keys
-  own_existences : (rows : Rows (Slot Label)) → OwnRows rows → Own count (existences rows)
+  pub own_existences : (rows : Rows (Slot Label)) → OwnRows rows → Own count (existences rows)
   own_existences [] h = own_bottom count
   own_existences (r ∷ rows) h = own_union count r.1.existence _ h.0.1 (own_existences rows h.1)
 
@@ -325,9 +352,36 @@ module _ (count : ℕ) where
   own_own_test None structure q h = h
   own_own_test (Some s) structure q h = q.1
 
+  pub own_definition_test : (key : List ℕ) (o : Option (Slot Label)) (p : Object Label) → IfThere OwnSlot o → OwnObject p → Own count (definition_test key o p)
+  own_definition_test key None p q h = own_absence key p h
+  own_definition_test key (Some s) p q h = q.1
+
   pub own_own_walk : (key : List ℕ) (p : Option (Object Label)) → IfThere OwnObject p → Own count (own_walk key p)
   own_own_walk key None h = own_bottom count
   own_own_walk key (Some p) h = own_own_test (own key p.rows) p.structure (own_own key p.rows h.rows) h.structure
+
+  -- the highest element
+  own_higher : (n : ℕ) (i : Option ℕ) (s : Slot Label) (rest : Option (ℕ × Slot Label)) → OwnSlot s → IfThere (λ e. OwnSlot e.1) rest → IfThere (λ e. OwnSlot e.1) (higher_if n i s rest)
+  own_higher n None s rest q h = h
+  own_higher n (Some i) s None q h = by_test (nat_le n i)
+    where
+      by_test : (b : Bool) → IfThere (λ (e : ℕ × Slot Label). OwnSlot e.1) (cond b (Some (i, s)) None)
+      by_test true = q
+      by_test false = tt
+  own_higher n (Some i) s (Some e) q h = by_test (nat_le n i) (nat_lt e.0 i)
+    where
+      by_test : (b c : Bool) → IfThere (λ (x : ℕ × Slot Label). OwnSlot x.1) (cond b (cond c (Some (i, s)) (Some e)) (Some e))
+      by_test true true = q
+      by_test true false = h
+      by_test false c = h
+
+  own_highest : (n : ℕ) (rows : Rows (Slot Label)) → OwnRows rows → IfThere (λ e. OwnSlot e.1) (highest n rows)
+  own_highest n [] h = tt
+  own_highest n (r ∷ rows) h = own_higher n (index_of r.0) r.1 (highest n rows) h.0 (own_highest n rows h.1)
+
+  pub own_highest_in : (n : ℕ) (p : Option (Object Label)) → IfThere OwnObject p → IfThere (λ e. OwnSlot e.1) (highest n (rows_in p))
+  own_highest_in n None h = tt
+  own_highest_in n (Some p) h = own_highest n p.rows h.rows
 
   -- what is known of one
   own_part_label : (part : OwnPart) (label : Label) → Own count label → Own count (part_label part label)

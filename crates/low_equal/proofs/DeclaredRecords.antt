@@ -6,8 +6,8 @@ use Rattle.js_values.specs.declared.value.Value.{Value}
 use Rattle.js_values.specs.Records.{Binding, Bindings, Record, rebound, bound_in, found}
 use Rattle.js_ast.specs.Trees.{Ident, Function, name_of, params_of, body_of}
 use Rattle.es_meaning.specs.Declared.{declared_functions, declared_statements}
-use Rattle.es_meaning.specs.Naming.{names_in_statements}
-use Rattle.es_meaning.specs.Functions.{own_name, bound_by, kept_by, with_parameters, with_functions, with_arguments, with_variables, name_text, Entry, entry_bindings}
+use Rattle.es_meaning.specs.Naming.{arguments_name, names_in_statements}
+use Rattle.es_meaning.specs.Functions.{own_name, unless_bound, bound_by, kept_by, with_parameters, with_functions, with_arguments, with_variables, name_text, Entry, entry_bindings}
 use Rattle.es_meaning.specs.Plain.{with_value, assigned_in, binding_at}
 use Rattle.flow_meaning.specs.Erased.{labelled_values}
 use Rattle.flow_meaning.specs.Scopes.{Val, joined}
@@ -90,8 +90,12 @@ module _ (count : ℕ) where
   own_functions (f ∷ fs) (v ∷ vs) bindings q h = let name = name_text (name_of f) in own_functions fs vs _ q.1 (own_bound_by (found name bindings) name v bindings q.0 h)
 
   -- the `arguments` object
+  own_unless : (o : Option (Binding Val)) (v : Val) (bindings : Bindings Val) → OwnVal v → OwnBindings bindings → OwnBindings (unless_bound o v bindings)
+  own_unless None v bindings q h = each_push (λ b. Own b.value.label) bindings _ h q
+  own_unless (Some b) v bindings q h = h
+
   own_arguments : (b : Bool) (v : Val) (bindings : Bindings Val) → OwnVal v → OwnBindings bindings → OwnBindings (with_arguments b v bindings)
-  own_arguments true v bindings q h = each_push (λ b. Own b.value.label) bindings _ h q
+  own_arguments true v bindings q h = own_unless (found arguments_name bindings) v bindings q h
   own_arguments false v bindings q h = h
 
   -- variables

@@ -39,7 +39,7 @@ use Rattle.low_equal.proofs.DeclaredActs as acts
 use Rattle.low_equal.proofs.DeclaredActs.{given_keeping, own_walk_to, own_base, own_walk_from, remove_keeps, own_list, list_keeps, spend_keeps}
 use Rattle.low_equal.proofs.DeclaredRequests.{act_keeping}
 use Rattle.low_equal.proofs.DeclaredCalls.{function_keeping, jumps_keeping, raises_keeping, declare_keeping}
-use Rattle.low_equal.proofs.DeclaredEntering.{OwnEnters, primitive_keeping, comparable_keeping, get_keeping, typeof_keeping, put_keeping, instance_keeping, value_keeping, construct_keeping}
+use Rattle.low_equal.proofs.DeclaredEntering.{OwnEnters, primitive_keeping, comparable_keeping, get_keeping, typeof_keeping, put_keeping, define_keeping, instance_keeping, value_keeping, construct_keeping}
 
 module _ (count : ℕ) where
   abbrev Own : Label → Type 0
@@ -176,6 +176,7 @@ module _ (count : ℕ) where
       remove = λ {n = n} r. record { keeps = λ s k. remove_keeps count n s r k };
       this_of = λ {n = n} r. own_base count n r;
       instance = λ {v = v} {f = f} {E = E} r q h. instance_keeping count functions E (enters_of h) f.value v f.label r q;
+      define = λ key marks shape {base = b} {v = v} {g = g} {set = q} {E = E} rb rv rg rq h. define_keeping count functions E (enters_of h) key marks shape b v g q rb rv rg rq;
       fork = λ t {w = w} {v = v} r h k. fork_keeping count t v r (h w tt) (k w tt);
       round = λ {w = w} turn labels {e = e} f g r h. round_keeping count turn labels e f (λ d. h w tt d d tt);
       again = λ {v = v} r h k. again_keeping count v r h k;

@@ -19,10 +19,11 @@ use Rattle.js_values.specs.Objects.{Property, PlainObject, Object, own}
 use Rattle.js_values.specs.Records.{Binding, Bindings, Record, found, rebound, if_has, first_with, lookup, bound_in}
 use Rattle.js_values.specs.Walks.{plain_chain, object_chain, plain_find, find}
 use Rattle.native_protocol.specs.declared.request.ErrorKind.{ErrorKind}
+use Rattle.native_protocol.specs.declared.request.ErrorKind.TheVariants as kinds
 use Rattle.native_protocol.specs.declared.request.Seen.TheVariants as seen_as
 use Rattle.object_heap.specs.Acts.{Acted}
 use Rattle.prototype_walk.specs.declared.plan.PutPlan.{PutPlan}
-use Rattle.prototype_walk.specs.declared.plan.PutPlan.TheVariants.{Setter}
+use Rattle.prototype_walk.specs.declared.plan.PutPlan.TheVariants.{Setter, Write}
 use Rattle.prototype_walk.specs.KeyLists.{Keys}
 use Rattle.js_ast.specs.declared.operators.UnaryOperator.{UnaryOperator}
 use Rattle.es_meaning.specs.Outcomes as es
@@ -30,8 +31,9 @@ use Rattle.es_meaning.specs.Outcomes.{throws, Outcome, Goes, Ends, ret, and_then
 use Rattle.es_meaning.specs.Operations.{Ty, One, Res}
 use Rattle.es_meaning.specs.Operations.{Value as a_value}
 use Rattle.es_meaning.specs.Operators.{unary_of}
-use Rattle.es_meaning.specs.Definitions.{setter_in}
-use Rattle.es_meaning.specs.Objects.{Plan, writes, adds, refuses, calls, made_by_script, own_in}
+use Rattle.es_meaning.specs.Definitions.{is_accessor, setter_in}
+use Rattle.es_meaning.specs.Primitives.{own_value_of, prototype_of_primitive}
+use Rattle.es_meaning.specs.Objects.{Plan, writes, adds, refuses, calls, made_by_script, is_length_in, own_in}
 use Rattle.es_meaning.specs.Start.{id, global_object}
 use Rattle.es_meaning.specs.Start as start
 use Rattle.es_meaning.specs.Plain as plain
@@ -42,7 +44,7 @@ use Rattle.flow_meaning.specs.Scopes.{Val, Halt, L, joined}
 use Rattle.flow_meaning.specs.Tracked as tracked
 use Rattle.flow_meaning.specs.Tracked.{error_jump, with_error}
 use Rattle.low_equal.proofs.Erased.{Mark, aim_throws, Shaped, erased_result, erased, Extends, goes_extends, jumps_extends, ends_extends, extends_bind, YieldsBy, Yields, goes, ends, stops, LiftBy, Lift, goes_to, ret_by, yields_bind, jump_yields, under_yields, bind_lifts, raise_lifts}
-use Rattle.low_equal.proofs.ErasedHeaps.{length_erased, pushed_erased, object_erased, own_erased, Does, does, breaks, write_does, add_does, remove_does, erased_found, find_erased, enumerable_erased, Plans, both_write, both_add, both_refuse, both_call, HasNot, HasSetter, NamesNoElement, can_put_erased, no_element}
+use Rattle.low_equal.proofs.ErasedHeaps.{length_erased, pushed_erased, object_erased, own_erased, Does, does, breaks, write_does, add_does, remove_does, erased_found, find_erased, found_along_erased, enumerable_erased, Plans, both_write, both_add, both_refuse, both_call, HasNot, HasSetter, can_put_erased}
 
 -- ---- records without labels
 
@@ -268,10 +270,18 @@ access_found : (place : Label) (base : Val) (f : Option (ℕ × Slot Label)) →
 access_found place base (Some f) = held_erased _ base f.1.body
 access_found place base None = refl
 
+-- an own property of a primitive value, or one of its prototype
+primitive_found : (label : Label) (known : Option Primitive) (beyond : tracked.Access) → erased_access (tracked.primitive_access label known beyond) ≡ plain.primitive_access known (erased_access beyond)
+primitive_found label None beyond = refl
+primitive_found label (Some v) beyond = refl
+
 -- a property of a value
 pub property_lifts : {w : List Mark} (label : Label) (base : Val) (v : Value) (key : List ℕ) → base.value ≡ v → LiftBy erased_access w (tracked.property_of label base v key) (plain.property_of v key)
 unfolding tracked.property_of plain.property_of
-property_lifts label base (value.Primitive p) key e = record { yields = λ s r. ends; extends = ends_extends _ }
+property_lifts label base (value.Primitive p) key e = record {
+  yields = λ s r. goes_to r (primitive_found label (own_value_of p key) _ ∙ ap (plain.primitive_access (own_value_of p key)) (access_found _ base (find key (tracked.primitive_chain s.heap p)).at ∙ ap₂ (λ b f. plain.found b f) e (sym (found_along_erased key s.heap (prototype_of_primitive p))))) refl;
+  extends = λ s. goes_extends _ s;
+}
 property_lifts label base (value.Object o) key e = record {
   yields = λ s r. goes_to r (access_found _ base (find key (object_chain s.heap o.0)).at ∙ ap₂ (λ b f. plain.found b f) e (sym (find_erased key s.heap o.0))) refl;
   extends = λ s. goes_extends _ s;
@@ -349,14 +359,17 @@ acted_yields t a s r d = acted_by a s r d
 abbrev pub erased_putting : tracked.Putting → plain.Putting
 erased_putting tracked.is_put = plain.is_put
 erased_putting (tracked.has_setter label f base) = plain.has_setter f base.value
+erased_putting (tracked.has_length label o) = plain.has_length o
 
 abbrev pub labelled_putting : plain.Putting → tracked.Putting
 labelled_putting plain.is_put = tracked.is_put
 labelled_putting (plain.has_setter f base) = tracked.has_setter bottom f (unlabelled base)
+labelled_putting (plain.has_length o) = tracked.has_length bottom o
 
 pub labelled_putting_is : (a : plain.Putting) → erased_putting (labelled_putting a) ≡ a
 labelled_putting_is plain.is_put = refl
 labelled_putting_is (plain.has_setter f base) = refl
+labelled_putting_is (plain.has_length o) = refl
 
 -- a setter that is found
 setter_yields : {w : List Mark} (label : Label) (base : Val) (f : ObjId) (slot : Option (Slot Label)) (x : Slot Label) (s : scopes.State) → slot ≡ Some x → setter_in x.body ≡ Some f → Shaped w s.frames
@@ -366,57 +379,89 @@ setter_yields {w} label base f slot x s e q r =
     subst (λ y. YieldsBy erased_putting w (tracked.setter_at label base y s) (Goes (plain.has_setter f base.value) (erased s))) (sym e)
     (subst (λ y. YieldsBy erased_putting w (tracked.setter_found (union label x.label) base y s) (Goes (plain.has_setter f base.value) (erased s))) (sym q) (goes r))
 
+-- a property gets another value, unless it is the `length` of an array
+overwritten_yields : {w : List Mark} (b : Bool) (rule : Rule) (o : ℕ) (key : List ℕ) (label : Label) (v : Val) (s : scopes.State) → Shaped w s.frames → YieldsBy erased_putting w (tracked.overwritten b rule o key label v s) (plain.overwritten b o key v.value (erased s))
+unfolding tracked.overwritten plain.overwritten
+overwritten_yields true rule o key label v s r = goes r
+overwritten_yields false rule o key label v s r = acted_by tracked.is_put s r (write_does rule o key _ v s.heap)
+
+-- which prints nothing
+overwritten_extends : (b : Bool) (o : ℕ) (key : List ℕ) (v : Value) (s : State) → Extends s.lines (plain.overwritten b o key v s)
+unfolding plain.overwritten
+overwritten_extends true o key v s = goes_extends _ s
+overwritten_extends false o key v s = goes_extends plain.is_put (record s { heap = _ })
+
+-- whether it is that
+length_in_erased : (key : List ℕ) (o : Option (Object Label)) → is_length_in key (option_map erased_object o) ≡ tracked.is_length_in key o
+length_in_erased key None = refl
+length_in_erased key (Some p) = refl
+
 -- a put, as is planned
-put_by_yields : {w : List Mark} (rule : Rule) (o : ℕ) (key : List ℕ) (label : Label) (base v : Val) (s : scopes.State) {p : PutPlan Label} {q : Plan} → base.value ≡ value.Object (id o) → Shaped w s.frames → NamesNoElement s.heap o key
+put_by_yields : {w : List Mark} (rule : Rule) (o : ℕ) (key : List ℕ) (label : Label) (base v : Val) (s : scopes.State) {p : PutPlan Label} {q : Plan} → base.value ≡ value.Object (id o) → Shaped w s.frames
     → Plans (HasNot s.heap o key) (HasSetter s.heap key) p q → YieldsBy erased_putting w (tracked.put_by p rule o key label base v s) (plain.put_by q o key v.value (erased s))
 unfolding tracked.put_by plain.put_by
-put_by_yields rule o key label base v s b r free both_write = acted_by tracked.is_put s r (write_does rule o key _ v s.heap)
-put_by_yields rule o key label base v s b r free (both_add absent) = acted_by tracked.is_put s r (add_does o key _ (Data v.value) v.label made_by_script s.heap absent free)
-put_by_yields rule o key label base v s b r free both_refuse = throws_yields _ _ s r
-put_by_yields {w} rule o key label base v s b r free (both_call {at = at} {f = f} {walk = walk} h) =
+put_by_yields {w} rule o key label base v s b r (both_write {walk = walk}) =
+    subst (λ x. YieldsBy erased_putting w (tracked.put_by (Write walk) rule o key label base v s) (plain.overwritten x o key v.value (erased s))) (sym (ap (is_length_in key) (object_erased s.heap o) ∙ length_in_erased key (slice_get s.heap o)))
+    (overwritten_yields (tracked.is_length_in key (slice_get s.heap o)) rule o key (union label walk) v s r)
+put_by_yields rule o key label base v s b r (both_add absent) = acted_by tracked.is_put s r (add_does o key _ (Data v.value) v.label made_by_script s.heap absent)
+put_by_yields rule o key label base v s b r both_refuse = throws_yields _ _ s r
+put_by_yields {w} rule o key label base v s b r (both_call {at = at} {f = f} {walk = walk} h) =
     subst (λ x. YieldsBy erased_putting w (tracked.put_by (Setter at walk) rule o key label base v s) (Goes (plain.has_setter f x) (erased s))) b
     (setter_yields (union label walk) base f (tracked.own_in key (slice_get s.heap at.0)) h.slot s h.stands h.setter r)
 
 -- which prints nothing
 put_by_extends : (plan : Plan) (o : ℕ) (key : List ℕ) (v : Value) (s : State) → Extends s.lines (plain.put_by plan o key v s)
 unfolding plain.put_by
-put_by_extends writes o key v s = goes_extends plain.is_put (record s { heap = _ })
+put_by_extends writes o key v s = overwritten_extends (is_length_in key (slice_get s.heap o)) o key v s
 put_by_extends adds o key v s = goes_extends plain.is_put (record s { heap = _ })
 put_by_extends refuses o key v s = throws_extends _ s
 put_by_extends (calls f) o key v s = goes_extends _ s
-
--- an element of an array, or another property
-put_on_yields : {w : List Mark} (b : Bool) (rule : Rule) (o : ℕ) (key : List ℕ) (label : Label) (base v : Val) (s : scopes.State) → base.value ≡ value.Object (id o) → Shaped w s.frames → tracked.is_element_of (slice_get s.heap o) key ≡ b
-    → YieldsBy erased_putting w (tracked.put_on b rule o key label base v s) (plain.put_on b o key v.value (erased s))
-unfolding tracked.put_on plain.put_on
-put_on_yields true rule o key label base v s q r e = ends
-put_on_yields false rule o key label base v s q r e =
-    put_by_yields rule o key label base v s q r (λ p d. no_element p.class key (sym (ap (λ x. tracked.is_element_of x key) d) ∙ e)) (can_put_erased key s.heap o)
-
--- which prints nothing
-put_on_extends : (b : Bool) (o : ℕ) (key : List ℕ) (v : Value) (s : State) → Extends s.lines (plain.put_on b o key v s)
-unfolding plain.put_on
-put_on_extends true o key v s = ends_extends _ s
-put_on_extends false o key v s = put_by_extends _ o key v s
-
--- whether the key names an element of an object that there may be
-element_erased : (o : Option (Object Label)) (key : List ℕ) → plain.is_element_of (option_map erased_object o) key ≡ tracked.is_element_of o key
-element_erased None key = refl
-element_erased (Some p) key = refl
 
 -- a put on an object
 put_lifts : {w : List Mark} (rule : Rule) (o : ℕ) (key : List ℕ) (label : Label) (base v : Val) → base.value ≡ value.Object (id o) → LiftBy erased_putting w (tracked.put rule o key label base v) (plain.put o key v.value)
 unfolding tracked.put plain.put
 put_lifts {w} rule o key label base v q = record {
-  yields = λ s r. subst (λ b. YieldsBy erased_putting w (tracked.put rule o key label base v s) (plain.put_on b o key v.value (erased s))) (sym (ap (λ x. plain.is_element_of x key) (object_erased s.heap o) ∙ element_erased (slice_get s.heap o) key))
-      (put_on_yields (tracked.is_element_of (slice_get s.heap o) key) rule o key label base v s q r refl);
-  extends = λ s. put_on_extends (plain.is_element_of (slice_get s.heap o) key) o key v.value s;
+  yields = λ s r. put_by_yields rule o key label base v s q r (can_put_erased key s.heap o);
+  extends = λ s. put_by_extends _ o key v.value s;
+}
+
+-- on a primitive value: the setter of its prototype, or none
+setter_if_yields : {w : List Mark} (label : Label) (base : Val) (f : Slot Label) (body : Body) (s : scopes.State) → f.body ≡ body → Shaped w s.frames
+    → YieldsBy erased_putting w (tracked.setter_if (is_accessor body) label base f s) (plain.setter_or_refused (setter_in body) base.value (erased s))
+unfolding tracked.setter_if tracked.setter_found plain.setter_or_refused
+setter_if_yields label base f (Data v) s e r = throws_yields _ _ s r
+setter_if_yields {w} label base f (Accessor get None) s e r = subst (λ b. YieldsBy erased_putting w (tracked.setter_found (union label f.label) base (setter_in b) s) (plain.throw_error kinds.TypeError (erased s))) (sym e) (throws_yields _ _ s r)
+setter_if_yields {w} label base f (Accessor get (Some g)) s e r = subst (λ b. YieldsBy erased_putting w (tracked.setter_found (union label f.label) base (setter_in b) s) (Goes (plain.has_setter g base.value) (erased s))) (sym e) (goes r)
+
+setter_or_extends : (set : Option ObjId) (base : Value) (s : State) → Extends s.lines (plain.setter_or_refused set base s)
+unfolding plain.setter_or_refused
+setter_or_extends None base s = throws_extends _ s
+setter_or_extends (Some f) base s = goes_extends _ s
+
+beyond_yields : {w : List Mark} (label : Label) (base : Val) (f : Option (ℕ × Slot Label)) (s : scopes.State) → Shaped w s.frames → YieldsBy erased_putting w (tracked.put_beyond label base f s) (plain.put_beyond base.value (erased_found f) (erased s))
+unfolding tracked.put_beyond plain.put_beyond
+beyond_yields label base None s r = throws_yields _ _ s r
+beyond_yields label base (Some f) s r = setter_if_yields label base f.1 f.1.body s refl r
+
+beyond_extends : (base : Value) (f : Option (ℕ × Property)) (s : State) → Extends s.lines (plain.put_beyond base f s)
+unfolding plain.put_beyond
+beyond_extends base None s = throws_extends _ s
+beyond_extends base (Some f) s = setter_or_extends (setter_in f.1.body) base s
+
+on_primitive_lifts : {w : List Mark} (known : Option Primitive) (label : Label) (base : Val) (p : Primitive) (key : List ℕ) → base.value ≡ value.Primitive p → LiftBy erased_putting w (tracked.put_on_primitive known label base p key) (plain.put_on_primitive known p key)
+unfolding tracked.put_on_primitive plain.put_on_primitive
+on_primitive_lifts (Some v) label base p key e = record { yields = λ s r. throws_yields _ _ s r; extends = throws_extends _ }
+on_primitive_lifts {w} None label base p key e = record {
+  yields = λ s r. subst (λ b. YieldsBy erased_putting w (tracked.put_on_primitive None label base p key s) (plain.put_beyond b (plain_find key (plain.primitive_chain (erased_heap s.heap) p)) (erased s))) e
+      (subst (λ f. YieldsBy erased_putting w (tracked.put_on_primitive None label base p key s) (plain.put_beyond base.value f (erased s))) (sym (found_along_erased key s.heap (prototype_of_primitive p)))
+      (beyond_yields _ base (find key (tracked.primitive_chain s.heap p)).at s r));
+  extends = λ s. beyond_extends (value.Primitive p) (plain_find key (plain.primitive_chain s.heap p)) s;
 }
 
 -- on a value
 put_property_lifts : {w : List Mark} (label : Label) (base : Val) (b : Value) (key : List ℕ) (v : Val) → base.value ≡ b → LiftBy erased_putting w (tracked.put_property label base b key v) (plain.put_property b key v.value)
 unfolding tracked.put_property plain.put_property
-put_property_lifts label base (value.Primitive p) key v e = record { yields = λ s r. ends; extends = ends_extends _ }
+put_property_lifts label base (value.Primitive p) key v e = let l = on_primitive_lifts (own_value_of p key) label base p key e in record { yields = l.yields; extends = l.extends }
 put_property_lifts label base (value.Object o) key v e = let l = put_lifts W2 o.0 key label base v e in record { yields = l.yields; extends = l.extends }
 
 -- a value that is put into a binding
@@ -478,10 +523,16 @@ removed_in_yields None label o key s r = goes r
 removed_in_yields {w} (Some p) label o key s r =
     subst (λ x. Yields a_value w (tracked.removed_own (own key p.rows) label p.structure o key s) (plain.removed_own x o key (erased s))) (sym (own_erased key p.rows)) (removed_own_yields (own key p.rows) label p.structure o key s r)
 
+-- of a primitive value
+removed_of_primitive_lifts : {w : List Mark} (known : Option Primitive) (label : Label) → Lift a_value w (tracked.removed_of_primitive known label) (plain.removed_of_primitive known)
+unfolding tracked.removed_of_primitive plain.removed_of_primitive
+removed_of_primitive_lifts None label = record { yields = λ s r. goes r; extends = goes_extends _ }
+removed_of_primitive_lifts (Some v) label = record { yields = λ s r. throws_yields _ _ s r; extends = throws_extends _ }
+
 -- a property of a value
 remove_property_lifts : {w : List Mark} (label : Label) (base : Value) (key : List ℕ) → Lift a_value w (tracked.remove_property label base key) (plain.remove (plain.of_property base key))
 unfolding tracked.remove_property plain.remove
-remove_property_lifts label (value.Primitive p) key = record { yields = λ s r. ends; extends = ends_extends _ }
+remove_property_lifts label (value.Primitive p) key = let l = removed_of_primitive_lifts (own_value_of p key) label in record { yields = l.yields; extends = l.extends }
 remove_property_lifts {w} label (value.Object o) key = record {
   yields = λ s r. subst (λ x. Yields a_value w (tracked.removed_in (slice_get s.heap o.0) label o.0 key s) (plain.removed_own (own_in key x) o.0 key (erased s))) (sym (object_erased s.heap o.0))
       (removed_in_yields (slice_get s.heap o.0) label o.0 key s r);
@@ -491,7 +542,7 @@ remove_property_lifts {w} label (value.Object o) key = record {
 -- a reference
 pub remove_lifts : {w : List Mark} (n : tracked.Reference) → Lift a_value w (tracked.remove n) (plain.remove (erased_reference n))
 unfolding tracked.remove plain.remove
-remove_lifts (tracked.of_name name place walk) = record { yields = λ s r. ends; extends = ends_extends _ }
+remove_lifts (tracked.of_name name place walk) = record { yields = λ s r. throws_yields _ _ s r; extends = throws_extends _ }
 remove_lifts (tracked.of_property base key label) = let l = remove_property_lifts (union base.label label) base.value key in record { yields = l.yields; extends = l.extends }
 
 -- ---- turns and ends

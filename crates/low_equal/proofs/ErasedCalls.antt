@@ -10,11 +10,12 @@ use Rattle.flow_frames.specs.declared.faults.Rule.TheVariants.{W10}
 use Rattle.flow_frames.specs.Frames.{context, Frame}
 use Rattle.flow_frames.specs.Changes.{changed_at}
 use Rattle.js_number.specs.declared.primitive.Primitive.TheVariants.{Num}
-use Rattle.js_number.specs.Conversions.{text_of}
+use Rattle.js_number.specs.declared.num.Num.TheVariants.{Int}
 use Rattle.js_values.specs.declared.value.Value.{Value}
 use Rattle.js_values.specs.declared.value.Value.TheVariants as value
 use Rattle.js_values.specs.declared.property.Body.TheVariants.{Data}
 use Rattle.js_values.specs.declared.property.Slot.{Slot}
+use Rattle.js_values.specs.Arrays.{element_key}
 use Rattle.js_values.specs.Objects.{Rows, Property, PlainObject, Object}
 use Rattle.js_values.specs.Records.{Binding, Bindings, Record, found}
 use Rattle.js_ast.specs.Trees.{Ident, Function, name_of, params_of, body_of}
@@ -25,8 +26,8 @@ use Rattle.es_meaning.specs.Operations.{One}
 use Rattle.es_meaning.specs.Operations.{Value as a_value}
 use Rattle.es_meaning.specs.Environments.{Leaving}
 use Rattle.es_meaning.specs.Declared.{declared_functions, declared_statements}
-use Rattle.es_meaning.specs.Naming.{names_in_statements}
-use Rattle.es_meaning.specs.Functions.{env_id, function_objects, objects_of, references_of, behind_functions, closes_over, own_name, elements_down, arguments_rows, accessor_rows, binds, bound_by, kept_by, with_parameters, with_functions, with_arguments, with_variables, name_text, Entry, entry_bindings, entry_record, made_if}
+use Rattle.es_meaning.specs.Naming.{arguments_name, names_in_statements}
+use Rattle.es_meaning.specs.Functions.{env_id, function_objects, objects_of, references_of, behind_functions, closes_over, own_name, elements_down, arguments_rows, accessor_rows, unless_bound, binds, bound_by, kept_by, with_parameters, with_functions, with_arguments, with_variables, name_text, Entry, entry_bindings, entry_record, made_if}
 use Rattle.es_meaning.specs.Functions as functions_of
 use Rattle.es_meaning.specs.Objects.{made_by_script, defined}
 use Rattle.es_meaning.specs.Start.{id, built_in}
@@ -254,8 +255,12 @@ functions_erased [] vs bindings = refl
 functions_erased (f ∷ fs) [] bindings = refl
 functions_erased (f ∷ fs) (v ∷ vs) bindings = functions_erased fs vs _ ∙ ap (with_functions fs (values_of vs)) (bound_erased (name_text (name_of f)) v bindings)
 
+unless_erased : (o : Option (Binding Val)) (v : Val) (bindings : Bindings Val) → erased_bindings (unless_bound o v bindings) ≡ unless_bound (option_map erased_binding o) v.value (erased_bindings bindings)
+unless_erased None v bindings = bindings_appended bindings (binds false arguments_name v)
+unless_erased (Some b) v bindings = refl
+
 arguments_bound : (b : Bool) (v : Val) (bindings : Bindings Val) → erased_bindings (with_arguments b v bindings) ≡ with_arguments b v.value (erased_bindings bindings)
-arguments_bound true v bindings = bindings_appended bindings _
+arguments_bound true v bindings = unless_erased (found arguments_name bindings) v bindings ∙ ap (λ o. unless_bound o v.value (erased_bindings bindings)) (sym (found_erased arguments_name bindings))
 arguments_bound false v bindings = refl
 
 variables_erased : (missing : Val) (names : List (List ℕ)) (bindings : Bindings Val) → erased_bindings (with_variables missing names bindings) ≡ with_variables missing.value names (erased_bindings bindings)
@@ -292,16 +297,16 @@ element v = functions_of.property_with v made_by_script
 
 elements_erased : (label : Label) (rows : Rows (Slot Label)) (n : ℕ) (vs : List Val) → erased_rows (elements_down rows n (map (data_slot label) vs)) ≡ elements_down (erased_rows rows) n (map element (values_of vs))
 elements_erased label rows n [] = refl
-elements_erased label rows n (v ∷ vs) = defined_erased (text_of (Num (pos n))) (data_slot label v) (elements_down rows (suc n) (map (data_slot label) vs)) ∙ ap (defined (text_of (Num (pos n))) (element v.value)) (elements_erased label rows (suc n) vs)
+elements_erased label rows n (v ∷ vs) = defined_erased (element_key n) (data_slot label v) (elements_down rows (suc n) (map (data_slot label) vs)) ∙ ap (defined (element_key n) (element v.value)) (elements_erased label rows (suc n) vs)
 
 abbrev length_property : ℕ → Property
-length_property n = functions_of.property_with (value.Primitive (Num (pos n))) built_in
+length_property n = functions_of.property_with (value.Primitive (Num (Int (pos n)))) built_in
 
 arguments_erased : (number place : ℕ) (vs : List Val) (label : Label) → erased_object (arguments_object number place vs label) ≡ functions_of.arguments_object number place (values_of vs)
 arguments_erased number place vs label = ap (λ (rows : Rows Property). record (functions_of.arguments_object number place []) { rows = rows })
-    (rows_appended (arguments_rows (record { body = Data (value.Primitive (Num (pos (length vs)))); label = label; existence = label; marks = built_in }) (map (data_slot label) vs)) _
+    (rows_appended (arguments_rows (record { body = Data (value.Primitive (Num (Int (pos (length vs))))); label = label; existence = label; marks = built_in }) (map (data_slot label) vs)) _
     ∙ ap₂ (λ (rows more : Rows Property). rows ++ more)
-    (elements_erased label ((codes "length", record { body = Data (value.Primitive (Num (pos (length vs)))); label = label; existence = label; marks = built_in }) ∷ []) 0 vs ∙ ap (λ n. arguments_rows (length_property n) (map element (values_of vs))) (sym (values_length vs)))
+    (elements_erased label ((codes "length", record { body = Data (value.Primitive (Num (Int (pos (length vs))))); label = label; existence = label; marks = built_in }) ∷ []) 0 vs ∙ ap (λ n. arguments_rows (length_property n) (map element (values_of vs))) (sym (values_length vs)))
     (rows_made label accessor_rows))
 
 made_if_erased : (b : Bool) (p : Object Label) (q : PlainObject) → erased_object p ≡ q → erased_heap (made_if b p) ≡ made_if b q
@@ -316,7 +321,7 @@ begins functions number f place base args o here s = record s {
   heap = s.heap ++ (objects_of functions o here (declared_functions (body_of f)) ++ made_if (names_in_statements (body_of f)) (functions_of.arguments_object number here args));
   records = s.records ++ entry_record f place (record {
     this = base;
-    function = value.Primitive (Num (pos number));
+    function = value.Primitive (Num (Int (pos number)));
     args = args;
     missing = undefined;
     functions = references_of o (declared_functions (body_of f));
@@ -336,7 +341,7 @@ begins_erased functions number f place base vs s =
     (records_appended s.records _ ∙ ap (λ (r : Record Value). erased_records s.records ++ r ∷ []) (record_erased_entry f place _
     ∙ ap₂ (λ (args fs : List Value). entry_record f place (record {
       this = base.value;
-      function = value.Primitive (Num (pos number));
+      function = value.Primitive (Num (Int (pos number)));
       args = args;
       missing = undefined;
       functions = fs;

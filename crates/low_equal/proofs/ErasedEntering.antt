@@ -1,9 +1,11 @@
 -- What a labelled computation enters is what the unlabelled one enters: called functions, getters and setters, conversions, and what `instanceof` reads.
-use Rattle.std.proofs.Common.{◌≡◌, ℕ, suc, Bool, true, false, ◌||◌, cond, nat_eq, List, [], ◌∷◌, ◌++◌, length, Option, Some, None, slice_get, refl, sym, ◌∙◌, ap, subst}
+use Rattle.std.proofs.Common.{◌≡◌, ℕ, suc, Bool, true, false, ◌||◌, cond, nat_eq, List, [], ◌∷◌, ◌++◌, length, Option, Some, None, Result, Ok, Err, slice_get, refl, sym, ◌∙◌, ap, subst, true≢false}
 use Rattle.std.specs.List.{list_any}
 use Rattle.std.specs.Option.{option_map}
 use Rattle.origin_labels.specs.Label.{Label, bottom, union}
 use Rattle.flow_frames.specs.declared.kind.Kind.TheVariants as kind
+use Rattle.js_number.specs.declared.int.LeftNumbers.{LeftNumbers}
+use Rattle.js_number.specs.declared.num.Num.{Num as Number}
 use Rattle.js_number.specs.declared.primitive.Primitive.TheVariants as prims
 use Rattle.js_values.specs.declared.ids.ObjId.{ObjId}
 use Rattle.js_values.specs.declared.value.Value.{Value}
@@ -16,28 +18,32 @@ use Rattle.js_ast.specs.Functions.{FunctionCode}
 use Rattle.native_protocol.specs.declared.hint.Hint.{Hint}
 use Rattle.native_protocol.specs.declared.hint.Hint.TheVariants as hint
 use Rattle.native_protocol.specs.declared.request.ErrorKind.TheVariants as kinds
+use Rattle.native_protocol.specs.declared.request.GivenMarks.{GivenMarks}
 use Rattle.es_meaning.specs.BuiltIns.{BuiltIns}
 use Rattle.es_meaning.specs.Holders.{constructs_in}
-use Rattle.es_meaning.specs.Outcomes.{Goes, ret, ◌>>=◌}
-use Rattle.es_meaning.specs.Operations.{One}
+use Rattle.es_meaning.specs.Outcomes.{Halt, Outcome, Goes, Jumps, Ends, ret, and_then, ◌>>=◌}
+use Rattle.es_meaning.specs.Operations.{One, Shape}
 use Rattle.es_meaning.specs.Operations.{Value as a_value}
 use Rattle.es_meaning.specs.Operators.{is_object, is_compared, converts_beside}
 use Rattle.es_meaning.specs.Environments.{called_env}
 use Rattle.es_meaning.specs.Functions.{Callee, not_callable, empty_callee, of_script, of_built_in, Target, this_or}
 use Rattle.es_meaning.specs.Start.{id}
 use Rattle.es_meaning.specs.Plain as plain
-use Rattle.es_meaning.specs.Plain.{State, P, choose, undefined, ended_call, ended_construction, object_or_default, prototype_name}
+use Rattle.es_meaning.specs.Plain.{State, Jump, P, number_in, is_count, count_of, choose, undefined, ended_call, ended_construction, object_or_default, prototype_name}
 use Rattle.es_meaning.specs.Requested as requested
+use Rattle.es_meaning.specs.Requested.{no_marks}
 use Rattle.flow_meaning.specs.Erased.{erased_object, erased_heap, labelled_values, unlabelled}
 use Rattle.flow_meaning.specs.Scopes as scopes
 use Rattle.flow_meaning.specs.Scopes.{Val, L, joined, scope, construction, settled_value}
 use Rattle.flow_meaning.specs.Requested as labelled
 use Rattle.flow_meaning.specs.Requested.{aim_of}
 use Rattle.flow_meaning.specs.Tracked as tracked
-use Rattle.low_equal.proofs.Erased.{erased, Extends, goes_extends, Mark, passes, calls, Shaped, Yields, goes, Lift, goes_to, ret_lifts, bind_by, bind_lifts, choose_lifts, scope_pops, frame_lifts}
+use Rattle.low_equal.proofs.Erased.{erased, Extends, goes_extends, ends_extends, Mark, passes, calls, Shaped, YieldsBy, Yields, goes, ends, LiftBy, Lift, goes_to, ret_lifts, bind_by, bind_lifts, choose_lifts, scope_pops, frame_lifts}
 use Rattle.low_equal.proofs.ErasedHeaps.{length_erased, object_erased, appended_erased, erased_chain, chain_erased, erased_found, find_erased, values_of, values_appended, erased_target, this_erased, aim_erased}
 use Rattle.low_equal.proofs.ErasedActs.{throws_yields, throws_extends, erased_access, labelled_access, labelled_access_is, property_lifts, accessed_lifts, typeof_lifts, erased_putting, labelled_putting, labelled_putting_is, put_value_lifts, erased_reference}
-use Rattle.low_equal.proofs.ErasedRequests.{function_in_erased}
+use Rattle.low_equal.proofs.ErasedRequests.{function_in_erased, standing_erased, defining_lifts}
+use Rattle.low_equal.proofs.ErasedDefinitions.{erased_defining}
+use Rattle.low_equal.proofs.ErasedLengths.{no_marks_kept, length_lifts}
 use Rattle.low_equal.proofs.ErasedCalls.{call_lifts, call_extends, made_extends, made_yields, labelled_are, records_length, with_call_erased}
 
 -- an error that the engine throws
@@ -68,8 +74,11 @@ found_value : (walk : Label) (f : Option (ℕ × Slot Label)) → plain.value_fo
 found_value walk None = refl
 found_value walk (Some f) = refl
 
-prototype_erased : (heap : List (Object Label)) (o : ℕ) → plain.prototype_of (erased_heap heap) o ≡ object_or_default (tracked.prototype_of heap o).value
-prototype_erased heap o = ap (λ f. object_or_default (plain.value_found f)) (find_erased prototype_name heap o) ∙ ap object_or_default (found_value (find prototype_name (object_chain heap o)).walk (find prototype_name (object_chain heap o)).at)
+prototype_erased : (heap : List (Object Label)) (o : ℕ) → plain.prototype_of (erased_heap heap) o ≡ tracked.standing heap (object_or_default (tracked.prototype_of heap o).value)
+prototype_erased heap o =
+    ap (λ f. plain.standing (erased_heap heap) (object_or_default (plain.value_found f))) (find_erased prototype_name heap o)
+    ∙ ap (λ v. plain.standing (erased_heap heap) (object_or_default v)) (found_value (find prototype_name (object_chain heap o)).walk (find prototype_name (object_chain heap o)).at)
+    ∙ standing_erased heap (object_or_default (tracked.prototype_of heap o).value)
 
 fresh_erased : (o : ℕ) (s : scopes.State) → erased (tracked.with_fresh (tracked.prototype_of s.heap o) s) ≡ plain.with_fresh (plain.prototype_of (erased_heap s.heap) o) (erased s)
 fresh_erased o s =
@@ -265,6 +274,16 @@ module _ (functions : List FunctionCode) (E : tracked.Enters) (D : plain.Enters)
     construct_lifts (value.Primitive p) label vs = let l = by_constructor not_callable label 0 vs in record { yields = l.yields; extends = l.extends }
     construct_lifts (value.Object o) label vs = record { yields = λ s r. construct_object_yields label o.0 vs s r; extends = λ s. construct_target_extends (requested.target_of s.heap o.0) (values_of vs) s }
 
+  -- ---- conversions
+
+  converted_lifts : (x : Value) {w : List Mark} (wanted : Hint) (label : Label) (v given : Val) → v.value ≡ x → given.value ≡ x → Lift a_value w (tracked.converted_by (is_object x) E wanted label v given) (plain.converted D wanted x)
+  unfolding tracked.converted_by tracked.convert plain.converted
+  converted_lifts (value.Primitive p) wanted label v given e h = record { yields = λ s r. goes_to r h refl; extends = goes_extends _ }
+  converted_lifts (value.Object o) {w} wanted label v given e h =
+      let l = subst (λ x. Lift a_value w (scope kind.Native label (λ depth. E.conversion wanted v) >>= λ c. ret (settled_value c)) (D.conversion wanted x)) e
+      (frame_lifts kind.Native label refl (λ depth. E.conversion wanted v) (D.conversion wanted v.value) (enters.conversion (passes ∷ w) wanted v)) in
+      record { yields = l.yields; extends = l.extends }
+
   -- ---- getters and setters
 
   access_entered : {w : List Mark} (a : tracked.Access) → Lift a_value w (tracked.entered_access functions E a) (plain.entered_access functions D (erased_access a))
@@ -272,11 +291,81 @@ module _ (functions : List FunctionCode) (E : tracked.Enters) (D : plain.Enters)
   access_entered (tracked.has_value v) = record { yields = λ s r. goes r; extends = goes_extends _ }
   access_entered (tracked.has_getter label f base) = let l = value_lifts (value.Object f) label base [] in record { yields = l.yields; extends = l.extends }
 
+  -- ---- the `length` of an array: a value is converted twice
+
+  for_length_lifts : {w : List Mark} (label : Label) (v : Val) → Lift a_value w (tracked.converted_for_length E label v) (plain.converted D hint.Number v.value)
+  unfolding tracked.converted_for_length
+  for_length_lifts label v = converted_lifts v.value hint.Number (union label v.label) v v refl refl
+
+  abbrev the_number : Number → Number
+  the_number n = n
+
+  numbered_by_lifts : {w : List Mark} (r : Result Number LeftNumbers) → LiftBy the_number w (tracked.numbered_by r) (plain.numbered_by r)
+  unfolding tracked.numbered_by plain.numbered_by
+  numbered_by_lifts (Ok n) = record { yields = λ s r. goes r; extends = goes_extends n }
+  numbered_by_lifts (Err e) = record { yields = λ s r. ends; extends = ends_extends _ }
+
+  numbered_lifts : {w : List Mark} (v : Val) → LiftBy the_number w (tracked.numbered v) (plain.numbered v.value)
+  unfolding tracked.numbered plain.numbered
+  numbered_lifts v = numbered_by_lifts (number_in v.value)
+
+  count_lifts : {w : List Mark} (b : Bool) (n : ℕ) (given label : Label) (f : ℕ → Label → L Val) (g : ℕ → P Value) → ((n : ℕ) (given : Label) → Lift a_value w (f n given) (g n)) → Lift a_value w (tracked.given_count b n given label f) (plain.given_count b n g)
+  unfolding tracked.given_count plain.given_count
+  count_lifts true n given label f g h = let l = h n given in record { yields = l.yields; extends = l.extends }
+  count_lifts false n given label f g h = record { yields = λ s r. throws_yields _ _ s r; extends = throws_extends _ }
+
+  -- computations behind each other
+  then_twice : {X Y Z : Type 0} (o : Outcome Halt Jump X State) (f : X → P Y) (g : Y → P Z) → and_then (and_then o f) g ≡ and_then o (λ a s. and_then (f a s) g)
+  then_twice (Goes a s) f g = refl
+  then_twice (Jumps j s) f g = refl
+  then_twice (Ends halt s) f g = refl
+
+  regrouped : {X Y A B : Type 0} {erase : A → B} {w : List Mark} {m : L A} (n : P X) (f : X → P Y) (g : Y → P B) → LiftBy erase w m (n >>= λ a. (f a >>= g)) → LiftBy erase w m (n >>= f >>= g)
+  regrouped {erase = erase} {w = w} {m = m} n f g l = record {
+    yields = λ s r. subst (YieldsBy erase w (m s)) (sym (then_twice (n (erased s)) f g)) (l.yields s r);
+    extends = λ s. subst (Extends s.lines) (sym (then_twice (n s) f g)) (l.extends s);
+  }
+
+  with_count_lifts : {w : List Mark} (label : Label) (v : Val) (f : ℕ → Label → L Val) (g : ℕ → P Value) → ((n : ℕ) (given : Label) → Lift a_value w (f n given) (g n)) → Lift a_value w (tracked.with_count E label v f) (plain.with_count D v.value g)
+  unfolding tracked.with_count plain.with_count
+  with_count_lifts {w} label v f g h =
+      regrouped (plain.converted D hint.Number v.value) plain.numbered (λ m. plain.converted D hint.Number v.value >>= plain.numbered >>= λ n. plain.given_count (is_count m n) (count_of m) g)
+      (bind_lifts a_value a_value w _ (λ first. plain.numbered first >>= λ m. (plain.converted D hint.Number v.value >>= plain.numbered >>= λ n. plain.given_count (is_count m n) (count_of m) g)) (for_length_lifts label v) λ first.
+      bind_by {erase = the_number} (λ n. n) (λ n. refl) _ (λ m. plain.converted D hint.Number v.value >>= plain.numbered >>= λ n. plain.given_count (is_count m n) (count_of m) g) (numbered_lifts first) λ m.
+      regrouped (plain.converted D hint.Number v.value) plain.numbered (λ n. plain.given_count (is_count m n) (count_of m) g)
+      (bind_lifts a_value a_value w _ (λ second. plain.numbered second >>= λ n. plain.given_count (is_count m n) (count_of m) g) (for_length_lifts label v) λ second.
+      bind_by {erase = the_number} (λ n. n) (λ n. refl) _ (λ n. plain.given_count (is_count m n) (count_of m) g) (numbered_lifts second) λ n.
+      count_lifts (is_count m n) (count_of m) (union first.label second.label) label f g h))
+
+  -- ---- definitions
+
+  abbrev labelled_defining : plain.Defining → tracked.Defining
+  labelled_defining plain.is_defined = tracked.is_defined bottom
+  labelled_defining (plain.has_length_given o marks) = tracked.has_length_given bottom o marks
+
+  labelled_defining_is : (a : plain.Defining) → erased_defining (labelled_defining a) ≡ a
+  labelled_defining_is plain.is_defined = refl
+  labelled_defining_is (plain.has_length_given o marks) = refl
+
+  defining_entered : {w : List Mark} (v : Val) (d : tracked.Defining) → Lift a_value w (tracked.entered_defining E v d) (plain.entered_defining D v.value (erased_defining d))
+  unfolding tracked.entered_defining plain.entered_defining
+  defining_entered v (tracked.is_defined label) = record { yields = λ s r. goes r; extends = goes_extends _ }
+  defining_entered v (tracked.has_length_given label o marks) =
+      let l = with_count_lifts label v (tracked.set_length true label o marks) (plain.set_length o marks) (λ n given. length_lifts true label o marks n given (λ old n e. absurd (true≢false e))) in
+      record { yields = l.yields; extends = l.extends }
+
+  pub define_lifts : {w : List Mark} (key : List ℕ) (marks : GivenMarks) (shape : Shape) (base v g set : Val)
+      → Lift a_value w (tracked.defining key marks shape base v g set >>= tracked.entered_defining E v) (plain.defining key marks shape base.value v.value g.value set.value >>= plain.entered_defining D v.value)
+  define_lifts key marks shape base v g set = bind_by labelled_defining labelled_defining_is (tracked.entered_defining E v) (plain.entered_defining D v.value) (defining_lifts key marks shape base v g set) (defining_entered v)
+
   putting_entered : {w : List Mark} (v : Val) (p : tracked.Putting) → Lift One w (tracked.entered_putting functions E v p) (plain.entered_putting functions D v.value (erased_putting p))
   unfolding tracked.entered_putting plain.entered_putting
   putting_entered v tracked.is_put = record { yields = λ s r. goes r; extends = goes_extends _ }
   putting_entered {w} v (tracked.has_setter label f base) =
       let l = bind_lifts a_value One w (λ u. ret tt) (λ u. ret tt) (value_lifts (value.Object f) label base (v ∷ [])) (λ u. ret_lifts One w tt tt refl) in
+      record { yields = l.yields; extends = l.extends }
+  putting_entered {w} v (tracked.has_length label o) =
+      let l = bind_lifts a_value One w (λ u. ret tt) (λ u. ret tt) (with_count_lifts label v (tracked.set_length false label o no_marks) (plain.set_length o no_marks) (λ n given. length_lifts false label o no_marks n given no_marks_kept)) (λ u. ret_lifts One w tt tt refl) in
       record { yields = l.yields; extends = l.extends }
 
   pub get_lifts : {w : List Mark} (n : tracked.Reference) → Lift a_value w (tracked.accessed n >>= tracked.entered_access functions E) (plain.accessed (erased_reference n) >>= plain.entered_access functions D)
@@ -287,16 +376,6 @@ module _ (functions : List FunctionCode) (E : tracked.Enters) (D : plain.Enters)
 
   pub put_lifts : {w : List Mark} (n : tracked.Reference) (v : Val) → Lift One w (tracked.put_value n v >>= tracked.entered_putting functions E v) (plain.put_value (erased_reference n) v.value >>= plain.entered_putting functions D v.value)
   put_lifts n v = bind_by labelled_putting labelled_putting_is (tracked.entered_putting functions E v) (plain.entered_putting functions D v.value) (put_value_lifts n v) (putting_entered v)
-
-  -- ---- conversions
-
-  converted_lifts : (x : Value) {w : List Mark} (wanted : Hint) (label : Label) (v given : Val) → v.value ≡ x → given.value ≡ x → Lift a_value w (tracked.converted_by (is_object x) E wanted label v given) (plain.converted D wanted x)
-  unfolding tracked.converted_by tracked.convert plain.converted
-  converted_lifts (value.Primitive p) wanted label v given e h = record { yields = λ s r. goes_to r h refl; extends = goes_extends _ }
-  converted_lifts (value.Object o) {w} wanted label v given e h =
-      let l = subst (λ x. Lift a_value w (scope kind.Native label (λ depth. E.conversion wanted v) >>= λ c. ret (settled_value c)) (D.conversion wanted x)) e
-      (frame_lifts kind.Native label refl (λ depth. E.conversion wanted v) (D.conversion wanted v.value) (enters.conversion (passes ∷ w) wanted v)) in
-      record { yields = l.yields; extends = l.extends }
 
   pub primitive_lifts : {w : List Mark} (wanted : Hint) (v : Val) → Lift a_value w (tracked.converted E wanted v) (plain.converted D wanted v.value)
   primitive_lifts wanted v = converted_lifts v.value wanted v.label v v refl refl
@@ -338,25 +417,28 @@ module _ (functions : List FunctionCode) (E : tracked.Enters) (D : plain.Enters)
     extends = λ s. goes_extends _ s;
   }
 
-  instance_of_lifts : (x : Value) {w : List Mark} (v : Val) (label : Label) (f : ℕ) → Lift a_value w (tracked.instance_by functions v x label f E) (plain.instance_of functions x f D)
-  unfolding tracked.instance_by plain.instance_of
-  instance_of_lifts (value.Primitive p) v label f = record { yields = λ s r. goes r; extends = goes_extends _ }
-  instance_of_lifts (value.Object o) {w} v label f =
+  instance_of_lifts : (x : Value) {w : List Mark} (v : Val) (label : Label) (aim : labelled.Aim) → Lift a_value w (tracked.instance_of functions v x label aim E) (plain.instance_of functions x aim.target.function D)
+  unfolding tracked.instance_of tracked.instance_by plain.instance_of
+  instance_of_lifts (value.Primitive p) v label aim = record { yields = λ s r. goes r; extends = goes_extends _ }
+  instance_of_lifts (value.Object o) {w} v label aim =
       let l = bind_lifts a_value a_value w _ (λ proto. plain.is_instance o.0 proto)
-      (bind_by labelled_access labelled_access_is (tracked.entered_access functions E) (plain.entered_access functions D) (property_lifts (union v.label label) (tracked.called_value label f) (value.Object (id f)) prototype_name refl) access_entered)
+      (bind_by labelled_access labelled_access_is (tracked.entered_access functions E) (plain.entered_access functions D) (property_lifts (union v.label (union label aim.label)) (tracked.called_value (union label aim.label) aim.target.function) (value.Object (id aim.target.function)) prototype_name refl) access_entered)
       (λ proto. is_instance_lifts _ o.0 proto.value) in
       record { yields = l.yields; extends = l.extends }
 
   instance_if_yields : (b : Bool) {w : List Mark} (v : Val) (label : Label) (f : ℕ) (s : scopes.State) → Shaped w s.frames → Yields a_value w (tracked.instance_if functions b v label f E s) (plain.instance_if functions b v.value f D (erased s))
-  unfolding tracked.instance_if tracked.instance_of plain.instance_if
+  unfolding tracked.instance_if plain.instance_if
   instance_if_yields true {w} v label f s r =
-      subst (λ g. Yields a_value w (tracked.instance_by functions v v.value (union label (aim_of s.heap f).label) (aim_of s.heap f).target.function E s) (plain.instance_of functions v.value g D (erased s))) (sym (ap (λ target. target.function) (aim_erased s.heap f)))
-      ((instance_of_lifts v.value v _ (aim_of s.heap f).target.function).yields s r)
+      subst (λ g. Yields a_value w (tracked.instance_of functions v v.value label (aim_of s.heap f) E s) (plain.instance_of functions v.value g D (erased s))) (sym (ap (λ target. target.function) (aim_erased s.heap f)))
+      ((instance_of_lifts v.value v label (aim_of s.heap f)).yields s r)
   instance_if_yields false v label f s r = throws_yields _ _ s r
 
+  labelled_target : Target Value → Target Val
+  labelled_target target = record { function = target.function; this = None; args = [] }
+
   instance_if_extends : (b : Bool) (v : Value) (f : ℕ) (s : State) → Extends s.lines (plain.instance_if functions b v f D s)
-  unfolding plain.instance_if
-  instance_if_extends true v f s = (instance_of_lifts v {w = []} (unlabelled v) bottom (requested.target_of s.heap f).function).extends s
+  unfolding plain.instance_if labelled_target
+  instance_if_extends true v f s = (instance_of_lifts v {w = []} (unlabelled v) bottom (record { target = labelled_target (requested.target_of s.heap f); label = bottom })).extends s
   instance_if_extends false v f s = throws_extends _ s
 
   pub instance_lifts : (x : Value) {w : List Mark} (v : Val) (label : Label) → Lift a_value w (tracked.instance_value functions v label x E) (plain.instance functions v.value x D)

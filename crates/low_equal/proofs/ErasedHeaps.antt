@@ -1,13 +1,13 @@
 -- Objects without their labels: an act on a labelled heap is the act on the heap without labels, up to a broken rule, and what is found along prototypes
 -- is the same.
-use Rattle.std.proofs.Common.{◌≡◌, ℕ, zero, suc, Bool, true, false, cond, ◌&&◌, not, List, [], ◌∷◌, ◌++◌, map, length, set, Option, Some, None, Ok, Err, slice_get, codes, refl, sym, ◌∙◌, ap, ap₂, subst, true≢false}
+use Rattle.std.proofs.Common.{◌≡◌, ℕ, zero, suc, Bool, true, false, cond, ◌&&◌, not, List, [], ◌∷◌, ◌++◌, map, length, nat_le, nat_lt, set, Option, Some, None, Ok, Err, slice_get, codes, refl, sym, ◌∙◌, ap, ap₂, subst}
 use Rattle.std.specs.Option.{option_map}
 use Rattle.std.proofs.lemmas.List.{set-get_or}
 use Rattle.std.proofs.lemmas.Option.{none-some, same_Some, get_or_from_slice_get}
 use Rattle.origin_labels.specs.Label.{Label, bottom, within}
 use Rattle.origin_labels.specs.Names.{same_name, has_name}
 use Rattle.flow_frames.specs.declared.faults.Rule.{Rule}
-use Rattle.flow_frames.specs.declared.faults.Rule.TheVariants.{W3, W4, W5, W7, W8}
+use Rattle.flow_frames.specs.declared.faults.Rule.TheVariants.{W2, W3, W4, W5, W7, W8}
 use Rattle.flow_frames.specs.declared.faults.FlowStop.{FlowStop}
 use Rattle.js_values.specs.declared.value.Labelled.{Labelled}
 use Rattle.js_values.specs.declared.property.Body.{Body}
@@ -15,9 +15,6 @@ use Rattle.js_values.specs.declared.property.Body.TheVariants.{Data, Accessor}
 use Rattle.js_values.specs.declared.property.Marks.{Marks}
 use Rattle.js_values.specs.declared.property.Slot.{Slot}
 use Rattle.js_values.specs.declared.ids.ObjId.{ObjId}
-use Rattle.js_values.specs.declared.inner.Class.{Class}
-use Rattle.js_values.specs.declared.inner.Class.TheVariants as class
-use Rattle.js_values.specs.Numerals.{index_of}
 use Rattle.js_values.specs.declared.value.Value.{Value}
 use Rattle.js_values.specs.declared.inner.Inner.{Inner}
 use Rattle.js_values.specs.declared.inner.Inner.TheVariants.{Plain, Script, Native, Bound}
@@ -25,9 +22,10 @@ use Rattle.js_values.specs.Objects.{Rows, Property, PlainInner, plain as plain_i
 use Rattle.js_values.specs.Chains.{beginning, onwards, chain_within}
 use Rattle.js_values.specs.Walks.{plain_chain, object_chain, plain_found_at, plain_find, Found, found_at, find}
 use Rattle.js_ast.specs.Trees.{Statements}
-use Rattle.object_heap.specs.Arrays.{length_key, element_of}
+use Rattle.js_values.specs.Numerals.{index_of}
+use Rattle.js_values.specs.Arrays.{length_key, element_of, is_past, element_key, highest, higher_if}
 use Rattle.object_heap.specs.Acts as acts
-use Rattle.object_heap.specs.Acts.{Acted, under, Act, on_slot, change, value_have, existence_have, with_body, with_existence, added, stretched, add_absent, put_back, on_object, act_on}
+use Rattle.object_heap.specs.Acts.{Acted, under, Act, on_slot, change, value_have, existence_have, with_body, with_existence, added, lengthened, stretched, add_absent, put_back, on_object, act_on}
 use Rattle.prototype_walk.specs.declared.plan.PutPlan.{PutPlan}
 use Rattle.prototype_walk.specs.declared.plan.PutPlan.TheVariants.{Write, Add, Setter, Refused}
 use Rattle.prototype_walk.specs.Plans as walks
@@ -36,9 +34,11 @@ use Rattle.es_meaning.specs.BuiltIns.{BuiltIns}
 use Rattle.es_meaning.specs.Definitions.{setter_in}
 use Rattle.es_meaning.specs.Functions.{Target, this_or, bound_behind}
 use Rattle.es_meaning.specs.Operations.{Part}
+use Rattle.es_meaning.specs.Primitives.{chain_from}
 use Rattle.es_meaning.specs.Objects as plain
-use Rattle.es_meaning.specs.Objects.{defined, defined_over, Plan, writes, adds, refuses, calls, is_index, is_element, replaced, with_object, with_value}
-use Rattle.es_meaning.specs.Start.{count_property, function_rows}
+use Rattle.es_meaning.specs.Objects.{defined, defined_over, elements_onto, Plan, writes, adds, refuses, calls, replaced, with_object, with_value, with_length, with_added, made_by_script}
+use Rattle.es_meaning.specs.Functions.{property_with}
+use Rattle.es_meaning.specs.Start.{count_property, length_property, function_rows}
 use Rattle.es_meaning.specs.Plain.{first_heap}
 use Rattle.es_meaning.specs.Requested as requested
 use Rattle.es_meaning.specs.Requested.{part_body, part_marks}
@@ -77,7 +77,7 @@ put_there : (heap : List PlainObject) (i : ℕ) (p : PlainObject) → slice_get 
 put_there heap i p e = ap (λ x. set heap i x) (sym (get_or_from_slice_get heap i p p e)) ∙ set-get_or heap i p
 
 -- an object that stays as it is
-stays : (o : ℕ) (heap : List PlainObject) → with_object o (λ p. p) heap ≡ heap
+pub stays : (o : ℕ) (heap : List PlainObject) → with_object o (λ p. p) heap ≡ heap
 stays o heap = there (slice_get heap o) refl
   where
     there : (x : Option PlainObject) → slice_get heap o ≡ x → replaced x o (λ p. p) heap ≡ heap
@@ -131,7 +131,7 @@ absent_altered key to (r ∷ rows) e = by_case (same_name r.0 key) e (absent_alt
     by_case false e h = ap (λ (rs : Rows Property). r ∷ rs) (h e)
 
 -- a property that stays as it is
-unchanged : (key : List ℕ) (rows : Rows Property) → changed key (λ p. p) rows ≡ rows
+pub unchanged : (key : List ℕ) (rows : Rows Property) → changed key (λ p. p) rows ≡ rows
 unchanged key [] = refl
 unchanged key (r ∷ rows) = by_case (same_name r.0 key) (unchanged key rows)
   where
@@ -194,23 +194,30 @@ write_does rule o key need v heap = act_on_does _ _ o heap (λ p e. change_does 
 abbrev pub HasNot : List (Object Label) → ℕ → List ℕ → Type 0
 HasNot heap o key = (p : Object Label) → slice_get heap o ≡ Some p → own key p.rows ≡ None
 
--- the key names no element of it
-abbrev pub NamesNoElement : List (Object Label) → ℕ → List ℕ → Type 0
-NamesNoElement heap o key = (p : Object Label) → slice_get heap o ≡ Some p → element_of p.class key ≡ None
-
--- a property is added that the object hasn't, and that is no element
-pub add_does : (o : ℕ) (key : List ℕ) (need : Label) (body : Body) (label : Label) (marks : Marks) (heap : List (Object Label)) → HasNot heap o key → NamesNoElement heap o key
-    → Does erased_heap (with_object o (λ p. plain.with_rows p (with_row key (record { body = body; marks = marks }) p.rows)) (erased_heap heap)) (acts.add o key need body label marks heap)
-add_does o key need body label marks heap absent free = act_on_does _ _ o heap (λ p e. there p (absent p e) (free p e))
+-- an element at or above the `length` of an array raises that
+stretched_does : (n : Option ℕ) (x : Option (Slot Label)) (need : Label) (p : Object Label) (rows : Rows (Slot Label)) (others : Rows Property) → erased_rows rows ≡ others
+    → Does erased_object (plain.with_rows (erased_object p) (plain.stretched n (option_map erased_slot x) others)) (stretched n x need p rows)
+stretched_does None x need p rows others e = rows_does p rows others e
+stretched_does (Some i) None need p rows others e = rows_does p rows others e
+stretched_does (Some i) (Some s) need p rows others e = by_case (is_past i s.body)
   where
-    there : (p : Object Label) → own key p.rows ≡ None → element_of p.class key ≡ None
-        → Does erased_object (plain.with_rows (erased_object p) (with_row key (record { body = body; marks = marks }) (erased_rows p.rows))) (acts.add_own key need body label marks p)
-    there p e f =
-        subst (λ x. Does erased_object (plain.with_rows (erased_object p) (with_row key (record { body = body; marks = marks }) (erased_rows p.rows))) (add_absent x key need body label marks p)) (sym e)
+    by_case : (b : Bool) → Does erased_object (plain.with_rows (erased_object p) (cond b (changed length_key (with_length (suc i)) others) others)) (cond b (under W2 need (value_have s) (Ok (acts.with_rows p (changed length_key (lengthened i need) rows)))) (Ok (acts.with_rows p rows)))
+    by_case true = does_under W2 need (value_have s)
+        (rows_does p _ _ (altered_erased length_key (λ x. Some (lengthened i need x)) (λ q. Some (with_length (suc i) q)) (λ x. refl) rows ∙ ap (changed length_key (with_length (suc i))) e))
+    by_case false = rows_does p rows others e
+
+-- a property is added that the object hasn't
+pub add_does : (o : ℕ) (key : List ℕ) (need : Label) (body : Body) (label : Label) (marks : Marks) (heap : List (Object Label)) → HasNot heap o key
+    → Does erased_heap (with_object o (with_added key (record { body = body; marks = marks })) (erased_heap heap)) (acts.add o key need body label marks heap)
+add_does o key need body label marks heap absent = act_on_does _ _ o heap (λ p e. there p (absent p e))
+  where
+    there : (p : Object Label) → own key p.rows ≡ None → Does erased_object (with_added key (record { body = body; marks = marks }) (erased_object p)) (acts.add_own key need body label marks p)
+    there p e =
+        subst (λ x. Does erased_object (with_added key (record { body = body; marks = marks }) (erased_object p)) (add_absent x key need body label marks p)) (sym e)
         (does_under W3 need p.structure
-        (subst
-        (λ x. Does erased_object (plain.with_rows (erased_object p) (with_row key (record { body = body; marks = marks }) (erased_rows p.rows))) (stretched x (own length_key p.rows) need p (with_row key (added need body label marks p.structure) p.rows)))
-        (sym f) (rows_does p _ _ (with_row_erased key (added need body label marks p.structure) p.rows))))
+        (subst (λ x. Does erased_object (plain.with_rows (erased_object p) (plain.stretched (element_of p.class key) x (with_row key (record { body = body; marks = marks }) (erased_rows p.rows))))
+        (stretched (element_of p.class key) (own length_key p.rows) need p (with_row key (added need body label marks p.structure) p.rows))) (sym (own_erased length_key p.rows))
+        (stretched_does (element_of p.class key) (own length_key p.rows) need p _ _ (with_row_erased key (added need body label marks p.structure) p.rows))))
 
 -- an object can't be extended any more
 pub prevent_does : (o : ℕ) (need : Label) (heap : List (Object Label)) → Does erased_heap (with_object o (λ p. record p { extensible = false }) (erased_heap heap)) (acts.prevent_extensions o need heap)
@@ -284,6 +291,14 @@ along_erased key (e ∷ objects) = ap₂ (plain_found_at e.0) (own_erased key e.
 -- what a key names along an object and its prototypes
 pub find_erased : (key : List ℕ) (heap : List (Object Label)) (o : ℕ) → plain_find key (plain_chain (erased_heap heap) o) ≡ erased_found (find key (object_chain heap o)).at
 find_erased key heap o = ap (plain_find key) (chain_erased heap o) ∙ along_erased key (object_chain heap o)
+
+-- along a prototype of a primitive value
+from_erased : (heap : List (Object Label)) (o : Option ObjId) → chain_from (plain_chain (erased_heap heap)) o ≡ erased_chain (chain_from (object_chain heap) o)
+from_erased heap None = refl
+from_erased heap (Some o) = chain_erased heap o.0
+
+pub found_along_erased : (key : List ℕ) (heap : List (Object Label)) (o : Option ObjId) → plain_find key (chain_from (plain_chain (erased_heap heap)) o) ≡ erased_found (find key (chain_from (object_chain heap) o)).at
+found_along_erased key heap o = ap (plain_find key) (from_erased heap o) ∙ along_erased key (chain_from (object_chain heap) o)
 
 -- the keys that weren't met
 fresh_erased : (met : List (List ℕ)) (rows : Rows (Slot Label)) → plain.fresh_keys met (erased_rows rows) ≡ lists.fresh_keys met rows
@@ -377,11 +392,21 @@ module _ (heap : List (Object Label)) (key : List ℕ) where
   beyond_plans a extensible None walk h = adding_plans a extensible walk
   beyond_plans a extensible (Some f) walk h = inherited_plans a extensible f.0 f.1 f.1.body walk h refl
 
+  -- whether it may get a property of the key
+  gets_erased : (n : Option ℕ) (x : Option (Slot Label)) → plain.gets_element n (option_map erased_slot x) ≡ walks.gets_element n x
+  gets_erased None x = refl
+  gets_erased (Some i) None = refl
+  gets_erased (Some i) (Some s) = refl
+
+  pub may_add_erased : (p : Object Label) → plain.may_add key (erased_object p) ≡ walks.may_add key p
+  may_add_erased p = ap (λ b. p.extensible && b) (ap (plain.gets_element (element_of p.class key)) (own_erased length_key p.rows) ∙ gets_erased (element_of p.class key) (own length_key p.rows))
+
   -- the object, or its prototypes
   plans_at : {A : Type 0} (o : ℕ) (p : Object Label) (s : Option (Slot Label)) (rest : Found) → slice_get heap o ≡ Some p → own key p.rows ≡ s → AtFound heap key rest.at → (s ≡ None → A)
-      → Plans A (HasSetter heap key) (walks.plan_at o p s rest) (plain.plan_at (erased_object p) (option_map erased_slot s) (erased_found rest.at))
+      → Plans A (HasSetter heap key) (walks.plan_at key o p s rest) (plain.plan_at key (erased_object p) (option_map erased_slot s) (erased_found rest.at))
   plans_at o p (Some s) rest e q f h = own_plans o s s.body s.existence (ap (tracked.own_in key) e ∙ q) refl
-  plans_at o p None rest e q f h = beyond_plans (h refl) p.extensible rest.at _ f
+  plans_at {A} o p None rest e q f h =
+      subst (λ b. Plans A (HasSetter heap key) (walks.plan_at key o p None rest) (plain.beyond_plan b (erased_found rest.at))) (sym (may_add_erased p)) (beyond_plans (h refl) (walks.may_add key p) rest.at _ f)
 
 -- what a put on an object does: nothing is added that is there
 pub can_put_erased : (key : List ℕ) (heap : List (Object Label)) (o : ℕ) → Plans (HasNot heap o key) (HasSetter heap key) (walks.can_put key (object_chain heap o)) (plain.can_put key (plain_chain (erased_heap heap) o))
@@ -394,27 +419,10 @@ can_put_erased key heap o =
     there : (x : Option (Object Label)) → slice_get heap o ≡ x → Plans (HasNot heap o key) (HasSetter heap key) (walks.can_put key (beginning o x behind)) (plain.can_put key (erased_chain (beginning o x behind)))
     there None e = both_refuse
     there (Some p) e =
-        subst (λ f. Plans (HasNot heap o key) (HasSetter heap key) (walks.can_put key ((o, p) ∷ behind p)) (plain.plan_at (erased_object p) (own key (erased_rows p.rows)) f)) (sym (along_erased key (behind p)))
-        (subst (λ s. Plans (HasNot heap o key) (HasSetter heap key) (walks.can_put key ((o, p) ∷ behind p)) (plain.plan_at (erased_object p) s (erased_found (find key (behind p)).at))) (sym (own_erased key p.rows))
+        subst (λ f. Plans (HasNot heap o key) (HasSetter heap key) (walks.can_put key ((o, p) ∷ behind p)) (plain.plan_at key (erased_object p) (own key (erased_rows p.rows)) f)) (sym (along_erased key (behind p)))
+        (subst (λ s. Plans (HasNot heap o key) (HasSetter heap key) (walks.can_put key ((o, p) ∷ behind p)) (plain.plan_at key (erased_object p) s (erased_found (find key (behind p)).at))) (sym (own_erased key p.rows))
         (plans_at heap key o p (own key p.rows) (find key (behind p)) e refl (at_found heap key (onwards_stand heap (proto_of p) (chain_within proto_of heap o) (within_stands heap o)))
         (λ none q d. ap (λ (x : Object Label). own key x.rows) (same_Some q p (sym d ∙ e)) ∙ none)))
-
--- a key that names no element
-no_index : (n : Option ℕ) → is_index n ≡ false → n ≡ None
-no_index None e = refl
-no_index (Some n) e = absurd (true≢false e)
-
-pub no_element : (kind : Class) (key : List ℕ) → is_element kind key ≡ false → element_of kind key ≡ None
-no_element class.Array key e = no_index (index_of key) e
-no_element class.Object key e = refl
-no_element class.Function key e = refl
-no_element class.Arguments key e = refl
-no_element class.Error key e = refl
-no_element class.Math key e = refl
-no_element class.Json key e = refl
-no_element class.String key e = refl
-no_element class.Number key e = refl
-no_element class.Boolean key e = refl
 
 -- ---- the object of a literal
 
@@ -447,6 +455,49 @@ parts_erased label (part ∷ parts) (v ∷ vs) rows =
 -- the object
 pub literal_erased : (parts : List (Part × List ℕ)) (vs : List Val) (label : Label) → erased_object (labelled.literal_object parts vs label) ≡ requested.literal_object parts (map (λ v. v.value) vs)
 literal_erased parts vs label = ap (plain.with_rows (requested.literal_object [] [])) (parts_erased label parts vs [])
+
+-- ---- arrays
+
+-- their elements
+elements_erased : (rows : Rows (Slot Label)) (ns : List ℕ) (ss : List (Slot Label)) → erased_rows (elements_onto rows ns ss) ≡ elements_onto (erased_rows rows) ns (map erased_slot ss)
+elements_erased rows [] ss = refl
+elements_erased rows (n ∷ ns) [] = refl
+elements_erased rows (n ∷ ns) (s ∷ ss) = elements_erased (defined (element_key n) s rows) ns ss ∙ ap (λ (rs : Rows Property). elements_onto rs ns (map erased_slot ss)) (defined_erased (element_key n) s rows)
+
+slots_erased : (label : Label) (vs : List Val) → map erased_slot (map (labelled.data_slot label) vs) ≡ map (λ v. property_with v made_by_script) (map (λ v. v.value) vs)
+slots_erased label [] = refl
+slots_erased label (v ∷ vs) = ap (λ (ps : List Property). property_with v.value made_by_script ∷ ps) (slots_erased label vs)
+
+pub array_erased : (n : ℕ) (places : List ℕ) (vs : List Val) (label : Label) → erased_object (labelled.array_object n places vs label) ≡ requested.array_object n places (map (λ v. v.value) vs)
+array_erased n places vs label =
+    ap (λ (rs : Rows Property). plain.with_rows (requested.array_object 0 [] []) rs) (elements_erased ((length_key, labelled.made_slot label (length_property n)) ∷ []) places (map (labelled.data_slot label) vs) ∙ ap (λ (ss : List Property). elements_onto ((length_key, length_property n) ∷ []) places ss) (slots_erased label vs))
+
+-- the highest element
+abbrev pub erased_element : Option (ℕ × Slot Label) → Option (ℕ × Property)
+erased_element None = None
+erased_element (Some e) = Some (e.0, erased_slot e.1)
+
+higher_erased : (n : ℕ) (i : Option ℕ) (s : Slot Label) (rest : Option (ℕ × Slot Label)) → higher_if n i (erased_slot s) (erased_element rest) ≡ erased_element (higher_if n i s rest)
+higher_erased n None s rest = refl
+higher_erased n (Some i) s None = by_test (nat_le n i)
+  where
+    by_test : (b : Bool) → cond b (Some (i, erased_slot s)) None ≡ erased_element (cond b (Some (i, s)) None)
+    by_test true = refl
+    by_test false = refl
+higher_erased n (Some i) s (Some e) = by_test (nat_le n i) (nat_lt e.0 i)
+  where
+    by_test : (b c : Bool) → cond b (cond c (Some (i, erased_slot s)) (Some (e.0, erased_slot e.1))) (Some (e.0, erased_slot e.1)) ≡ erased_element (cond b (cond c (Some (i, s)) (Some e)) (Some e))
+    by_test true true = refl
+    by_test true false = refl
+    by_test false c = refl
+
+pub highest_erased : (n : ℕ) (rows : Rows (Slot Label)) → highest n (erased_rows rows) ≡ erased_element (highest n rows)
+highest_erased n [] = refl
+highest_erased n (r ∷ rows) = ap (higher_if n (index_of r.0) (erased_slot r.1)) (highest_erased n rows) ∙ higher_erased n (index_of r.0) r.1 (highest n rows)
+
+pub rows_length : (rows : Rows (Slot Label)) → length (erased_rows rows) ≡ length rows
+rows_length [] = refl
+rows_length (r ∷ rows) = ap suc (rows_length rows)
 
 -- ---- bound functions
 

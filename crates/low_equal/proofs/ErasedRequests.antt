@@ -1,12 +1,13 @@
 -- The acts of a labelled computation, those that built-ins ask for among them, are those of the unlabelled one.
-use Rattle.std.proofs.Common.{◌≡◌, ℕ, zero, suc, Bool, true, false, List, [], ◌∷◌, ◌++◌, length, Option, Some, None, slice_get, refl, sym, ◌∙◌, ap, ap₂, subst}
+use Rattle.std.proofs.Common.{◌≡◌, ℕ, zero, suc, Bool, true, false, ◌&&◌, List, [], ◌∷◌, ◌++◌, length, Option, Some, None, slice_get, refl, sym, ◌∙◌, ap, ap₂, subst}
 use Rattle.std.specs.Option.{option_map}
 use Rattle.std.proofs.lemmas.List.{map_push}
-use Rattle.origin_labels.specs.Label.{Label, bottom, union}
+use Rattle.origin_labels.specs.Label.{Label, bottom}
 use Rattle.flow_frames.specs.declared.faults.Rule.TheVariants.{W11, W12}
 use Rattle.flow_frames.specs.Frames.{context}
 use Rattle.flow_policy.specs.Policies.{Tables}
 use Rattle.flow_policy.specs.Inputs.{Given}
+use Rattle.js_number.specs.declared.primitive.Primitive.{Primitive}
 use Rattle.js_number.specs.declared.primitive.Primitive.TheVariants.{Undefined, Null, Num, Str}
 use Rattle.js_number.specs.declared.primitive.Primitive.TheVariants as prims
 use Rattle.js_values.specs.declared.ids.ObjId.{ObjId}
@@ -14,21 +15,23 @@ use Rattle.js_values.specs.declared.value.Value.{Value}
 use Rattle.js_values.specs.declared.value.Value.TheVariants as value
 use Rattle.js_values.specs.declared.property.Slot.{Slot}
 use Rattle.js_values.specs.declared.inner.Class.{Class}
-use Rattle.js_values.specs.Objects.{PlainObject, Object, own}
-use Rattle.js_values.specs.Walks.{object_chain, find}
+use Rattle.js_values.specs.Arrays.{is_length}
+use Rattle.js_values.specs.Objects.{Property, PlainObject, Object, own}
+use Rattle.js_values.specs.Walks.{Found, object_chain, find}
 use Rattle.native_protocol.specs.declared.request.ErrorKind.TheVariants as kinds
 use Rattle.native_protocol.specs.declared.request.GivenMarks.{GivenMarks}
-use Rattle.es_meaning.specs.Outcomes.{left, Goes, Ends, ret}
-use Rattle.es_meaning.specs.Operations.{Part, OwnPart, Shape, Act, object_of, base_needed, object_needed, has_key, throws_error, own_property, define, own_keys, prototype_of_object, is_extensible, prevent_extensions, new_object, bind, read_line, print_line, join_label, raise_structure, raise_existence}
+use Rattle.es_meaning.specs.Outcomes.{Goes, ret}
+use Rattle.es_meaning.specs.Operations.{Part, OwnPart, Shape, Act, object_of, array_of, base_needed, object_needed, has_key, throws_error, own_property, own_keys, prototype_of_object, is_extensible, prevent_extensions, new_object, bind, read_line, print_line, join_label, raise_structure, raise_existence}
 use Rattle.es_meaning.specs.Operations.{Value as a_value}
-use Rattle.es_meaning.specs.Operators.{is_object, not_built}
+use Rattle.es_meaning.specs.Operators.{is_object}
+use Rattle.es_meaning.specs.Primitives.{own_value_of, prototype_of_primitive}
 use Rattle.es_meaning.specs.Definitions.{GivenBody}
-use Rattle.es_meaning.specs.Objects.{own_in, with_object}
+use Rattle.es_meaning.specs.Objects.{own_in, with_object, may_add}
 use Rattle.es_meaning.specs.Start.{id}
 use Rattle.es_meaning.specs.Plain as plain
-use Rattle.es_meaning.specs.Plain.{State, P, argument_or, others, channel_of, undefined, choose, key_text, is_coercible, is_found, truth_value}
+use Rattle.es_meaning.specs.Plain.{State, P, argument_or, others, channel_of, undefined, choose, key_text, is_coercible, is_found, has_of_primitive, truth_value}
 use Rattle.es_meaning.specs.Requested as requested
-use Rattle.es_meaning.specs.Requested.{part_or_undefined, given_body, behind_given, is_array, class_prototype, prototype_given, bound_count, are_origins}
+use Rattle.es_meaning.specs.Requested.{part_or_undefined, given_body, behind_definition, array_of_texts, made_of, class_prototype, prototype_given, standing_or_default, bound_count, are_origins}
 use Rattle.es_meaning.proofs.Link.{Rels, nils, conses}
 use Rattle.flow_meaning.specs.Erased.{erased_slot, erased_object, erased_heap}
 use Rattle.flow_meaning.specs.Scopes as scopes
@@ -38,10 +41,10 @@ use Rattle.flow_meaning.specs.Requested.{known_of}
 use Rattle.flow_meaning.specs.Tracked as tracked
 use Rattle.flow_meaning.specs.Tracked.{argument}
 use Rattle.low_equal.specs.Erasure.{erased_line}
-use Rattle.low_equal.proofs.Erased.{Mark, Shaped, erased, Extends, goes_extends, ends_extends, Yields, goes, ends, Lift, goes_to, ret_lifts, under_yields, choose_lifts}
-use Rattle.low_equal.proofs.ErasedHeaps.{length_erased, pushed_erased, object_erased, own_erased, prevent_does, raise_structure_does, raise_existence_does, erased_found, find_erased, literal_erased, values_of, values_length, bound_erased}
-use Rattle.low_equal.proofs.ErasedActs.{throws_yields, throws_extends, ends_lifts, acted_yields}
-use Rattle.low_equal.proofs.ErasedDefinitions.{given_yields}
+use Rattle.low_equal.proofs.Erased.{Mark, Shaped, erased, Extends, goes_extends, ends_extends, Yields, goes, ends, YieldsBy, LiftBy, Lift, goes_to, ret_lifts, under_yields}
+use Rattle.low_equal.proofs.ErasedHeaps.{length_erased, pushed_erased, object_erased, own_erased, prevent_does, raise_structure_does, raise_existence_does, erased_found, find_erased, found_along_erased, object_made, literal_erased, array_erased, values_of, values_length, bound_erased}
+use Rattle.low_equal.proofs.ErasedActs.{throws_yields, throws_extends, acted_yields}
+use Rattle.low_equal.proofs.ErasedDefinitions.{erased_defining, given_yields}
 
 -- ---- arguments
 
@@ -71,6 +74,14 @@ make_lifts parts vs = record {
   extends = λ s. goes_extends _ (record s { heap = _ });
 }
 
+-- an array of a literal
+make_array_lifts : {w : List Mark} (places : List ℕ) (n : ℕ) (vs : List Val) → Lift a_value w (tracked.make_array places n vs) (plain.make_array places n (values_of vs))
+unfolding tracked.make_array plain.make_array
+make_array_lifts places n vs = record {
+  yields = λ s r. goes_to r (ap (λ n. value.Object (id n)) (sym (length_erased s.heap))) (ap (λ (h : List PlainObject). record (erased s) { heap = h }) (pushed_erased s.heap _ ∙ ap (λ p. erased_heap s.heap ++ p ∷ []) (array_erased n places vs _)));
+  extends = λ s. goes_extends _ (record s { heap = _ });
+}
+
 -- a value that is needed
 needed_lifts : {w : List Mark} (b : Bool) (v : Val) → Lift a_value w (tracked.needed b v) (plain.needed b v.value)
 unfolding tracked.needed plain.needed
@@ -82,10 +93,21 @@ is_found_erased : (f : Option (ℕ × Slot Label)) → is_found (erased_found f)
 is_found_erased None = refl
 is_found_erased (Some f) = refl
 
+-- whether a primitive value has a key, or its prototype
+has_primitive_yields : {w : List Mark} (known : Option Primitive) (label : Label) (walk : Found) (s : scopes.State) → Shaped w s.frames
+    → Yields a_value w (tracked.has_of_primitive known label walk s) (Goes (value.Primitive (prims.Bool (has_of_primitive known (erased_found walk.at)))) (erased s))
+unfolding tracked.has_of_primitive
+has_primitive_yields None label walk s r = goes_to r (ap (λ b. value.Primitive (prims.Bool b)) (sym (is_found_erased walk.at))) refl
+has_primitive_yields (Some v) label walk s r = goes r
+
 -- whether an object has a key
 has_lifts : {w : List Mark} (label : Label) (key : List ℕ) (v : Value) → Lift a_value w (tracked.has label key v) (plain.has key v)
 unfolding tracked.has plain.has
-has_lifts label key (value.Primitive p) = record { yields = λ s r. ends; extends = ends_extends _ }
+has_lifts {w} label key (value.Primitive p) = record {
+  yields = λ s r. subst (λ f. Yields a_value w (tracked.has label key (value.Primitive p) s) (Goes (value.Primitive (prims.Bool (has_of_primitive (own_value_of p key) f))) (erased s))) (sym (found_along_erased key s.heap (prototype_of_primitive p)))
+      (has_primitive_yields (own_value_of p key) label (find key (tracked.primitive_chain s.heap p)) s r);
+  extends = λ s. goes_extends _ s;
+}
 has_lifts label key (value.Object o) = record {
   yields = λ s r. goes_to r (ap (λ b. value.Primitive (prims.Bool b)) (sym (ap (λ f. is_found f) (find_erased key s.heap o.0) ∙ is_found_erased (find key (object_chain s.heap o.0)).at))) refl;
   extends = λ s. goes_extends _ s;
@@ -93,7 +115,7 @@ has_lifts label key (value.Object o) = record {
 
 -- ---- acts on an object that a value is
 
-on_object_lifts : {w : List Mark} (label : Label) (v : Value) {f : ℕ → L Val} {g : ℕ → P Value} → ((o : ℕ) → Lift a_value w (f o) (g o)) → Lift a_value w (tracked.on_object_in label v f) (plain.on_object v g)
+on_object_lifts : {X Y : Type 0} {erase : X → Y} {w : List Mark} (label : Label) (v : Value) {f : ℕ → L X} {g : ℕ → P Y} → ((o : ℕ) → LiftBy erase w (f o) (g o)) → LiftBy erase w (tracked.on_object_in label v f) (plain.on_object v g)
 unfolding tracked.on_object_in plain.on_object
 on_object_lifts label (value.Primitive p) h = record { yields = λ s r. throws_yields _ _ s r; extends = throws_extends _ }
 on_object_lifts label (value.Object o) h = record { yields = (h o.0).yields; extends = (h o.0).extends }
@@ -117,47 +139,38 @@ part_lifts {w} part key label o = record {
 
 -- a definition
 define_yields : {w : List Mark} (p : Option (Object Label)) (label : Label) (o : ℕ) (key : List ℕ) (marks : GivenMarks) (shape : Shape) (v g set : Val) (s : scopes.State) → slice_get s.heap o ≡ p → Shaped w s.frames
-    → Yields a_value w (tracked.define_in p label o key marks shape v g set s) (plain.define_in (option_map erased_object p) o key marks shape v.value g.value set.value (erased s))
+    → YieldsBy erased_defining w (tracked.define_in p label o key marks shape v g set s) (plain.define_in (option_map erased_object p) o key marks shape v.value g.value set.value (erased s))
 unfolding tracked.define_in plain.define_in
 define_yields None label o key marks shape v g set s e r = throws_yields _ _ s r
-define_yields {w} (Some p) label o key marks shape v g set s e r =
-    subst (λ x. Yields a_value w (tracked.define_in (Some p) label o key marks shape v g set s) (choose (is_array p.class) (λ t. Ends (left not_built) t) (plain.define_by o key (behind_given p.extensible x marks body)) (erased s)))
-    (sym (own_erased key p.rows)) (by_case (is_array p.class) refl)
-  where
-    body : Option GivenBody
-    body = given_body (erased_heap s.heap) marks shape v.value g.value set.value
+define_yields (Some p) label o key marks shape v g set s e r = given_yields p marks shape (given_body (erased_heap s.heap) marks shape v.value g.value set.value) _ _ o key s e r
 
-    place : Label
-    place = union label (labelled.own_test (own key p.rows) p.structure)
-
-    by_case : (b : Bool) → is_array p.class ≡ b
-        → Yields a_value w (choose b (tracked.ends (left not_built)) (tracked.define_given p.extensible (own key p.rows) marks body place (union v.label (union g.label set.label)) o key) s)
-        (choose b (λ t. Ends (left not_built) t) (plain.define_by o key (behind_given p.extensible (option_map erased_slot (own key p.rows)) marks body)) (erased s))
-    by_case true c = ends
-    by_case false c = given_yields p marks body place _ o key s e c r
-
-define_by_extends : (o : ℕ) (key : List ℕ) (p : Option _) (s : State) → Extends s.lines (plain.define_by o key p s)
+define_by_extends : (o : ℕ) (key : List ℕ) (p : Option Property) (s : State) → Extends s.lines (plain.define_by o key p s)
 unfolding plain.define_by
 define_by_extends o key None s = throws_extends _ s
-define_by_extends o key (Some p) s = goes_extends undefined (record s { heap = _ })
+define_by_extends o key (Some p) s = goes_extends plain.is_defined (record s { heap = _ })
+
+given_extends : (p : PlainObject) (o : ℕ) (key : List ℕ) (marks : GivenMarks) (shape : Shape) (body : Option GivenBody) (s : State) → Extends s.lines (plain.define_given p o key marks shape body s)
+unfolding plain.define_given
+given_extends p o key marks shape None s = throws_extends _ s
+given_extends p o key marks shape (Some body) s = by_case (is_length p.class key && shape.has_value)
+  where
+    by_case : (b : Bool) → Extends s.lines (choose b (ret (plain.has_length_given o marks)) (plain.define_by o key (behind_definition (may_add key p) (own key p.rows) (record { marks = marks; body = body }))) s)
+    by_case true = goes_extends (plain.has_length_given o marks) s
+    by_case false = define_by_extends o key _ s
 
 define_extends : (p : Option PlainObject) (o : ℕ) (key : List ℕ) (marks : GivenMarks) (shape : Shape) (v g set : Value) (s : State) → Extends s.lines (plain.define_in p o key marks shape v g set s)
 unfolding plain.define_in
 define_extends None o key marks shape v g set s = throws_extends _ s
-define_extends (Some p) o key marks shape v g set s = by_case (is_array p.class)
-  where
-    by_case : (b : Bool) → Extends s.lines (choose b (λ t. Ends (left not_built) t) (plain.define_by o key (behind_given p.extensible (own key p.rows) marks (given_body s.heap marks shape v g set))) s)
-    by_case true = ends_extends _ s
-    by_case false = define_by_extends o key _ s
+define_extends (Some p) o key marks shape v g set s = given_extends p o key marks shape (given_body s.heap marks shape v g set) s
 
-define_lifts : {w : List Mark} (label : Label) (o : ℕ) (key : List ℕ) (marks : GivenMarks) (shape : Shape) (v g set : Val)
-    → Lift a_value w (λ s. tracked.define_in (slice_get s.heap o) label o key marks shape v g set s) (plain.define_on o key marks shape v.value g.value set.value)
-unfolding plain.define_on
-define_lifts {w} label o key marks shape v g set = record {
-  yields = λ s r. subst (λ x. Yields a_value w (tracked.define_in (slice_get s.heap o) label o key marks shape v g set s) (plain.define_in x o key marks shape v.value g.value set.value (erased s))) (sym (object_erased s.heap o))
-      (define_yields (slice_get s.heap o) label o key marks shape v g set s refl r);
+pub defining_lifts : {w : List Mark} (key : List ℕ) (marks : GivenMarks) (shape : Shape) (base v g set : Val)
+    → LiftBy erased_defining w (tracked.defining key marks shape base v g set) (plain.defining key marks shape base.value v.value g.value set.value)
+unfolding tracked.defining plain.defining
+defining_lifts {w} key marks shape base v g set = on_object_lifts base.label base.value (λ o. record {
+  yields = λ s r. subst (λ x. YieldsBy erased_defining w (tracked.define_in (slice_get s.heap o) base.label o key marks shape v g set s) (plain.define_in x o key marks shape v.value g.value set.value (erased s))) (sym (object_erased s.heap o))
+      (define_yields (slice_get s.heap o) base.label o key marks shape v g set s refl r);
   extends = λ s. define_extends (slice_get s.heap o) o key marks shape v.value g.value set.value s;
-}
+})
 
 -- the prototype of an object
 prototype_yields : {w : List Mark} (label : Label) (p : Option (Object Label)) (s : scopes.State) → Shaped w s.frames → Yields a_value w (tracked.prototype_in label p s) (Goes (requested.prototype_in (option_map erased_object p)) (erased s))
@@ -198,16 +211,48 @@ existence_lifts origins label key o = record { yields = λ s r. acted_yields a_v
 
 -- ---- new objects and bound functions
 
-made_new_lifts : {w : List Mark} (c : Class) (proto : Option ObjId) (label : Label) → Lift a_value w (tracked.made_new c proto label) (plain.made_new c proto)
-unfolding tracked.made_new plain.made_new
-made_new_lifts c proto label = record {
-  yields = λ s r. goes_to r (ap (λ n. value.Object (id n)) (sym (length_erased s.heap))) (ap (λ (h : List PlainObject). record (erased s) { heap = h }) (pushed_erased s.heap _));
-  extends = λ s. goes_extends _ (record s { heap = _ });
-}
+-- an object that there may be
+pub erased_in_is : (p : Option (Object Label)) → labelled.erased_in p ≡ option_map erased_object p
+erased_in_is None = refl
+erased_in_is (Some p) = refl
 
 make_new_lifts : {w : List Mark} (c : Class) (proto : Option ObjId) (label : Label) → Lift a_value w (tracked.make_new c proto label) (plain.make_new c proto)
 unfolding tracked.make_new plain.make_new
-make_new_lifts c proto label = let l = choose_lifts (is_array c) (ends_lifts (left not_built)) (made_new_lifts c proto label) in record { yields = l.yields; extends = l.extends }
+make_new_lifts c proto label = record {
+  yields = λ s r. goes_to r (ap (λ n. value.Object (id n)) (sym (length_erased s.heap)))
+      (ap (λ (h : List PlainObject). record (erased s) { heap = h }) (pushed_erased s.heap _ ∙ ap (λ p. erased_heap s.heap ++ p ∷ []) (object_made (context s.frames) (made_of c proto))));
+  extends = λ s. goes_extends _ (record s { heap = _ });
+}
+
+-- with a prototype that stands in the heap
+pub standing_erased : (heap : List (Object Label)) (o : ObjId) → plain.standing (erased_heap heap) o ≡ tracked.standing heap o
+standing_erased heap o = ap (standing_or_default o) (object_erased heap o.0 ∙ sym (erased_in_is (slice_get heap o.0)))
+
+given_standing : (heap : List (Object Label)) (o : Option ObjId) → option_map (plain.standing (erased_heap heap)) o ≡ option_map (tracked.standing heap) o
+given_standing heap None = refl
+given_standing heap (Some o) = ap Some (standing_erased heap o)
+
+make_new_by_lifts : {w : List Mark} (c : Class) (v : Val) → Lift a_value w (tracked.make_new_by c v) (plain.make_new_by c v.value)
+unfolding tracked.make_new_by plain.make_new_by
+make_new_by_lifts {w} c v = record {
+  yields = λ s r. subst (λ x. Yields a_value w (tracked.make_new c (option_map (tracked.standing s.heap) (prototype_given v.value)) v.label s) (plain.make_new c x (erased s))) (sym (given_standing s.heap (prototype_given v.value)))
+      ((make_new_lifts c (option_map (tracked.standing s.heap) (prototype_given v.value)) v.label).yields s r);
+  extends = λ s. (make_new_lifts {w = []} c (option_map (plain.standing s.heap) (prototype_given v.value)) bottom).extends s;
+}
+
+-- the own keys of an object
+keys_in_erased : (all : Bool) (o : Option (Object Label)) → plain.keys_in all (option_map erased_object o) ≡ tracked.keys_in all o
+keys_in_erased all None = refl
+keys_in_erased all (Some p) = refl
+
+list_keys_lifts : {w : List Mark} (all : Bool) (label : Label) (o : ℕ) → Lift a_value w (tracked.list_keys all label o) (plain.list_keys all o)
+unfolding tracked.list_keys plain.list_keys
+list_keys_lifts all label o = record {
+  yields = λ s r. goes_to r (ap (λ n. value.Object (id n)) (sym (length_erased s.heap)))
+      (ap (λ (h : List PlainObject). record (erased s) { heap = h }) (pushed_erased s.heap _ ∙ ap (λ p. erased_heap s.heap ++ p ∷ [])
+      (object_made (context s.frames) _ ∙ ap array_of_texts (sym (ap (plain.keys_in all) (object_erased s.heap o) ∙ keys_in_erased all (slice_get s.heap o))))));
+  extends = λ s. goes_extends _ (record s { heap = _ });
+}
 
 -- whether a value is a function
 pub function_in_erased : (o : Option (Object Label)) → requested.is_function_in (option_map erased_object o) ≡ labelled.is_function_in o
@@ -217,11 +262,6 @@ function_in_erased (Some p) = refl
 function_at_erased : (heap : List (Object Label)) (v : Value) → requested.is_function_at (erased_heap heap) v ≡ labelled.is_function_at heap v
 function_at_erased heap (value.Primitive p) = refl
 function_at_erased heap (value.Object o) = ap requested.is_function_in (object_erased heap o.0) ∙ function_in_erased (slice_get heap o.0)
-
--- an object that there may be
-erased_in_is : (p : Option (Object Label)) → labelled.erased_in p ≡ option_map erased_object p
-erased_in_is None = refl
-erased_in_is (Some p) = refl
 
 bind_value_yields : {w : List Mark} (v : Value) (target this : Val) (args : List Val) (s : scopes.State) → Shaped w s.frames → Yields a_value w (tracked.bind_value v target this args s) (plain.bind_to true v this.value (values_of args) (erased s))
 unfolding tracked.bind_value tracked.bind_object plain.bind_to
@@ -301,6 +341,7 @@ module _ (tables : Tables) (inputs : Given) where
   pub act_lifts : {w : List Mark} (f : Act) (vs : List Val) → Lift a_value w (tracked.act tables inputs f vs) (plain.act tables inputs f (values_of vs))
   unfolding tracked.act plain.act
   act_lifts (object_of parts) vs = make_lifts parts vs
+  act_lifts (array_of places n) vs = make_array_lifts places n vs
   act_lifts {w} base_needed vs = subst (λ x. Lift a_value w (tracked.act tables inputs base_needed vs) (plain.needed (is_coercible x) x)) (sym (argument_erased 0 vs)) (needed_lifts _ (argument 0 vs))
   act_lifts {w} object_needed vs = subst (λ x. Lift a_value w (tracked.act tables inputs object_needed vs) (plain.needed (is_object x) x)) (sym (argument_erased 0 vs)) (needed_lifts _ (argument 0 vs))
   act_lifts {w} has_key vs =
@@ -310,13 +351,7 @@ module _ (tables : Tables) (inputs : Given) where
   act_lifts {w} (own_property part key) vs =
       subst (λ x. Lift a_value w (tracked.act tables inputs (own_property part key) vs) (plain.on_object x (λ o s. Goes (part_or_undefined part (own_in key (slice_get s.heap o))) s))) (sym (argument_erased 0 vs))
       (on_object_lifts _ (argument 0 vs).value (λ o. part_lifts part key _ o))
-  act_lifts {w} (define key marks shape) vs =
-      subst (λ x. Lift a_value w (tracked.act tables inputs (define key marks shape) vs) (plain.on_object x (λ o. plain.define_on o key marks shape (argument_or undefined 1 (values_of vs)) (argument_or undefined 2 (values_of vs)) (argument_or undefined 3 (values_of vs))))) (sym (argument_erased 0 vs))
-      (subst (λ x. Lift a_value w (tracked.act tables inputs (define key marks shape) vs) (plain.on_object (argument 0 vs).value (λ o. plain.define_on o key marks shape x (argument_or undefined 2 (values_of vs)) (argument_or undefined 3 (values_of vs))))) (sym (argument_erased 1 vs))
-      (subst (λ x. Lift a_value w (tracked.act tables inputs (define key marks shape) vs) (plain.on_object (argument 0 vs).value (λ o. plain.define_on o key marks shape (argument 1 vs).value x (argument_or undefined 3 (values_of vs))))) (sym (argument_erased 2 vs))
-      (subst (λ x. Lift a_value w (tracked.act tables inputs (define key marks shape) vs) (plain.on_object (argument 0 vs).value (λ o. plain.define_on o key marks shape (argument 1 vs).value (argument 2 vs).value x))) (sym (argument_erased 3 vs))
-      (on_object_lifts _ (argument 0 vs).value (λ o. define_lifts _ o key marks shape (argument 1 vs) (argument 2 vs) (argument 3 vs))))))
-  act_lifts {w} (own_keys all) vs = subst (λ x. Lift a_value w (tracked.act tables inputs (own_keys all) vs) (plain.on_object x (λ o s. Ends (left not_built) s))) (sym (argument_erased 0 vs)) (on_object_lifts _ (argument 0 vs).value (λ o. ends_lifts (left not_built)))
+  act_lifts {w} (own_keys all) vs = subst (λ x. Lift a_value w (tracked.act tables inputs (own_keys all) vs) (plain.on_object x (plain.list_keys all))) (sym (argument_erased 0 vs)) (on_object_lifts _ (argument 0 vs).value (list_keys_lifts all _))
   act_lifts {w} prototype_of_object vs =
       subst (λ x. Lift a_value w (tracked.act tables inputs prototype_of_object vs) (plain.on_object x (λ o s. Goes (requested.prototype_in (slice_get s.heap o)) s))) (sym (argument_erased 0 vs)) (on_object_lifts _ (argument 0 vs).value (λ o. prototype_lifts _ o))
   act_lifts {w} is_extensible vs =
@@ -325,7 +360,7 @@ module _ (tables : Tables) (inputs : Given) where
       subst (λ x. Lift a_value w (tracked.act tables inputs prevent_extensions vs) (plain.on_object x (λ o s. Goes undefined (record s { heap = with_object o (λ p. record p { extensible = false }) s.heap })))) (sym (argument_erased 0 vs))
       (on_object_lifts _ (argument 0 vs).value (λ o. prevent_lifts _ o))
   act_lifts (new_object c false) vs = make_new_lifts c (Some (class_prototype c)) bottom
-  act_lifts {w} (new_object c true) vs = subst (λ x. Lift a_value w (tracked.act tables inputs (new_object c true) vs) (plain.make_new c (prototype_given x))) (sym (argument_erased 0 vs)) (make_new_lifts c (prototype_given (argument 0 vs).value) _)
+  act_lifts {w} (new_object c true) vs = subst (λ x. Lift a_value w (tracked.act tables inputs (new_object c true) vs) (plain.make_new_by c x)) (sym (argument_erased 0 vs)) (make_new_by_lifts c (argument 0 vs))
   act_lifts {w} bind vs =
       subst (λ x. Lift a_value w (tracked.act tables inputs bind vs) (λ s. plain.bind_to (requested.is_function_at s.heap x) x (argument_or undefined 1 (values_of vs)) (others (others (values_of vs))) s)) (sym (argument_erased 0 vs))
       (subst (λ x. Lift a_value w (tracked.act tables inputs bind vs) (λ s. plain.bind_to (requested.is_function_at s.heap (argument 0 vs).value) (argument 0 vs).value x (others (others (values_of vs))) s)) (sym (argument_erased 1 vs))

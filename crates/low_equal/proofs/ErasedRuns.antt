@@ -37,7 +37,7 @@ use Rattle.low_equal.proofs.ErasedHeaps.{first_heap_erased, values_of}
 use Rattle.low_equal.proofs.ErasedActs.{erased_reference, resolved_erased, seen_erased, given_lifts, unary_lifts, remove_lifts, spend_lifts, ends_lifts, keys_lifts}
 use Rattle.low_equal.proofs.ErasedRequests.{values_are, act_lifts}
 use Rattle.low_equal.proofs.ErasedCalls.{attempt_lifts, jumps_lifts, no_jump_lifts, raises_lifts, records_length, records_appended, function_lifts}
-use Rattle.low_equal.proofs.ErasedEntering.{Enters, value_lifts, construct_lifts, get_lifts, typeof_get_lifts, put_lifts, primitive_lifts, comparable_lifts, instance_lifts}
+use Rattle.low_equal.proofs.ErasedEntering.{Enters, value_lifts, construct_lifts, get_lifts, typeof_get_lifts, put_lifts, define_lifts, primitive_lifts, comparable_lifts, instance_lifts}
 
 -- a value, and what is left of it without its label
 abbrev Same : List Mark → Val → Value → Type 0
@@ -270,6 +270,8 @@ module _ (tables : Tables) (inputs : Given) (set : BuiltIns) (functions : List F
     remove = λ {n = n} r. at_equal B.remove r (remove_lifts n);
     this_of = λ {n = n} r. base_is n ∙ ap B.this_of r;
     instance = λ {v = v} {f = f} {f' = f'} {E = E} {D = D} r q h. at_equal (λ x. B.instance x f' D) r (at_equal (λ x. B.instance v.value x D) q (instance_lifts functions E D (enters_of h) f.value v f.label));
+    define = λ key marks shape {base = b} {v = v} {g = g} {set = q} {v' = v'} {g' = g'} {set' = q'} {E = E} {D = D} rb rv rg rq h. at_equal (λ x. B.define key marks shape x v' g' q' D) rb (at_equal (λ x. B.define key marks shape b.value x g' q' D) rv
+        (at_equal (λ x. B.define key marks shape b.value v.value x q' D) rg (at_equal (λ x. B.define key marks shape b.value v.value g.value x D) rq (define_lifts functions E D (enters_of h) key marks shape b v g q))));
     fork = λ t {w = w} {v = v} {m' = m'} {n' = n'} r h k. at_equal (λ x. B.fork t x m' n') r (fork_lifts t v (truth v.value) (h (passes ∷ w) (λ j. refl)) (k (passes ∷ w) (λ j. refl)));
     round = λ turn labels f g r h. round_link turn labels f g r (λ w. h w tt);
     again = λ {v = v} {m' = m'} {n' = n'} r h k. at_equal (λ x. B.again x m' n') r (again_lifts v (truth v.value) h k);

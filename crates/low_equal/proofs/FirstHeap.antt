@@ -1,5 +1,5 @@
 -- The objects that a script starts with, its functions and variables among them, stand for themselves in two runs, whatever the set of built-ins is.
-use Rattle.std.proofs.Common.{◌≡◌, ℕ, suc, List, [], ◌∷◌, ◌++◌, length, Bool, true, false, Option, Some, None, slice_get, refl, sym, ap, subst, true≢false, arith}
+use Rattle.std.proofs.Common.{◌≡◌, ℕ, suc, List, [], ◌∷◌, ◌++◌, length, Bool, true, false, if◌then◌else◌, Option, Some, None, slice_get, refl, sym, ap, subst, true≢false, arith}
 use Rattle.std.proofs.lemmas.Option.{same_Some}
 use Rattle.std.proofs.lemmas.List.{length-append}
 use Rattle.std.specs.Option.{option_map}
@@ -8,7 +8,8 @@ use Rattle.js_values.specs.declared.value.Value.{Value}
 use Rattle.js_values.specs.declared.property.Body.{Body}
 use Rattle.js_values.specs.declared.property.Body.TheVariants.{Data, Accessor}
 use Rattle.js_values.specs.declared.property.Marks.{Marks}
-use Rattle.js_values.specs.Objects.{Property, PlainObject, number_of, own}
+use Rattle.js_values.specs.Objects.{Rows, Property, PlainObject, number_of, own, changed}
+use Rattle.js_values.specs.Arrays.{length_key, element_of, is_past}
 use Rattle.js_values.specs.Chains.{beginning, onwards, chain_within}
 use Rattle.js_values.specs.Walks.{plain_chain, plain_found_at, plain_find}
 use Rattle.js_ast.specs.Trees.{Function, Statements, params_of}
@@ -22,10 +23,10 @@ use Rattle.es_meaning.specs.Objects.{made_by_script, declared_by_script}
 use Rattle.es_meaning.specs.Plain.{undefined, unless_found, with_variable, with_variables, put_by_plan, may_hold, declared_in_place, declared_anew, declared_over, declared_function, and_functions, with_functions, entered_heap, heap_or, first_heap}
 use Rattle.es_meaning.specs.Start.{object_prototype, function_prototype, global_object}
 use Rattle.flow_meaning.specs.Erased.{unlabelled_heap}
-use Rattle.low_equal.specs.LowEqual.{nowhere, no_keys, one_more, HeapsAgree}
+use Rattle.low_equal.specs.LowEqual.{AreDistinct, nowhere, no_keys, one_more, HeapsAgree}
 use Rattle.low_equal.proofs.Rows.{own_absent, distinct_altered, distinct_with_row}
 use Rattle.low_equal.proofs.Heaps.{none_some}
-use Rattle.low_equal.proofs.SoundHeaps.{IsBelow, a_primitive, an_object, holds, no_row, one_row, no_function, of_the_script, AreSound, at_heap, sound_itself, below_changed, below_with_row, rows_sound, object_sound, property_sound, two_more_sound, below_one, function_rows_below, keys_of_constructor}
+use Rattle.low_equal.proofs.SoundHeaps.{IsBelow, AreBelow, a_primitive, an_object, holds, no_row, one_row, no_function, of_the_script, AreSound, at_heap, sound_itself, below_changed, below_with_row, rows_sound, object_sound, property_sound, two_more_sound, below_one, function_rows_below, keys_of_constructor}
 use Rattle.low_equal.proofs.BuiltHeap.{built_sound}
 
 -- ---- what is written and added to the global object
@@ -33,8 +34,20 @@ use Rattle.low_equal.proofs.BuiltHeap.{built_sound}
 write_sound : (name : List ℕ) (v : Value) (h : List PlainObject) → IsBelow (length h) v → AreSound h → AreSound (acts.write global_object.0 name v h)
 write_sound name v h b s = object_sound h global_object.0 _ s (λ g e k. rows_sound g _ k (distinct_altered name (λ q. Some (acts.with_value v q)) k.distinct) (below_changed name (acts.with_value v) (λ q. holds b) k.rows))
 
+-- an element raises the `length` of an array
+stretched_sound : {n : ℕ} (i : Option ℕ) (x : Option Property) {rows : Rows Property} → AreDistinct rows → AreBelow n rows → AreDistinct (acts.stretched i x rows) × AreBelow n (acts.stretched i x rows)
+stretched_sound None x d b = (d, b)
+stretched_sound (Some i) None d b = (d, b)
+stretched_sound {n} (Some i) (Some p) {rows} d b = by_past (is_past i p.body)
+  where
+    by_past : (c : Bool) → AreDistinct (if c then changed length_key (acts.with_length (suc i)) rows else rows) × AreBelow n (if c then changed length_key (acts.with_length (suc i)) rows else rows)
+    by_past true = (distinct_altered length_key (λ q. Some (acts.with_length (suc i) q)) d, below_changed length_key (acts.with_length (suc i)) (λ q. holds a_primitive) b)
+    by_past false = (d, b)
+
 add_sound : (name : List ℕ) (v : Value) (marks : Marks) (h : List PlainObject) → IsBelow (length h) v → ((g : PlainObject) → slice_get h global_object.0 ≡ Some g → own name g.rows ≡ None) → AreSound h → AreSound (acts.add global_object.0 name v marks h)
-add_sound name v marks h b none s = object_sound h global_object.0 _ s (λ g e k. rows_sound g _ k (distinct_with_row name _ (own_absent name g.rows (none g e)) k.distinct) (below_with_row name (record { body = Data v; marks = marks }) (holds b) k.rows))
+add_sound name v marks h b none s = object_sound h global_object.0 (acts.with_added name (record { body = Data v; marks = marks })) s
+    (λ g e k. let z = stretched_sound (element_of g.class name) (own length_key g.rows) (distinct_with_row name (record { body = Data v; marks = marks }) (own_absent name g.rows (none g e)) k.distinct)
+    (below_with_row name (record { body = Data v; marks = marks }) (holds b) k.rows) in rows_sound g _ k z.0 z.1)
 
 -- where nothing is found, or a put adds, the global object itself hasn't the name
 abbrev behind : List PlainObject → PlainObject → List (ℕ × PlainObject)
@@ -63,13 +76,13 @@ own_adds p (Data v) e = allowed_adds p.marks.writable e
 own_adds p (Accessor get None) e = true≢false (sym e)
 own_adds p (Accessor get (Some f)) e = true≢false (sym e)
 
-plan_adds : (p : PlainObject) (x : Option Property) (rest : Option (ℕ × Property)) → is_adds (acts.plan_at p x rest) ≡ true → x ≡ None
-plan_adds p None rest e = refl
-plan_adds p (Some q) rest e = absurd (own_adds q q.body e)
+plan_adds : (key : List ℕ) (p : PlainObject) (x : Option Property) (rest : Option (ℕ × Property)) → is_adds (acts.plan_at key p x rest) ≡ true → x ≡ None
+plan_adds key p None rest e = refl
+plan_adds key p (Some q) rest e = absurd (own_adds q q.body e)
 
 put_adds : (name : List ℕ) (h : List PlainObject) (x : Option PlainObject) → is_adds (acts.can_put name (beginning global_object.0 x (behind h))) ≡ true → (g : PlainObject) → x ≡ Some g → own name g.rows ≡ None
 put_adds name h None e g d = absurd (none_some g d)
-put_adds name h (Some p) e g d = subst (λ (q : PlainObject). own name q.rows ≡ None) (same_Some p g d) (plan_adds p (own name p.rows) (plain_find name (behind h p)) e)
+put_adds name h (Some p) e g d = subst (λ (q : PlainObject). own name q.rows ≡ None) (same_Some p g d) (plan_adds name p (own name p.rows) (plain_find name (behind h p)) e)
 
 put_sound : (plan : acts.Plan) (name : List ℕ) (v : Value) (h : List PlainObject) → acts.can_put name (plain_chain h global_object.0) ≡ plan → IsBelow (length h) v → AreSound h → AreSound (put_by_plan plan name v h)
 put_sound acts.writes name v h e b s = write_sound name v h b s

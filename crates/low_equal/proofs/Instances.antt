@@ -1,5 +1,5 @@
 -- `instanceof`: where it isn't seen, and in two runs.
-use Rattle.std.proofs.Common.{◌≡◌, ℕ, List, [], ◌∷◌, Bool, true, false, cond, nat_eq, slice_get, refl, sym, ◌∙◌, ap₂, subst, true≢false}
+use Rattle.std.proofs.Common.{◌≡◌, ℕ, List, [], ◌∷◌, Bool, true, false, cond, nat_eq, slice_get, ⊎_elim, refl, sym, ◌∙◌, ap₂, subst, true≢false}
 use Rattle.std.proofs.lemmas.Bool.{eqb-true, eq-eqb}
 use Rattle.origin_labels.specs.Label.{Label, union}
 use Rattle.flow_policy.specs.Policies.{Tables}
@@ -19,7 +19,7 @@ use Rattle.flow_meaning.specs.Tracked.{throw_error, truth_of, Access, property_o
 use Rattle.low_equal.specs.Observed.{Sees, Hides, IsSeen}
 use Rattle.low_equal.specs.LowEqual.{Pairing, IsOneToOne, Alike, seen, hidden, SameValue, primitives, objects, Agree, LowEqual}
 use Rattle.low_equal.specs.Runs.{Confined, InStep, go, Lockstep}
-use Rattle.low_equal.proofs.Labels.{sees_bottom, sees_union, hides_first, hides_second}
+use Rattle.low_equal.proofs.Labels.{sees_bottom, sees_union, hides_first, hides_second, hidden_part}
 use Rattle.low_equal.proofs.Agreement.{extends_refl, alike_map, alike_join, value_more, agree_more}
 use Rattle.low_equal.proofs.Walks.{ChainsAgree, no_objects, hidden_link, seen_link, chains_agree}
 use Rattle.low_equal.proofs.States.{low_seen}
@@ -129,19 +129,19 @@ module _ (observer : Label) (tables : Tables) (functions : List FunctionCode) wh
     conf_reads : (place label : Label) (f : ℕ) → Confined observer tables (reads place label f)
     conf_reads place label f = conf_bind observer tables (entered_access functions E) (conf_property observer tables place (called_value label f) (value.Object (id f)) prototype_name) (λ a. conf_access observer tables functions c a)
 
-    conf_by : (v : Val) (x : Value) (label : Label) (f : ℕ) → Confined observer tables (instance_by functions v x label f E)
+    conf_by : (v : Val) (o : ObjId) (label : Label) (f : ℕ) → Confined observer tables (instance_by functions v o label f E)
     unfolding instance_by
-    conf_by v (value.Primitive p) label f = conf_ret observer tables _
-    conf_by v (value.Object o) label f = conf_at observer tables (λ s. reads (union v.label label) label f >>= at_proto (union v.label label) o.0)
+    conf_by v o label f = conf_at observer tables (λ s. reads (union v.label label) label f >>= at_proto (union v.label label) o.0)
         (λ s. conf_bind observer tables (at_proto (union v.label label) o.0) (conf_reads (union v.label label) label f) (λ a. conf_is _ o.0 a.value))
 
-    conf_of : (v : Val) (label : Label) (aim : Aim) → Confined observer tables (instance_of functions v label aim E)
+    conf_of : (v : Val) (x : Value) (label : Label) (aim : Aim) → Confined observer tables (instance_of functions v x label aim E)
     unfolding instance_of
-    conf_of v label aim = conf_by v v.value (union label aim.label) aim.target.function
+    conf_of v (value.Primitive p) label aim = conf_ret observer tables _
+    conf_of v (value.Object o) label aim = conf_by v o (union label aim.label) aim.target.function
 
     conf_if : (b : Bool) (v : Val) (label : Label) (f : ℕ) → Confined observer tables (instance_if functions b v label f E)
     unfolding instance_if
-    conf_if true v label f = conf_at observer tables (λ s. instance_of functions v label (aim_of s.heap f) E) (λ s. conf_of v label (aim_of s.heap f))
+    conf_if true v label f = conf_at observer tables (λ s. instance_of functions v v.value label (aim_of s.heap f) E) (λ s. conf_of v v.value label (aim_of s.heap f))
     conf_if false v label f = conf_at observer tables (λ s. throw_error kinds.TypeError label) (λ s. conf_throw observer tables {X = Val} kinds.TypeError label)
 
     conf_value : (v : Val) (label : Label) (x : Value) → Confined observer tables (instance_value functions v label x E)
@@ -152,26 +152,29 @@ module _ (observer : Label) (tables : Tables) (functions : List FunctionCode) wh
     pub conf_instance : (v f : Val) → Confined observer tables (instance functions v f E)
     conf_instance v f = conf_value v f.label f.value
 
+    hides_regrouped : (a b c : Label) → Hides observer (union a b) → Hides observer (union a (union b c))
+    hides_regrouped a b c h = ⊎_elim (λ x. hides_first observer a (union b c) x) (λ x. hides_second observer a (union b c) (hides_first observer b c x)) (hidden_part observer a b h)
+
     -- under a hidden label
-    mum_by : (v : Val) (x : Value) (label : Label) (f : ℕ) → Hides observer (union v.label label) → Mum observer tables Hid (instance_by functions v x label f E)
+    mum_by : (v : Val) (o : ObjId) (label : Label) (f : ℕ) → Hides observer (union v.label label) → Mum observer tables Hid (instance_by functions v o label f E)
     unfolding instance_by
-    mum_by v (value.Primitive p) label f h = mum_ret observer tables Hid h
-    mum_by v (value.Object o) label f h = mum_at observer tables Hid (λ s. reads (union v.label label) label f >>= at_proto (union v.label label) o.0)
+    mum_by v o label f h = mum_at observer tables Hid (λ s. reads (union v.label label) label f >>= at_proto (union v.label label) o.0)
         (λ s. mum_bind observer tables Hid Hid (at_proto (union v.label label) o.0)
         (mum_bind observer tables HiddenRead Hid (entered_access functions E) (mum_property observer tables (union v.label label) (called_value label f) (value.Object (id f)) prototype_name h) (λ a k. mum_access observer tables functions c a k))
         (λ a k. mum_is (union (union v.label label) a.label) o.0 a.value (hides_first observer (union v.label label) a.label h)))
 
-    mum_of : (v : Val) (label : Label) (aim : Aim) → Hides observer (union label aim.label) → Mum observer tables Hid (instance_of functions v label aim E)
+    -- by the operand's label, or by that of the function
+    mum_of : (v : Val) (x : Value) (label : Label) (aim : Aim) → Hides observer (union v.label label) → Mum observer tables Hid (instance_of functions v x label aim E)
     unfolding instance_of
-    mum_of v label aim h = mum_by v v.value (union label aim.label) aim.target.function (hides_second observer v.label (union label aim.label) h)
+    mum_of v (value.Primitive p) label aim h = mum_ret observer tables Hid h
+    mum_of v (value.Object o) label aim h = mum_by v o (union label aim.label) aim.target.function (hides_regrouped v.label label aim.label h)
 
-    mum_of_value : (v : Val) (label : Label) (aim : Aim) → Hides observer v.label → Mum observer tables Hid (instance_of functions v label aim E)
-    unfolding instance_of
-    mum_of_value v label aim h = mum_by v v.value (union label aim.label) aim.target.function (hides_first observer v.label (union label aim.label) h)
+    mum_of_value : (v : Val) (x : Value) (label : Label) (aim : Aim) → Hides observer v.label → Mum observer tables Hid (instance_of functions v x label aim E)
+    mum_of_value v x label aim h = mum_of v x label aim (hides_first observer v.label label h)
 
     mum_if : (b : Bool) (v : Val) (label : Label) (f : ℕ) → Hides observer label → Mum observer tables Hid (instance_if functions b v label f E)
     unfolding instance_if
-    mum_if true v label f h = mum_at observer tables Hid (λ s. instance_of functions v label (aim_of s.heap f) E) (λ s. mum_of v label (aim_of s.heap f) (hides_first observer label (aim_of s.heap f).label h))
+    mum_if true v label f h = mum_at observer tables Hid (λ s. instance_of functions v v.value label (aim_of s.heap f) E) (λ s. mum_of v v.value label (aim_of s.heap f) (hides_second observer v.label label h))
     mum_if false v label f h = mum_at observer tables Hid (λ s. throw_error kinds.TypeError label) (λ s. mum_throw observer tables Hid kinds.TypeError label h)
 
     mum_value : (v : Val) (label : Label) (x : Value) → Hides observer label → Mum observer tables Hid (instance_value functions v label x E)
@@ -195,25 +198,29 @@ module _ (observer : Label) (tables : Tables) (functions : List FunctionCode) wh
         (λ x. conf_is _ o x.value) (λ x. conf_is _ q x.value)
         (λ γ k x y b. lock_is (union (union v.label l) x.label) (union (union u.label m) y.label) o q (alike_join observer (λ (i : Unit {0}) j. j) (seen h e tt) b) (k.objects _ _ z))
 
-    by_after : {γ : Pairing} (v u : Val) {x y : Value} (l m : Label) (f g : ℕ) (s t : State) → Sees observer (union v.label l) → union v.label l ≡ union u.label m → Alike observer l m (Unit {0}) → γ.objects f g ≡ true → SameValue γ x y → LowEqual observer tables γ s t → IsSeen observer s
-        → InStep observer tables (Agree observer) γ (instance_by functions v x l f E s) (instance_by functions u y m g D t)
+    by_seen : {γ : Pairing} (v u : Val) (o q : ObjId) (l m : Label) (f g : ℕ) (s t : State) → Sees observer (union v.label l) → union v.label l ≡ union u.label m → Alike observer l m (Unit {0}) → γ.objects f g ≡ true → γ.objects o.0 q.0 ≡ true → LowEqual observer tables γ s t → IsSeen observer s
+        → InStep observer tables (Agree observer) γ (instance_by functions v o l f E s) (instance_by functions u q m g D t)
     unfolding instance_by
-    by_after {γ} v u l m f g s t h e a p primitives r w = go γ (extends_refl γ) r w (seen h e primitives)
-    by_after {γ} v u l m f g s t h e a p (objects {o = o} {q = q} z) r w = (by_objects v u o.0 q.0 l m f g h e a p z).steps γ (extends_refl γ) s t r w
+    by_seen {γ} v u o q l m f g s t h e a p z r w = (by_objects v u o.0 q.0 l m f g h e a p z).steps γ (extends_refl γ) s t r w
 
-    -- by whether the object is seen, and by whether the targets are
-    of_seen : {γ : Pairing} (v u : Val) (l m : Label) (a b : Aim) (s t : State) → Alike observer (union l a.label) (union m b.label) (γ.objects a.target.function b.target.function ≡ true) → Agree observer γ v u → LowEqual observer tables γ s t → IsSeen observer s
-        → InStep observer tables (Agree observer) γ (instance_of functions v l a E s) (instance_of functions u m b D t)
+    -- where the target is hidden, an object's read is; of a primitive value nothing is read
+    by_after : {γ : Pairing} (v u : Val) (o q : ObjId) (l m : Label) (a b : Aim) (s t : State) → Alike observer (union l a.label) (union m b.label) (γ.objects a.target.function b.target.function ≡ true) → Sees observer v.label → v.label ≡ u.label → γ.objects o.0 q.0 ≡ true
+        → LowEqual observer tables γ s t → IsSeen observer s → InStep observer tables (Agree observer) γ (instance_by functions v o (union l a.label) a.target.function E s) (instance_by functions u q (union m b.label) b.target.function D t)
+    by_after v u o q l m a b s t (hidden c d) h k z r w = values_apart observer tables r w ((mum_by ce v o (union l a.label) a.target.function (hides_second observer v.label (union l a.label) c)).mute s w)
+        ((mum_by cd u q (union m b.label) b.target.function (hides_second observer u.label (union m b.label) d)).mute t (low_seen observer tables r w))
+    by_after {γ} v u o q l m a b s t (seen c d p) h k z r w = by_seen v u o q (union l a.label) (union m b.label) a.target.function b.target.function s t (sees_union observer v.label (union l a.label) h c) (ap₂ union k d) (seen c d tt) p z r w
+
+    of_after : {γ : Pairing} (v u : Val) {x y : Value} (l m : Label) (a b : Aim) (s t : State) → Sees observer l → l ≡ m → Alike observer (union l a.label) (union m b.label) (γ.objects a.target.function b.target.function ≡ true) → Alike observer v.label u.label (SameValue γ x y) → LowEqual observer tables γ s t → IsSeen observer s
+        → InStep observer tables (Agree observer) γ (instance_of functions v x l a E s) (instance_of functions u y m b D t)
     unfolding instance_of
-    of_seen v u l m a b s t (hidden c d) q r w = values_apart observer tables r w ((mum_of ce v l a c).mute s w) ((mum_of cd u m b d).mute t (low_seen observer tables r w))
-    of_seen v u l m a b s t (seen c d p) (hidden h k) r w = values_apart observer tables r w ((mum_of_value ce v l a h).mute s w) ((mum_of_value cd u m b k).mute t (low_seen observer tables r w))
-    of_seen v u l m a b s t (seen c d p) (seen h k x) r w =
-        by_after v u (union l a.label) (union m b.label) a.target.function b.target.function s t (sees_union observer v.label (union l a.label) h c) (ap₂ union k d) (seen c d tt) p x r w
+    of_after v u {x} {y} l m a b s t c d p (hidden h k) r w = values_apart observer tables r w ((mum_of_value ce v x l a h).mute s w) ((mum_of_value cd u y m b k).mute t (low_seen observer tables r w))
+    of_after {γ} v u l m a b s t c d p (seen h k primitives) r w = go γ (extends_refl γ) r w (seen (sees_union observer v.label l h c) (ap₂ union k d) primitives)
+    of_after v u l m a b s t c d p (seen h k (objects {o = o} {q = q} z)) r w = by_after v u o q l m a b s t p h k z r w
 
     if_after : {γ : Pairing} (b c : Bool) (v u : Val) (l m : Label) (f g : ℕ) (s t : State) → b ≡ c → Sees observer l → l ≡ m → γ.objects f g ≡ true → Agree observer γ v u → LowEqual observer tables γ s t → IsSeen observer s
         → InStep observer tables (Agree observer) γ (instance_if functions b v l f E s) (instance_if functions c u m g D t)
     unfolding instance_if
-    if_after {γ} true true v u l m f g s t e h d p a r w = of_seen v u l m _ _ s t (alike_join observer (λ (i : Unit {0}) j. j.function) (seen h d tt) (aims_agree observer r.heap p)) a r w
+    if_after {γ} true true v u l m f g s t e h d p a r w = of_after v u l m _ _ s t h d (alike_join observer (λ (i : Unit {0}) j. j.function) (seen h d tt) (aims_agree observer r.heap p)) a r w
     if_after false false v u l m f g s t e h d p a r w = thrown_both observer tables (Agree observer) kinds.TypeError s t (seen h d tt) r w
     if_after true false v u l m f g s t e h d p a r w = absurd (true≢false e)
     if_after false true v u l m f g s t e h d p a r w = absurd (true≢false (sym e))

@@ -31,6 +31,7 @@ mod ErasedCalls
 mod ErasedDefinitions
 mod ErasedEntering
 mod ErasedHeaps
+mod ErasedLengths
 mod ErasedRequests
 mod ErasedRuns
 mod FirstHeap
@@ -40,7 +41,9 @@ mod Heaps
 mod HeapSteps
 mod Instances
 mod Jumps
+mod Keys
 mod Labels
+mod Lengths
 pub mod Lines
 mod Looks
 mod Makes
@@ -57,6 +60,7 @@ mod Rows
 mod Runs
 mod Scopes
 mod SoundHeaps
+mod Standing
 mod Starts
 mod States
 mod Steps

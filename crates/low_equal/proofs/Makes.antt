@@ -126,7 +126,7 @@ module _ (observer : Label) where
 
   -- the properties that each function has behind its own
   pub function_rows_agree : {γ : Pairing} (l : Label) → Sees observer l → ((o : ℕ) → o < length start_heap → γ.objects o o ≡ true) → RowsAgree observer γ (made_rows l function_rows) (made_rows l function_rows)
-  function_rows_agree l v starts = accessor_row (codes "caller") caller_accessor l v (starts 13 (omega arith)) (accessor_row (codes "arguments") arguments_accessor l v (starts 14 (omega arith)) no_rows)
+  function_rows_agree l v starts = accessor_row (codes "caller") caller_accessor l v (starts caller_accessor.0 (omega arith)) (accessor_row (codes "arguments") arguments_accessor l v (starts arguments_accessor.0 (omega arith)) no_rows)
 
   function_distinct : (l : Label) (a b : Slot Label) → AreDistinct ((codes "length", a) ∷ (codes "prototype", b) ∷ made_rows l function_rows)
   function_distinct l a b = one_more (own_absent (codes "length") _ refl) (one_more (own_absent (codes "prototype") _ refl) (one_more (own_absent (codes "caller") _ refl) (one_more nowhere no_keys)))

@@ -1,10 +1,13 @@
 -- New objects and bound functions: in one run and in two. Their references have no label, so they are paired also where what made them differ is hidden.
-use Rattle.std.proofs.Common.{◌≡◌, ℕ, suc, ◌<◌, ◌-◌, List, [], ◌∷◌, ◌++◌, length, Bool, true, false, cond, pos, Option, Some, None, slice_get, codes, refl, sym, ◌∙◌, ap, ap₂, subst, arith}
+use Rattle.std.proofs.Common.{◌≡◌, ℕ, suc, ◌<◌, ◌-◌, List, [], ◌∷◌, ◌++◌, length, Bool, true, false, cond, ◌||◌, if◌then◌else◌, map, pos, Option, Some, None, slice_get, codes, refl, sym, ◌∙◌, ap, ap₂, subst, arith}
+use Rattle.std.specs.Option.{option_map}
 use Rattle.std.proofs.lemmas.Option.{none-some, same_Some}
 use Rattle.origin_labels.specs.Names.{same_name}
 use Rattle.origin_labels.specs.Label.{Label, bottom, union}
 use Rattle.flow_policy.specs.Policies.{Tables}
 use Rattle.flow_frames.specs.Frames.{context}
+use Rattle.js_number.specs.declared.num.Num.TheVariants.{Int}
+use Rattle.js_number.specs.declared.primitive.Primitive.{Primitive}
 use Rattle.js_number.specs.declared.primitive.Primitive.TheVariants.{Undefined, Null, Num, Str}
 use Rattle.js_number.specs.declared.primitive.Primitive.TheVariants as prims
 use Rattle.native_protocol.specs.declared.request.ErrorKind.TheVariants as kinds
@@ -12,40 +15,42 @@ use Rattle.js_values.specs.declared.ids.ObjId.{ObjId}
 use Rattle.js_values.specs.declared.value.Value.{Value}
 use Rattle.js_values.specs.declared.value.Value.TheVariants as value
 use Rattle.js_values.specs.declared.property.Body.TheVariants.{Data}
+use Rattle.js_values.specs.declared.property.Marks.{Marks}
 use Rattle.js_values.specs.declared.property.Slot.{Slot}
+use Rattle.prototype_walk.specs.KeyLists.{existences}
 use Rattle.js_values.specs.declared.inner.Class.{Class}
 use Rattle.js_values.specs.declared.inner.Class.TheVariants as class
-use Rattle.js_values.specs.declared.inner.Inner.TheVariants.{Plain}
-use Rattle.js_values.specs.Objects.{Rows, Property, Object, own, fresh_object}
-use Rattle.es_meaning.specs.Outcomes.{Outcome, Goes, left}
-use Rattle.es_meaning.specs.Operators.{not_built}
-use Rattle.es_meaning.specs.Plain.{choose}
-use Rattle.es_meaning.specs.Functions.{is_function}
+use Rattle.js_values.specs.Arrays.{length_key, element_key}
+use Rattle.js_values.specs.Objects.{Rows, Property, PlainObject, Object, plain as plain_inner, own, changed, with_row, fresh_plain}
+use Rattle.es_meaning.specs.Outcomes.{Outcome, Goes}
+use Rattle.es_meaning.specs.Functions.{is_function, property_with}
 use Rattle.es_meaning.specs.Definitions.{value_in}
-use Rattle.es_meaning.specs.Start.{id, start_heap}
-use Rattle.es_meaning.specs.Requested.{is_array, class_prototype, prototype_given, count_in, bound_count}
+use Rattle.es_meaning.specs.Objects.{made_by_script, defined_over, elements_onto}
+use Rattle.es_meaning.specs.Start.{id, start_heap, array_prototype, length_property}
+use Rattle.es_meaning.specs.Requested.{places_from, text_value, array_of_texts, listed, made_of, class_prototype, prototype_given, count_in, bound_count}
 use Rattle.es_meaning.proofs.Link.{Rels, nils, conses}
-use Rattle.flow_meaning.specs.Erased.{erased_slot, erased_rows, unlabelled}
+use Rattle.flow_meaning.specs.Erased.{erased_slot, erased_rows, made_rows, made_object, unlabelled}
 use Rattle.flow_meaning.specs.Scopes.{Val, Halt, State, Jump}
-use Rattle.flow_meaning.specs.Tracked.{throw_error, ends, made_new, make_new, bind_object, bind_value, bind_to}
+use Rattle.flow_meaning.specs.Tracked.{throw_error, on_object, with_link, standing, make_new, make_new_by, keys_label, keys_in, list_keys, bind_object, bind_value, bind_to}
 use Rattle.flow_meaning.specs.Requested.{property_in, length_name, own_label, length_label, bound_object, erased_in, is_function_in, is_function_at}
 use Rattle.low_equal.specs.Observed.{Sees, Hides, IsSeen}
-use Rattle.low_equal.specs.LowEqual.{Pairing, Alike, seen, hidden, SameValue, primitives, objects, SameObject, neither, both, Agree, AllAgree, none, each, data_bodies, no_rows, row, plains, bounds, ObjectsAgree, Both, both_stand, nowhere, no_keys, one_more, HeapsAgree, LowEqual}
+use Rattle.low_equal.specs.LowEqual.{Pairing, Alike, seen, hidden, SameValue, primitives, objects, SameObject, neither, both, Agree, AllAgree, none, each, data_bodies, RowsAgree, no_rows, row, plains, bounds, ObjectsAgree, Both, both_stand, AreDistinct, IsAbsent, nowhere, elsewhere, no_keys, one_more, ShapesAgree, seen_shape, hidden_shape, HeapsAgree, LowEqual}
 use Rattle.low_equal.specs.Runs.{Confined, InStep, go}
-use Rattle.low_equal.proofs.Labels.{not_both, sees_second, hides_first, sees_bottom}
+use Rattle.low_equal.proofs.Labels.{not_both, sees_union, sees_second, hides_first, hides_second, sees_bottom}
 use Rattle.low_equal.proofs.Agreement.{alike_map, alike_join, records_more, both_map, two}
-use Rattle.low_equal.proofs.Lines.{front_refl}
+use Rattle.low_equal.proofs.Lines.{front_refl, lines_refl}
 use Rattle.low_equal.proofs.Heaps.{with_objects, extends_objects, pair_new, new_left, start_stands}
-use Rattle.low_equal.proofs.Rows.{own_absent}
+use Rattle.low_equal.proofs.Rows.{own_absent, distinct_altered, distinct_with_row}
 use Rattle.low_equal.proofs.Additions.{paired_below, level_new}
 use Rattle.low_equal.proofs.States.{low_sym, low_heap, same_context}
-use Rattle.low_equal.proofs.Steps.{still_goes, conf_ends}
+use Rattle.low_equal.proofs.Steps.{still_goes}
 use Rattle.low_equal.proofs.Acts.{conf_throw, thrown_both}
 use Rattle.low_equal.proofs.Walks.{own_walk, level_own, OwnSame, names_nothing, names_both}
-use Rattle.low_equal.proofs.Mute.{Mute, Never, mum_throw, stops_first, stops_second}
-use Rattle.low_equal.proofs.References.{conf_at, both_end, seen_other}
+use Rattle.low_equal.proofs.Mute.{Mute, mutes, Mum, HiddenVal, Never, mum_throw, values_apart, stops_first, stops_second}
+use Rattle.low_equal.proofs.References.{conf_at, seen_other}
+use Rattle.low_equal.proofs.Standing.{standing_same}
 use Rattle.low_equal.proofs.Makes.{function_rows_agree}
-use Rattle.low_equal.proofs.Owns.{values_same}
+use Rattle.low_equal.proofs.Owns.{values_same, object_after}
 
 -- ---- without labels
 
@@ -109,8 +114,8 @@ module _ (observer : Label) where
 
   -- ---- the `length` of a bound function
 
-  numbers_same : {γ : Pairing} {n m : ℕ} → n ≡ m → SameValue γ (value.Primitive (Num (pos n))) (value.Primitive (Num (pos m)))
-  numbers_same {γ} {n} {m} e = subst (λ k. SameValue γ (value.Primitive (Num (pos n))) (value.Primitive (Num (pos k)))) e primitives
+  numbers_same : {γ : Pairing} {n m : ℕ} → n ≡ m → SameValue γ (value.Primitive (Num (Int (pos n)))) (value.Primitive (Num (Int (pos m))))
+  numbers_same {γ} {n} {m} e = subst (λ k. SameValue γ (value.Primitive (Num (Int (pos n)))) (value.Primitive (Num (Int (pos k))))) e primitives
 
   -- that of the target counts only as a number that is a value
   count_same : {γ : Pairing} (p q : Property) → SameValue γ (value_in p.body) (value_in q.body) → count_in (Some p) ≡ count_in (Some q)
@@ -165,51 +170,216 @@ module _ (observer : Label) (tables : Tables) where
 
   -- ---- new objects
 
-  abbrev fresh : Class → Option ObjId → Label → Label → Object Label
-  fresh c proto label here = fresh_object c Plain proto (union here label) here
+  -- an object of a class, with its properties: an array has a `length`
+  abbrev rows_new : Class → Rows Property
+  rows_new class.Array = (length_key, length_property 0) ∷ []
+  rows_new class.Object = []
+  rows_new class.Function = []
+  rows_new class.Arguments = []
+  rows_new class.Error = []
+  rows_new class.Math = []
+  rows_new class.Json = []
+  rows_new class.String = []
+  rows_new class.Number = []
+  rows_new class.Boolean = []
 
-  conf_made_new : (c : Class) (proto : Option ObjId) (label : Label) → Confined observer tables (made_new c proto label)
-  unfolding made_new
-  conf_made_new c proto label = conf_made (λ s. fresh c proto label (context s.frames))
+  abbrev new_of : Class → Option ObjId → PlainObject
+  new_of c proto = record (fresh_plain c plain_inner proto) { rows = rows_new c }
+
+  new_is : (c : Class) (proto : Option ObjId) → made_of c proto ≡ new_of c proto
+  new_is class.Array proto = refl
+  new_is class.Object proto = refl
+  new_is class.Function proto = refl
+  new_is class.Arguments proto = refl
+  new_is class.Error proto = refl
+  new_is class.Math proto = refl
+  new_is class.Json proto = refl
+  new_is class.String proto = refl
+  new_is class.Number proto = refl
+  new_is class.Boolean proto = refl
+
+  record NewRows (γ : Pairing) (l : Label) (rows : Rows Property) : Type 0 where
+    agree : RowsAgree observer γ (made_rows l rows) (made_rows l rows)
+    distinct : AreDistinct (made_rows l rows)
+
+  no_new : {γ : Pairing} (l : Label) → NewRows γ l []
+  no_new l = record { agree = no_rows; distinct = no_keys }
+
+  new_rows : {γ : Pairing} (c : Class) (l : Label) → Sees observer l → NewRows γ l (rows_new c)
+  new_rows class.Array l h = record { agree = row (seen h refl (refl, data_bodies (seen h refl primitives))) no_rows; distinct = one_more nowhere no_keys }
+  new_rows class.Object l h = no_new l
+  new_rows class.Function l h = no_new l
+  new_rows class.Arguments l h = no_new l
+  new_rows class.Error l h = no_new l
+  new_rows class.Math l h = no_new l
+  new_rows class.Json l h = no_new l
+  new_rows class.String l h = no_new l
+  new_rows class.Number l h = no_new l
+  new_rows class.Boolean l h = no_new l
+
+  abbrev fresh : Class → Option ObjId → Label → Label → Object Label
+  fresh c proto label here = with_link label (made_object here (new_of c proto))
+
+  abbrev fresh_by : PlainObject → Label → Label → Object Label
+  fresh_by p label here = with_link label (made_object here p)
 
   pub conf_new : (c : Class) (proto : Option ObjId) (label : Label) → Confined observer tables (make_new c proto label)
   unfolding make_new
-  conf_new c proto label = by_form (is_array c)
-    where
-      by_form : (b : Bool) → Confined observer tables (choose b (ends (left not_built)) (made_new c proto label))
-      by_form true = conf_ends observer tables _
-      by_form false = conf_made_new c proto label
+  conf_new c proto label = conf_made (λ s. fresh_by (made_of c proto) label (context s.frames))
 
   -- in one context, with prototypes that agree
   fresh_both : {γ : Pairing} (c : Class) (a b : Option ObjId) (l m : Label) (s t : State) → Alike observer l m (SameObject γ a b) → LowEqual observer tables γ s t → IsSeen observer s
       → InStep observer tables (Agree observer) γ (made (fresh c a l (context s.frames)) s) (made (fresh c b m (context t.frames)) t)
-  fresh_both {γ} c a b l m s t z r w = subst (λ x. InStep observer tables (Agree observer) γ (made (fresh c a l (context s.frames)) s) (made (fresh c b m x) t)) (same_context observer tables r w)
+  fresh_both {γ} c a b l m s t z r w =
+      let rows = new_rows {γ = γ} c (context s.frames) w in
+      subst (λ x. InStep observer tables (Agree observer) γ (made (fresh c a l (context s.frames)) s) (made (fresh c b m x) t)) (same_context observer tables r w)
       (made_both (fresh c a l (context s.frames)) (fresh c b m (context s.frames)) s t
-      (level_new observer (fresh c a l (context s.frames)) (fresh c b m (context s.frames)) refl plains (alike_join observer (λ (u : Unit {0}) x. x) (seen w refl tt) z) w refl refl no_rows no_keys
+      (level_new observer (fresh c a l (context s.frames)) (fresh c b m (context s.frames)) refl plains (alike_join observer (λ (u : Unit {0}) x. x) (seen w refl tt) z) w refl refl rows.agree rows.distinct
       (λ v o e. proto_left observer r.heap z (sees_second observer (context s.frames) l v) o e) (λ v o e. proto_right observer r.heap z (sees_second observer (context s.frames) m v) o e) tt tt r.heap) r w)
-
-  made_new_both : {γ : Pairing} (c : Class) (a b : Option ObjId) (l m : Label) (s t : State) → Alike observer l m (SameObject γ a b) → LowEqual observer tables γ s t → IsSeen observer s
-      → InStep observer tables (Agree observer) γ (made_new c a l s) (made_new c b m t)
-  unfolding made_new
-  made_new_both c a b l m s t z r w = fresh_both c a b l m s t z r w
 
   new_both : {γ : Pairing} (c : Class) (a b : Option ObjId) (l m : Label) (s t : State) → Alike observer l m (SameObject γ a b) → LowEqual observer tables γ s t → IsSeen observer s
       → InStep observer tables (Agree observer) γ (make_new c a l s) (make_new c b m t)
   unfolding make_new
-  new_both {γ} c a b l m s t z r w = by_form (is_array c)
+  new_both {γ} c a b l m s t z r w =
+      subst (λ p. InStep observer tables (Agree observer) γ (made (fresh_by p l (context s.frames)) s) (made (fresh_by (made_of c b) m (context t.frames)) t)) (sym (new_is c a))
+      (subst (λ p. InStep observer tables (Agree observer) γ (made (fresh c a l (context s.frames)) s) (made (fresh_by p m (context t.frames)) t)) (sym (new_is c b))
+      (fresh_both c a b l m s t z r w))
+
+  -- ---- the own keys of an object, which are a new array
+
+  abbrev keys_made : Label → List (List ℕ) → State → Outcome Halt Jump Val State
+  keys_made label keys s = Goes (record { value = value.Object (id (length s.heap)); label = label }) (record s { heap = s.heap ++ made_object (context s.frames) (array_of_texts keys) ∷ [] })
+
+  pub conf_keys_of : (all : Bool) (label : Label) (o : ℕ) → Confined observer tables (list_keys all label o)
+  unfolding list_keys
+  conf_keys_of all label o = record {
+    still = λ s h. still_goes observer tables _ (record { looks = λ β u r. low_heap observer tables r (new_left observer (made_object (context s.frames) (array_of_texts (keys_in all (slice_get s.heap o)))) r.heap) r.records; frames = refl }) refl refl;
+    fits = λ s. omega arith;
+    adds = λ s. front_refl s.lines;
+  }
+
+  -- rows of primitive values alone
+  data OfPrimitives : Rows Property → Type 0 where
+    no_values : OfPrimitives []
+    one_value : {key : List ℕ} {p : Primitive} {m : Marks} {rows : Rows Property} → OfPrimitives rows → OfPrimitives ((key, record { body = Data (value.Primitive p); marks = m }) ∷ rows)
+
+  primitive_added : (key : List ℕ) (p : Primitive) (m : Marks) {rows : Rows Property} → OfPrimitives rows → OfPrimitives (with_row key (record { body = Data (value.Primitive p); marks = m }) rows)
+  primitive_added key p m no_values = one_value no_values
+  primitive_added key p m (one_value r) = one_value (primitive_added key p m r)
+
+  primitive_changed : (key : List ℕ) (p : Primitive) (m : Marks) {rows : Rows Property} → OfPrimitives rows → OfPrimitives (changed key (λ x. record { body = Data (value.Primitive p); marks = m }) rows)
+  primitive_changed key p m no_values = no_values
+  primitive_changed key p m (one_value {key = other} {p = q} {m = n} {rows = rows} r) = by_name (same_name other key) (primitive_changed key p m r)
     where
-      by_form : (x : Bool) → InStep observer tables (Agree observer) γ (choose x (ends (left not_built)) (made_new c a l) s) (choose x (ends (left not_built)) (made_new c b m) t)
-      by_form true = both_end observer tables (Agree observer) r
-      by_form false = made_new_both c a b l m s t z r w
+      by_name : (b : Bool) → OfPrimitives (changed key (λ x. record { body = Data (value.Primitive p); marks = m }) rows)
+          → OfPrimitives (cond b ((other, record { body = Data (value.Primitive p); marks = m }) ∷ rows) ((other, record { body = Data (value.Primitive q); marks = n }) ∷ changed key (λ x. record { body = Data (value.Primitive p); marks = m }) rows))
+      by_name true z = one_value r
+      by_name false z = one_value z
+
+  primitive_over : (o : Option Property) (key : List ℕ) (p : Primitive) (m : Marks) {rows : Rows Property} → OfPrimitives rows → OfPrimitives (defined_over o key (record { body = Data (value.Primitive p); marks = m }) rows)
+  primitive_over None key p m r = primitive_added key p m r
+  primitive_over (Some x) key p m r = primitive_changed key p m r
+
+  distinct_defined : (o : Option Property) (key : List ℕ) (x : Property) {rows : Rows Property} → own key rows ≡ o → AreDistinct rows → AreDistinct (defined_over o key x rows)
+  distinct_defined None key x {rows} e d = distinct_with_row key x (own_absent key rows e) d
+  distinct_defined (Some y) key x e d = distinct_altered key (λ z. Some x) d
+
+  record TextRows (rows : Rows Property) : Type 0 where
+    primitive : OfPrimitives rows
+    distinct : AreDistinct rows
+
+  texts_onto : (ns : List ℕ) (texts : List (List ℕ)) {rows : Rows Property} → TextRows rows → TextRows (elements_onto rows ns (map (λ v. property_with v made_by_script) (map text_value texts)))
+  texts_onto [] texts r = r
+  texts_onto (n ∷ ns) [] r = r
+  texts_onto (n ∷ ns) (text ∷ texts) {rows} r = texts_onto ns texts (record {
+    primitive = primitive_over (own (element_key n) rows) (element_key n) (Str text) made_by_script r.primitive;
+    distinct = distinct_defined (own (element_key n) rows) (element_key n) (property_with (text_value text) made_by_script) refl r.distinct;
+  })
+
+  rows_of_texts : (keys : List (List ℕ)) → TextRows (array_of_texts keys).rows
+  rows_of_texts keys = texts_onto (places_from 0 keys) keys (record { primitive = one_value no_values; distinct = one_more nowhere no_keys })
+
+  made_agree : {γ : Pairing} (l : Label) {rows : Rows Property} → Sees observer l → OfPrimitives rows → RowsAgree observer γ (made_rows l rows) (made_rows l rows)
+  made_agree l h no_values = no_rows
+  made_agree l h (one_value r) = row (seen h refl (refl, data_bodies (seen h refl primitives))) (made_agree l h r)
+
+  made_absent : (l : Label) (key : List ℕ) {rows : Rows Property} → IsAbsent key rows → IsAbsent key (made_rows l rows)
+  made_absent l key nowhere = nowhere
+  made_absent l key (elsewhere n a) = elsewhere n (made_absent l key a)
+
+  made_distinct : (l : Label) {rows : Rows Property} → AreDistinct rows → AreDistinct (made_rows l rows)
+  made_distinct l no_keys = no_keys
+  made_distinct l (one_more {key = key} a d) = one_more (made_absent l key a) (made_distinct l d)
+
+  array_stands : {γ : Pairing} {h g : List (Object Label)} → HeapsAgree observer γ h g → array_prototype.0 < length h
+  array_stands r = start_stands observer r array_prototype.0 (omega arith)
+
+  -- in one context: the same keys, under labels that are seen
+  texts_both : {γ : Pairing} (keys : List (List ℕ)) (l m here : Label) (s t : State) → Sees observer l → l ≡ m → Sees observer here → LowEqual observer tables γ s t → IsSeen observer s
+      → InStep observer tables (Agree observer) γ (Goes (record { value = value.Object (id (length s.heap)); label = l }) (record s { heap = s.heap ++ made_object here (array_of_texts keys) ∷ [] }))
+      (Goes (record { value = value.Object (id (length t.heap)); label = m }) (record t { heap = t.heap ++ made_object here (array_of_texts keys) ∷ [] }))
+  texts_both {γ} keys l m here s t h e k r w =
+      let more = extends_objects γ (length s.heap) (length t.heap) in
+      let rows = rows_of_texts keys in
+      go (with_objects γ (length s.heap) (length t.heap)) more
+      (low_heap observer tables r
+      (level_new observer (made_object here (array_of_texts keys)) (made_object here (array_of_texts keys)) refl plains (seen k refl (both (r.heap.starts array_prototype.0 (omega arith)))) k refl refl (made_agree here k rows.primitive) (made_distinct here rows.distinct)
+      (λ v o x. subst (λ (y : ObjId). y.0 < length s.heap) (same_Some _ o x) (array_stands r.heap)) (λ v o x. subst (λ (y : ObjId). y.0 < length t.heap) (same_Some _ o x) (array_stands (low_sym observer tables r).heap)) tt tt r.heap)
+      (record { paired = λ i j z. both_map (λ c d x. records_more observer more x) (r.records.paired i j z); one_to_one = r.records.one_to_one; left = r.records.left; right = r.records.right }))
+      w (seen h e (objects (pair_new γ.objects (length s.heap) (length t.heap))))
+
+  -- the keys of paired objects, under what they depend on
+  listed_same : {γ : Pairing} (all : Bool) {rs qs : Rows (Slot Label)} → RowsAgree observer γ rs qs → Alike observer (existences rs) (existences qs) (listed all (erased_rows rs) ≡ listed all (erased_rows qs))
+  listed_same all no_rows = seen (sees_bottom observer) refl refl
+  listed_same all (row {key = key} a r) = alike_join observer (λ x y. ap₂ (λ (m : Marks) (ks : List (List ℕ)). if all || m.enumerable then key ∷ ks else ks) x.0 y) a (listed_same all r)
+
+  keys_alike : {γ : Pairing} (all : Bool) {p q : Object Label} → ShapesAgree observer γ p q → Alike observer (keys_label (Some p)) (keys_label (Some q)) (keys_in all (Some p) ≡ keys_in all (Some q))
+  keys_alike all (seen_shape a b x r) = alike_join observer (λ (u : Unit {0}) y. y) (seen a b tt) (listed_same all r)
+  keys_alike all {p} {q} (hidden_shape a b r) = hidden (hides_first observer p.structure _ a) (hides_first observer q.structure _ b)
+
+  mum_keys_of : (all : Bool) (label : Label) (o : ℕ) (s : State) → Hides observer (union label (keys_label (slice_get s.heap o))) → IsSeen observer s → Mute observer tables (HiddenVal observer tables) s (list_keys all label o s)
+  unfolding list_keys
+  mum_keys_of all label o s h w = mutes (record { looks = λ β u r. low_heap observer tables r (new_left observer (made_object (context s.frames) (array_of_texts (keys_in all (slice_get s.heap o)))) r.heap) r.records; frames = refl })
+      (lines_refl observer tables s.lines) h
+
+  keys_both : {γ : Pairing} (all : Bool) (l m : Label) (i j : ℕ) (s t : State) → Sees observer l → l ≡ m → γ.objects i j ≡ true → LowEqual observer tables γ s t → IsSeen observer s → InStep observer tables (Agree observer) γ (list_keys all l i s) (list_keys all m j t)
+  unfolding list_keys
+  keys_both {γ} all l m i j s t h e pair r w =
+      let z = two (r.heap.paired i j pair) in
+      by_keys (subst (λ x. Alike observer (keys_label x) (keys_label (slice_get t.heap j)) (keys_in all x ≡ keys_in all (slice_get t.heap j))) (sym z.is_one)
+      (subst (λ x. Alike observer (keys_label (Some z.one)) (keys_label x) (keys_in all (Some z.one) ≡ keys_in all x)) (sym z.is_other) (keys_alike all z.related.shapes)))
+    where
+      by_keys : Alike observer (keys_label (slice_get s.heap i)) (keys_label (slice_get t.heap j)) (keys_in all (slice_get s.heap i) ≡ keys_in all (slice_get t.heap j))
+          → InStep observer tables (Agree observer) γ (keys_made (union l (keys_label (slice_get s.heap i))) (keys_in all (slice_get s.heap i)) s) (keys_made (union m (keys_label (slice_get t.heap j))) (keys_in all (slice_get t.heap j)) t)
+      by_keys (hidden a b) = values_apart observer tables r w (mum_keys_of all l i s (hides_second observer l _ a) w) (mum_keys_of all m j t (hides_second observer m _ b) (seen_other observer tables r w))
+      by_keys (seen a b k) =
+          subst (λ ks. InStep observer tables (Agree observer) γ (keys_made (union l (keys_label (slice_get s.heap i))) (keys_in all (slice_get s.heap i)) s) (keys_made (union m (keys_label (slice_get t.heap j))) ks t)) k
+          (subst (λ c. InStep observer tables (Agree observer) γ (keys_made (union l (keys_label (slice_get s.heap i))) (keys_in all (slice_get s.heap i)) s)
+          (Goes (record { value = value.Object (id (length t.heap)); label = union m (keys_label (slice_get t.heap j)) }) (record t { heap = t.heap ++ made_object c (array_of_texts (keys_in all (slice_get s.heap i))) ∷ [] }))) (same_context observer tables r w)
+          (texts_both (keys_in all (slice_get s.heap i)) (union l (keys_label (slice_get s.heap i))) (union m (keys_label (slice_get t.heap j))) (context s.frames) s t (sees_union observer l _ h a) (ap₂ union e b) w r w))
+
+  mum_keys : (all : Bool) (label : Label) (o : ℕ) → Hides observer label → Mum observer tables (HiddenVal observer tables) (list_keys all label o)
+  mum_keys all label o h = record { mute = λ s w. mum_keys_of all label o s (hides_first observer label _ h) w }
+
+  pub keys_of_after : {γ : Pairing} (all : Bool) {v u : Val} (s t : State) → Agree observer γ v u → LowEqual observer tables γ s t → IsSeen observer s
+      → InStep observer tables (Agree observer) γ (on_object v (list_keys all v.label) s) (on_object u (list_keys all u.label) t)
+  keys_of_after all {v} {u} s t a r w = object_after observer tables (list_keys all v.label) (list_keys all u.label) s t a (λ h o. mum_keys all v.label o h) (λ h o. mum_keys all u.label o h)
+      (λ h e i j p. keys_both all v.label u.label i j s t h e p r w) r w
 
   -- with the prototype of its class, and with one that a value gives
   pub new_after : {γ : Pairing} (c : Class) (s t : State) → LowEqual observer tables γ s t → IsSeen observer s
       → InStep observer tables (Agree observer) γ (make_new c (Some (class_prototype c)) bottom s) (make_new c (Some (class_prototype c)) bottom t)
   new_after c s t r w = new_both c (Some (class_prototype c)) (Some (class_prototype c)) bottom bottom s t (seen (sees_bottom observer) refl (both (r.heap.starts (class_prototype c).0 (class_below observer c)))) r w
 
+  pub conf_new_by : (c : Class) (v : Val) → Confined observer tables (make_new_by c v)
+  unfolding make_new_by
+  conf_new_by c v = conf_at observer tables (λ s. make_new c (option_map (standing s.heap) (prototype_given v.value)) v.label) (λ s. conf_new c (option_map (standing s.heap) (prototype_given v.value)) v.label)
+
   pub new_given_after : {γ : Pairing} (c : Class) {v u : Val} (s t : State) → Agree observer γ v u → LowEqual observer tables γ s t → IsSeen observer s
-      → InStep observer tables (Agree observer) γ (make_new c (prototype_given v.value) v.label s) (make_new c (prototype_given u.value) u.label t)
-  new_given_after c {v} {u} s t a r w = new_both c (prototype_given v.value) (prototype_given u.value) v.label u.label s t (alike_map observer (λ x. prototypes_same observer r.heap x) a) r w
+      → InStep observer tables (Agree observer) γ (make_new_by c v s) (make_new_by c u t)
+  unfolding make_new_by
+  new_given_after c {v} {u} s t a r w = new_both c (option_map (standing s.heap) (prototype_given v.value)) (option_map (standing t.heap) (prototype_given u.value)) v.label u.label s t
+      (alike_map observer (λ x. standing_same observer r.heap (prototypes_same observer r.heap x)) a) r w
 
   -- ---- bound functions
 

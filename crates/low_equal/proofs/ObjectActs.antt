@@ -1,10 +1,11 @@
 -- Acts on values and objects that enter no function, literals, and the keys of a value: where the cause can't be seen, and in two runs.
-use Rattle.std.proofs.Common.{◌≡◌, ℕ, zero, suc, ◌<◌, List, [], ◌∷◌, ◌++◌, length, Bool, true, false, cond, Option, Some, None, is_some, refl, sym, ◌∙◌, ap, ap₂, subst, true≢false, arith}
+use Rattle.std.proofs.Common.{◌≡◌, ℕ, zero, suc, ◌<◌, List, [], ◌∷◌, ◌++◌, map, length, Bool, true, false, cond, Option, Some, None, is_some, refl, sym, ◌∙◌, ap, ap₂, subst, true≢false, arith}
 use Rattle.std.proofs.lemmas.Option.{none-some, same_Some}
 use Rattle.origin_labels.specs.Names.{same_name}
 use Rattle.origin_labels.specs.Label.{Label, bottom, union}
 use Rattle.flow_policy.specs.Policies.{Tables}
 use Rattle.flow_frames.specs.Frames.{context}
+use Rattle.js_number.specs.declared.primitive.Primitive.{Primitive}
 use Rattle.js_number.specs.declared.primitive.Primitive.TheVariants as prims
 use Rattle.native_protocol.specs.declared.request.ErrorKind.TheVariants as kinds
 use Rattle.js_values.specs.declared.ids.ObjId.{ObjId}
@@ -12,24 +13,26 @@ use Rattle.js_values.specs.declared.value.Value.{Value}
 use Rattle.js_values.specs.declared.value.Value.TheVariants as value
 use Rattle.js_values.specs.declared.property.Body.{Body}
 use Rattle.js_values.specs.declared.property.Slot.{Slot}
+use Rattle.js_values.specs.Arrays.{element_key}
 use Rattle.js_values.specs.Objects.{Rows, Object, own, changed, with_row}
-use Rattle.js_values.specs.Walks.{find, object_chain}
+use Rattle.js_values.specs.Walks.{Found, find, object_chain}
 use Rattle.prototype_walk.specs.KeyLists.{Keys}
 use Rattle.es_meaning.specs.Outcomes.{Outcome, Goes, ◌>>=◌}
 use Rattle.es_meaning.specs.Operations.{Part, as_value, as_getter, as_setter}
 use Rattle.es_meaning.specs.Operators.{is_object}
-use Rattle.es_meaning.specs.Objects.{defined_over}
+use Rattle.es_meaning.specs.Objects.{defined_over, elements_onto}
 use Rattle.es_meaning.specs.Definitions.{getter_in, setter_in}
-use Rattle.es_meaning.specs.Start.{id}
+use Rattle.es_meaning.specs.Primitives.{own_value_of}
+use Rattle.es_meaning.specs.Start.{id, array_prototype}
 use Rattle.es_meaning.specs.Plain.{key_text, is_coercible, is_found}
 use Rattle.es_meaning.specs.Requested.{function_in, part_body}
 use Rattle.es_meaning.proofs.Link.{Rels, nils, conses}
 use Rattle.flow_meaning.specs.Erased.{unlabelled}
 use Rattle.flow_meaning.specs.Scopes.{Val, Halt, State, Jump, L, raise}
-use Rattle.flow_meaning.specs.Tracked.{throw_error, truth_of, make_object, needed, has, argument, key_list, with_list}
-use Rattle.flow_meaning.specs.Requested.{property_in, half_label, part_slot, with_parts, literal_object}
+use Rattle.flow_meaning.specs.Tracked.{throw_error, truth_of, make_object, make_array, needed, primitive_chain, has_of_primitive, has, argument, key_list, with_list}
+use Rattle.flow_meaning.specs.Requested.{property_in, half_label, part_slot, with_parts, literal_object, data_slot, array_object}
 use Rattle.low_equal.specs.Observed.{Sees, Hides, IsSeen}
-use Rattle.low_equal.specs.LowEqual.{Pairing, Extends, Alike, seen, hidden, SameValue, primitives, objects, SameObject, neither, both, Agree, BodiesAgree, data_bodies, accessors, SlotsAgree, RowsAgree, no_rows, plains, AreDistinct, no_keys, HeapsAgree, LowEqual}
+use Rattle.low_equal.specs.LowEqual.{Pairing, Extends, Alike, seen, hidden, SameValue, primitives, objects, SameObject, neither, both, Agree, BodiesAgree, data_bodies, accessors, SlotsAgree, RowsAgree, no_rows, row, plains, AreDistinct, nowhere, no_keys, one_more, HeapsAgree, LowEqual}
 use Rattle.low_equal.specs.Runs.{Confined, InStep, go, Lockstep}
 use Rattle.low_equal.specs.Laws.{Nothing}
 use Rattle.low_equal.proofs.Labels.{not_both, sees_union, hides_first, hides_second, sees_bottom}
@@ -42,8 +45,8 @@ use Rattle.low_equal.proofs.Additions.{level_new}
 use Rattle.low_equal.proofs.States.{low_sym, low_heap, same_context}
 use Rattle.low_equal.proofs.Steps.{still_goes, conf_ret, conf_ends, conf_bind, lock_bind, ends_first, ends_second}
 use Rattle.low_equal.proofs.Acts.{conf_throw, thrown_both, conf_raise, lock_raise}
-use Rattle.low_equal.proofs.Walks.{level_there, level_keys}
-use Rattle.low_equal.proofs.Mute.{Mum, HiddenVal, mum_ret, mum_ends, mum_at, mum_throw, values_apart}
+use Rattle.low_equal.proofs.Walks.{found_there, level_from, prototype_same, level_there, level_keys}
+use Rattle.low_equal.proofs.Mute.{Mum, HiddenVal, mum_ret, mum_at, mum_throw, values_apart}
 use Rattle.low_equal.proofs.References.{conf_at, both_end, undefined_agree, seen_other}
 
 -- ---- rows of a literal: each exists under a label that is seen
@@ -141,14 +144,24 @@ module _ (observer : Label) (tables : Tables) where
 
   -- ---- whether a key is there
 
+  conf_of_primitive : (own : Option Primitive) (label : Label) (walk : Found) → Confined observer tables (has_of_primitive own label walk)
+  unfolding has_of_primitive
+  conf_of_primitive None label walk = conf_ret observer tables _
+  conf_of_primitive (Some v) label walk = conf_ret observer tables _
+
   pub conf_has : (label : Label) (key : List ℕ) (v : Value) → Confined observer tables (has label key v)
   unfolding has
-  conf_has label key (value.Primitive p) = conf_ends observer tables _
+  conf_has label key (value.Primitive p) = conf_at observer tables (λ s. has_of_primitive (own_value_of p key) label (find key (primitive_chain s.heap p))) (λ s. conf_of_primitive _ label _)
   conf_has label key (value.Object o) = conf_at observer tables (λ s t. Goes (truth_of (is_found (find key (object_chain s.heap o.0)).at) (union label (find key (object_chain s.heap o.0)).walk)) t) (λ s. conf_ret observer tables _)
+
+  mum_of_primitive : (own : Option Primitive) (label : Label) (walk : Found) → Hides observer label → Mum observer tables Hid (has_of_primitive own label walk)
+  unfolding has_of_primitive
+  mum_of_primitive None label walk h = mum_ret observer tables Hid (hides_first observer label walk.walk h)
+  mum_of_primitive (Some v) label walk h = mum_ret observer tables Hid h
 
   mum_has : (label : Label) (key : List ℕ) (v : Value) → Hides observer label → Mum observer tables Hid (has label key v)
   unfolding has
-  mum_has label key (value.Primitive p) h = mum_ends observer tables Hid _
+  mum_has label key (value.Primitive p) h = mum_at observer tables Hid (λ s. has_of_primitive (own_value_of p key) label (find key (primitive_chain s.heap p))) (λ s. mum_of_primitive _ label _ h)
   mum_has label key (value.Object o) h = mum_at observer tables Hid (λ s t. Goes (truth_of (is_found (find key (object_chain s.heap o.0)).at) (union label (find key (object_chain s.heap o.0)).walk)) t)
       (λ s. mum_ret observer tables Hid (hides_first observer label (find key (object_chain s.heap o.0)).walk h))
 
@@ -156,20 +169,26 @@ module _ (observer : Label) (tables : Tables) where
   found_is None = refl
   found_is (Some a) = refl
 
+  found_agrees : {γ : Pairing} (l m : Label) (a b : Found) → Sees observer l → l ≡ m → Alike observer a.walk b.walk (is_some a.at ≡ is_some b.at) → Agree observer γ (truth_of (is_found a.at) (union l a.walk)) (truth_of (is_found b.at) (union m b.walk))
+  found_agrees l m a b h e (hidden c d) = hidden (hides_second observer l a.walk c) (hides_second observer m b.walk d)
+  found_agrees {γ} l m a b h e (seen c d x) = seen (sees_union observer l a.walk h c) (ap₂ union e d)
+      (subst (λ z. SameValue γ (value.Primitive (prims.Bool (is_found a.at))) (value.Primitive (prims.Bool z))) (found_is a.at ∙ x ∙ sym (found_is b.at)) primitives)
+
   has_object : {γ : Pairing} (key : List ℕ) (l m : Label) (o q : ObjId) (s t : State) → Sees observer l → l ≡ m → γ.objects o.0 q.0 ≡ true → LowEqual observer tables γ s t → IsSeen observer s
       → InStep observer tables (Agree observer) γ (has l key (value.Object o) s) (has m key (value.Object q) t)
   unfolding has
-  has_object {γ} key l m o q s t h e p r w = go γ (extends_refl γ) r w (agrees (level_there observer r.heap key p))
-    where
-      agrees : Alike observer (find key (object_chain s.heap o.0)).walk (find key (object_chain t.heap q.0)).walk (is_some (find key (object_chain s.heap o.0)).at ≡ is_some (find key (object_chain t.heap q.0)).at)
-          → Agree observer γ (truth_of (is_found (find key (object_chain s.heap o.0)).at) (union l (find key (object_chain s.heap o.0)).walk)) (truth_of (is_found (find key (object_chain t.heap q.0)).at) (union m (find key (object_chain t.heap q.0)).walk))
-      agrees (hidden a b) = hidden (hides_second observer l (find key (object_chain s.heap o.0)).walk a) (hides_second observer m (find key (object_chain t.heap q.0)).walk b)
-      agrees (seen a b x) = seen (sees_union observer l (find key (object_chain s.heap o.0)).walk h a) (ap₂ union e b)
-          (subst (λ z. SameValue γ (value.Primitive (prims.Bool (is_found (find key (object_chain s.heap o.0)).at))) (value.Primitive (prims.Bool z))) (found_is (find key (object_chain s.heap o.0)).at ∙ x ∙ sym (found_is (find key (object_chain t.heap q.0)).at)) primitives)
+  has_object {γ} key l m o q s t h e p r w = go γ (extends_refl γ) r w (found_agrees l m (find key (object_chain s.heap o.0)) (find key (object_chain t.heap q.0)) h e (level_there observer r.heap key p))
+
+  primitive_after : {γ : Pairing} (own : Option Primitive) (l m : Label) (a b : Found) (s t : State) → Sees observer l → l ≡ m → Alike observer a.walk b.walk (is_some a.at ≡ is_some b.at) → LowEqual observer tables γ s t → IsSeen observer s
+      → InStep observer tables (Agree observer) γ (has_of_primitive own l a s) (has_of_primitive own m b t)
+  unfolding has_of_primitive
+  primitive_after {γ} None l m a b s t h e k r w = go γ (extends_refl γ) r w (found_agrees l m a b h e k)
+  primitive_after {γ} (Some v) l m a b s t h e k r w = go γ (extends_refl γ) r w (seen h e primitives)
 
   has_same : {γ : Pairing} (key : List ℕ) (l m : Label) {v u : Value} (s t : State) → Sees observer l → l ≡ m → SameValue γ v u → LowEqual observer tables γ s t → IsSeen observer s → InStep observer tables (Agree observer) γ (has l key v s) (has m key u t)
   unfolding has
-  has_same key l m s t h e primitives r w = both_end observer tables (Agree observer) r
+  has_same {γ} key l m s t h e (primitives {p = p}) r w = primitive_after (own_value_of p key) l m (find key (primitive_chain s.heap p)) (find key (primitive_chain t.heap p)) s t h e
+      (alike_map observer (found_there observer γ s.heap t.heap key) (level_from observer r.heap key (prototype_same observer r.heap p))) r w
   has_same key l m s t h e (objects {o = o} {q = q} p) r w = has_object key l m o q s t h e p r w
 
   pub key_same : {γ : Pairing} {v u : Value} → SameValue γ v u → key_text v ≡ key_text u
@@ -210,6 +229,14 @@ module _ (observer : Label) (tables : Tables) where
     adds = λ s. front_refl s.lines;
   }
 
+  pub conf_array : (places : List ℕ) (n : ℕ) (vs : List Val) → Confined observer tables (make_array places n vs)
+  unfolding make_array
+  conf_array places n vs = record {
+    still = λ s p. still_goes observer tables _ (record { looks = λ β u r. low_heap observer tables r (new_left observer (array_object n places vs (context s.frames)) r.heap) r.records; frames = refl }) refl refl;
+    fits = λ s. omega arith;
+    adds = λ s. front_refl s.lines;
+  }
+
   -- rows that agree are given properties that agree
   pub rows_over : {γ : Pairing} {o u : Option (Slot Label)} (key : List ℕ) {x y : Slot Label} {rs qs : Rows (Slot Label)} → rows.OwnAgree observer γ o u → SlotsAgree observer γ x y → RowsAgree observer γ rs qs → RowsAgree observer γ (defined_over o key x rs) (defined_over u key y qs)
   rows_over key rows.neither_names a r = with_row_both observer key a r
@@ -242,6 +269,42 @@ module _ (observer : Label) (tables : Tables) where
   pub make_after : {γ : Pairing} (parts : List (Part × List ℕ)) {vs us : List Val} (s t : State) → Rels (Agree observer γ) vs us → LowEqual observer tables γ s t → IsSeen observer s → InStep observer tables (Agree observer) γ (make_object parts vs s) (make_object parts us t)
   unfolding make_object
   make_after {γ} parts {vs} {us} s t a r w = subst (λ l. InStep observer tables (Agree observer) γ (literal_made parts vs (context s.frames) s) (literal_made parts us l t)) (same_context observer tables r w) (made_after parts (context s.frames) s t w a r w)
+
+  -- ---- arrays
+
+  -- elements of distinct keys
+  onto_distinct : (ns : List ℕ) (ss : List (Slot Label)) {rs : Rows (Slot Label)} → AreDistinct rs → AreDistinct (elements_onto rs ns ss)
+  onto_distinct [] ss d = d
+  onto_distinct (n ∷ ns) [] d = d
+  onto_distinct (n ∷ ns) (s ∷ ss) {rs} d = onto_distinct ns ss (distinct_over (own (element_key n) rs) (element_key n) s refl d)
+
+  onto_agree : {γ : Pairing} (ns : List ℕ) (l : Label) {vs us : List Val} {rs qs : Rows (Slot Label)} → Sees observer l → Rels (Agree observer γ) vs us → RowsAgree observer γ rs qs
+      → RowsAgree observer γ (elements_onto rs ns (map (data_slot l) vs)) (elements_onto qs ns (map (data_slot l) us))
+  onto_agree [] l h bs r = r
+  onto_agree (n ∷ ns) l h nils r = r
+  onto_agree (n ∷ ns) l h (conses a bs) r = onto_agree ns l h bs (rows_over (element_key n) (own_agree observer (element_key n) r) (seen h refl (refl, data_bodies (alike_join observer (λ x (y : Unit {0}). x) a (seen h refl tt)))) r)
+
+  abbrev array_made : List ℕ → ℕ → List Val → Label → State → Outcome Halt Jump Val State
+  array_made places n vs l s = Goes (unlabelled (value.Object (id (length s.heap)))) (record s { heap = s.heap ++ array_object n places vs l ∷ [] })
+
+  array_stands : {γ : Pairing} {h g : List (Object Label)} → HeapsAgree observer γ h g → array_prototype.0 < length h
+  array_stands r = start_stands observer r array_prototype.0 (omega arith)
+
+  array_both : {γ : Pairing} (places : List ℕ) (n : ℕ) {vs us : List Val} (l : Label) (s t : State) → Sees observer l → Rels (Agree observer γ) vs us → LowEqual observer tables γ s t → IsSeen observer s
+      → InStep observer tables (Agree observer) γ (array_made places n vs l s) (array_made places n us l t)
+  array_both {γ} places n {vs} {us} l s t h a r w =
+      let more = extends_objects γ (length s.heap) (length t.heap) in
+      go (with_objects γ (length s.heap) (length t.heap)) more
+      (low_heap observer tables r
+      (level_new observer (array_object n places vs l) (array_object n places us l) refl plains (seen h refl (both (r.heap.starts array_prototype.0 (omega arith)))) h refl refl
+      (onto_agree places l h a (row (seen h refl (refl, data_bodies (seen h refl primitives))) no_rows)) (onto_distinct places (map (data_slot l) vs) (one_more nowhere no_keys))
+      (λ v o x. subst (λ (y : ObjId). y.0 < length s.heap) (same_Some _ o x) (array_stands r.heap)) (λ v o x. subst (λ (y : ObjId). y.0 < length t.heap) (same_Some _ o x) (array_stands (low_sym observer tables r).heap)) tt tt r.heap)
+      (record { paired = λ i j z. both_map (λ c d x. records_more observer more x) (r.records.paired i j z); one_to_one = r.records.one_to_one; left = r.records.left; right = r.records.right }))
+      w (seen (sees_bottom observer) refl (objects (pair_new γ.objects (length s.heap) (length t.heap))))
+
+  pub array_after : {γ : Pairing} (places : List ℕ) (n : ℕ) {vs us : List Val} (s t : State) → Rels (Agree observer γ) vs us → LowEqual observer tables γ s t → IsSeen observer s → InStep observer tables (Agree observer) γ (make_array places n vs s) (make_array places n us t)
+  unfolding make_array
+  array_after {γ} places n {vs} {us} s t a r w = subst (λ l. InStep observer tables (Agree observer) γ (array_made places n vs (context s.frames) s) (array_made places n us l t)) (same_context observer tables r w) (array_both places n (context s.frames) s t w a r w)
 
   -- ---- arguments
 

@@ -25,7 +25,7 @@ use Rattle.es_meaning.proofs.RequestLinks as requests
 use Rattle.es_meaning.proofs.RequestLinks.{linked, ticking_linked, begun_linked}
 use Rattle.flow_meaning.specs.Erased.{unlabelled}
 use Rattle.flow_meaning.specs.Scopes.{Val, joined, L, Left, settled, raise, fork, round_kind, round, again}
-use Rattle.flow_meaning.specs.Tracked.{Reference, Access, Putting, seen as seen_in, resolved, key_list, with_list, Enters, entered_access, entered_putting, jumps_to, raised_by, named_origins, base_of, labelled, timed}
+use Rattle.flow_meaning.specs.Tracked.{Reference, Access, Putting, Defining, entered_defining, seen as seen_in, resolved, key_list, with_list, Enters, entered_access, entered_putting, jumps_to, raised_by, named_origins, base_of, labelled, timed}
 use Rattle.low_equal.specs.Observed.{Sees}
 use Rattle.low_equal.specs.LowEqual.{Pairing, Extends, seen, SameValue, primitives, objects, Agree, AllAgree}
 use Rattle.low_equal.specs.Runs.{Confined, Lockstep}
@@ -46,7 +46,8 @@ use Rattle.low_equal.proofs.Makes.{conf_function, lock_function}
 use Rattle.low_equal.proofs.Aims.{rels_of}
 use Rattle.low_equal.proofs.Calls.{EntersConfined, EntersInStep, conf_choose, conf_call_value, conf_construct_value}
 use Rattle.low_equal.proofs.CallsAgree.{settled_agree, lock_call_value, lock_construct_value}
-use Rattle.low_equal.proofs.Accesses.{conf_access, lock_access, conf_putting, lock_putting, conf_converted, lock_converted}
+use Rattle.low_equal.proofs.Defines.{DefiningsAgree, conf_define, lock_define}
+use Rattle.low_equal.proofs.Accesses.{conf_access, lock_access, conf_putting, lock_putting, conf_defining, lock_defining, conf_converted, lock_converted}
 use Rattle.low_equal.proofs.Instances.{conf_is, conf_instance, lock_instance}
 use Rattle.low_equal.proofs.Jumps.{aimed_same, conf_jumps, lock_jumps, conf_raised_by, lock_raised_by, conf_attempt, lock_attempt}
 
@@ -315,6 +316,17 @@ module _ (observer : Label) (tables : Tables) where
         lift w (conf_bind observer tables (entered_putting functions E v) c cf) (conf_bind observer tables (entered_putting functions D u) d cg)
         (λ β e. lock_bind observer tables (PuttingsAgree observer) Nothing (entered_putting functions E v) (entered_putting functions D u) (l β e) cf cg (λ γ z a b q. lock_putting observer tables functions x y (entered_step h) (agree_more observer z (value_in e r)) q))
 
+    -- a definition, which may convert a value for a `length`
+    define_link : {w : World} {m n : L Defining} {v u : Val} {E D : Enters} → Related (Agree observer) w v u → Confined observer tables m → Confined observer tables n → ((β : Pairing) → Le w (Together β) → Lockstep observer tables (DefiningsAgree observer) β m n) → Entered E D
+        → Lift a_value w (m >>= entered_defining E v) (n >>= entered_defining D u)
+    define_link {w} {v = v} {u = u} {E = E} {D = D} r c d l h =
+        let x = entered_left h in
+        let y = entered_right h in
+        let cf : (a : Defining) → Confined observer tables (entered_defining E v a) = λ a. conf_defining observer tables functions x v a in
+        let cg : (a : Defining) → Confined observer tables (entered_defining D u a) = λ a. conf_defining observer tables functions y u a in
+        lift w (conf_bind observer tables (entered_defining E v) c cf) (conf_bind observer tables (entered_defining D u) d cg)
+        (λ β e. lock_bind observer tables (DefiningsAgree observer) (Agree observer) (entered_defining E v) (entered_defining D u) (l β e) cf cg (λ γ z a b q. lock_defining observer tables functions x y (entered_step h) (agree_more observer z (value_in e r)) q))
+
     -- the labelled meanings on two inputs
     pub observed : Link (labelled tables first set functions) (labelled tables second set functions)
     observed = record {
@@ -350,6 +362,8 @@ module _ (observer : Label) (tables : Tables) where
       leave = λ t w name. lift w (conf_ends observer tables _) (conf_ends observer tables _) (λ β e. record { steps = λ γ d s u r v. ends_first observer tables (Results t) r (front_refl u.lines) });
       resolve = resolve_link;
       act = λ {w = w} f {vs = vs} {us = us} r. lift w (conf_act observer tables first f vs) (conf_act observer tables second f us) (λ β e. lock_act observer tables first second agree f (rels_in e r));
+      define = λ key marks shape {base = b} {v = v} {g = g} {set = x} {base' = c} {v' = u} {g' = f} {set' = y} rb rv rg rx h. define_link rv (conf_define observer tables key marks shape b v g x) (conf_define observer tables key marks shape c u f y)
+          (λ β e. lock_define observer tables key marks shape (value_in e rb) (value_in e rv) (value_in e rg) (value_in e rx)) h;
       property = λ r q. property_in r q;
       get_value = λ {n = n} {n' = m} r h. read_link (conf_accessed observer tables n) (conf_accessed observer tables m) (λ β e. lock_accessed observer tables (reference_in e r)) h;
       typeof_value = λ {n = n} {n' = m} r h. read_link (conf_typeof observer tables n) (conf_typeof observer tables m) (λ β e. lock_typeof observer tables (reference_in e r)) h;
@@ -525,6 +539,7 @@ confinement set observer tables inputs functions n =
       index_key = λ use_as i b k. (link.index_key_linked A A K E E into R R h use_as {w = Apart} {i = i} {j = i} {b = b} {k = k} {b' = b} {k' = k} any any any).left;
       index_base = λ use_as e i b. (link.index_base_linked A A K E E into R R h use_as e {w = Apart} {i = i} {j = i} {b = b} {b' = b} any any).left;
       member_base = λ use_as text i b. (link.member_base_linked A A K E E into R R h use_as text {w = Apart} {i = i} {j = i} {b = b} {b' = b} any any).left;
+      more_items = λ act vs items i v. (link.more_items_linked A A K E E into R R h act items {w = Apart} {i = i} {j = i} {vs = vs} {us = vs} {v = v} {v' = v} any (any_list vs) any).left;
       more_values = λ act vs ps i v. (link.more_values_linked A A K E E into R R h act ps {w = Apart} {i = i} {j = i} {vs = vs} {us = vs} {v = v} {v' = v} any (any_list vs) any).left;
       more_arguments = λ f vs es i v. (link.more_arguments_linked A A K E E into R R h es {f = f} {g = f} {w = Apart} {i = i} {j = i} {vs = vs} {us = vs} {v = v} {v' = v} (any_calling f) any (any_list vs) any).left;
       more_variables = λ r ds i v. (link.more_variables_linked A A K E E into R R h ds {w = Apart} {i = i} {j = i} {n = r} {n' = r} {v = v} {v' = v} any any any).left;
@@ -567,6 +582,7 @@ confinement set observer tables inputs functions n =
       own_marks_read = λ steps vs b key marks to get put v. (requests.own_marks_linked A A K E E into R R h steps key marks to get put {w = Apart} {vs = vs} {us = vs} {b = b} {v = v} {b' = b} {v' = v} (any_list vs) any any).left;
       entered_access = λ a. conf_access observer tables functions c a;
       entered_putting = λ v p. conf_putting observer tables functions c v p;
+      entered_defining = λ v d. conf_defining observer tables functions c v d;
       is_instance = λ label o v. conf_is observer tables functions label o v;
     }
   where

@@ -4,6 +4,7 @@ use Rattle.std.proofs.Common.{◌≡◌, ℕ, ◌+◌, List, Bool, true, pos, Op
 use Rattle.origin_labels.specs.Label.{Label, union}
 use Rattle.flow_policy.specs.Policies.{Tables}
 use Rattle.flow_frames.specs.Frames.{context}
+use Rattle.js_number.specs.declared.num.Num.TheVariants.{Int}
 use Rattle.js_number.specs.declared.primitive.Primitive.TheVariants.{Num}
 use Rattle.js_number.specs.declared.primitive.Primitive.TheVariants as prims
 use Rattle.native_protocol.specs.declared.request.ErrorKind.TheVariants as kinds
@@ -31,7 +32,7 @@ use Rattle.low_equal.proofs.Steps.{conf_ret}
 use Rattle.low_equal.proofs.Acts.{conf_throw, thrown_both}
 use Rattle.low_equal.proofs.Changes.{still_prevent_extensions, level_prevent_extensions}
 use Rattle.low_equal.proofs.Walks.{own_walk, level_own, OwnSame, names_nothing, names_both}
-use Rattle.low_equal.proofs.Mute.{Mum, HiddenVal, mum_ret, mum_at, mum_throw, values_apart}
+use Rattle.low_equal.proofs.Mute.{Mum, HiddenVal, mum_ret, mum_at, mum_throw, mute_both}
 use Rattle.low_equal.proofs.HeapSteps.{still_acted, fits_acted, adds_acted, mute_acted, acted_after}
 use Rattle.low_equal.proofs.References.{conf_at, seen_other}
 use Rattle.low_equal.proofs.ObjectActs.{getters_same, setters_same}
@@ -57,8 +58,8 @@ module _ (observer : Label) where
   kinds_same (data_bodies r) = refl
   kinds_same (accessors r) = refl
 
-  number_same : {γ : Pairing} (n m : ℕ) → n ≡ m → SameValue γ (value.Primitive (Num (pos n))) (value.Primitive (Num (pos m)))
-  number_same {γ} n m e = subst (λ k. SameValue γ (value.Primitive (Num (pos n))) (value.Primitive (Num (pos k)))) e primitives
+  number_same : {γ : Pairing} (n m : ℕ) → n ≡ m → SameValue γ (value.Primitive (Num (Int (pos n)))) (value.Primitive (Num (Int (pos m))))
+  number_same {γ} n m e = subst (λ k. SameValue γ (value.Primitive (Num (Int (pos n)))) (value.Primitive (Num (Int (pos k))))) e primitives
 
   pub part_agrees : {γ : Pairing} (part : OwnPart) (s t : Slot Label) → s.marks ≡ t.marks → BodiesAgree observer γ s.label t.label s.body t.body
       → Alike observer (part_label part s.label) (part_label part t.label) (SameValue γ (part_of_property part (erased_slot s)) (part_of_property part (erased_slot t)))
@@ -78,40 +79,50 @@ module _ (observer : Label) (tables : Tables) where
 
   -- ---- what is done with an object, or an exception by the label of the value
 
-  pub conf_on_object : (label : Label) (v : Value) {next : ℕ → L Val} → ((o : ℕ) → Confined observer tables (next o)) → Confined observer tables (on_object_in label v next)
+  pub conf_on_object : {X : Type 0} (label : Label) (v : Value) {next : ℕ → L X} → ((o : ℕ) → Confined observer tables (next o)) → Confined observer tables (on_object_in label v next)
   unfolding on_object_in
-  conf_on_object label (value.Primitive p) c = conf_at observer tables (λ s. throw_error kinds.TypeError label) (λ s. conf_throw observer tables {X = Val} kinds.TypeError label)
+  conf_on_object {X} label (value.Primitive p) c = conf_at observer tables (λ s. throw_error kinds.TypeError label) (λ s. conf_throw observer tables {X = X} kinds.TypeError label)
   conf_on_object label (value.Object o) {next} c = conf_at observer tables (λ s. next o.0) (λ s. c o.0)
 
-  pub mum_on_object : (label : Label) (v : Value) {next : ℕ → L Val} → Hides observer label → ((o : ℕ) → Mum observer tables Hid (next o)) → Mum observer tables Hid (on_object_in label v next)
+  -- with results that can't be seen
+  pub mum_on : {X : Type 0} (H : X → Type 0) (label : Label) (v : Value) {next : ℕ → L X} → Hides observer label → ((o : ℕ) → Mum observer tables H (next o)) → Mum observer tables H (on_object_in label v next)
   unfolding on_object_in
-  mum_on_object label (value.Primitive p) h c = mum_at observer tables Hid (λ s. throw_error kinds.TypeError label) (λ s. mum_throw observer tables Hid kinds.TypeError label h)
-  mum_on_object label (value.Object o) {next} h c = mum_at observer tables Hid (λ s. next o.0) (λ s. c o.0)
+  mum_on H label (value.Primitive p) h c = mum_at observer tables H (λ s. throw_error kinds.TypeError label) (λ s. mum_throw observer tables H kinds.TypeError label h)
+  mum_on H label (value.Object o) {next} h c = mum_at observer tables H (λ s. next o.0) (λ s. c o.0)
+
+  pub mum_on_object : (label : Label) (v : Value) {next : ℕ → L Val} → Hides observer label → ((o : ℕ) → Mum observer tables Hid (next o)) → Mum observer tables Hid (on_object_in label v next)
+  mum_on_object label v h c = mum_on Hid label v h c
 
   -- of the same values, by a label that is seen
-  object_seen : {γ : Pairing} {x y : Value} (l m : Label) (f g : ℕ → L Val) (s t : State) → Sees observer l → l ≡ m → SameValue γ x y
-      → ((i j : ℕ) → γ.objects i j ≡ true → InStep observer tables (Agree observer) γ (f i s) (g j t)) → LowEqual observer tables γ s t → IsSeen observer s
-      → InStep observer tables (Agree observer) γ (on_object_in l x f s) (on_object_in m y g t)
+  on_seen : {X : Type 0} (Q : Pairing → X → X → Type 0) {γ : Pairing} {x y : Value} (l m : Label) (f g : ℕ → L X) (s t : State) → Sees observer l → l ≡ m → SameValue γ x y
+      → ((i j : ℕ) → γ.objects i j ≡ true → InStep observer tables Q γ (f i s) (g j t)) → LowEqual observer tables γ s t → IsSeen observer s
+      → InStep observer tables Q γ (on_object_in l x f s) (on_object_in m y g t)
   unfolding on_object_in
-  object_seen l m f g s t h e primitives k r w = thrown_both observer tables (Agree observer) kinds.TypeError s t (seen h e tt) r w
-  object_seen l m f g s t h e (objects {o = o} {q = q} p) k r w = k o.0 q.0 p
+  on_seen Q l m f g s t h e primitives k r w = thrown_both observer tables Q kinds.TypeError s t (seen h e tt) r w
+  on_seen Q l m f g s t h e (objects {o = o} {q = q} p) k r w = k o.0 q.0 p
 
   -- of values that agree: where their label is hidden each is done by itself
+  pub on_after : {X : Type 0} (H : X → Type 0) (Q : Pairing → X → X → Type 0) {γ : Pairing} {v u : Val} (f g : ℕ → L X) (s t : State) → Agree observer γ v u → ((x y : X) → H x → H y → Q γ x y)
+      → (Hides observer v.label → (o : ℕ) → Mum observer tables H (f o)) → (Hides observer u.label → (o : ℕ) → Mum observer tables H (g o))
+      → (Sees observer v.label → v.label ≡ u.label → (i j : ℕ) → γ.objects i j ≡ true → InStep observer tables Q γ (f i s) (g j t)) → LowEqual observer tables γ s t → IsSeen observer s
+      → InStep observer tables Q γ (on_object v f s) (on_object u g t)
+  on_after H Q {v = v} {u = u} f g s t (hidden h k) apart c d x r w = mute_both observer tables H Q apart r w ((mum_on H v.label v.value h (c h)).mute s w) ((mum_on H u.label u.value k (d k)).mute t (seen_other observer tables r w))
+  on_after H Q {v = v} {u = u} f g s t (seen h e p) apart c d x r w = on_seen Q v.label u.label f g s t h e p (x h e) r w
+
   pub object_after : {γ : Pairing} {v u : Val} (f g : ℕ → L Val) (s t : State) → Agree observer γ v u
       → (Hides observer v.label → (o : ℕ) → Mum observer tables Hid (f o)) → (Hides observer u.label → (o : ℕ) → Mum observer tables Hid (g o))
       → (Sees observer v.label → v.label ≡ u.label → (i j : ℕ) → γ.objects i j ≡ true → InStep observer tables (Agree observer) γ (f i s) (g j t)) → LowEqual observer tables γ s t → IsSeen observer s
       → InStep observer tables (Agree observer) γ (on_object v f s) (on_object u g t)
-  object_after {v = v} {u = u} f g s t (hidden h k) c d x r w = values_apart observer tables r w ((mum_on_object v.label v.value h (c h)).mute s w) ((mum_on_object u.label u.value k (d k)).mute t (seen_other observer tables r w))
-  object_after {v = v} {u = u} f g s t (seen h e p) c d x r w = object_seen v.label u.label f g s t h e p (x h e) r w
+  object_after f g s t a c d x r w = on_after Hid (Agree observer) f g s t a (λ x y h k. hidden h k) c d x r w
 
   -- both objects of a pair stand
-  pub both_there : {γ : Pairing} (m n : Option (Object Label) → L Val) (i j : ℕ) (s t : State) → LowEqual observer tables γ s t → γ.objects i j ≡ true
-      → ((p q : Object Label) → slice_get s.heap i ≡ Some p → slice_get t.heap j ≡ Some q → ObjectsAgree observer γ p q → InStep observer tables (Agree observer) γ (m (Some p) s) (n (Some q) t))
-      → InStep observer tables (Agree observer) γ (m (slice_get s.heap i) s) (n (slice_get t.heap j) t)
-  both_there {γ} m n i j s t r e k =
+  pub both_there : {X : Type 0} (Q : Pairing → X → X → Type 0) {γ : Pairing} (m n : Option (Object Label) → L X) (i j : ℕ) (s t : State) → LowEqual observer tables γ s t → γ.objects i j ≡ true
+      → ((p q : Object Label) → slice_get s.heap i ≡ Some p → slice_get t.heap j ≡ Some q → ObjectsAgree observer γ p q → InStep observer tables Q γ (m (Some p) s) (n (Some q) t))
+      → InStep observer tables Q γ (m (slice_get s.heap i) s) (n (slice_get t.heap j) t)
+  both_there Q {γ} m n i j s t r e k =
       let z = two (r.heap.paired i j e) in
-      subst (λ x. InStep observer tables (Agree observer) γ (m x s) (n (slice_get t.heap j) t)) (sym z.is_one)
-      (subst (λ x. InStep observer tables (Agree observer) γ (m (Some z.one) s) (n x t)) (sym z.is_other) (k z.one z.other z.is_one z.is_other z.related))
+      subst (λ x. InStep observer tables Q γ (m x s) (n (slice_get t.heap j) t)) (sym z.is_one)
+      (subst (λ x. InStep observer tables Q γ (m (Some z.one) s) (n x t)) (sym z.is_other) (k z.one z.other z.is_one z.is_other z.related))
 
   -- ---- an own property
 
@@ -137,7 +148,7 @@ module _ (observer : Label) (tables : Tables) where
   own_both : {γ : Pairing} (part : OwnPart) (key : List ℕ) (l m : Label) (i j : ℕ) (s t : State) → Sees observer l → l ≡ m → γ.objects i j ≡ true → LowEqual observer tables γ s t → IsSeen observer s
       → InStep observer tables (Agree observer) γ (own_property_in part key l (slice_get s.heap i) s) (own_property_in part key m (slice_get t.heap j) t)
   unfolding own_property_in
-  own_both {γ} part key l m i j s t h e x r w = both_there (own_property_in part key l) (own_property_in part key m) i j s t r x
+  own_both {γ} part key l m i j s t h e x r w = both_there (Agree observer) (own_property_in part key l) (own_property_in part key m) i j s t r x
       (λ p q a b z. go γ (extends_refl γ) r w (known_agree part l m p.structure q.structure h e (level_own observer r.heap key p q x a b)))
 
   pub conf_own_property : (part : OwnPart) (key : List ℕ) (v : Val) → Confined observer tables (on_object v (λ o s. own_property_in part key v.label (slice_get s.heap o) s))
@@ -165,7 +176,7 @@ module _ (observer : Label) (tables : Tables) where
   prototype_both : {γ : Pairing} (l m : Label) (i j : ℕ) (s t : State) → Sees observer l → l ≡ m → γ.objects i j ≡ true → LowEqual observer tables γ s t → IsSeen observer s
       → InStep observer tables (Agree observer) γ (prototype_in l (slice_get s.heap i) s) (prototype_in m (slice_get t.heap j) t)
   unfolding prototype_in
-  prototype_both {γ} l m i j s t h e x r w = both_there (prototype_in l) (prototype_in m) i j s t r x
+  prototype_both {γ} l m i j s t h e x r w = both_there (Agree observer) (prototype_in l) (prototype_in m) i j s t r x
       (λ p q a b z. go γ (extends_refl γ) r w (alike_join observer (λ (c : Unit {0}) d. reference_agrees observer d) (seen h e tt) z.links))
 
   pub conf_prototype : (v : Val) → Confined observer tables (on_object v (λ o s. prototype_in v.label (slice_get s.heap o) s))
@@ -200,7 +211,7 @@ module _ (observer : Label) (tables : Tables) where
   extensible_both : {γ : Pairing} (l m : Label) (i j : ℕ) (s t : State) → Sees observer l → l ≡ m → γ.objects i j ≡ true → LowEqual observer tables γ s t → IsSeen observer s
       → InStep observer tables (Agree observer) γ (extensible_in l (slice_get s.heap i) s) (extensible_in m (slice_get t.heap j) t)
   unfolding extensible_in
-  extensible_both {γ} l m i j s t h e x r w = both_there (extensible_in l) (extensible_in m) i j s t r x (λ p q a b z. go γ (extends_refl γ) r w (extensible_agree l m h e z.shapes))
+  extensible_both {γ} l m i j s t h e x r w = both_there (Agree observer) (extensible_in l) (extensible_in m) i j s t r x (λ p q a b z. go γ (extends_refl γ) r w (extensible_agree l m h e z.shapes))
 
   pub conf_extensible : (v : Val) → Confined observer tables (on_object v (λ o s. extensible_in v.label (slice_get s.heap o) s))
   conf_extensible v = conf_on_object v.label v.value (λ o. conf_at observer tables (λ s. extensible_in v.label (slice_get s.heap o)) (λ s. conf_extensible_in v.label (slice_get s.heap o)))

@@ -1,5 +1,5 @@
 -- What a put does in two runs.
-use Rattle.std.proofs.Common.{◌≡◌, ℕ, Bool, true, false, List, ◌&&◌, Option, Some, None, slice_get, refl, sym, ◌∙◌, ap, ap₂, subst, true≢false}
+use Rattle.std.proofs.Common.{◌≡◌, ℕ, Bool, true, false, List, ◌&&◌, ◌||◌, not, if◌then◌else◌, Option, Some, None, slice_get, refl, sym, ◌∙◌, ap, ap₂, subst, true≢false}
 use Rattle.origin_labels.specs.Label.{Label, bottom, union}
 use Rattle.js_values.specs.declared.ids.ObjId.{ObjId}
 use Rattle.js_values.specs.declared.value.Value.{Value}
@@ -7,17 +7,20 @@ use Rattle.js_values.specs.declared.property.Marks.{Marks}
 use Rattle.js_values.specs.declared.property.Body.{Body}
 use Rattle.js_values.specs.declared.property.Body.TheVariants.{Data, Accessor}
 use Rattle.js_values.specs.declared.property.Slot.{Slot}
+use Rattle.js_values.specs.Arrays.{length_key, element_of, is_past_value, is_past, element_label}
 use Rattle.js_values.specs.Chains.{onwards, beginning, chain_within}
 use Rattle.js_values.specs.Objects.{Object, number_of, own}
 use Rattle.js_values.specs.Walks.{object_chain, Found, find}
 use Rattle.object_heap.specs.Formed.{own_in}
 use Rattle.prototype_walk.specs.declared.plan.PutPlan.{PutPlan}
 use Rattle.prototype_walk.specs.declared.plan.PutPlan.TheVariants.{Write, Add, Setter, Refused}
-use Rattle.prototype_walk.specs.Plans.{if_allowed, setter_plan, own_plan, inherited_plan, beyond_plan, plan_at, can_put}
+use Rattle.prototype_walk.specs.Plans.{if_allowed, setter_plan, own_plan, inherited_plan, beyond_plan, gets_element, may_add, absence_label, plan_at, can_put}
 use Rattle.low_equal.specs.Observed.{Sees, Hides}
-use Rattle.low_equal.specs.LowEqual.{Pairing, Alike, seen, hidden, SameObject, neither, both, BodiesAgree, data_bodies, accessors, HeapsAgree}
+use Rattle.low_equal.specs.LowEqual.{Pairing, Alike, seen, hidden, SameObject, neither, both, SameValue, primitives, objects, BodiesAgree, data_bodies, accessors, ShapesAgree, seen_shape, hidden_shape, HeapsAgree}
 use Rattle.low_equal.proofs.Labels.{sees_union, hides_first, hides_second, sees_bottom}
 use Rattle.low_equal.proofs.Changes.{SameKind, both_data, MayTake, kind_stays}
+use Rattle.low_equal.proofs.Agreement.{alike_map, alike_join}
+use Rattle.low_equal.proofs.Rows.{OwnAgree, neither_names, both_name, own_agree}
 use Rattle.low_equal.proofs.Additions.{IsNew}
 use Rattle.low_equal.proofs.Walks.{own_walk, alike_behind, hidden_behind, OwnCase, at_both, at_none, out_of_sight, own_case, ChainsAgree, no_objects, hidden_link, seen_link, chains_agree, FoundSame, not_found, found, find_agree}
 
@@ -80,7 +83,7 @@ own_data o s (Accessor get set) walk v e = absurd (true≢false (sym e ∙ (sett
 with_own : (h : List (Object Label)) (o : ℕ) (key : List ℕ) (p : Object Label) (s : Slot Label) → slice_get h o ≡ Some p → own key p.rows ≡ Some s → can_put key (object_chain h o) ≡ own_plan o s s.body s.existence
 with_own h o key p s e f =
     ap (λ (x : Option (Object Label)). can_put key (beginning o x (λ a. onwards (number_of a.proto) (chain_within (λ q. number_of q.proto) h o)))) e
-    ∙ ap (λ (x : Option (Slot Label)). plan_at o p x (find key (onwards (number_of p.proto) (chain_within (λ q. number_of q.proto) h o)))) f
+    ∙ ap (λ (x : Option (Slot Label)). plan_at key o p x (find key (onwards (number_of p.proto) (chain_within (λ q. number_of q.proto) h o)))) f
 
 -- a plan to write is one of a data property
 pub plan_data : (h : List (Object Label)) (o : ℕ) (key : List ℕ) (need walk : Label) (v : Value) → can_put key (object_chain h o) ≡ Write walk → MayTake h o key need (Data v)
@@ -128,8 +131,8 @@ module _ (observer : Label) (key : List ℕ) (h : List (Object Label)) where
   hidden_beyond extensible None walk e = hidden_if_add extensible walk e
   hidden_beyond extensible (Some f) walk e = hidden_inherited extensible f.0 f.1 f.1.body walk e
 
-  hidden_plan : (o : ℕ) (p : Object Label) (x : Option (Slot Label)) (rest : Found) → Hides observer (own_walk p.structure x) → Hides observer (plan_label key h (plan_at o p x rest))
-  hidden_plan o p None rest e = hidden_beyond p.extensible rest.at _ (hides_first observer p.structure (union p.link rest.walk) e)
+  hidden_plan : (o : ℕ) (p : Object Label) (x : Option (Slot Label)) (rest : Found) → Hides observer (own_walk p.structure x) → Hides observer (plan_label key h (plan_at key o p x rest))
+  hidden_plan o p None rest e = hidden_beyond (may_add key p) rest.at _ (hides_first observer (absence_label key p) (union p.link rest.walk) (hides_first observer p.structure _ e))
   hidden_plan o p (Some s) rest e = hidden_own o s s.body s.existence e
 
 -- ---- two plans
@@ -174,22 +177,61 @@ module _ (observer : Label) (β : Pairing) (key : List ℕ) (h g : List (Object 
   inherited_level l m e f same pair x y marks d c (data_bodies r) = if_adds l m (ap₂ (λ v w. v && w) same (ap (λ (z : Marks). z.writable) marks)) e f
   inherited_level l m e f same pair x y marks d c (accessors r) = setters_level l m e f pair x y d c r
 
-  beyond_level : {extensible other : Bool} {o u : Option (ℕ × Slot Label)} (l m : Label) → extensible ≡ other → Alike observer l m (FoundSame observer β h g key o u) → PlansAgree (beyond_plan extensible o l) (beyond_plan other u m)
-  beyond_level {extensible} {other} {o} {u} l m same (hidden s t) = hidden (hidden_beyond observer key h extensible o l s) (hidden_beyond observer key g other u m t)
-  beyond_level l m same (seen s t not_found) = if_adds l m same s t
-  beyond_level l m same (seen s t (found pair x y marks r)) = inherited_level l m s t same pair x y marks refl refl r
+  beyond_level : {extensible other : Bool} {o u : Option (ℕ × Slot Label)} (l m : Label) → Alike observer l m ((extensible ≡ other) × FoundSame observer β h g key o u) → PlansAgree (beyond_plan extensible o l) (beyond_plan other u m)
+  beyond_level {extensible} {other} {o} {u} l m (hidden s t) = hidden (hidden_beyond observer key h extensible o l s) (hidden_beyond observer key g other u m t)
+  beyond_level l m (seen s t (same, not_found)) = if_adds l m same s t
+  beyond_level l m (seen s t (same, found pair x y marks r)) = inherited_level l m s t same pair x y marks refl refl r
+
+  -- ---- whether a key may be added
+
+  past_same : (i : ℕ) {v u : Value} → SameValue β v u → is_past_value i v ≡ is_past_value i u
+  past_same i primitives = refl
+  past_same i (objects e) = refl
+
+  past_bodies : (i : ℕ) {l m : Label} {a b : Body} → BodiesAgree observer β l m a b → Alike observer l m (not (is_past i a) ≡ not (is_past i b))
+  past_bodies i (data_bodies r) = alike_map observer (λ x. ap not (past_same i x)) r
+  past_bodies i (accessors r) = alike_map observer (λ x. refl) r
+
+  hidden_element : (i : ℕ) (s : Slot Label) → Hides observer s.existence → Hides observer (element_label (Some i) (Some s))
+  hidden_element i s e = by_case s.marks.writable
+    where
+      by_case : (b : Bool) → Hides observer (if b then s.existence else union s.existence s.label)
+      by_case true = e
+      by_case false = hides_first observer s.existence s.label e
+
+  seen_element : (i : ℕ) (s t : Slot Label) → Sees observer s.existence → s.existence ≡ t.existence → s.marks ≡ t.marks → BodiesAgree observer β s.label t.label s.body t.body
+      → Alike observer (element_label (Some i) (Some s)) (element_label (Some i) (Some t)) (gets_element (Some i) (Some s) ≡ gets_element (Some i) (Some t))
+  seen_element i s t e f marks r =
+      subst (λ c. Alike observer (if s.marks.writable then s.existence else union s.existence s.label) (if c then t.existence else union t.existence t.label) ((s.marks.writable || not (is_past i s.body)) ≡ (c || not (is_past i t.body))))
+      (ap (λ (m : Marks). m.writable) marks) (by_case s.marks.writable)
+    where
+      by_case : (b : Bool) → Alike observer (if b then s.existence else union s.existence s.label) (if b then t.existence else union t.existence t.label) ((b || not (is_past i s.body)) ≡ (b || not (is_past i t.body)))
+      by_case true = seen e f refl
+      by_case false = alike_behind observer s.existence t.existence e f (past_bodies i r)
+
+  length_agrees : (i : Option ℕ) {o u : Option (Slot Label)} → OwnAgree observer β o u → Alike observer (element_label i o) (element_label i u) (gets_element i o ≡ gets_element i u)
+  length_agrees None r = seen (sees_bottom observer) refl refl
+  length_agrees (Some i) neither_names = seen (sees_bottom observer) refl refl
+  length_agrees (Some i) (both_name {s = s} {t = t} (seen e f z)) = seen_element i s t e f z.0 z.1
+  length_agrees (Some i) (both_name {s = s} {t = t} (hidden e f)) = hidden (hidden_element i s e) (hidden_element i t f)
+
+  pub absence_agrees : {p q : Object Label} → p.class ≡ q.class → ShapesAgree observer β p q → Alike observer (absence_label key p) (absence_label key q) (may_add key p ≡ may_add key q)
+  absence_agrees {p} {q} c (seen_shape a b x r) = alike_join observer (λ (y : Unit {0}) z. ap₂ (λ v w. v && w) x z) (seen a b tt)
+      (subst (λ k. Alike observer (element_label (element_of p.class key) (own length_key p.rows)) (element_label (element_of k key) (own length_key q.rows)) (gets_element (element_of p.class key) (own length_key p.rows) ≡ gets_element (element_of k key) (own length_key q.rows))) c
+      (length_agrees (element_of p.class key) (own_agree observer length_key r)))
+  absence_agrees {p} {q} c (hidden_shape a b r) = hidden (hides_first observer p.structure _ a) (hides_first observer q.structure _ b)
 
   plan_first : {i j : ℕ} {p q : Object Label} {o u : Option (Slot Label)} (a b : Found) → β.objects i j ≡ true → own_in key (slice_get h i) ≡ o → own_in key (slice_get g j) ≡ u → OwnCase observer β p q o u
-      → Alike observer (union p.link a.walk) (union q.link b.walk) (FoundSame observer β h g key a.at b.at) → PlansAgree (plan_at i p o a) (plan_at j q u b)
-  plan_first a b pair x y (at_both {s = s} {t = t} e f marks z) r = own_level s.existence t.existence e f pair x y marks refl refl z
-  plan_first {p = p} {q = q} a b pair x y (at_none s t z) r = beyond_level (union p.structure (union p.link a.walk)) (union q.structure (union q.link b.walk)) z (alike_behind observer p.structure q.structure s t r)
-  plan_first {i} {j} {p} {q} a b pair x y (out_of_sight {o = o} {u = u} s t) r = hidden (hidden_plan observer key h i p o a s) (hidden_plan observer key g j q u b t)
+      → Alike observer (absence_label key p) (absence_label key q) (may_add key p ≡ may_add key q) → Alike observer (union p.link a.walk) (union q.link b.walk) (FoundSame observer β h g key a.at b.at) → PlansAgree (plan_at key i p o a) (plan_at key j q u b)
+  plan_first a b pair x y (at_both {s = s} {t = t} e f marks z) absent r = own_level s.existence t.existence e f pair x y marks refl refl z
+  plan_first {p = p} {q = q} a b pair x y (at_none s t z) absent r = beyond_level (union (absence_label key p) (union p.link a.walk)) (union (absence_label key q) (union q.link b.walk)) (alike_join observer (λ x y. (x, y)) absent r)
+  plan_first {i} {j} {p} {q} a b pair x y (out_of_sight {o = o} {u = u} s t) absent r = hidden (hidden_plan observer key h i p o a s) (hidden_plan observer key g j q u b t)
 
   plans_agree : {c d : List (ℕ × Object Label)} → ChainsAgree observer β h g c d → PlansAgree (can_put key c) (can_put key d)
   plans_agree no_objects = seen (sees_bottom observer) refl refusals
-  plans_agree (hidden_link {p = p} {q = q} {c = c} {d = d} z s t) = plan_first (find key c) (find key d) z.pair (ap (own_in key) z.here) (ap (own_in key) z.there) (own_case observer β key z.distinct z.others z.agree.shapes)
+  plans_agree (hidden_link {p = p} {q = q} {c = c} {d = d} z s t) = plan_first (find key c) (find key d) z.pair (ap (own_in key) z.here) (ap (own_in key) z.there) (own_case observer β key z.distinct z.others z.agree.shapes) (absence_agrees z.agree.class z.agree.shapes)
       (hidden_behind observer p.link q.link (find key c).walk (find key d).walk s t)
-  plans_agree (seen_link {p = p} {q = q} {c = c} {d = d} z s t more) = plan_first (find key c) (find key d) z.pair (ap (own_in key) z.here) (ap (own_in key) z.there) (own_case observer β key z.distinct z.others z.agree.shapes)
+  plans_agree (seen_link {p = p} {q = q} {c = c} {d = d} z s t more) = plan_first (find key c) (find key d) z.pair (ap (own_in key) z.here) (ap (own_in key) z.there) (own_case observer β key z.distinct z.others z.agree.shapes) (absence_agrees z.agree.class z.agree.shapes)
       (alike_behind observer p.link q.link s t (find_agree observer β h g key more))
 
   -- plans of paired objects

@@ -3,6 +3,7 @@ use Rattle.std.proofs.Common.{◌≡◌, ℕ, List, true, Option, Some, None, re
 use Rattle.origin_labels.specs.Label.{Label, bottom, union}
 use Rattle.flow_policy.specs.Policies.{Tables}
 use Rattle.native_protocol.specs.declared.request.ErrorKind.TheVariants as kinds
+use Rattle.js_number.specs.declared.primitive.Primitive.{Primitive}
 use Rattle.js_values.specs.declared.ids.ObjId.{ObjId}
 use Rattle.js_values.specs.declared.value.Value.{Value}
 use Rattle.js_values.specs.declared.value.Value.TheVariants as value
@@ -11,13 +12,14 @@ use Rattle.js_values.specs.declared.property.Body.TheVariants.{Data, Accessor}
 use Rattle.js_values.specs.declared.property.Slot.{Slot}
 use Rattle.js_values.specs.Objects.{Object}
 use Rattle.js_values.specs.Records.{Binding}
-use Rattle.js_values.specs.Walks.{find, object_chain}
+use Rattle.js_values.specs.Walks.{Found, find, object_chain}
 use Rattle.es_meaning.specs.Outcomes.{Outcome, Goes, Ends, ret}
+use Rattle.es_meaning.specs.Primitives.{own_value_of}
 use Rattle.es_meaning.specs.Start.{global_object}
 use Rattle.es_meaning.specs.Plain.{undefined, Place, in_record, on_global, nowhere, place_from, binding_at}
 use Rattle.flow_meaning.specs.Erased.{unlabelled}
 use Rattle.flow_meaning.specs.Scopes.{Val, Halt, State, Jump, L}
-use Rattle.flow_meaning.specs.Tracked.{throw_error, Reference, of_name, of_property, walk_from, global_walk, resolved, bound, Access, has_value, has_getter, getter_or_none, held, global_value, found_globally, found as found_at, found_by, property_of, as_access, named, accessed, accessed_for_typeof}
+use Rattle.flow_meaning.specs.Tracked.{throw_error, Reference, of_name, of_property, walk_from, global_walk, resolved, bound, Access, has_value, has_getter, getter_or_none, held, global_value, found_globally, found as found_at, found_by, primitive_chain, primitive_access, property_of, as_access, named, accessed, accessed_for_typeof}
 use Rattle.low_equal.specs.Observed.{Sees, Hides, IsSeen}
 use Rattle.low_equal.specs.LowEqual.{Pairing, Extends, Alike, seen, hidden, SameValue, primitives, objects, SameObject, neither, both, Agree, BodiesAgree, data_bodies, accessors, LowEqual}
 use Rattle.low_equal.specs.Runs.{Confined, InStep, go, Lockstep}
@@ -26,12 +28,12 @@ use Rattle.low_equal.proofs.Agreement.{extends_refl, alike_map, alike_join, valu
 use Rattle.low_equal.proofs.Scopes as scopes
 use Rattle.low_equal.proofs.Scopes.{PlacesAgree, somewhere, FoundAgree, missing, there, binding_agree, lookup_agree}
 use Rattle.low_equal.proofs.States.{low_seen}
-use Rattle.low_equal.proofs.Steps.{conf_ret, conf_ends, conf_bind, lock_ret, lock_bind, ends_first}
+use Rattle.low_equal.proofs.Steps.{conf_ret, conf_bind, lock_ret, lock_bind, ends_first}
 use Rattle.low_equal.proofs.Lines.{front_refl}
 use Rattle.low_equal.proofs.Acts.{conf_throw, thrown_both}
-use Rattle.low_equal.proofs.Mute.{Mute, Mum, mum_ret, mum_ends, mum_at, mum_throw, mute_both}
+use Rattle.low_equal.proofs.Mute.{Mute, Mum, mum_ret, mum_at, mum_throw, mute_both}
 use Rattle.low_equal.proofs.Walks as walks
-use Rattle.low_equal.proofs.Walks.{FoundSame, not_found, level_find}
+use Rattle.low_equal.proofs.Walks.{FoundSame, not_found, level_find, level_from, prototype_same}
 
 -- the reference of one name in paired records, on the global object or nowhere; or a property of values that agree. Where the walk to a name is hidden,
 -- it may be found in one run alone
@@ -104,7 +106,7 @@ module _ (observer : Label) (tables : Tables) where
 
   pub conf_property : (label : Label) (base : Val) (v : Value) (key : List ℕ) → Confined observer tables (property_of label base v key)
   unfolding property_of
-  conf_property label base (value.Primitive p) key = conf_ends observer tables _
+  conf_property label base (value.Primitive p) key = conf_at (λ s t. Goes (primitive_access label (own_value_of p key) (found_by label base (find key (primitive_chain s.heap p)))) t) (λ s. conf_ret observer tables _)
   conf_property label base (value.Object o) key = conf_at (λ s t. Goes (found_by label base (find key (object_chain s.heap o.0))) t) (λ s. conf_ret observer tables _)
 
   conf_as_access : {m : L Val} → Confined observer tables m → Confined observer tables (as_access m)
@@ -142,10 +144,15 @@ module _ (observer : Label) (tables : Tables) where
   hidden_found place base (Some f) h = hidden_held (union place f.1.label) base f.1.body (hides_first observer place f.1.label h)
   hidden_found place base None h = h
 
+  hidden_primitive : (label : Label) (own : Option Primitive) (beyond : Access) → Hides observer label → HiddenAccess beyond → HiddenAccess (primitive_access label own beyond)
+  hidden_primitive label None beyond h k = k
+  hidden_primitive label (Some v) beyond h k = h
+
   -- a property of a base, under a label that is hidden
   pub mum_property : (label : Label) (base : Val) (v : Value) (key : List ℕ) → Hides observer label → Mum observer tables HiddenAccess (property_of label base v key)
   unfolding property_of
-  mum_property label base (value.Primitive p) key h = mum_ends observer tables HiddenAccess _
+  mum_property label base (value.Primitive p) key h = mum_at observer tables HiddenAccess (λ s t. Goes (primitive_access label (own_value_of p key) (found_by label base (find key (primitive_chain s.heap p)))) t)
+      (λ s. let walk = find key (primitive_chain s.heap p) in mum_ret observer tables HiddenAccess (hidden_primitive label (own_value_of p key) (found_by label base walk) h (hidden_found (union label walk.walk) base walk.at (hides_first observer label walk.walk h))))
   mum_property label base (value.Object o) key h = mum_at observer tables HiddenAccess (λ s t. Goes (found_by label base (find key (object_chain s.heap o.0))) t)
       (λ s. let walk = find key (object_chain s.heap o.0) in mum_ret observer tables HiddenAccess (hidden_found (union label walk.walk) base walk.at (hides_first observer label walk.walk h)))
 
@@ -189,22 +196,31 @@ module _ (observer : Label) (tables : Tables) where
   found_agree key l m z e not_found a = both_values (seen z e primitives)
   found_agree key l m z e (walks.found p x y marks b) a = held_agree l m z e b a
 
-  -- what a read of paired objects comes to
+  -- what a read comes to, by two walks
+  walk_access : {γ : Pairing} {h g : List (Object Label)} (key : List ℕ) (l m : Label) (a b : Found) {this that : Val} → Sees observer l → l ≡ m → Alike observer a.walk b.walk (FoundSame observer γ h g key a.at b.at) → Agree observer γ this that
+      → AccessesAgree observer γ (found_by l this a) (found_by m that b)
+  walk_access key l m a b {this} {that} z e (hidden c d) x = hidden_accesses (hidden_found (union l a.walk) this a.at (hides_second observer l a.walk c)) (hidden_found (union m b.walk) that b.at (hides_second observer m b.walk d))
+  walk_access key l m a b z e (seen c d f) x = found_agree key (union l a.walk) (union m b.walk) (sees_union observer l a.walk z c) (ap₂ union e d) f x
+
+  -- a read of paired objects
   object_access : {γ : Pairing} {s t : State} (key : List ℕ) (l m : Label) (o q : ObjId) {this that : Val} → Sees observer l → l ≡ m → γ.objects o.0 q.0 ≡ true → Agree observer γ this that → LowEqual observer tables γ s t
       → AccessesAgree observer γ (found_by l this (find key (object_chain s.heap o.0))) (found_by m that (find key (object_chain t.heap q.0)))
-  object_access {γ} {s} {t} key l m o q {this} {that} a e p x r = by_walk (level_find observer r.heap key p)
-    where
-      by_walk : Alike observer (find key (object_chain s.heap o.0)).walk (find key (object_chain t.heap q.0)).walk (FoundSame observer γ s.heap t.heap key (find key (object_chain s.heap o.0)).at (find key (object_chain t.heap q.0)).at)
-          → AccessesAgree observer γ (found_by l this (find key (object_chain s.heap o.0))) (found_by m that (find key (object_chain t.heap q.0)))
-      by_walk (hidden c d) = hidden_accesses
-          (hidden_found (union l (find key (object_chain s.heap o.0)).walk) this (find key (object_chain s.heap o.0)).at (hides_second observer l (find key (object_chain s.heap o.0)).walk c))
-          (hidden_found (union m (find key (object_chain t.heap q.0)).walk) that (find key (object_chain t.heap q.0)).at (hides_second observer m (find key (object_chain t.heap q.0)).walk d))
-      by_walk (seen c d f) = found_agree key (union l (find key (object_chain s.heap o.0)).walk) (union m (find key (object_chain t.heap q.0)).walk) (sees_union observer l (find key (object_chain s.heap o.0)).walk a c) (ap₂ union e d) f x
+  object_access {γ} {s} {t} key l m o q a e p x r = walk_access key l m (find key (object_chain s.heap o.0)) (find key (object_chain t.heap q.0)) a e (level_find observer r.heap key p) x
+
+  -- and of a primitive value
+  primitives_agree : {γ : Pairing} (l m : Label) (own : Option Primitive) {a b : Access} → Sees observer l → l ≡ m → AccessesAgree observer γ a b → AccessesAgree observer γ (primitive_access l own a) (primitive_access m own b)
+  primitives_agree l m None z e r = r
+  primitives_agree l m (Some v) z e r = both_values (seen z e primitives)
+
+  primitive_read : {γ : Pairing} {s t : State} (key : List ℕ) (l m : Label) (p : Primitive) {this that : Val} → Sees observer l → l ≡ m → Agree observer γ this that → LowEqual observer tables γ s t
+      → AccessesAgree observer γ (primitive_access l (own_value_of p key) (found_by l this (find key (primitive_chain s.heap p)))) (primitive_access m (own_value_of p key) (found_by m that (find key (primitive_chain t.heap p))))
+  primitive_read {γ} {s} {t} key l m p a e x r = primitives_agree l m (own_value_of p key) a e
+      (walk_access key l m (find key (primitive_chain s.heap p)) (find key (primitive_chain t.heap p)) a e (level_from observer r.heap key (prototype_same observer r.heap p)) x)
 
   pub property_after : {γ : Pairing} {s t : State} (l m : Label) {v u : Value} (key : List ℕ) {this that : Val} → Sees observer l → l ≡ m → SameValue γ v u → Agree observer γ this that → LowEqual observer tables γ s t → IsSeen observer s
       → InStep observer tables (AccessesAgree observer) γ (property_of l this v key s) (property_of m that u key t)
   unfolding property_of
-  property_after l m key a e primitives x r w = both_end (AccessesAgree observer) r
+  property_after {γ} {s} {t} l m key a e (primitives {p = p}) x r w = go γ (extends_refl γ) r w (primitive_read {s = s} {t = t} key l m p a e x r)
   property_after {γ} {s} {t} l m key a e (objects {o = o} {q = q} p) x r w = go γ (extends_refl γ) r w (object_access {s = s} {t = t} key l m o q a e p x r)
 
   -- a property of values, by labels that are alike

@@ -12,10 +12,10 @@ use Rattle.low_equal.specs.LowEqual.{Pairing, Alike, seen, hidden, SlotsAgree, R
 
 -- ---- keys
 
-differ : (a b : List ℕ) → (a ≡ b → ⊥) → same_name a b ≡ false
+pub differ : (a b : List ℕ) → (a ≡ b → ⊥) → same_name a b ≡ false
 differ a b n = false_from_ne_true (same_name a b) (λ t. n ((bytes_eq-Decides a b).0 t))
 
-are_one : (a b : List ℕ) → same_name a b ≡ true → a ≡ b
+pub are_one : (a b : List ℕ) → same_name a b ≡ true → a ≡ b
 are_one a b t = (bytes_eq-Decides a b).0 t
 
 apart : (a b : List ℕ) → same_name a b ≡ false → a ≡ b → ⊥

@@ -198,11 +198,11 @@ below_changed {n} key change h (one_row {key = k} {p = p} {rs = rs} b r) = at_fi
 pub below_with_row : {n : ℕ} (key : List ℕ) (p : Property) {rs : Rows Property} → HoldsBelow n p.body → AreBelow n rs → AreBelow n (with_row key p rs)
 below_with_row key p h r = below_behind r (one_row h no_row)
 
-below_defined : {n : ℕ} (x : Option Property) (key : List ℕ) (p : Property) {rs : Rows Property} → HoldsBelow n p.body → AreBelow n rs → AreBelow n (defined_over x key p rs)
+pub below_defined : {n : ℕ} (x : Option Property) (key : List ℕ) (p : Property) {rs : Rows Property} → HoldsBelow n p.body → AreBelow n rs → AreBelow n (defined_over x key p rs)
 below_defined None key p h r = below_with_row key p h r
 below_defined (Some q) key p h r = below_changed key (λ s. p) (λ s. h) r
 
-distinct_defined : (x : Option Property) (key : List ℕ) (p : Property) (rs : Rows Property) → own key rs ≡ x → AreDistinct rs → AreDistinct (defined_over x key p rs)
+pub distinct_defined : (x : Option Property) (key : List ℕ) (p : Property) (rs : Rows Property) → own key rs ≡ x → AreDistinct rs → AreDistinct (defined_over x key p rs)
 distinct_defined None key p rs e d = distinct_with_row key p (own_absent key rs e) d
 distinct_defined (Some q) key p rs e d = distinct_altered key (λ s. Some p) d
 
@@ -211,7 +211,7 @@ distinct_defined (Some q) key p rs e d = distinct_altered key (λ s. Some p) d
 pub rows_sound : {n o : ℕ} (p : PlainObject) (rs : Rows Property) → IsSound n o p → AreDistinct rs → AreBelow n rs → IsSound n o (with_rows p rs)
 rows_sound p rs s d b = record { distinct = d; rows = b; inner = s.inner; proto = s.proto }
 
-length_set : {A : Type 0} (xs : List A) (i : ℕ) (x : A) → length (set xs i x) ≡ length xs
+pub length_set : {A : Type 0} (xs : List A) (i : ℕ) (x : A) → length (set xs i x) ≡ length xs
 length_set [] i x = refl
 length_set (y ∷ xs) zero x = refl
 length_set (y ∷ xs) (suc i) x = ap suc (length_set xs i x)

@@ -2,7 +2,9 @@
 use Rattle.std.proofs.Common.{◌≡◌, ℕ, zero, suc, ◌<◌, Bool, true, false, cond, List, [], ◌∷◌, ◌++◌, ◌&&◌, not, Option, Some, None, is_some, slice_get, refl, sym, ap, ap₂, subst, arith}
 use Rattle.origin_labels.specs.Label.{Label, bottom, union, sees}
 use Rattle.origin_labels.specs.Names.{has_name}
-use Rattle.js_number.specs.declared.primitive.Primitive.TheVariants.{Undefined}
+use Rattle.js_number.specs.declared.primitive.Primitive.{Primitive as APrimitive}
+use Rattle.js_number.specs.declared.primitive.Primitive.TheVariants.{Undefined, Null, Num, Str}
+use Rattle.js_number.specs.declared.primitive.Primitive.TheVariants as prims
 use Rattle.js_values.specs.declared.ids.ObjId.{ObjId}
 use Rattle.js_values.specs.declared.value.Value.{Value}
 use Rattle.js_values.specs.declared.value.Value.TheVariants.{Primitive, Object as Reference}
@@ -15,6 +17,8 @@ use Rattle.js_values.specs.Objects.{Rows, Object, number_of, own, keys_of}
 use Rattle.js_values.specs.Walks.{object_chain, Found, found_at, find}
 use Rattle.object_heap.specs.Formed.{own_in}
 use Rattle.prototype_walk.specs.KeyLists.{fresh_keys, existences, Keys, keys_after, keys}
+use Rattle.es_meaning.specs.Primitives.{prototype_of_primitive, chain_from}
+use Rattle.es_meaning.specs.Start.{string_prototype, number_prototype, boolean_prototype}
 use Rattle.flow_meaning.specs.Scopes.{Val, joined}
 use Rattle.low_equal.specs.Observed.{Sees, Hides}
 use Rattle.low_equal.specs.LowEqual.{Pairing, AreDistinct, Alike, seen, hidden, SameValue, primitives, objects, SameObject, neither, both, Agree, BodiesAgree, data_bodies, accessors, RowsAgree, no_rows, row, seen_rows, ShapesAgree, seen_shape, hidden_shape, ObjectsAgree, HeapsAgree}
@@ -189,7 +193,7 @@ module _ (observer : Label) where
         find_agree (seen_link {p = p} {q = q} {c = c} {d = d} z s t more) = find_first (find key c) (find key d) z.pair (ap (own_in key) z.here) (ap (own_in key) z.there) (own_case key z.distinct z.others z.agree.shapes)
             (alike_behind p.link q.link s t (find_agree more))
 
-        found_there : {o u : Option (ℕ × Slot Label)} → FoundSame o u → is_some o ≡ is_some u
+        pub found_there : {o u : Option (ℕ × Slot Label)} → FoundSame o u → is_some o ≡ is_some u
         found_there not_found = refl
         found_there (found e x y m b) = refl
 
@@ -245,6 +249,19 @@ module _ (observer : Label) where
   module _ {β : Pairing} {h g : List (Object Label)} (r : HeapsAgree observer β h g) where
     pub level_find : {i j : ℕ} (key : List ℕ) → β.objects i j ≡ true → FoundAgree β h g key (find key (object_chain h i)) (find key (object_chain g j))
     level_find key e = find_agree β h g key (chains_agree β h g r e)
+
+    -- from an object on that there may be
+    pub level_from : {o u : Option ObjId} (key : List ℕ) → SameObject β o u → FoundAgree β h g key (find key (chain_from (object_chain h) o)) (find key (chain_from (object_chain g) u))
+    level_from key neither = seen (sees_bottom observer) refl not_found
+    level_from key (both e) = level_find key e
+
+    -- the prototype of a primitive value stands for itself
+    pub prototype_same : (p : APrimitive) → SameObject β (prototype_of_primitive p) (prototype_of_primitive p)
+    prototype_same (Str text) = both (r.starts string_prototype.0 (omega arith))
+    prototype_same (Num n) = both (r.starts number_prototype.0 (omega arith))
+    prototype_same (prims.Bool b) = both (r.starts boolean_prototype.0 (omega arith))
+    prototype_same Undefined = neither
+    prototype_same Null = neither
 
     -- the key is there in both or in neither
     pub level_there : {i j : ℕ} (key : List ℕ) → β.objects i j ≡ true → Alike observer (find key (object_chain h i)).walk (find key (object_chain g j)).walk (is_some (find key (object_chain h i)).at ≡ is_some (find key (object_chain g j)).at)

@@ -6,7 +6,7 @@ use Rattle.flow_policy.specs.Inputs.{Given}
 use Rattle.flow_policy.specs.Observed as policy
 use Rattle.js_ast.specs.declared.operators.UnaryOperator.{UnaryOperator}
 use Rattle.js_ast.specs.declared.operators.BinaryOperator.{BinaryOperator}
-use Rattle.js_ast.specs.Trees.{Ident, Expr, Exprs, MaybeExpr, Properties, Target, Clauses, Block, Statement, Statements}
+use Rattle.js_ast.specs.Trees.{Ident, Expr, Exprs, MaybeExpr, Items, Properties, Target, Clauses, Block, Statement, Statements}
 use Rattle.js_ast.specs.Functions.{FunctionCode}
 use Rattle.es_meaning.specs.Directives.{Upgrade}
 use Rattle.es_meaning.specs.Outcomes.{Ending, done, threw, halted}
@@ -21,7 +21,7 @@ use Rattle.es_meaning.specs.Operations.{Calling, Act, Ops, Use, Round, Visit, Re
 use Rattle.es_meaning.specs.Evaluation as part
 use Rattle.es_meaning.specs.Evaluation.{eval}
 use Rattle.flow_meaning.specs.Scopes.{Val, LabelledLine, Halt, Jump, jump}
-use Rattle.flow_meaning.specs.Tracked.{Reference, Access, Putting, Enters, entered_access, entered_putting, is_instance, labelled, timed, tracked_run}
+use Rattle.flow_meaning.specs.Tracked.{Reference, Access, Putting, Defining, Enters, entered_access, entered_putting, entered_defining, is_instance, labelled, timed, tracked_run}
 use Rattle.low_equal.specs.Observed.{seen_lines, labelled_lines, Front}
 use Rattle.low_equal.specs.LowEqual.{Pairing, Agree, AllAgree}
 use Rattle.low_equal.specs.Runs.{Confined, Lockstep}
@@ -84,6 +84,7 @@ module _ (set : BuiltIns) (tables : Tables) (inputs : Given) (functions : List F
     pub index_key : (use_as : Use) (i : ℕ) (b k : Val) → Confined observer tables (part.index_key reading enters parts use_as i b k)
     pub index_base : (use_as : Use) (e : Expr) (i : ℕ) (b : Val) → Confined observer tables (part.index_base reading enters parts use_as e i b)
     pub member_base : (use_as : Use) (text : List ℕ) (i : ℕ) (b : Val) → Confined observer tables (part.member_base reading enters parts use_as text i b)
+    pub more_items : (act : Act) (vs : List Val) (items : Items) (i : ℕ) (v : Val) → Confined observer tables (part.more_items reading enters parts act vs items i v)
     pub more_values : (act : Act) (vs : List Val) (ps : Properties) (i : ℕ) (v : Val) → Confined observer tables (part.more_values reading enters parts act vs ps i v)
     pub more_arguments : (f : Calling Val) (vs : List Val) (es : Exprs) (i : ℕ) (v : Val) → Confined observer tables (part.more_arguments reading enters parts f vs es i v)
     pub call_reference : (r : Reference) (es : Exprs) (i : ℕ) (f : Val) → Confined observer tables (part.call_reference reading enters parts r es i f)
@@ -125,9 +126,10 @@ module _ (set : BuiltIns) (tables : Tables) (inputs : Given) (functions : List F
     pub own_getter_read : (steps : Steps) (vs : List Val) (b : Val) (key : List ℕ) (g s : Reg) (v : Val) → Confined observer tables (part.own_getter_read reading enters parts steps vs b key g s v)
     pub own_value_read : (steps : Steps) (vs : List Val) (b : Val) (key : List ℕ) (to g s : Reg) (v : Val) → Confined observer tables (part.own_value_read reading enters parts steps vs b key to g s v)
     pub own_marks_read : (steps : Steps) (vs : List Val) (b : Val) (key : List ℕ) (marks to g s : Reg) (v : Val) → Confined observer tables (part.own_marks_read reading enters parts steps vs b key marks to g s v)
-    -- what a read or a put comes to is entered, and `instanceof` behind the read of `prototype`
+    -- what a read, a put or a definition comes to is entered, and `instanceof` behind the read of `prototype`
     pub entered_access : (a : Access) → Confined observer tables (entered_access functions enters a)
     pub entered_putting : (v : Val) (p : Putting) → Confined observer tables (entered_putting functions enters v p)
+    pub entered_defining : (v : Val) (d : Defining) → Confined observer tables (entered_defining enters v d)
     pub is_instance : (label : Label) (o : ℕ) (v : Value) → Confined observer tables (is_instance label o v)
 
 abbrev pub IsConfining : Type 0

@@ -1,5 +1,6 @@
 pub mod Building
 pub mod LabelledAccessors
+pub mod LabelledArrays
 pub mod LabelledBuiltIns
 pub mod LabelledConversions
 pub mod LabelledFunctions
@@ -9,6 +10,7 @@ pub mod LabelledRequests
 pub mod LabelledRuns
 pub mod LabelledScripts
 pub mod PlainAccessors
+pub mod PlainArrays
 pub mod PlainBuiltIns
 pub mod PlainConversions
 pub mod PlainFunctions

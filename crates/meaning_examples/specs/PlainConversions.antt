@@ -28,8 +28,8 @@ pub record SumRows : Type 0 where
       ∷ var_is (codes "b") (literal (method 2 (codes "valueOf") (prints (codes "pub") (text (codes "r")) ∷ returns (num 2) ∷ []) no_properties))
       ∷ prints (codes "pub") (op (named (codes "a")) binary_operator.Subtract (named (codes "b")))
       ∷ prints (codes "pub") (op (named (codes "a")) binary_operator.Greater (named (codes "b"))) ∷ []) (codes "l" ∷ codes "r" ∷ codes "5" ∷ codes "l" ∷ codes "r" ∷ codes "true" ∷ [])
-  -- undefined - {valueOf: function () { print("pub", "r"); return 2; }}; the left operand is a number before the right one is converted
-  pub left_number_first : Leaves (does (op (named (codes "undefined")) binary_operator.Subtract (literal (method 1 (codes "valueOf") (prints (codes "pub") (text (codes "r")) ∷ returns (num 2) ∷ []) no_properties))) ∷ []) (codes "number")
+  -- "1.5" - {valueOf: function () { print("pub", "r"); return 2; }}; the left operand is a number before the right one is converted
+  pub left_number_first : Leaves (does (op (text (codes "1.5")) binary_operator.Subtract (literal (method 1 (codes "valueOf") (prints (codes "pub") (text (codes "r")) ∷ returns (num 2) ∷ []) no_properties))) ∷ []) (codes "number")
 
 pub record OperatorRows : Type 0 where
   -- var o = {valueOf: function () { return 3; }}; print("pub", (o == 3) + "," + (3 != o) + "," + (o == o) + "," + (o === 3) + "," + (o == null));

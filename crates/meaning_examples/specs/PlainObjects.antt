@@ -40,7 +40,7 @@ pub record BaseRows : Type 0 where
   -- undefined[print("pub", 1)] and undefined.x = print("pub", 1)
   pub base_behind_key : Gives (does (at (named (codes "undefined")) (prints_on (codes "pub") (num 1))) ∷ []) 200 (prints_and (line (codes "pub") (codes "1") ∷ []) (threw type_error_thrown))
   pub base_before_value : Gives (does (puts (dot (named (codes "undefined")) (codes "x")) (prints_on (codes "pub") (num 1))) ∷ []) 200 (prints_and [] (threw type_error_thrown))
-  pub member_of_text : Gives (does (dot (text (codes "a")) (codes "x")) ∷ []) 200 (prints_and [] (halted (left (codes "unbuilt"))))
+  pub member_of_text : Gives (does (dot (text (codes "a")) (codes "x")) ∷ []) 200 (prints_and [] done)
   pub in_no_object : Gives (does (is_in (text (codes "a")) (num 1)) ∷ []) 200 (prints_and [] (threw type_error_thrown))
 
 pub record VariableRows : Type 0 where

@@ -1,5 +1,6 @@
 -- Small scripts, and what they print, worked out by hand or asked of another engine.
 use Rattle.std.specs.Prelude.{List, [], codes, pos, true, ◌++◌, ◌∷◌, ◌≡◌}
+use Rattle.js_number.specs.declared.num.Num.TheVariants.{Int}
 use Rattle.js_number.specs.declared.primitive.Primitive.TheVariants.{Num, Str}
 use Rattle.js_values.specs.declared.value.Value.TheVariants as value
 use Rattle.js_ast.specs.Trees.{Statement, block, block_of, boolean, comma, conditional, do_while, first_var, for, more_declarations, no_statements, one_declaration, paren, postfix, present, unary, var, while, written}
@@ -100,8 +101,8 @@ pub record ThrownRows : Type 0 where
       (prints_and (line (codes "pub") (codes "1") ∷ []) (threw (codes "object Error ReferenceError")))
   -- nothing += print("pub", 1); the value is asked before the right side
   pub unbound_before_its_change : Gives (does (adds (codes "nothing") (prints_on (codes "pub") (num 1))) ∷ []) 200 (prints_and [] (threw (codes "object Error ReferenceError")))
-  -- undefined - print("pub", 1); the left operand is a number after the right one is evaluated
-  pub undefined_behind_its_operand : Gives (does (op (named (codes "undefined")) binary_operator.Subtract (prints_on (codes "pub") (num 1))) ∷ []) 200
+  -- "1.5" - print("pub", 1); the left operand is a number after the right one is evaluated
+  pub fraction_behind_its_operand : Gives (does (op (text (codes "1.5")) binary_operator.Subtract (prints_on (codes "pub") (num 1))) ∷ []) 200
       (prints_and (line (codes "pub") (codes "1") ∷ []) (halted (left (codes "number"))))
 
 -- what is shown of a value
@@ -109,7 +110,7 @@ pub record ShownRows : Type 0 where
   -- what is shown of a value: its type, and a text with its escapes, also where it is empty
   pub shown_text : shown start_heap (value.Primitive (Str (120 ∷ 92 ∷ []))) ≡ codes "string x" ++ (92 ∷ 92 ∷ [])
   pub shown_empty : shown start_heap (value.Primitive (Str [])) ≡ codes "string "
-  pub shown_number : shown start_heap (value.Primitive (Num (pos 12))) ≡ codes "number 12"
+  pub shown_number : shown start_heap (value.Primitive (Num (Int (pos 12)))) ≡ codes "number 12"
   pub shown_undefined : shown start_heap undefined ≡ codes "undefined"
   -- of an object its class, and its name where that is a text
   pub shown_global : shown start_heap (value.Object global_object) ≡ codes "object Object"

@@ -1,6 +1,7 @@
 -- Built-ins that each ask for one request, so that small scripts can tell what requests do. They stand behind the five functions of channels.
 use Rattle.std.specs.Prelude.{ℕ, pos, ◌-◌, Bool, true, false, List, [], ◌∷◌, ◌++◌, map, codes, Option, Some, None, nat_lt, slice_get, if◌then◌else◌}
 use Rattle.flow_policy.specs.Policies.{Tables}
+use Rattle.js_number.specs.declared.num.Num.TheVariants.{Int}
 use Rattle.js_number.specs.declared.primitive.Primitive.TheVariants.{Num, Str}
 use Rattle.js_values.specs.declared.inner.Class.TheVariants as class
 use Rattle.native_protocol.specs.declared.natives.Form.{Form}
@@ -105,9 +106,12 @@ probes =
     ∷ record { holder = codes "global"; name = codes "Box"; form = Constructor; steps = box_steps }
     ∷ record { holder = codes "global"; name = codes "Object"; form = Constructor; steps = λ construct. ends (request.Return first) }
     ∷ record { holder = codes "Object.prototype"; name = codes "toString"; form = Function; steps = λ construct. gives (request.Make (Str (codes "[o]")) out) }
-    ∷ record { holder = codes "Math"; name = codes "one"; form = Function; steps = λ construct. gives (request.Make (Num (pos 1)) out) }
+    ∷ record { holder = codes "Math"; name = codes "one"; form = Function; steps = λ construct. gives (request.Make (Num (Int (pos 1))) out) }
     ∷ left_out (codes "eval") LeftFunction
     ∷ left_out (codes "NaN") LeftAccessor
+    ∷ probe (codes "keys") (gives (request.Keys first false out))
+    ∷ probe (codes "names") (gives (request.Keys first true out))
+    ∷ probe (codes "make_array") (gives (request.New class.Array None out))
     ∷ []
 
 abbrev pub probe_entry : Probe → SeenEntry

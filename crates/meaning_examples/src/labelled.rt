@@ -1,6 +1,7 @@
 //! Rows of small scripts under the flow rules, as functions that do nothing.
 
 ghost use Rattle.meaning_examples.specs.LabelledAccessors.{GetterRows, SetterRows};
+ghost use Rattle.meaning_examples.specs.LabelledArrays.{ArrayRows, DefinedArrayRows};
 ghost use Rattle.meaning_examples.specs.LabelledBuiltIns.{PrintRows, CalleeRows, LookRows};
 ghost use Rattle.meaning_examples.specs.LabelledConversions.{FrameRows, MethodRows};
 ghost use Rattle.meaning_examples.specs.LabelledFunctions.{CallRows, HiddenCallRows, ReturnRows, ConstructionRows, InstanceRows};
@@ -23,6 +24,12 @@ pub fn objects()
     ensures structures { StructureRows }
     ensures accesses { AccessRows }
     ensures walks { WalkRows }
+{}
+
+/// And those with arrays and properties of primitive values.
+pub fn arrays()
+    ensures arrays { ArrayRows }
+    ensures definitions { DefinedArrayRows }
 {}
 
 /// And those with functions.

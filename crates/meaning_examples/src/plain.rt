@@ -1,6 +1,7 @@
 //! Rows of small scripts without labels, as functions that do nothing.
 
 ghost use Rattle.meaning_examples.specs.PlainAccessors.{GetterRows, SetterRows};
+ghost use Rattle.meaning_examples.specs.PlainArrays.{ArrayRows, DefinedArrayRows, NameRows as OwnNameRows, PrimitiveRows, NanRows};
 ghost use Rattle.meaning_examples.specs.PlainBuiltIns.{NameRows, UseRows, ArgumentRows, RaiseRows, LeftRows};
 ghost use Rattle.meaning_examples.specs.PlainConversions.{SumRows, OperatorRows, KeyRows};
 ghost use Rattle.meaning_examples.specs.PlainFunctions.{DeclarationRows, CallRows, ConstructionRows, InstanceRows, RefusalRows};
@@ -24,6 +25,15 @@ pub fn objects()
     ensures bases { BaseRows }
     ensures variables { VariableRows }
     ensures origins { OriginRows }
+{}
+
+/// And those with arrays, properties of primitive values and NaN.
+pub fn arrays()
+    ensures arrays { ArrayRows }
+    ensures definitions { DefinedArrayRows }
+    ensures names { OwnNameRows }
+    ensures primitives { PrimitiveRows }
+    ensures nan { NanRows }
 {}
 
 /// And those with functions.

@@ -1,11 +1,11 @@
 -- Each machine of a conversion takes the steps of the conversion.
-use Rattle.std.proofs.Common.{◌≡◌, Bool, true, false, if◌then◌else◌, List, [], ◌∷◌, ℤ, Result, Ok, Err, refl, sym, ◌∙◌, ap}
+use Rattle.std.proofs.Common.{◌≡◌, Bool, true, false, if◌then◌else◌, List, [], ◌∷◌, Result, Ok, Err, refl, sym, ◌∙◌, ap}
 use Rattle.js_number.specs.declared.int.LeftNumbers.{LeftNumbers}
 use Rattle.js_number.specs.declared.primitive.Primitive.{Primitive}
-use Rattle.js_number.specs.declared.primitive.Primitive.TheVariants.{Undefined, Null, Num, Str}
+use Rattle.js_number.specs.declared.num.Num.{Num}
+use Rattle.js_number.specs.declared.primitive.Primitive.TheVariants.{Undefined, Null, Str}
 use Rattle.js_number.specs.declared.primitive.Primitive.TheVariants as prims
 use Rattle.js_number.specs.Conversions.{number_of}
-use Rattle.js_number.specs.Number.{some_number}
 use Rattle.native_protocol.proofs.RunningLaws.{asks_rest}
 use Rattle.native_protocol.specs.declared.conversion.Conversion.{Conversion}
 use Rattle.native_protocol.specs.declared.conversion.Held.{Held}
@@ -97,7 +97,7 @@ made_text : (p : Primitive) (at value : Reg) (next : HeldText → Steps) (answer
 made_text Undefined at value next answers = refl
 made_text Null at value next answers = refl
 made_text (prims.Bool b) at value next answers = refl
-made_text (Num n) at value next answers = refl
+made_text (prims.Num n) at value next answers = refl
 made_text (Str text) at value next answers = refl
 
 text_joins : (c : Conversion) (p : Progress Conversion Held) (next : HeldText → Steps) (answers : List Answer) → Keeps c p → carried_on conversion_rest p (text_from c.value next) answers ≡ carried_on text_rest (text_behind c.value p) next answers
@@ -118,19 +118,19 @@ text_is = record { first = text_first; others = text_others }
 
 -- ---- the number
 
-counted : (r : Result ℤ LeftNumbers) (next : ℤ → Steps) (answers : List Answer) → number_or_leave r next answers ≡ carried_on number_rest (number_or_left r) next answers
+counted : (r : Result Num LeftNumbers) (next : Num → Steps) (answers : List Answer) → number_or_leave r next answers ≡ carried_on number_rest (number_or_left r) next answers
 counted (Ok n) next answers = refl
 counted (Err left) next answers = refl
 
-number_joins : (p : Progress Conversion Held) (next : ℤ → Steps) (answers : List Answer) → carried_on conversion_rest p (number_from next) answers ≡ carried_on number_rest (number_behind p) next answers
+number_joins : (p : Progress Conversion Held) (next : Num → Steps) (answers : List Answer) → carried_on conversion_rest p (number_from next) answers ≡ carried_on number_rest (number_behind p) next answers
 number_joins (Going c) next answers = refl
-number_joins (Ready h) next answers = counted (some_number (number_of h.value)) next answers
+number_joins (Ready h) next answers = counted (number_of h.value) next answers
 
-number_first : (n : NumberOf) (next : ℤ → Steps) → number_rest n next [] ≡ number_asks n
+number_first : (n : NumberOf) (next : Num → Steps) → number_rest n next [] ≡ number_asks n
 number_first (to_number.Primitive c) next = first_in c c.stage (number_from next)
 number_first to_number.Left next = refl
 
-number_others : (n : NumberOf) (next : ℤ → Steps) (a : Answer) (answers : List Answer) → number_rest n next (a ∷ answers) ≡ carried_on number_rest (number_after n a) next answers
+number_others : (n : NumberOf) (next : Num → Steps) (a : Answer) (answers : List Answer) → number_rest n next (a ∷ answers) ≡ carried_on number_rest (number_after n a) next answers
 number_others (to_number.Primitive c) next a answers = others_in c c.stage (number_from next) a answers ∙ number_joins (conversion_after c a) next answers
 number_others to_number.Left next a answers = refl
 

@@ -1,9 +1,9 @@
 -- The machines of the conversions: what each of their states asks for, where an answer leads, and which steps are still to take.
-use Rattle.std.specs.Prelude.{ℕ, List, [], codes, ℤ, Result, Ok, Err, if◌then◌else◌}
+use Rattle.std.specs.Prelude.{ℕ, List, [], codes, Result, Ok, Err, if◌then◌else◌}
 use Rattle.js_number.specs.declared.primitive.Primitive.{Primitive}
 use Rattle.js_number.specs.declared.primitive.Primitive.TheVariants.{Str}
 use Rattle.js_number.specs.declared.int.LeftNumbers.{LeftNumbers}
-use Rattle.js_number.specs.Number.{some_number}
+use Rattle.js_number.specs.declared.num.Num.{Num}
 use Rattle.js_number.specs.Conversions.{text_of, number_of}
 use Rattle.native_protocol.specs.declared.conversion.Conversion.{Conversion}
 use Rattle.native_protocol.specs.declared.conversion.Held.{Held}
@@ -139,22 +139,22 @@ abbrev pub number_asks : NumberOf → Request
 number_asks (to_number.Primitive c) = conversion_asks c
 number_asks to_number.Left = Leave (codes "number")
 
-abbrev pub number_or_left : Result ℤ LeftNumbers → Progress NumberOf ℤ
+abbrev pub number_or_left : Result Num LeftNumbers → Progress NumberOf Num
 number_or_left (Ok n) = Ready n
 number_or_left (Err left) = Going to_number.Left
 
-abbrev pub number_behind : Progress Conversion Held → Progress NumberOf ℤ
+abbrev pub number_behind : Progress Conversion Held → Progress NumberOf Num
 number_behind (Going c) = Going (to_number.Primitive c)
-number_behind (Ready h) = number_or_left (some_number (number_of h.value))
+number_behind (Ready h) = number_or_left (number_of h.value)
 
-abbrev pub number_after : NumberOf → Answer → Progress NumberOf ℤ
+abbrev pub number_after : NumberOf → Answer → Progress NumberOf Num
 number_after (to_number.Primitive c) a = number_behind (conversion_after c a)
 number_after to_number.Left a = Going to_number.Left
 
-abbrev pub number_from : (ℤ → Steps) → Held → Steps
-number_from next h = number_or_leave (some_number (number_of h.value)) next
+abbrev pub number_from : (Num → Steps) → Held → Steps
+number_from next h = number_or_leave (number_of h.value) next
 
-abbrev pub number_rest : NumberOf → (ℤ → Steps) → Steps
+abbrev pub number_rest : NumberOf → (Num → Steps) → Steps
 number_rest (to_number.Primitive c) next = conversion_rest c (number_from next)
 number_rest to_number.Left next = ends (Leave (codes "number"))
 

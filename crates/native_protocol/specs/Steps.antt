@@ -3,7 +3,8 @@ use Rattle.std.specs.Prelude.{ℕ, ◌+◌, max, Bool, true, false, if◌then◌
 use Rattle.js_number.specs.declared.primitive.Primitive.{Primitive}
 use Rattle.js_number.specs.declared.primitive.Primitive.TheVariants.{Undefined, Str}
 use Rattle.js_number.specs.declared.int.LeftNumbers.{LeftNumbers}
-use Rattle.js_number.specs.Number.{some_number}
+use Rattle.js_number.specs.declared.num.Num.{Num}
+use Rattle.js_number.specs.Number.{integer_of}
 use Rattle.js_number.specs.Conversions.{text_of, number_of}
 use Rattle.js_values.specs.declared.inner.Class.TheVariants as class
 use Rattle.native_protocol.specs.declared.hint.Hint.{Hint}
@@ -132,10 +133,14 @@ text_in p r value next = ask (Make (Str (text_of p)) value) (next (text_of p) va
 abbrev pub text_of_register : Reg → Reg → Reg → (List ℕ → Reg → Steps) → Steps
 text_of_register r method value next = primitive_of_register hint.String r method value (λ p at. text_in p at value next)
 
--- ToNumber (ECMA-262 9.3), and ToInteger (9.4), which is the same of an integer: a number that is no integer of the profile leaves
-abbrev pub number_or_leave : Result ℤ LeftNumbers → (ℤ → Steps) → Steps
+-- ToNumber (ECMA-262 9.3): the text of a number that isn't in the profile leaves
+abbrev pub number_or_leave : Result Num LeftNumbers → (Num → Steps) → Steps
 number_or_leave (Ok n) next = next n
 number_or_leave (Err left) next = leaves (codes "number")
 
-abbrev pub number_of_register : Reg → Reg → Reg → (ℤ → Steps) → Steps
-number_of_register r method value next = primitive_of_register hint.Number r method value (λ p at. number_or_leave (some_number (number_of p)) next)
+abbrev pub number_of_register : Reg → Reg → Reg → (Num → Steps) → Steps
+number_of_register r method value next = primitive_of_register hint.Number r method value (λ p at. number_or_leave (number_of p) next)
+
+-- ToInteger (ECMA-262 9.4), with which ToInt32 and ToUint32 (9.5, 9.6) begin: NaN counts as 0
+abbrev pub integer_of_register : Reg → Reg → Reg → (ℤ → Steps) → Steps
+integer_of_register r method value next = number_of_register r method value (λ n. next (integer_of n))

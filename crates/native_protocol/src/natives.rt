@@ -9,13 +9,15 @@ use crate::request::{Answer, Request};
 use flow_text::OutOfMemory;
 use std::alloc::Global;
 
-/// How a name of a built-in is kept: as a function, as one that can be constructed too, or left out as a function or as an accessor.
+/// How a name of a built-in is kept: as a function, as one that can be constructed too, left out as a function or as an accessor, or as
+/// the constant NaN, which is no function.
 #[derive(Clone, Copy, Debug, PartialEq, Eq)]
 pub enum Form {
     Function,
     Constructor,
     LeftFunction,
     LeftAccessor,
+    NotANumber,
 }
 
 /// A built-in: the holder and name under which it stands, its `length`, and its form.

@@ -9,7 +9,7 @@ use crate::progress::Progress;
 use crate::registers::Reg;
 use crate::request::{Answer, Request};
 use flow_text::{OutOfMemory, Text};
-use js_number::{Int, to_number};
+use js_number::{Num, to_number};
 use std::alloc::Global;
 
 /// A register's value on its way to a number: the primitive value of it, or the run is left where that has no number of the profile.
@@ -41,7 +41,7 @@ impl NumberOf {
     }
 
     /// Where an answer leads.
-    pub fn after(self, answer: Answer) -> Progress<NumberOf, Int>
+    pub fn after(self, answer: Answer) -> Progress<NumberOf, Num>
         ensures { result ≡ number_after self answer }
     {
         match self {

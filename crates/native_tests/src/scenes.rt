@@ -1,7 +1,7 @@
 ghost use Rattle.std.specs.Prelude.{◌<◌, IfSome, length};
 
 use flow_text::{OutOfMemory, Text};
-use js_number::{Int, Primitive, to_text};
+use js_number::{Int, Num, Primitive, to_text};
 use js_values::{Class, Key};
 use native_protocol::{Answer, ErrorKind, Natives, Request, Seen};
 use std::alloc::Global;
@@ -93,7 +93,7 @@ fn answer_of(alloc: Global, told: Told) -> Result<Answer, OutOfMemory> {
         Told::Null => Primitive::Null,
         Told::True => Primitive::Bool(true),
         Told::Number(n) => match Int::new(n) {
-            Some(n) => Primitive::Num(n),
+            Some(n) => Primitive::Num(Num::Int(n)),
             None => Primitive::Undefined,
         },
         Told::Text(text) => Primitive::Str(Text::spelled(alloc, text)?),

@@ -25,7 +25,7 @@ fn held(
     })
 }
 
-// The channels' functions stand behind the first sixteen objects, as properties of the global object.
+// The channels' functions stand behind the first nineteen objects, as properties of the global object.
 fn are_there(alloc: Global) -> Result<bool, OutOfMemory> {
     let Ok(policy) = read_policy(alloc, b"origin A") else {
         return Err(OutOfMemory);
@@ -35,7 +35,7 @@ fn are_there(alloc: Global) -> Result<bool, OutOfMemory> {
     let read = held(alloc, &heap, GLOBAL_OBJECT, "read")?;
     let upge = held(alloc, &heap, GLOBAL_OBJECT, "upge")?;
     let none = held(alloc, &heap, GLOBAL_OBJECT, "eval")?;
-    Ok(heap.len() == 21 && read == Some(16) && upge == Some(20) && none == None)
+    Ok(heap.len() == 24 && read == Some(19) && upge == Some(23) && none == None)
 }
 
 #[test]

@@ -24,7 +24,7 @@ use Rattle.js_values.proofs.IndexLaws.{is_index, some_index}
 use Rattle.js_values.proofs.ReadingLaws.{IsReading-earlier}
 use Rattle.object_heap.specs.Acts.{Acted, under, on_slot, with_rows, value_have, added, lengthened, stretched, add_absent, add_own}
 use Rattle.object_heap.specs.Answers.{Acts, read_stop}
-use Rattle.object_heap.specs.Arrays.{length_key, length_body, element_of, is_past}
+use Rattle.js_values.specs.Arrays.{length_key, length_body, element_of, is_past}
 use Rattle.object_heap.specs.Lengths.{StandsPast, IsBelow, append_own, ask_length, lengthen_own, add_past, length_set}
 use Rattle.object_heap.proofs.ActLaws.{under_holds, under_broken, on_own, joined_is}
 use Rattle.object_heap.proofs.ReadLaws.{read_own, read_changed, read_with_row}

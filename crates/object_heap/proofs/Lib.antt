@@ -1,5 +1,6 @@
 mod ActLaws
 mod BelongLaws
+mod BoundLaws
 mod AddLaws
 mod GivenLaws
 mod HeapLaws

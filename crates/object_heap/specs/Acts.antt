@@ -1,7 +1,8 @@
 -- What is done with objects (ECMA-262 8.12), and the flow rules W1 to W8. The labels are sets of origins here. `need` is the union that the rule's row
 -- names: whoever calls makes it. Of an absent key or object nothing is done.
-use Rattle.std.specs.Prelude.{ℕ, suc, false, List, [], ◌∷◌, ◌++◌, Option, Some, None, Result, Ok, Err, slice_get, set, if◌then◌else◌}
+use Rattle.std.specs.Prelude.{ℕ, suc, false, List, [], ◌∷◌, ◌++◌, Option, Some, None, Result, Ok, Err, slice_get, set, insert, if◌then◌else◌}
 use Rattle.origin_labels.specs.Label.{Label, union, within}
+use Rattle.origin_labels.specs.Names.{same_name}
 use Rattle.flow_frames.specs.declared.faults.Rule.{Rule}
 use Rattle.flow_frames.specs.declared.faults.Rule.TheVariants.{W2, W3, W4, W5, W6, W7, W8}
 use Rattle.flow_frames.specs.declared.faults.FlowStop.{FlowStop}
@@ -14,7 +15,7 @@ use Rattle.js_values.specs.declared.property.Slot.{Slot}
 use Rattle.js_values.specs.declared.inner.Class.{Class}
 use Rattle.js_values.specs.declared.inner.Inner.{Inner}
 use Rattle.js_values.specs.Objects.{Rows, Object, own, changed, without, with_row, fresh_object}
-use Rattle.object_heap.specs.Arrays.{length_key, element_of, length_body, is_past}
+use Rattle.js_values.specs.Arrays.{length_key, element_of, length_body, is_past}
 
 -- what is done comes to this, or it is stopped by a rule, with what the rule needs and has
 abbrev pub Acted : Type 0 → Type 0
@@ -153,6 +154,28 @@ given_to (Some p) o key s heap = set heap o (with_rows p (given key s p.rows))
 
 abbrev pub give : {T : Type 0} → ℕ → List ℕ → Slot T → List (Object T) → List (Object T)
 give o key s heap = given_to (slice_get heap o) o key s heap
+
+-- the same, but a property more stands in front of all but a `length` that is first
+abbrev pub behind_length : {S : Type 0} → Option (List ℕ × S) → ℕ
+behind_length None = 0
+behind_length (Some r) = if same_name r.0 length_key then 1 else 0
+
+abbrev pub first_place : {S : Type 0} → Rows S → ℕ
+first_place rows = behind_length (slice_get rows 0)
+
+abbrev pub given_first_over : {S : Type 0} → Option S → List ℕ → S → Rows S → Rows S
+given_first_over None key s rows = insert rows (first_place rows) (key, s)
+given_first_over (Some t) key s rows = changed key (λ u. s) rows
+
+abbrev pub given_first : {S : Type 0} → List ℕ → S → Rows S → Rows S
+given_first key s rows = given_first_over (own key rows) key s rows
+
+abbrev pub given_first_to : {T : Type 0} → Option (Object T) → ℕ → List ℕ → Slot T → List (Object T) → List (Object T)
+given_first_to None o key s heap = heap
+given_first_to (Some p) o key s heap = set heap o (with_rows p (given_first key s p.rows))
+
+abbrev pub give_first : {T : Type 0} → ℕ → List ℕ → Slot T → List (Object T) → List (Object T)
+give_first o key s heap = given_first_to (slice_get heap o) o key s heap
 
 -- a further object: its structure label is the context, and its link label is the context with the label of what gave the prototype
 abbrev pub new_object : {T : Type 0} → Class → Option ObjId → T → T → Inner T → List (Object T) → List (Object T)

@@ -7,7 +7,7 @@ use Rattle.js_values.specs.declared.property.Body.{Body}
 use Rattle.js_values.specs.declared.property.Slot.{Slot}
 use Rattle.js_values.specs.Objects.{Object, own, changed, with_row}
 use Rattle.object_heap.specs.Acts.{Act, on_slot, under, with_rows, value_have, added, lengthened}
-use Rattle.object_heap.specs.Arrays.{length_key, length_body, element_of, is_past}
+use Rattle.js_values.specs.Arrays.{length_key, length_body, element_of, is_past}
 
 -- ---- whether the element that a key names stands at or above the `length`
 

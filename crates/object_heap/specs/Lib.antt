@@ -1,6 +1,5 @@
 pub mod Acts
 pub mod Answers
-pub mod Arrays
 pub mod Formed
 pub mod Lengths
 pub mod Places

@@ -4,9 +4,10 @@ ghost use Rattle.std.specs.Prelude.{◌≡◌, ◌<◌, ◌+◌, ℕ, [], ◌∷
 ghost use Rattle.std.specs.Option.{option_map};
 ghost use Rattle.origin_labels.specs.Stores.{IsKept};
 ghost use Rattle.flow_frames.specs.Stops.{IsStop};
+ghost use Rattle.js_values.specs.Arrays.{highest, length_key};
 ghost use Rattle.js_values.specs.Objects.{fresh_object};
 ghost use Rattle.js_values.specs.Readings.{HasHeap, HasInner, read_heap, read_value};
-ghost use Rattle.object_heap.specs.Acts.{act_on, overwrite_own, new_object, write, set_body, set_attributes, raise_existence, add, remove, raise_structure, prevent_extensions, give};
+ghost use Rattle.object_heap.specs.Acts.{act_on, overwrite_own, new_object, write, set_body, set_attributes, raise_existence, add, remove, raise_structure, prevent_extensions, give, give_first};
 ghost use Rattle.object_heap.specs.Answers.{Acts};
 ghost use Rattle.object_heap.specs.Formed.{IsFormed, own_in, row_in, rows_in, target_of, IsShape, IsInner};
 ghost use Rattle.object_heap.specs.Places.{IsPlace, StandsAt};
@@ -119,6 +120,30 @@ impl<T: Copy> Heap<T> {
         ensures { option_map (λ r. (r.0.now, r.1.now)) result ≡ row_in n (slice_get self.now o.0) }
     {
         self.object(o).own_at(n)
+    }
+
+    /// The `length` of an object, where it has one.
+    pub fn length(&self, o: ObjId) -> Option<&Slot<T>>
+        requires { o.0 < length self.now }
+        ensures { option_map (λ s. s.now) result ≡ own_in length_key (slice_get self.now o.0) }
+    {
+        self.object(o).own_length()
+    }
+
+    /// How many properties an object has.
+    pub fn count(&self, o: ObjId) -> usize
+        requires { o.0 < length self.now }
+        ensures { result ≡ length (rows_in (slice_get self.now o.0)) }
+    {
+        self.object(o).count()
+    }
+
+    /// The highest element of an object at or above a number, with its property.
+    pub fn highest(&self, o: ObjId, n: u32) -> Option<(u32, &Slot<T>)>
+        requires { o.0 < length self.now }
+        ensures { option_map (λ e. (e.0, e.1.now)) result ≡ highest n (rows_in (slice_get self.now o.0)) }
+    {
+        self.object(o).highest(n)
     }
 
     /// The place of the property of an object with the key of a text. It holds until a property of that object is added or taken away.
@@ -385,6 +410,16 @@ impl<T: Copy> Heap<T> {
         ensures unchanged { OnErr result (self.new ≡ self.old) }
     {
         self.objects[o.0 as usize].give(key, slot)?;
+        Ok(())
+    }
+
+    /// The same, but a property that it doesn't have stands in front of all others but a `length`.
+    pub fn give_first(&mut self, o: ObjId, key: Key, slot: Slot<T>) -> Result<(), OutOfMemory>
+        requires there { o.0 < length self.old }
+        ensures ok { OnOk result (self.new ≡ give_first o.0 key slot self.old) }
+        ensures unchanged { OnErr result (self.new ≡ self.old) }
+    {
+        self.objects[o.0 as usize].give_first(key, slot)?;
         Ok(())
     }
 

@@ -1,7 +1,6 @@
 //! Objects: what they have, and the flow rules W1 to W8 on them.
 #![tactic(auto)]
 
-mod arrays;
 mod heap;
 mod index;
 mod laws;

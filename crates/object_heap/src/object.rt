@@ -7,20 +7,22 @@ ghost use Rattle.origin_labels.specs.Stores.{IsKept};
 ghost use Rattle.flow_frames.specs.Stops.{IsStop};
 ghost use Rattle.js_values.specs.Objects.{own, fresh_object};
 ghost use Rattle.js_values.specs.Readings.{IsReading, HasObject, HasInner, read_object};
-ghost use Rattle.object_heap.specs.Acts.{with_rows, given, overwrite_own, set_own_attributes, raise_own_existence, add_own, remove_own, raise_own_structure, prevent_own_extensions};
+ghost use Rattle.object_heap.specs.Acts.{with_rows, given, given_first, first_place, overwrite_own, set_own_attributes, raise_own_existence, add_own, remove_own, raise_own_structure, prevent_own_extensions};
 ghost use Rattle.object_heap.specs.Answers.{Acts, MeansValue};
-ghost use Rattle.object_heap.specs.Arrays.{length_key};
+ghost use Rattle.js_values.specs.Arrays.{highest, length_key};
 ghost use Rattle.object_heap.specs.Formed.{LeadsAs};
 ghost use Rattle.object_heap.specs.Lengths.{IsPast, Keeps, append_own, ask_length, add_past, length_set};
 ghost use Rattle.object_heap.specs.Places.{IsPlace, StandsAt};
 
-use crate::arrays::{LENGTH, element_of, is_past, length_above};
 use crate::row::check;
 use crate::shape::Shape;
 use crate::table::Table;
 use flow_frames::{FlowFault, Rule};
 use flow_text::{OutOfMemory, Text};
-use js_values::{Body, Class, Inner, Key, Marks, ObjId, Slot};
+use js_values::{
+    Body, Class, Inner, Key, LENGTH, Marks, ObjId, Slot, element_of, is_length_key, is_past,
+    length_body,
+};
 use origin_labels::Labels;
 use std::alloc::Global;
 use std::marker::Model;
@@ -101,6 +103,28 @@ impl<T: Copy> Object<T> {
         ensures { option_map (λ r. (r.0.now, r.1.now)) result ≡ slice_get self.now.rows n }
     {
         self.rows.at(n)
+    }
+
+    /// The `length`, where there is one.
+    pub(crate) fn own_length(&self) -> Option<&Slot<T>>
+        ensures { option_map (λ s. s.now) result ≡ own length_key self.now.rows }
+    {
+        let place = self.length_at()?;
+        Some(self.slot(place))
+    }
+
+    /// How many properties there are.
+    pub(crate) fn count(&self) -> usize
+        ensures { result ≡ length self.now.rows }
+    {
+        self.rows.len()
+    }
+
+    /// The highest element at or above a number, with its property.
+    pub(crate) fn highest(&self, n: u32) -> Option<(u32, &Slot<T>)>
+        ensures { option_map (λ e. (e.0, e.1.now)) result ≡ highest n self.now.rows }
+    {
+        self.rows.highest(n)
     }
 
     /// The place of the property with a key. It holds until a property is added or taken away.
@@ -364,11 +388,44 @@ impl<T: Copy> Object<T> {
         }
     }
 
+    /// Gives it a property, in the place of one that it has with the key, and else in front of all but a `length`. No rule is asked.
+    pub(crate) fn give_first(&mut self, key: Key, slot: Slot<T>) -> Result<(), OutOfMemory>
+        ensures ok { OnOk result (self.new ≡ with_rows self.old (given_first key slot self.old.rows)) }
+        ensures unchanged { OnErr result (self.new ≡ self.old) }
+        ensures leads { LeadsAs self.old self.new }
+    {
+        match self.place_of(&key) {
+            Some(place) => {
+                self.rows.set_slot(place, slot);
+                Ok(())
+            }
+            None => {
+                let place = self.first_place();
+                self.rows.insert(place, key, slot)?;
+                Ok(())
+            }
+        }
+    }
+
+    /// The place behind a `length` that stands first.
+    fn first_place(&self) -> usize
+        ensures place { result ≡ first_place self.now.rows }
+        ensures bound { result ≤ length self.now.rows }
+    {
+        let Some((key, _slot)) = self.rows.at(0) else {
+            return 0;
+        };
+        if is_length_key(key.text()) {
+            return 1;
+        }
+        0
+    }
+
     /// The element that a key names, where it stands at or above the `length`.
     fn past_length(&self, key: &Key) -> Option<u32>
         ensures { IsPast key.now self.now result }
     {
-        let i = element_of(self.class, key)?;
+        let i = element_of(self.class, key.text())?;
         let place = self.length_at()?;
         if is_past(i, &self.slot(place).body) {
             Some(i)
@@ -388,6 +445,7 @@ impl<T: Copy> Object<T> {
         label: T,
         marks: Marks,
     ) -> Result<(), FlowFault<T>>
+        requires element { i < 4294967295 }
         requires there { IsSome (own length_key self.old.rows) }
         requires need { L.made labels.old need }
         requires label { L.made labels.old label }
@@ -463,11 +521,12 @@ impl<T: Copy> Object<T> {
 
     /// Makes the `length` that above an element, with this label.
     fn set_length(&mut self, i: u32, label: T)
-        requires { IsSome (own length_key self.old.rows) }
+        requires element { i < 4294967295 }
+        requires there { IsSome (own length_key self.old.rows) }
         ensures { self.new ≡ length_set i label self.old }
     {
         let place = self.length_place();
-        self.rows.set_body(place, length_above(i), label);
+        self.rows.set_body(place, length_body(i + 1), label);
     }
 
     /// The place of the `length`.

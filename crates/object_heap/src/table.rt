@@ -1,15 +1,17 @@
 //! The properties of an object: a list, and an index of their keys where there are many.
 
-ghost use Rattle.std.specs.Prelude.{◌≡◌, ◌<◌, ◌++◌, ◌∷◌, [], List, ℕ, IfOk, OnOk, OnErr, length, slice_get, remove};
+ghost use Rattle.std.specs.Prelude.{◌≡◌, ◌<◌, ◌≤◌, ◌++◌, ◌∷◌, [], List, ℕ, Some, None, IfSome, IfOk, OnOk, OnErr, length, slice_get, insert, remove};
 ghost use Rattle.std.specs.Option.{option_map};
+ghost use Rattle.js_values.specs.Arrays.{highest};
+ghost use Rattle.js_values.specs.Numerals.{index_of};
 ghost use Rattle.js_values.specs.Objects.{keys_of};
 ghost use Rattle.object_heap.specs.Places.{IsPlace, changed_at_place};
-ghost use Rattle.object_heap.specs.Tables.{indexed};
+ghost use Rattle.object_heap.specs.Tables.{bound_with, higher_behind, indexed};
 
 use crate::index::Index;
 use crate::row::Row;
 use flow_text::{OutOfMemory, Text};
-use js_values::{Body, Key, Marks, Slot};
+use js_values::{Body, Key, Marks, Slot, array_index};
 use std::alloc::Global;
 use std::marker::Model;
 
@@ -23,11 +25,14 @@ pub(crate) struct Table<T> {
     rows: Vec<Row<T>>,
     // The keys of the rows, in their order.
     index: Option<Box<Index>>,
+    // No key names an array element at or above it.
+    bound: u32,
 }
 
 impl<T> Model for Table<T> {
-    ghost use Rattle.std.specs.Prelude.{◌≡◌};
+    ghost use Rattle.std.specs.Prelude.{◌≡◌, None};
     ghost use Rattle.js_values.specs.declared.property.Slot.{Slot};
+    ghost use Rattle.js_values.specs.Arrays.{highest};
     ghost use Rattle.js_values.specs.Objects.{Rows, keys_of};
     ghost use Rattle.object_heap.specs.Tables.{indexed};
 
@@ -35,7 +40,7 @@ impl<T> Model for Table<T> {
 
     ghost view = { λ t. t.rows.items };
 
-    ghost invariant = { λ t. indexed t.index (keys_of t.rows.items) ≡ keys_of t.rows.items };
+    ghost invariant = { λ t. (indexed t.index (keys_of t.rows.items) ≡ keys_of t.rows.items) × (highest t.bound t.rows.items ≡ None) };
 }
 
 impl<T: Copy> Table<T> {
@@ -47,6 +52,7 @@ impl<T: Copy> Table<T> {
             alloc,
             rows: Vec::new(alloc),
             index: None,
+            bound: 0,
         }
     }
 
@@ -59,6 +65,26 @@ impl<T: Copy> Table<T> {
             Some((row.key(), row.slot()))
         } else {
             None
+        }
+    }
+
+    /// How many properties there are.
+    pub(crate) fn len(&self) -> usize
+        ensures { result ≡ length self.now }
+    {
+        self.rows.len()
+    }
+
+    /// The highest array element at or above a number, with its property.
+    pub(crate) fn highest(&self, n: u32) -> Option<(u32, &Slot<T>)>
+        ensures { option_map (λ e. (e.0, e.1.now)) result ≡ highest n self.now }
+    {
+        if self.bound <= n {
+            return None;
+        }
+        match last_below(&self.rows, self.bound) {
+            Some(last) => Some(last),
+            None => highest_listed(&self.rows, n),
         }
     }
 
@@ -144,7 +170,26 @@ impl<T: Copy> Table<T> {
         self.make_index()?;
         self.rows.reserve(1)?;
         insert_key(self.alloc, &mut self.index, &key)?;
+        self.bound = bound_with(self.bound, &key);
         self.rows.push_reserved(Row::new(key, slot));
+        Ok(())
+    }
+
+    /// Puts a property at a place, in front of the one that stands there. There is no index then: it is for objects that have few yet.
+    pub(crate) fn insert(
+        &mut self,
+        place: usize,
+        key: Key,
+        slot: Slot<T>,
+    ) -> Result<(), OutOfMemory>
+        requires { place ≤ length self.old }
+        ensures ok { OnOk result (self.new ≡ insert self.old place (key, slot)) }
+        ensures unchanged { OnErr result (self.new ≡ self.old) }
+    {
+        let bound = bound_with(self.bound, &key);
+        self.rows.insert(place, Row::new(key, slot))?;
+        self.index = None;
+        self.bound = bound;
         Ok(())
     }
 
@@ -164,9 +209,99 @@ impl<T: Copy> Table<T> {
         requires { place < length self.old }
         ensures { self.new ≡ remove self.old place }
     {
-        self.rows.remove(place);
+        let row = self.rows.remove(place);
         remove_key(&mut self.index, place);
+        self.lower_bound(row.key());
     }
+
+    // Behind the removal of the element just below the bound, if no other row has its key, the bound is lower.
+    fn lower_bound(&mut self, key: &Key)
+        ensures { self.new ≡ self.old }
+    {
+        let Some(i) = element_named(key) else {
+            return;
+        };
+        if i + 1 != self.bound {
+            return;
+        }
+        match self.place(key.text()) {
+            Some(_place) => {}
+            None => self.bound = i,
+        }
+    }
+}
+
+// The number of the array element that a key names, if it names one.
+fn element_named(key: &Key) -> Option<u32>
+    ensures named { result ≡ index_of key.now }
+    ensures below { IfSome result (λ i. i < 4294967295) }
+{
+    array_index(key.text().units())
+}
+
+// A bound above the element that a key names too.
+fn bound_with(bound: u32, key: &Key) -> u32
+    ensures { result ≡ bound_with bound (index_of key.now) }
+{
+    let Some(i) = element_named(key) else {
+        return bound;
+    };
+    if bound <= i {
+        return i + 1;
+    }
+    bound
+}
+
+// The property in the last row, where its key names the element just below the bound: then it is the highest.
+fn last_below<'r, T: Copy>(rows: &'r [Row<T>], bound: u32) -> Option<(u32, &'r Slot<T>)>
+    requires { highest bound rows.now ≡ None }
+    ensures { IfSome result (λ e. (n : ℕ) → n < bound → highest n rows.now ≡ Some (e.0, e.1.now)) }
+{
+    let len = rows.len();
+    if len == 0 {
+        return None;
+    }
+    let row = &rows[len - 1];
+    let Some(i) = element_named(row.key()) else {
+        return None;
+    };
+    if i + 1 == bound {
+        return Some((i, row.slot()));
+    }
+    None
+}
+
+// The highest array element at or above a number, by a walk over all rows.
+fn highest_listed<'r, T: Copy>(rows: &'r [Row<T>], n: u32) -> Option<(u32, &'r Slot<T>)>
+    ensures { option_map (λ e. (e.0, e.1.now)) result ≡ highest n rows.now }
+{
+    let mut found: Option<(u32, &Slot<T>)> = None;
+    for row in rows {
+        found = higher(n, row, found);
+    }
+    found
+}
+
+// The higher of an element that was found and that of a row, where this names one at or above a number.
+fn higher<'r, T: Copy>(
+    n: u32,
+    row: &'r Row<T>,
+    found: Option<(u32, &'r Slot<T>)>,
+) -> Option<(u32, &'r Slot<T>)>
+    ensures { option_map (λ e. (e.0, e.1.now)) result ≡ higher_behind n row.now (option_map (λ e. (e.0, e.1.now)) found.entry) }
+{
+    let Some(i) = element_named(row.key()) else {
+        return found;
+    };
+    if i < n {
+        return found;
+    }
+    if let Some((j, _slot)) = found {
+        if i < j {
+            return found;
+        }
+    }
+    Some((i, row.slot()))
 }
 
 // An index of the rows. There is none where a key comes twice.

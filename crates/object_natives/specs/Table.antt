@@ -35,12 +35,20 @@ left_function holder name size = record { entry = seen_entry holder name size fo
 abbrev pub left_accessor : List ℕ → List ℕ → Row
 left_accessor holder name = record { entry = seen_entry holder name 0 form.LeftAccessor; clause = λ argc construct. leaves (path holder name) }
 
--- the global object (15.1, 15.2, 15.6, 15.7)
-abbrev pub global_rows : List Row
-global_rows =
+-- the constant NaN, which is no function: nothing begins what stands here in place of one
+abbrev pub nan_constant : List ℕ → List ℕ → Row
+nan_constant holder name = record { entry = seen_entry holder name 0 form.NotANumber; clause = λ argc construct. leaves (path holder name) }
+
+-- the constructors of the global object (15.2, 15.6, 15.7)
+abbrev pub constructor_rows : List Row
+constructor_rows =
     as_constructor (codes "global") (codes "Object") 1 (λ argc construct. object argc) ∷
     as_constructor (codes "global") (codes "Boolean") 1 (boolean) ∷
-    as_constructor (codes "global") (codes "Number") 1 (number) ∷
+    as_constructor (codes "global") (codes "Number") 1 (number) ∷ []
+
+-- what isn't offered on the global object (15.1), and its NaN
+abbrev pub global_rows : List Row
+global_rows =
     left_function (codes "global") (codes "eval") 1 ∷
     left_function (codes "global") (codes "parseFloat") 1 ∷
     left_function (codes "global") (codes "isNaN") 1 ∷
@@ -49,7 +57,7 @@ global_rows =
     left_function (codes "global") (codes "decodeURIComponent") 1 ∷
     left_function (codes "global") (codes "encodeURI") 1 ∷
     left_function (codes "global") (codes "encodeURIComponent") 1 ∷
-    left_accessor (codes "global") (codes "NaN") ∷
+    nan_constant (codes "global") (codes "NaN") ∷
     left_accessor (codes "global") (codes "Infinity") ∷
     left_accessor (codes "global") (codes "Date") ∷
     left_accessor (codes "global") (codes "RegExp") ∷
@@ -93,7 +101,7 @@ abbrev pub number_rows : List Row
 number_rows =
     left_accessor (codes "Number") (codes "MAX_VALUE") ∷
     left_accessor (codes "Number") (codes "MIN_VALUE") ∷
-    left_accessor (codes "Number") (codes "NaN") ∷
+    nan_constant (codes "Number") (codes "NaN") ∷
     left_accessor (codes "Number") (codes "NEGATIVE_INFINITY") ∷
     left_accessor (codes "Number") (codes "POSITIVE_INFINITY") ∷
     function (codes "Number.prototype") (codes "toString") 1 (λ argc. number_to_string argc) ∷
@@ -133,9 +141,16 @@ math_rows =
     left_function (codes "Math") (codes "sqrt") 1 ∷
     left_function (codes "Math") (codes "tan") 1 ∷ []
 
+-- those of the holders that constructors make
+abbrev pub holder_rows : List Row
+holder_rows = object_rows ++ (object_prototype_rows ++ (boolean_rows ++ number_rows))
+
 -- all of them, in the order of their numbers
 abbrev pub rows : List Row
-rows = global_rows ++ object_rows ++ object_prototype_rows ++ boolean_rows ++ number_rows ++ math_rows
+rows = constructor_rows ++ (global_rows ++ (holder_rows ++ math_rows))
+
+abbrev pub entries_of : List Row → List SeenEntry
+entries_of rs = map (λ r. r.entry) rs
 
 unfoldable pub entries : List SeenEntry
 entries = map (λ r. r.entry) rows

@@ -9,7 +9,7 @@ ghost use Rattle.object_natives.specs.Table.{entries};
 use crate::table::BuiltIn::LeftOut;
 use descriptor_pieces::Integrity;
 use native_protocol::Form;
-use native_protocol::Form::{Constructor, Function, LeftAccessor, LeftFunction};
+use native_protocol::Form::{Constructor, Function, LeftAccessor, LeftFunction, NotANumber};
 use object_functions::{
     DefiningFunction, IntegrityFunction, OwnTest, PropertyFunction, ReflectionFunction,
     ThisFunction,
@@ -64,7 +64,7 @@ const TABLE: [Row; 74] = [
     ("global", "decodeURIComponent", 1, LeftFunction, LeftOut),
     ("global", "encodeURI", 1, LeftFunction, LeftOut),
     ("global", "encodeURIComponent", 1, LeftFunction, LeftOut),
-    ("global", "NaN", 0, LeftAccessor, LeftOut),
+    ("global", "NaN", 0, NotANumber, LeftOut),
     ("global", "Infinity", 0, LeftAccessor, LeftOut),
     ("global", "Date", 0, LeftAccessor, LeftOut),
     ("global", "RegExp", 0, LeftAccessor, LeftOut),
@@ -218,7 +218,7 @@ const TABLE: [Row; 74] = [
     ),
     ("Number", "MAX_VALUE", 0, LeftAccessor, LeftOut),
     ("Number", "MIN_VALUE", 0, LeftAccessor, LeftOut),
-    ("Number", "NaN", 0, LeftAccessor, LeftOut),
+    ("Number", "NaN", 0, NotANumber, LeftOut),
     ("Number", "NEGATIVE_INFINITY", 0, LeftAccessor, LeftOut),
     ("Number", "POSITIVE_INFINITY", 0, LeftAccessor, LeftOut),
     (

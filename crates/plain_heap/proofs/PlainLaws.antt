@@ -1,6 +1,6 @@
 -- Objects with one label, as they are without labels.
-use Rattle.std.proofs.Common.{refl, sym, ap, ap₂, ◌∙◌, ◌≡◌, ◌≤◌, ℕ, zero, suc, Bool, true, false, List, [], ◌∷◌, ◌++◌, length, set, Option, Some, None, if◌then◌else◌}
-use Rattle.std.specs.List.{slice_get}
+use Rattle.std.proofs.Common.{refl, sym, ap, ap₂, ◌∙◌, ◌≡◌, ◌≤◌, ℕ, zero, suc, Bool, true, false, List, [], ◌∷◌, ◌++◌, length, set, Option, Some, None, codes, if◌then◌else◌}
+use Rattle.std.specs.List.{slice_get, insert}
 use Rattle.std.specs.Option.{option_map}
 use Rattle.std.proofs.lemmas.Option.{none-some, slice_get_past}
 use Rattle.origin_labels.specs.Names.{same_name}
@@ -11,12 +11,15 @@ use Rattle.js_values.specs.declared.inner.Class.{Class}
 use Rattle.js_values.specs.declared.inner.Inner.{Inner}
 use Rattle.js_values.specs.declared.inner.Inner.TheVariants.{Plain, Script, Native, Bound}
 use Rattle.js_values.specs.Objects.{Rows, Property, PlainInner, plain, script, native, bound, PlainObject, Object, own, changed, with_row, fresh_plain, fresh_object}
-use Rattle.object_heap.specs.Acts.{given_over, given, given_to, give}
+use Rattle.object_heap.specs.Acts.{given_over, given, given_to, give, first_place, given_first_over, given_first, given_first_to, give_first}
 use Rattle.object_heap.specs.Acts as heap
 use Rattle.object_heap.specs.Formed as labelled
 use Rattle.object_heap.specs.Formed.{target_of}
+use Rattle.object_heap.specs.declared.shape.Shape.{Shape}
+use Rattle.es_meaning.specs.Functions.{is_function}
+use Rattle.es_meaning.specs.Requested.{is_function_in}
 use Rattle.es_meaning.specs.Objects.{defined_over, defined, own_in, replaced, with_rows}
-use Rattle.es_meaning.specs.Holders.{with_property_of}
+use Rattle.es_meaning.specs.Holders.{in_front, with_first, with_first_of, with_property_of}
 use Rattle.plain_heap.specs.PlainObjects.{PlainObjects, seen_values, seen_inner, seen_slot, seen_rows, seen_object, seen_objects, values_with, inner_with, slot_with, rows_with, object_with, objects_with}
 
 module _ {T : Type 0} (label : T) where
@@ -142,9 +145,55 @@ module _ {T : Type 0} (label : T) where
         ∙ ap (λ (q : Option (Object T)). given_to q o key (slot_with label p) (objects_with label (seen_objects h))) (get_with (seen_objects h) o)
         ∙ given_to_with (slice_get (seen_objects h) o) o (seen_objects h)
 
+    -- ---- the same in front of the others
+
+    front_with : (rows : Rows Property) → rows_with label (in_front key p rows) ≡ insert (rows_with label rows) (first_place (rows_with label rows)) (key, slot_with label p)
+    front_with [] = refl
+    front_with (r ∷ rows) = at (same_name r.0 (codes "length"))
+      where
+        at : (test : Bool) → rows_with label (if test then r ∷ (key, p) ∷ rows else (key, p) ∷ r ∷ rows) ≡ insert ((r.0, slot_with label r.1) ∷ rows_with label rows) (if test then 1 else 0) (key, slot_with label p)
+        at true = refl
+        at false = refl
+
+    first_by : (q : Option Property) (rows : Rows Property) → rows_with label (with_first q key p rows) ≡ given_first_over (option_map (slot_with label) q) key (slot_with label p) (rows_with label rows)
+    first_by None rows = front_with rows
+    first_by (Some q) rows = changed_with rows
+
+    first_with : (rows : Rows Property) → rows_with label (with_first (own key rows) key p rows) ≡ given_first key (slot_with label p) (rows_with label rows)
+    first_with rows = first_by (own key rows) rows ∙ ap (λ (s : Option (Slot T)). given_first_over s key (slot_with label p) (rows_with label rows)) (sym (own_with key rows))
+
+    first_to_with : (q : Option PlainObject) (o : ℕ) (objects : List PlainObject)
+        → given_first_to (option_map (object_with label) q) o key (slot_with label p) (objects_with label objects) ≡ objects_with label (replaced q o (λ x. with_rows x (with_first (own key x.rows) key p x.rows)) objects)
+    first_to_with None o objects = refl
+    first_to_with (Some q) o objects =
+        ap (λ (rows : Rows (Slot T)). set (objects_with label objects) o (heap.with_rows (object_with label q) rows)) (sym (first_with q.rows))
+        ∙ sym (set_with objects o (with_rows q (with_first (own key q.rows) key p q.rows)))
+
+    pub give_first_with : (h : List (Object T)) (o : ℕ) → h ≡ objects_with label (seen_objects h) → give_first o key (slot_with label p) h ≡ objects_with label (with_first_of o key p (seen_objects h))
+    give_first_with h o is =
+        ap (λ (g : List (Object T)). give_first o key (slot_with label p) g) is
+        ∙ ap (λ (q : Option (Object T)). given_first_to q o key (slot_with label p) (objects_with label (seen_objects h))) (get_with (seen_objects h) o)
+        ∙ first_to_with (slice_get (seen_objects h) o) o (seen_objects h)
+
 -- an object that isn't there is given nothing
+pub none_given_first : (objects : List PlainObject) (o : ℕ) (key : List ℕ) (p : Property) → length objects ≤ o → with_first_of o key p objects ≡ objects
+none_given_first objects o key p past = ap (λ (q : Option PlainObject). replaced q o (λ x. with_rows x (with_first (own key x.rows) key p x.rows)) objects) (slice_get_past objects o past)
+
 pub none_given : (objects : List PlainObject) (o : ℕ) (key : List ℕ) (p : Property) → length objects ≤ o → with_property_of o key p objects ≡ objects
 none_given objects o key p past = ap (λ (q : Option PlainObject). replaced q o (λ x. with_rows x (defined key p x.rows)) objects) (slice_get_past objects o past)
+
+-- an object is a function where its class says so
+seen_get : {T : Type 0} (h : List (Object T)) (o : ℕ) → slice_get (seen_objects h) o ≡ option_map seen_object (slice_get h o)
+seen_get [] o = refl
+seen_get (p ∷ h) zero = refl
+seen_get (p ∷ h) (suc o) = seen_get h o
+
+pub function_seen : {T : Type 0} (h : List (Object T)) (o : ℕ) (shape : Shape T) → labelled.IsShape (slice_get h o) shape → is_function shape.class ≡ is_function_in (slice_get (seen_objects h) o)
+function_seen h o shape is = at (slice_get h o) is ∙ ap is_function_in (sym (seen_get h o))
+  where
+    at : (p : Option (Object _)) → labelled.IsShape p shape → is_function shape.class ≡ is_function_in (option_map seen_object p)
+    at None is = absurd is
+    at (Some p) is = ap (λ (q : Shape _). is_function q.class) is
 
 pub length_seen : {T : Type 0} (h : List (Object T)) → length (seen_objects h) ≡ length h
 length_seen [] = refl

@@ -1,12 +1,13 @@
 -- What stays true of the objects that a run starts with, where objects and properties are added.
-use Rattle.std.proofs.Common.{arith, refl, sym, ap, ◌∙◌, ◌≡◌, ◌≤◌, ◌+◌, ℕ, zero, suc, Bool, true, false, List, [], ◌∷◌, ◌++◌, length, set, subst, Option, Some, None, if◌then◌else◌}
+use Rattle.std.proofs.Common.{arith, refl, sym, ◌≡◌, ◌≤◌, ◌+◌, ℕ, zero, suc, Bool, true, false, List, [], ◌∷◌, ◌++◌, length, subst, Option, Some, None, codes, if◌then◌else◌}
 use Rattle.std.specs.List.{slice_get}
 use Rattle.std.proofs.lemmas.Option.{none-some, same_Some}
 use Rattle.std.proofs.lemmas.List.{length-set, length-append}
 use Rattle.origin_labels.specs.Names.{same_name}
 use Rattle.js_values.specs.Objects.{Rows, Property, PlainObject, own, changed, with_row}
 use Rattle.es_meaning.specs.Objects.{defined_over, defined, replaced, with_object, with_rows}
-use Rattle.es_meaning.specs.Holders.{with_property_of}
+use Rattle.es_meaning.specs.Holders.{in_front, with_first, with_first_of, with_property_of}
+use Rattle.es_meaning.specs.Start.{start_heap}
 use Rattle.plain_heap.specs.Started.{is_replaceable, AreReplaceable, RootStands, IsStarted}
 
 -- ---- properties that can be replaced
@@ -39,23 +40,45 @@ module _ (key : List ℕ) (p : Property) (can : is_replaceable p ≡ true) where
   pub defined_replaceable : (rows : Rows Property) → AreReplaceable rows → AreReplaceable (defined key p rows)
   defined_replaceable rows all = defined_by (own key rows) rows all
 
+  -- in front of the others
+  front_replaceable : (rows : Rows Property) → AreReplaceable rows → AreReplaceable (in_front key p rows)
+  front_replaceable [] all = (can, tt)
+  front_replaceable (r ∷ rows) all = at (same_name r.0 (codes "length"))
+    where
+      at : (test : Bool) → AreReplaceable (if test then r ∷ (key, p) ∷ rows else (key, p) ∷ r ∷ rows)
+      at true = (all.0, (can, all.1))
+      at false = (can, all)
+
+  first_by : (q : Option Property) (rows : Rows Property) → AreReplaceable rows → AreReplaceable (with_first q key p rows)
+  first_by None rows all = front_replaceable rows all
+  first_by (Some q) rows all = changed_replaceable rows all
+
 -- ---- the objects
 
-module _ (key : List ℕ) (p : Property) where
+module _ (to : Rows Property → Rows Property) where
   abbrev given_one : PlainObject → PlainObject
-  given_one q = with_rows q (defined key p q.rows)
+  given_one q = with_rows q (to q.rows)
 
   given_further : (q : Option PlainObject) (o : ℕ) (root global : PlainObject) (others : List PlainObject) → IsStarted (root ∷ global ∷ others) → IsStarted (replaced q (suc (suc o)) given_one (root ∷ global ∷ others))
   given_further None o root global others started = started
-  given_further (Some q) o root global others started = record { root = started.root; global = started.global; many = subst (λ n. 16 ≤ suc (suc n)) (sym (length-set others o (given_one q))) started.many }
+  given_further (Some q) o root global others started = record { root = started.root; global = started.global; many = subst (λ n. length start_heap ≤ suc (suc n)) (sym (length-set others o (given_one q))) started.many }
 
+  -- the properties of an object change, on the prototype of all objects to some that can be replaced
+  changed_started : (o : ℕ) (objects : List PlainObject) → (o ≡ 0 → (rows : Rows Property) → AreReplaceable rows → AreReplaceable (to rows)) → IsStarted objects → IsStarted (with_object o given_one objects)
+  changed_started o [] can started = absurd started.root
+  changed_started o (root ∷ []) can started = absurd started.global
+  changed_started zero (root ∷ global ∷ others) can started = record { root = (started.root.0, can refl root.rows started.root.1); global = started.global; many = started.many }
+  changed_started (suc zero) (root ∷ global ∷ others) can started = record { root = started.root; global = started.global; many = started.many }
+  changed_started (suc (suc o)) (root ∷ global ∷ others) can started = given_further (slice_get others o) o root global others started
+
+module _ (key : List ℕ) (p : Property) where
   -- a property is given, which on the prototype of all objects is one that can be replaced
   pub given_started : (o : ℕ) (objects : List PlainObject) → (o ≡ 0 → is_replaceable p ≡ true) → IsStarted objects → IsStarted (with_property_of o key p objects)
-  given_started o [] can started = absurd started.root
-  given_started o (root ∷ []) can started = absurd started.global
-  given_started zero (root ∷ global ∷ others) can started = record { root = (started.root.0, defined_replaceable key p (can refl) root.rows started.root.1); global = started.global; many = started.many }
-  given_started (suc zero) (root ∷ global ∷ others) can started = record { root = started.root; global = started.global; many = started.many }
-  given_started (suc (suc o)) (root ∷ global ∷ others) can started = given_further (slice_get others o) o root global others started
+  given_started o objects can started = changed_started (defined key p) o objects (λ is. defined_replaceable key p (can is)) started
+
+  -- in front of the others
+  pub first_started : (o : ℕ) (objects : List PlainObject) → (o ≡ 0 → is_replaceable p ≡ true) → IsStarted objects → IsStarted (with_first_of o key p objects)
+  first_started o objects can started = changed_started (λ rows. with_first (own key rows) key p rows) o objects (λ is rows all. first_by key p (can is) (own key rows) rows all) started
 
 -- further objects are made
 pub more_started : (objects more : List PlainObject) → IsStarted objects → IsStarted (objects ++ more)

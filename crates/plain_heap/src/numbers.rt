@@ -11,6 +11,19 @@ pub const GLOBAL_OBJECT: ObjId = ObjId(1);
 /// The prototype of errors, and of the prototypes of the other kinds of errors.
 pub const ERROR_PROTOTYPE: ObjId = ObjId(2);
 
+/// The prototypes of the other kinds of errors.
+pub const EVAL_ERROR_PROTOTYPE: ObjId = ObjId(3);
+
+pub const RANGE_ERROR_PROTOTYPE: ObjId = ObjId(4);
+
+pub const REFERENCE_ERROR_PROTOTYPE: ObjId = ObjId(5);
+
+pub const SYNTAX_ERROR_PROTOTYPE: ObjId = ObjId(6);
+
+pub const TYPE_ERROR_PROTOTYPE: ObjId = ObjId(7);
+
+pub const URI_ERROR_PROTOTYPE: ObjId = ObjId(8);
+
 /// The prototype of functions.
 pub const FUNCTION_PROTOTYPE: ObjId = ObjId(9);
 
@@ -23,20 +36,36 @@ pub const NUMBER_PROTOTYPE: ObjId = ObjId(11);
 /// `Math`.
 pub const MATH_OBJECT: ObjId = ObjId(12);
 
+/// `JSON`.
+pub const JSON_OBJECT: ObjId = ObjId(13);
+
+/// The prototype of arrays.
+pub const ARRAY_PROTOTYPE: ObjId = ObjId(14);
+
+/// The prototype of strings.
+pub const STRING_PROTOTYPE: ObjId = ObjId(15);
+
 /// The accessor of `caller`.
-pub const CALLER_ACCESSOR: ObjId = ObjId(13);
+pub const CALLER_ACCESSOR: ObjId = ObjId(16);
 
 /// The accessor of `arguments`.
-pub const ARGUMENTS_ACCESSOR: ObjId = ObjId(14);
+pub const ARGUMENTS_ACCESSOR: ObjId = ObjId(17);
 
 /// The accessor of `callee`.
-pub const CALLEE_ACCESSOR: ObjId = ObjId(15);
+pub const CALLEE_ACCESSOR: ObjId = ObjId(18);
 
 /// The attributes of the properties of built-in objects (ECMA-262 15).
 pub const BUILT_IN: Marks = Marks {
     writable: true,
     enumerable: false,
     configurable: true,
+};
+
+/// The attributes of the `length` of an array (ECMA-262 15.4.5.2).
+pub const ARRAY_LENGTH: Marks = Marks {
+    writable: true,
+    enumerable: false,
+    configurable: false,
 };
 
 /// The attributes of what can't be changed.

@@ -4,16 +4,19 @@ ghost use Rattle.std.specs.Prelude.{◌≡◌, ◌<◌, ◌+◌, [], ◌∷◌, 
 ghost use Rattle.std.specs.Option.{option_map};
 ghost use Rattle.js_values.specs.Objects.{fresh_plain};
 ghost use Rattle.object_heap.specs.Formed.{target_of};
-ghost use Rattle.es_meaning.specs.Holders.{with_property_of};
+ghost use Rattle.es_meaning.specs.Holders.{with_first_of, with_property_of};
+ghost use Rattle.es_meaning.specs.Functions.{is_function};
 ghost use Rattle.es_meaning.specs.Objects.{own_in};
-ghost use Rattle.es_meaning.specs.Start.{caller_accessor, arguments_accessor, count_property, fixed_accessor};
+ghost use Rattle.js_values.specs.Arrays.{length_key};
+ghost use Rattle.es_meaning.specs.Requested.{is_function_in};
+ghost use Rattle.es_meaning.specs.Start.{caller_accessor, arguments_accessor, count_property, fixed_accessor, length_property};
 ghost use Rattle.plain_heap.specs.PlainObjects.{changed, with_more, seen_inner, seen_slot, objects_with};
 ghost use Rattle.plain_heap.specs.Functions.{with_length, with_function_rows};
 
 use crate::names::key_of;
-use crate::numbers::{ARGUMENTS_ACCESSOR, CALLER_ACCESSOR, FIXED};
+use crate::numbers::{ARGUMENTS_ACCESSOR, ARRAY_LENGTH, CALLER_ACCESSOR, FIXED};
 use flow_text::OutOfMemory;
-use js_number::{Int, Primitive};
+use js_number::{Int, Num, Primitive};
 use js_values::{Body, Class, Inner, Key, Marks, ObjId, Slot, Value};
 use object_heap::Heap;
 use std::alloc::Global;
@@ -123,6 +126,61 @@ impl<T: Copy> PlainHeap<T> {
         self.give(o, key, body, marks)
     }
 
+    /// The same, but a property that the object doesn't have stands in front of all others but a `length`.
+    pub fn give_first(
+        &mut self,
+        alloc: Global,
+        o: ObjId,
+        name: &str,
+        body: Body,
+        marks: Marks,
+    ) -> Result<(), OutOfMemory>
+        ensures { OnOk result (self.new ≡ changed (with_first_of o.0 name.now (record { body = body; marks = marks })) self.old) }
+    {
+        let key = key_of(alloc, name)?;
+        self.give_key_first(o, key, body, marks)
+    }
+
+    // The same under a key.
+    fn give_key_first(
+        &mut self,
+        o: ObjId,
+        key: Key,
+        body: Body,
+        marks: Marks,
+    ) -> Result<(), OutOfMemory>
+        ensures { OnOk result (self.new ≡ changed (with_first_of o.0 key (record { body = body; marks = marks })) self.old) }
+    {
+        if self.is_past(o) {
+            return Ok(());
+        }
+        let slot = Slot {
+            body,
+            label: self.label,
+            existence: self.label,
+            marks,
+        };
+        self.heap.give_first(o, key, slot)?;
+        Ok(())
+    }
+
+    /// Whether an object is a function.
+    pub fn is_function(&self, o: ObjId) -> bool
+        ensures { result ≡ is_function_in (slice_get self.now.objects o.0) }
+    {
+        if self.is_past(o) {
+            return false;
+        }
+        is_function(self.heap.shape(o).class)
+    }
+
+    /// Gives an array its `length` (ECMA-262 15.4.5.2).
+    pub fn give_array_length(&mut self, alloc: Global, o: ObjId, n: u32) -> Result<(), OutOfMemory>
+        ensures { OnOk result (self.new ≡ changed (with_property_of o.0 length_key (length_property n)) self.old) }
+    {
+        self.give_named(alloc, o, "length", count_body(n), ARRAY_LENGTH)
+    }
+
     /// Gives a function its `length` (ECMA-262 13.2, 15).
     pub fn give_length(&mut self, alloc: Global, o: ObjId, n: u32) -> Result<(), OutOfMemory>
         ensures { OnOk result (self.new ≡ changed (with_length o.0 n) self.old) }
@@ -163,9 +221,17 @@ impl<T: Copy> PlainHeap<T> {
     }
 }
 
+// Whether objects of a class are functions.
+fn is_function(class: Class) -> bool
+    ensures { result ≡ is_function class }
+{
+    matches!(class, Class::Function)
+}
+
 // A property that holds a number.
 fn count_body(n: u32) -> Body
     ensures { result ≡ (count_property n).body }
 {
-    Body::Data(Value::Primitive(Primitive::Num(Int::new(i64::from(n)).unwrap())))
+    let count = Int::new(i64::from(n)).unwrap();
+    Body::Data(Value::Primitive(Primitive::Num(Num::Int(count))))
 }

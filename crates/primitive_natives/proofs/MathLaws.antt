@@ -1,5 +1,6 @@
 -- The machine of the functions of Math takes their steps.
-use Rattle.std.proofs.Common.{◌≡◌, ℕ, zero, suc, ◌+◌, List, [], ◌∷◌, ℤ, pos, unsigned_abs, refl, ◌∙◌}
+use Rattle.std.proofs.Common.{◌≡◌, ℕ, zero, suc, ◌+◌, List, [], ◌∷◌, refl, ◌∙◌}
+use Rattle.js_number.specs.declared.num.Num.{Num}
 use Rattle.js_number.specs.declared.primitive.Primitive.TheVariants as prims
 use Rattle.native_protocol.proofs.PieceLaws.{number_is}
 use Rattle.native_protocol.specs.declared.number_of.NumberOf.{NumberOf}
@@ -17,22 +18,22 @@ use Rattle.primitive_natives.specs.declared.math.MathFunction.TheVariants as fun
 use Rattle.primitive_natives.specs.Endings.{gives}
 use Rattle.primitive_natives.specs.Machines.{until_end, IsMachine}
 use Rattle.primitive_natives.specs.MathMachine.{math_begin, math_asks, math_after, math_rest, math_clause, absolute, better, best_and, best_found, best_converted, best_rest}
-use Rattle.primitive_natives.specs.Maths.{best_with}
+use Rattle.primitive_natives.specs.Maths.{absolute_of, best_with}
 
 first_asked : (c : MathCall) → math_rest c [] ≡ math_asks c
 first_asked (call.Abs number to) = number_is.first number _
 first_asked (call.Best c number) = number_is.first number (best_rest c)
 
-absolute_joins : (p : Progress NumberOf ℤ) (to : Reg) (answers : List Answer) → carried_on number_rest p (λ n. gives (prims.Num (pos (unsigned_abs n))) to) answers ≡ until_end math_rest (absolute p to) answers
+absolute_joins : (p : Progress NumberOf Num) (to : Reg) (answers : List Answer) → carried_on number_rest p (λ n. gives (prims.Num (absolute_of n)) to) answers ≡ until_end math_rest (absolute p to) answers
 absolute_joins (Going number) to answers = refl
 absolute_joins (Ready n) to answers = refl
 
-found_joins : (c : Comparing) (left : ℕ) (best : ℤ) (answers : List Answer) → best_with (better c.extreme) c.scratch left (c.at + 1) best answers ≡ until_end math_rest (best_found c left best) answers
+found_joins : (c : Comparing) (left : ℕ) (best : Num) (answers : List Answer) → best_with (better c.extreme) c.scratch left (c.at + 1) best answers ≡ until_end math_rest (best_found c left best) answers
 unfolding best_with
 found_joins c zero best answers = refl
 found_joins c (suc left) best answers = refl
 
-best_joins : (c : Comparing) (p : Progress NumberOf ℤ) (answers : List Answer) → carried_on number_rest p (best_rest c) answers ≡ until_end math_rest (best_converted c p) answers
+best_joins : (c : Comparing) (p : Progress NumberOf Num) (answers : List Answer) → carried_on number_rest p (best_rest c) answers ≡ until_end math_rest (best_converted c p) answers
 best_joins c (Going number) answers = refl
 best_joins c (Ready n) answers = found_joins c c.left (best_and c.extreme c.best n) answers
 

@@ -1,6 +1,8 @@
 -- The machine of Number's built-ins takes their steps.
 use Rattle.std.proofs.Common.{◌≡◌, ℕ, zero, suc, Bool, true, false, if◌then◌else◌, List, [], ◌∷◌, ℤ, pos, refl, ◌∙◌}
 use Rattle.std.specs.Ordering.{int_eq}
+use Rattle.js_number.specs.declared.num.Num.{Num}
+use Rattle.js_number.specs.Number.{integer_of}
 use Rattle.js_number.specs.declared.primitive.Primitive.TheVariants as prims
 use Rattle.js_values.specs.declared.inner.Class.TheVariants as class
 use Rattle.native_protocol.proofs.PieceLaws.{number_is}
@@ -35,7 +37,7 @@ chosen_of : (b c : Bool) (d e f : Ending) (answers : List Answer) → (if b then
 chosen_of true c d e f answers = refl
 chosen_of false c d e f answers = chosen c e f answers
 
-spelled_ends : (n : ℤ) (to : Reg) (radix : ℤ) (answers : List Answer) → spelled n to radix answers ≡ ending_rest (spelled_end n to radix) answers
+spelled_ends : (n : Num) (to : Reg) (radix : ℤ) (answers : List Answer) → spelled n to radix answers ≡ ending_rest (spelled_end n to radix) answers
 spelled_ends n to radix answers = chosen_of (int_eq radix (pos 10)) (is_no_radix radix) _ _ _ answers
 
 first_asked : (c : NumberCall) → number_call_rest c [] ≡ number_call_asks c
@@ -43,9 +45,9 @@ first_asked (call.Convert number to) = number_is.first number _
 first_asked call.LookValue = refl
 first_asked (call.LookText radix s) = refl
 first_asked (call.LookRadix n s) = refl
-first_asked (call.Radix n radix to) = number_is.first radix (spelled n to)
+first_asked (call.Radix n radix to) = number_is.first radix (λ m. spelled n to (integer_of m))
 
-converted_joins : (p : Progress NumberOf ℤ) (to : Reg) (answers : List Answer) → carried_on number_rest p (λ n. gives (prims.Num n) to) answers ≡ until_end number_call_rest (converted p to) answers
+converted_joins : (p : Progress NumberOf Num) (to : Reg) (answers : List Answer) → carried_on number_rest p (λ n. gives (prims.Num n) to) answers ≡ until_end number_call_rest (converted p to) answers
 converted_joins (Going number) to answers = refl
 converted_joins (Ready n) to answers = refl
 
@@ -55,7 +57,7 @@ value_joins (Prim p) answers = refl
 value_joins (Object class.Number) answers = refl
 value_joins (Object c) answers = refl
 
-spell_joins : (radix : Bool) (n : ℤ) (s : Scratch) (answers : List Answer) → radix_if radix s (spelled n s.first) answers ≡ until_end number_call_rest (number_to_spell radix n s) answers
+spell_joins : (radix : Bool) (n : Num) (s : Scratch) (answers : List Answer) → radix_if radix s (spelled n s.first) answers ≡ until_end number_call_rest (number_to_spell radix n s) answers
 spell_joins true n s answers = refl
 spell_joins false n s answers = spelled_ends n s.first (pos 10) answers
 
@@ -65,21 +67,21 @@ text_joins (Prim p) radix s answers = refl
 text_joins (Object class.Number) radix s answers = refl
 text_joins (Object c) radix s answers = refl
 
-radix_joins : (v : Seen) (n : ℤ) (s : Scratch) (answers : List Answer) → radix_in v s (spelled n s.first) answers ≡ until_end number_call_rest (radix_seen v n s) answers
+radix_joins : (v : Seen) (n : Num) (s : Scratch) (answers : List Answer) → radix_in v s (spelled n s.first) answers ≡ until_end number_call_rest (radix_seen v n s) answers
 radix_joins (Prim prims.Undefined) n s answers = spelled_ends n s.first (pos 10) answers
 radix_joins (Prim p) n s answers = refl
 radix_joins (Object c) n s answers = refl
 
-radix_ends : (n : ℤ) (p : Progress NumberOf ℤ) (to : Reg) (answers : List Answer) → carried_on number_rest p (spelled n to) answers ≡ until_end number_call_rest (radix_converted n p to) answers
+radix_ends : (n : Num) (p : Progress NumberOf Num) (to : Reg) (answers : List Answer) → carried_on number_rest p (λ m. spelled n to (integer_of m)) answers ≡ until_end number_call_rest (radix_converted n p to) answers
 radix_ends n (Going radix) to answers = refl
-radix_ends n (Ready radix) to answers = spelled_ends n to radix answers
+radix_ends n (Ready radix) to answers = spelled_ends n to (integer_of radix) answers
 
 others_asked : (c : NumberCall) (a : Answer) (answers : List Answer) → number_call_rest c (a ∷ answers) ≡ until_end number_call_rest (number_call_after c a) answers
 others_asked (call.Convert number to) a answers = number_is.others number _ a answers ∙ converted_joins (number_after number a) to answers
 others_asked call.LookValue a answers = value_joins (seen_in a) answers
 others_asked (call.LookText radix s) a answers = text_joins (seen_in a) radix s answers
 others_asked (call.LookRadix n s) a answers = radix_joins (seen_in a) n s answers
-others_asked (call.Radix n radix to) a answers = number_is.others radix (spelled n to) a answers ∙ radix_ends n (number_after radix a) to answers
+others_asked (call.Radix n radix to) a answers = number_is.others radix (λ m. spelled n to (integer_of m)) a answers ∙ radix_ends n (number_after radix a) to answers
 
 pub number_machine : IsMachine number_call_asks number_call_after number_call_rest
 number_machine = record { first = first_asked; others = others_asked }

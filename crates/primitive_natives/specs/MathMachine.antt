@@ -1,5 +1,6 @@
 -- The machine of the functions of Math.
-use Rattle.std.specs.Prelude.{ℕ, zero, suc, ◌+◌, ℤ, pos, unsigned_abs, Option, Some, None}
+use Rattle.std.specs.Prelude.{ℕ, zero, suc, ◌+◌, Option, Some, None}
+use Rattle.js_number.specs.declared.num.Num.{Num}
 use Rattle.js_number.specs.declared.primitive.Primitive.TheVariants as prims
 use Rattle.native_protocol.specs.declared.number_of.NumberOf.{NumberOf}
 use Rattle.native_protocol.specs.declared.progress.Progress.{Progress}
@@ -21,20 +22,20 @@ use Rattle.primitive_natives.specs.declared.math.MathFunction.TheVariants as fun
 use Rattle.primitive_natives.specs.declared.math.Comparing.{Comparing}
 use Rattle.primitive_natives.specs.declared.scratch.Scratch.{Scratch}
 use Rattle.primitive_natives.specs.Endings.{gives}
-use Rattle.primitive_natives.specs.Maths.{larger, smaller, best_with, math_abs, math_max, math_min}
+use Rattle.primitive_natives.specs.Maths.{absolute_of, larger, smaller, best_with, math_abs, math_max, math_min}
 use Rattle.primitive_natives.specs.NumberMachine.{number_at}
 use Rattle.primitive_natives.specs.Registers.{scratch}
 
-abbrev pub better : Extreme → ℤ → ℤ → ℤ
+abbrev pub better : Extreme → Num → Num → Num
 better Greatest m n = larger m n
 better Least m n = smaller m n
 
 -- the best number so far, with one more
-abbrev pub best_and : Extreme → Option ℤ → ℤ → ℤ
+abbrev pub best_and : Extreme → Option Num → Num → Num
 best_and extreme None n = n
 best_and extreme (Some best) n = better extreme best n
 
-abbrev pub comparing : Extreme → Option ℤ → ℕ → ℕ → Scratch → Comparing
+abbrev pub comparing : Extreme → Option Num → ℕ → ℕ → Scratch → Comparing
 comparing extreme best at left s = record { extreme = extreme; best = best; at = at; left = left; scratch = s }
 
 -- the argument in the register is converted
@@ -58,16 +59,16 @@ abbrev pub math_asks : MathCall → Request
 math_asks (call.Abs number to) = number_asks number
 math_asks (call.Best c number) = number_asks number
 
-abbrev pub absolute : Progress NumberOf ℤ → Reg → Progress MathCall Ending
+abbrev pub absolute : Progress NumberOf Num → Reg → Progress MathCall Ending
 absolute (Going number) to = Going (call.Abs number to)
-absolute (Ready n) to = Ready (ending.Give (prims.Num (pos (unsigned_abs n))) to)
+absolute (Ready n) to = Ready (ending.Give (prims.Num (absolute_of n)) to)
 
 -- the best number so far, and so many arguments more
-abbrev pub best_found : Comparing → ℕ → ℤ → Progress MathCall Ending
+abbrev pub best_found : Comparing → ℕ → Num → Progress MathCall Ending
 best_found c zero best = Ready (ending.Give (prims.Num best) c.scratch.first)
 best_found c (suc left) best = converts (comparing c.extreme (Some best) (c.at + 1) left c.scratch)
 
-abbrev pub best_converted : Comparing → Progress NumberOf ℤ → Progress MathCall Ending
+abbrev pub best_converted : Comparing → Progress NumberOf Num → Progress MathCall Ending
 best_converted c (Going number) = Going (call.Best c number)
 best_converted c (Ready n) = best_found c c.left (best_and c.extreme c.best n)
 
@@ -77,11 +78,11 @@ math_after (call.Best c number) a = best_converted c (number_after number a)
 
 -- ---- which steps are still to take
 
-abbrev pub best_rest : Comparing → ℤ → Steps
+abbrev pub best_rest : Comparing → Num → Steps
 best_rest c n = best_with (better c.extreme) c.scratch c.left (c.at + 1) (best_and c.extreme c.best n)
 
 abbrev pub math_rest : MathCall → Steps
-math_rest (call.Abs number to) = number_rest number (λ n. gives (prims.Num (pos (unsigned_abs n))) to)
+math_rest (call.Abs number to) = number_rest number (λ n. gives (prims.Num (absolute_of n)) to)
 math_rest (call.Best c number) = number_rest number (best_rest c)
 
 -- the clause of each

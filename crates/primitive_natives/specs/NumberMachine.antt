@@ -1,7 +1,10 @@
 -- The machine of the built-ins of Number.
 use Rattle.std.specs.Prelude.{ℕ, zero, suc, Bool, true, false, if◌then◌else◌, ℤ, pos}
 use Rattle.std.specs.Ordering.{int_eq}
+use Rattle.js_number.specs.declared.num.Num.{Num}
+use Rattle.js_number.specs.declared.num.Num.TheVariants.{Int}
 use Rattle.js_number.specs.declared.primitive.Primitive.TheVariants as prims
+use Rattle.js_number.specs.Number.{integer_of}
 use Rattle.js_number.specs.Conversions.{text_of}
 use Rattle.js_values.specs.declared.inner.Class.TheVariants as class
 use Rattle.native_protocol.specs.declared.number_of.NumberOf.{NumberOf}
@@ -36,7 +39,7 @@ number_at r s = number_begin r s.first s.second
 
 abbrev pub constructor_begin : ℕ → Bool → Progress NumberCall Ending
 constructor_begin argc true = Ready (ending.Leave why.Wrapper)
-constructor_begin zero false = Ready (ending.Give (prims.Num (pos 0)) (scratch zero).first)
+constructor_begin zero false = Ready (ending.Give (prims.Num (Int (pos 0))) (scratch zero).first)
 constructor_begin (suc n) false = Going (call.Convert (number_at (reg 2) (scratch (suc n))) (scratch (suc n)).first)
 
 abbrev pub is_passed : ℕ → Bool
@@ -59,10 +62,10 @@ number_call_asks (call.Radix n radix to) = number_asks radix
 
 -- ---- where an answer leads
 
-abbrev pub spelled_end : ℤ → Reg → ℤ → Ending
+abbrev pub spelled_end : Num → Reg → ℤ → Ending
 spelled_end n to radix = if int_eq radix (pos 10) then ending.Give (prims.Str (text_of (prims.Num n))) to else (if is_no_radix radix then ending.Throw error.RangeError else ending.Leave why.Unbuilt)
 
-abbrev pub converted : Progress NumberOf ℤ → Reg → Progress NumberCall Ending
+abbrev pub converted : Progress NumberOf Num → Reg → Progress NumberCall Ending
 converted (Going number) to = Going (call.Convert number to)
 converted (Ready n) to = Ready (ending.Give (prims.Num n) to)
 
@@ -72,7 +75,7 @@ value_seen (Prim p) = ending.Throw error.TypeError
 value_seen (Object class.Number) = ending.Leave why.Wrapper
 value_seen (Object c) = ending.Throw error.TypeError
 
-abbrev pub number_to_spell : Bool → ℤ → Scratch → Progress NumberCall Ending
+abbrev pub number_to_spell : Bool → Num → Scratch → Progress NumberCall Ending
 number_to_spell true n s = Going (call.LookRadix n s)
 number_to_spell false n s = Ready (spelled_end n s.first (pos 10))
 
@@ -82,14 +85,14 @@ text_seen (Prim p) radix s = Ready (ending.Throw error.TypeError)
 text_seen (Object class.Number) radix s = Ready (ending.Leave why.Wrapper)
 text_seen (Object c) radix s = Ready (ending.Throw error.TypeError)
 
-abbrev pub radix_seen : Seen → ℤ → Scratch → Progress NumberCall Ending
+abbrev pub radix_seen : Seen → Num → Scratch → Progress NumberCall Ending
 radix_seen (Prim prims.Undefined) n s = Ready (spelled_end n s.first (pos 10))
 radix_seen (Prim p) n s = Going (call.Radix n (number_at (reg 2) s) s.first)
 radix_seen (Object c) n s = Going (call.Radix n (number_at (reg 2) s) s.first)
 
-abbrev pub radix_converted : ℤ → Progress NumberOf ℤ → Reg → Progress NumberCall Ending
+abbrev pub radix_converted : Num → Progress NumberOf Num → Reg → Progress NumberCall Ending
 radix_converted n (Going radix) to = Going (call.Radix n radix to)
-radix_converted n (Ready radix) to = Ready (spelled_end n to radix)
+radix_converted n (Ready radix) to = Ready (spelled_end n to (integer_of radix))
 
 abbrev pub number_call_after : NumberCall → Answer → Progress NumberCall Ending
 number_call_after (call.Convert number to) a = converted (number_after number a) to
@@ -110,7 +113,7 @@ number_call_rest (call.Convert number to) = number_rest number (λ n. gives (pri
 number_call_rest call.LookValue = number_value_of
 number_call_rest (call.LookText radix s) = look (reg 0) (λ v. number_in v (λ n. radix_if radix s (spelled n s.first)))
 number_call_rest (call.LookRadix n s) = look (reg 2) (λ v. radix_in v s (spelled n s.first))
-number_call_rest (call.Radix n radix to) = number_rest radix (spelled n to)
+number_call_rest (call.Radix n radix to) = number_rest radix (λ m. spelled n to (integer_of m))
 
 -- the clause of each
 abbrev pub number_clause : NumberFunction → ℕ → Bool → Steps

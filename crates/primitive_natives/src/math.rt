@@ -1,14 +1,15 @@
 //! The functions of Math (ECMA-262 15.8.2).
 
-ghost use Rattle.std.specs.Prelude.{◌≡◌, ℤ, pos, unsigned_abs, IfOk};
+ghost use Rattle.std.specs.Prelude.{◌≡◌, pos, unsigned_abs, IfOk};
 ghost use Rattle.primitive_natives.specs.declared.math.Extreme.TheVariants.{Greatest, Least};
+ghost use Rattle.primitive_natives.specs.Maths.{absolute_of, larger, smaller};
 ghost use Rattle.primitive_natives.specs.MathMachine.{better, best_and, converts, best_begin, math_begin, math_asks, math_after, absolute, best_found, best_converted};
 
 use crate::ending::{Ending, Left};
 use crate::number::number_at;
 use crate::scratch::Scratch;
 use flow_text::OutOfMemory;
-use js_number::{Int, Primitive, negate};
+use js_number::{Int, Num, Primitive};
 use native_protocol::{Answer, NumberOf, Progress, Reg, Request};
 use std::alloc::Global;
 
@@ -31,7 +32,7 @@ pub enum Extreme {
 #[derive(Clone, Copy)]
 pub struct Comparing {
     extreme: Extreme,
-    best: Option<Int>,
+    best: Option<Num>,
     at: u64,
     left: u64,
     scratch: Scratch,
@@ -122,7 +123,7 @@ fn converts(comparing: Comparing) -> Progress<MathCall, Ending>
 }
 
 // Where the conversion of the argument of `abs` leads.
-fn absolute(progress: Progress<NumberOf, Int>, to: Reg) -> Progress<MathCall, Ending>
+fn absolute(progress: Progress<NumberOf, Num>, to: Reg) -> Progress<MathCall, Ending>
     ensures { result ≡ absolute progress to }
 {
     match progress {
@@ -134,21 +135,31 @@ fn absolute(progress: Progress<NumberOf, Int>, to: Reg) -> Progress<MathCall, En
     }
 }
 
-// The size of a number.
-fn magnitude(number: Int) -> Int
-    ensures { result ≡ pos (unsigned_abs number) }
+// The size of a number. NaN has none.
+fn magnitude(number: Num) -> Num
+    ensures { result ≡ absolute_of number }
 {
-    if number.get() < 0 {
-        negate(number)
+    match number {
+        Num::Nan => Num::Nan,
+        Num::Int(n) => Num::Int(size_of(n)),
+    }
+}
+
+// The size of an integer.
+fn size_of(n: Int) -> Int
+    ensures { result ≡ pos (unsigned_abs n) }
+{
+    if n.get() < 0 {
+        Int::new(-n.get()).unwrap()
     } else {
-        number
+        n
     }
 }
 
 // Where the conversion of an argument that is compared leads.
 fn best_converted(
     comparing: Comparing,
-    progress: Progress<NumberOf, Int>,
+    progress: Progress<NumberOf, Num>,
 ) -> Result<Progress<MathCall, Ending>, OutOfMemory>
     ensures { IfOk result (λ next. next ≡ best_converted comparing progress) }
 {
@@ -164,7 +175,7 @@ fn best_converted(
 }
 
 // The next argument is converted, or the best number is what is looked for. A register whose number doesn't fit stands in no memory.
-fn best_found(comparing: Comparing, best: Int) -> Result<Progress<MathCall, Ending>, OutOfMemory>
+fn best_found(comparing: Comparing, best: Num) -> Result<Progress<MathCall, Ending>, OutOfMemory>
     ensures { IfOk result (λ next. next ≡ best_found comparing comparing.left best) }
 {
     if comparing.left == 0 {
@@ -182,7 +193,7 @@ fn best_found(comparing: Comparing, best: Int) -> Result<Progress<MathCall, Endi
 }
 
 // The best of the numbers so far with one more.
-fn best_and(extreme: Extreme, best: Option<Int>, number: Int) -> Int
+fn best_and(extreme: Extreme, best: Option<Num>, number: Num) -> Num
     ensures { result ≡ best_and extreme best number }
 {
     match best {
@@ -191,12 +202,38 @@ fn best_and(extreme: Extreme, best: Option<Int>, number: Int) -> Int
     }
 }
 
-fn better(extreme: Extreme, first: Int, second: Int) -> Int
+// The better of two numbers.
+fn better(extreme: Extreme, first: Num, second: Num) -> Num
     ensures { result ≡ better extreme first second }
 {
-    let replaced = match extreme {
-        Extreme::Greatest => first.get() < second.get(),
-        Extreme::Least => second.get() < first.get(),
-    };
-    if replaced { second } else { first }
+    match extreme {
+        Extreme::Greatest => larger(first, second),
+        Extreme::Least => smaller(first, second),
+    }
+}
+
+// The larger of two numbers: NaN where one of them is NaN.
+fn larger(first: Num, second: Num) -> Num
+    ensures { result ≡ larger first second }
+{
+    match first {
+        Num::Nan => Num::Nan,
+        Num::Int(m) => match second {
+            Num::Nan => Num::Nan,
+            Num::Int(n) => { if m.get() < n.get() { second } else { first } }
+        },
+    }
+}
+
+// The smaller of two numbers: NaN where one of them is NaN.
+fn smaller(first: Num, second: Num) -> Num
+    ensures { result ≡ smaller first second }
+{
+    match first {
+        Num::Nan => Num::Nan,
+        Num::Int(m) => match second {
+            Num::Nan => Num::Nan,
+            Num::Int(n) => { if n.get() < m.get() { second } else { first } }
+        },
+    }
 }

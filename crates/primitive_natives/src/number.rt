@@ -7,7 +7,7 @@ ghost use Rattle.primitive_natives.specs.NumberMachine.{number_at, constructor_b
 use crate::ending::{Ending, Left};
 use crate::scratch::Scratch;
 use flow_text::OutOfMemory;
-use js_number::{Int, Primitive, number_to_text};
+use js_number::{Int, Num, Primitive, number_to_text};
 use js_values::Class;
 use native_protocol::{Answer, ErrorKind, NumberOf, Progress, Reg, Request, Seen};
 use std::alloc::Global;
@@ -34,11 +34,11 @@ pub enum NumberCall {
         scratch: Scratch,
     },
     LookRadix {
-        number: Int,
+        number: Num,
         scratch: Scratch,
     },
     Radix {
-        number: Int,
+        number: Num,
         radix: NumberOf,
         to: Reg,
     },
@@ -128,7 +128,7 @@ fn constructor(argc: u64, construct: bool) -> Result<Progress<NumberCall, Ending
     let scratch = Scratch::behind(argc)?;
     if argc == 0 {
         return Ok(Progress::Ready(Ending::Give {
-            value: Primitive::Num(Int::new(0).unwrap()),
+            value: Primitive::Num(Num::Int(Int::new(0).unwrap())),
             to: scratch.first,
         }));
     }
@@ -146,7 +146,7 @@ pub(crate) fn number_at(register: Reg, scratch: Scratch) -> NumberOf
 }
 
 // Where the conversion of the constructor's argument leads.
-fn converted(progress: Progress<NumberOf, Int>, to: Reg) -> Progress<NumberCall, Ending>
+fn converted(progress: Progress<NumberOf, Num>, to: Reg) -> Progress<NumberCall, Ending>
     ensures { result ≡ converted progress to }
 {
     match progress {
@@ -193,7 +193,7 @@ fn text_seen(
 fn number_to_spell(
     alloc: Global,
     radix: bool,
-    number: Int,
+    number: Num,
     scratch: Scratch,
 ) -> Result<Progress<NumberCall, Ending>, OutOfMemory>
     ensures { IfOk result (λ progress. progress ≡ number_to_spell radix number scratch) }
@@ -208,7 +208,7 @@ fn number_to_spell(
 fn radix_seen(
     alloc: Global,
     seen: Seen,
-    number: Int,
+    number: Num,
     scratch: Scratch,
 ) -> Result<Progress<NumberCall, Ending>, OutOfMemory>
     ensures { IfOk result (λ progress. progress ≡ radix_seen seen number scratch) }
@@ -231,20 +231,25 @@ fn radix_seen(
 // Where the conversion of the radix leads.
 fn radix_converted(
     alloc: Global,
-    number: Int,
-    progress: Progress<NumberOf, Int>,
+    number: Num,
+    progress: Progress<NumberOf, Num>,
     to: Reg,
 ) -> Result<Progress<NumberCall, Ending>, OutOfMemory>
     ensures { IfOk result (λ next. next ≡ radix_converted number progress to) }
 {
     match progress {
         Progress::Going(radix) => Ok(Progress::Going(NumberCall::Radix { number, radix, to })),
-        Progress::Ready(radix) => Ok(Progress::Ready(spelled_end(alloc, number, to, radix.get())?)),
+        Progress::Ready(radix) => Ok(Progress::Ready(spelled_end(
+            alloc,
+            number,
+            to,
+            radix.to_integer(),
+        )?)),
     }
 }
 
 // How `toString` ends with a radix.
-fn spelled_end(alloc: Global, number: Int, to: Reg, radix: i64) -> Result<Ending, OutOfMemory>
+fn spelled_end(alloc: Global, number: Num, to: Reg, radix: i64) -> Result<Ending, OutOfMemory>
     ensures { IfOk result (λ ending. ending ≡ spelled_end number to radix) }
 {
     if radix == DECIMAL {

@@ -1,8 +1,8 @@
 -- What the plan of a put says of the object.
-use Rattle.std.proofs.Common.{◌≡◌, ◌<◌, ℕ, Bool, true, false, ◌&&◌, List, length, Option, Some, None, is_some, IsSome, IfSome, refl, sym, ap, subst, ◌∙◌}
+use Rattle.std.proofs.Common.{◌≡◌, ◌<◌, ℕ, Bool, true, false, ◌&&◌, List, length, Option, Some, None, IsSome, refl, sym, ap, subst, ◌∙◌}
 use Rattle.std.specs.List.{slice_get}
 use Rattle.std.specs.Option.{option_map}
-use Rattle.std.proofs.lemmas.Bool.{true≢false, false≢true}
+use Rattle.std.proofs.lemmas.Bool.{false≢true}
 use Rattle.std.proofs.lemmas.Option.{none-some, slice_get-map, slice_get_within}
 use Rattle.origin_labels.specs.Label.{Label, union}
 use Rattle.js_values.specs.declared.ids.ObjId.{ObjId}
@@ -10,21 +10,17 @@ use Rattle.js_values.specs.declared.property.Body.{Body}
 use Rattle.js_values.specs.declared.property.Body.TheVariants.{Data, Accessor}
 use Rattle.js_values.specs.declared.property.Slot.{Slot}
 use Rattle.js_values.specs.Chains.{beginning, onwards, chain_within}
-use Rattle.js_values.specs.Indices.{IsArrayIndex}
-use Rattle.js_values.specs.Numerals.{index_of}
 use Rattle.js_values.specs.Objects.{Object, number_of, own}
 use Rattle.js_values.specs.Readings.{read_slot, read_object, read_heap}
 use Rattle.js_values.specs.Walks.{Found, find, object_chain}
-use Rattle.js_values.proofs.IndexLaws as indices
 use Rattle.object_heap.specs.Formed.{own_in}
 use Rattle.object_heap.proofs.ReadLaws.{read_own}
 use Rattle.prototype_walk.specs.declared.plan.PutPlan.{PutPlan}
 use Rattle.prototype_walk.specs.declared.plan.PutPlan.TheVariants.{Write, Add, Setter, Refused}
 use Rattle.prototype_walk.specs.Answers.{IsPlan, read_plan}
-use Rattle.prototype_walk.specs.Plans.{if_allowed, setter_plan, own_plan, inherited_plan, beyond_plan, plan_at, can_put, IsNoElement}
-use Rattle.es_meaning.specs.Objects.{is_element, is_index}
-use Rattle.flow_meaning.specs.Tracked.{is_element_of}
-use Rattle.property_access.specs.Elements.{element_in}
+use Rattle.prototype_walk.specs.Plans.{if_allowed, setter_plan, own_plan, inherited_plan, beyond_plan, may_add, absence_label, plan_at, can_put}
+use Rattle.flow_meaning.specs.Tracked.{is_length_in}
+use Rattle.property_access.specs.Elements.{length_in}
 
 -- ---- which plan it is
 
@@ -69,22 +65,22 @@ own_adds o s (Accessor get set) walk = setter_adds o set s.label walk
 
 -- ---- an object whose property is written has it, and one that gets a property is there, and hasn't it
 
-plan_own : (o : ℕ) (p : Object Label) (s : Option (Slot Label)) (rest : Found) → writes (plan_at o p s rest) ≡ true → IsSome s
-plan_own o p (Some s) rest holds = refl
-plan_own o p None rest holds = absurd (false≢true (sym (beyond_writes p.extensible rest.at (union p.structure (union p.link rest.walk))) ∙ holds))
+plan_own : (key : List ℕ) (o : ℕ) (p : Object Label) (s : Option (Slot Label)) (rest : Found) → writes (plan_at key o p s rest) ≡ true → IsSome s
+plan_own key o p (Some s) rest holds = refl
+plan_own key o p None rest holds = absurd (false≢true (sym (beyond_writes (may_add key p) rest.at (union (absence_label key p) (union p.link rest.walk))) ∙ holds))
 
-plan_none : (o : ℕ) (p : Object Label) (s : Option (Slot Label)) (rest : Found) → adds (plan_at o p s rest) ≡ true → s ≡ None
-plan_none o p (Some s) rest holds = absurd (false≢true (sym (own_adds o s s.body s.existence) ∙ holds))
-plan_none o p None rest holds = refl
+plan_none : (key : List ℕ) (o : ℕ) (p : Object Label) (s : Option (Slot Label)) (rest : Found) → adds (plan_at key o p s rest) ≡ true → s ≡ None
+plan_none key o p (Some s) rest holds = absurd (false≢true (sym (own_adds o s s.body s.existence) ∙ holds))
+plan_none key o p None rest holds = refl
 
 module _ (key : List ℕ) (o : ℕ) (behind : Object Label → List (ℕ × Object Label)) where
   writes_own : (p : Option (Object Label)) → writes (can_put key (beginning o p behind)) ≡ true → IsSome (own_in key p)
   writes_own None holds = absurd (false≢true holds)
-  writes_own (Some p) holds = plan_own o p (own key p.rows) (find key (behind p)) holds
+  writes_own (Some p) holds = plan_own key o p (own key p.rows) (find key (behind p)) holds
 
   adds_none : (p : Option (Object Label)) → adds (can_put key (beginning o p behind)) ≡ true → IsSome p × (own_in key p ≡ None)
   adds_none None holds = absurd (false≢true holds)
-  adds_none (Some p) holds = (refl, plan_none o p (own key p.rows) (find key (behind p)) holds)
+  adds_none (Some p) holds = (refl, plan_none key o p (own key p.rows) (find key (behind p)) holds)
 
 module _ {T : Type 0} (reading : T → Label) (key : List ℕ) where
   own_alike : (p : Option (Object T)) → own_in key (option_map (read_object reading) p) ≡ option_map (read_slot reading) (own_in key p)
@@ -128,24 +124,11 @@ module _ {S T : Type 0} (made : S → T → Type 0) (meaning : S → T → Label
       within None there holds = absurd (false≢true holds)
       within (Some p) there holds = slice_get_within heap o p there
 
--- ---- elements of arrays
+-- ---- the `length` of an array
 
-pub no_element : {T : Type 0} (key : List ℕ) (p : Option (Object T)) → element_in key p ≡ false → IsNoElement key p
-no_element key None none = tt
-no_element key (Some p) none = λ n index is. true≢false (sym (ap (λ c. is_element c key) is ∙ ap is_index (indices.is_index key n index)) ∙ none)
-
-pub read_element : {T : Type 0} (reading : T → Label) (key : List ℕ) (heap : List (Object T)) (o : ℕ) → is_element_of (slice_get (read_heap reading heap) o) key ≡ element_in key (slice_get heap o)
-read_element reading key heap o = ap (λ p. is_element_of p key) (slice_get-map (read_object reading) heap o) ∙ there (slice_get heap o)
+pub read_length : {T : Type 0} (reading : T → Label) (key : List ℕ) (heap : List (Object T)) (o : ℕ) → is_length_in key (slice_get (read_heap reading heap) o) ≡ length_in key (slice_get heap o)
+read_length reading key heap o = ap (is_length_in key) (slice_get-map (read_object reading) heap o) ∙ there (slice_get heap o)
   where
-    there : (p : Option (Object _)) → is_element_of (option_map (read_object reading) p) key ≡ element_in key p
+    there : (p : Option (Object _)) → is_length_in key (option_map (read_object reading) p) ≡ length_in key p
     there None = refl
     there (Some p) = refl
-
--- the key is read as an index where it names an element
-pub index_test : (key : List ℕ) (r : Option ℕ) → IfSome r (IsArrayIndex key) → ((n : ℕ) → IsArrayIndex key n → r ≡ Some n) → is_some r ≡ is_index (index_of key)
-index_test key (Some n) named names = sym (ap is_index (indices.is_index key n named))
-index_test key None named names = none_there (index_of key) refl
-  where
-    none_there : (o : Option ℕ) → index_of key ≡ o → false ≡ is_index o
-    none_there None e = refl
-    none_there (Some n) e = absurd (none-some n (names n (indices.index_is key n e)))

@@ -8,14 +8,16 @@ use Rattle.js_values.specs.declared.property.Body.TheVariants.{Data, Accessor}
 use Rattle.js_values.specs.declared.property.Slot.{Slot}
 use Rattle.js_values.specs.declared.value.Labelled.{Labelled}
 use Rattle.js_values.specs.declared.value.Value.{Value}
+use Rattle.js_values.specs.declared.value.Value.TheVariants as value
 use Rattle.js_values.specs.Objects.{Object}
 use Rattle.js_values.specs.Readings.{IsReading, read_heap, read_value}
 use Rattle.js_values.specs.Walks.{Found, find, object_chain}
-use Rattle.prototype_walk.specs.Answers.{Means, IsPlace}
+use Rattle.prototype_walk.specs.Answers.{Means, IsPlace, IsFoundFor}
 use Rattle.native_protocol.specs.declared.request.ErrorKind.TheVariants as kinds
 use Rattle.es_meaning.specs.Outcomes.{Goes}
 use Rattle.es_meaning.specs.Plain.{on_global}
 use Rattle.es_meaning.specs.Start.{global_object}
+use Rattle.flow_meaning.specs.Scopes.{Val}
 use Rattle.flow_meaning.specs.Tracked as tracked
 use Rattle.flow_meaning.specs.Tracked.{has_value, getter_or_none, held, found_by, found_globally, named, called_value, throw_error}
 use Rattle.run_state.specs.declared.outcome.Access.{Access}
@@ -88,6 +90,35 @@ module _ {S T : Type 0} (made : S → T → Type 0) (meaning : S → T → Label
       is = λ reading read.
           ap (λ (l : Label). has_value (record { value = (undefined_with whole).value; label = l })) (means.is reading read)
           ∙ ap (λ (x : Found). found_by (reading label) (called_value (reading of_this) o.0) x) (place.is reading read);
+    })
+
+  -- ---- a property that is found along a chain, with any base
+
+  module _ (finds : (T → Label) → Found) (base : (T → Label) → Val) (label walk whole : T) (means : Means made meaning store whole (λ reading. union (reading label) (reading walk))) where
+    abbrev reads : Access T → Type 0
+    reads a = IsAccess made meaning store (λ reading. found_by (reading label) (base reading) (finds reading)) a
+
+    found_reads : (f : ObjId × Slot T) (this : Labelled T) (a : Access T) → ((reading : T → Label) → read_value reading this ≡ base reading) → IsFoundFor made meaning store finds (Some f) walk
+        → IsAccess made meaning store (λ reading. held (union (reading whole) (reading f.1.label)) (read_value reading this) f.1.body) a → reads a
+    found_reads f this a is place holds = record {
+      belongs = holds.belongs;
+      is = λ reading read.
+          holds.is reading read
+          ∙ ap₂ (λ (l : Label) (b : Val). held (union l (reading f.1.label)) b f.1.body) (means.is reading read) (is reading)
+          ∙ ap (λ (x : Found). found_by (reading label) (base reading) x) (place.is reading read);
+    }
+
+    pub found_if : {E : Type 0} (f : ObjId × Slot T) (this : Labelled T) (result : Result (Access T) E) → ((reading : T → Label) → read_value reading this ≡ base reading) → IsFoundFor made meaning store finds (Some f) walk
+        → IfOk result (IsAccess made meaning store (λ reading. held (union (reading whole) (reading f.1.label)) (read_value reading this) f.1.body)) → IfOk result reads
+    found_if f this (Ok a) is place holds = found_reads f this a is place holds
+    found_if f this (Err e) is place holds = tt
+
+    pub found_nothing : (v : Labelled T) → v ≡ undefined_with whole → IsFoundFor made meaning store finds None walk → reads (access.Value v)
+    found_nothing v gives place = subst (λ (u : Labelled T). reads (access.Value u)) (sym gives) (record {
+      belongs = means.belongs;
+      is = λ reading read.
+          ap (λ (l : Label). has_value (record { value = (undefined_with whole).value; label = l })) (means.is reading read)
+          ∙ ap (λ (x : Found). found_by (reading label) (base reading) x) (place.is reading read);
     })
 
   -- ---- a name of the global object

@@ -11,6 +11,7 @@ ghost use Rattle.run_state.specs.Acts.{Acts, HasAnswer};
 ghost use Rattle.run_state.specs.Names.{property_of};
 ghost use Rattle.run_state.specs.Worlds.{Belongs, Grows};
 
+use crate::primitives::{get_of_primitive, put_on_primitive};
 use crate::properties::{get_of, join};
 use crate::putting::put_on_object;
 use flow_frames::{FlowFault, Rule};
@@ -18,10 +19,10 @@ use flow_text::{OutOfMemory, Text};
 use js_number::{Primitive, to_text};
 use js_values::{Labelled, Value};
 use origin_labels::Labels;
-use run_state::{Access, Leaving, Outcome, Putting, World};
+use run_state::{Access, Outcome, Putting, World};
 use std::alloc::Global;
 
-/// What the property of a base comes to that a key names, a primitive value (ECMA-262 8.7.1). The properties of primitive values aren't built yet.
+/// What the property of a base comes to that a key names, a primitive value (ECMA-262 8.7.1).
 pub fn get_property<T: Copy, L: Labels<Label = T>>(
     alloc: Global,
     labels: &mut L,
@@ -37,17 +38,22 @@ pub fn get_property<T: Copy, L: Labels<Label = T>>(
     ensures belongs { Belongs L.made L.meaning labels.new world.now }
     ensures kept { IsKept L.made L.meaning L.room L.firm labels.old labels.new }
 {
-    let Value::Object(o) = base.value else {
-        return Ok(Outcome::Leaves(Leaving::Unbuilt));
-    };
     let label = join(labels, base.label, key.label)?;
     let name = key_text(alloc, &key.value)?;
-    let access = get_of(alloc, labels, world, o, base.label, name.text(), label)?;
-    Ok(Outcome::Goes(access))
+    let text = name.text();
+    match &base.value {
+        Value::Object(o) => {
+            let access = get_of(alloc, labels, world, *o, base.label, text, label)?;
+            Ok(Outcome::Goes(access))
+        }
+        Value::Primitive(p) => {
+            let read = get_of_primitive(alloc, labels, world, p, base.label, text, label)?;
+            Ok(Outcome::Goes(read))
+        }
+    }
 }
 
-/// Gives the property of a base that a key names, a primitive value, another value (ECMA-262 8.7.2), by rule W2 or W3, or comes to its setter. The properties of
-/// primitive values aren't built yet.
+/// Gives the property of a base that a key names, a primitive value, another value (ECMA-262 8.7.2), by rule W2 or W3, or comes to its setter.
 pub fn put_property<T: Copy, L: Labels<Label = T>>(
     alloc: Global,
     labels: &mut L,
@@ -66,22 +72,23 @@ pub fn put_property<T: Copy, L: Labels<Label = T>>(
     ensures grows { Grows world.old world.new }
     ensures kept { IsKept L.made L.meaning L.room L.firm labels.old labels.new }
 {
-    let Value::Object(o) = base.value else {
-        return Ok(Outcome::Leaves(Leaving::Unbuilt));
-    };
     let label = join(labels, base.label, key.label)?;
     let name = key_text(alloc, &key.value)?;
-    put_on_object(
-        alloc,
-        labels,
-        world,
-        Rule::W2,
-        o,
-        name.text(),
-        label,
-        base.label,
-        value,
-    )
+    let text = name.text();
+    match &base.value {
+        Value::Object(o) => put_on_object(
+            alloc,
+            labels,
+            world,
+            Rule::W2,
+            *o,
+            text,
+            label,
+            base.label,
+            value,
+        ),
+        Value::Primitive(p) => put_on_primitive(alloc, labels, world, p, base.label, text, label),
+    }
 }
 
 /// The text of a key: that of a value that is one, or one that was made.

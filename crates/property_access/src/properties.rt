@@ -101,7 +101,7 @@ pub fn find_property<'w, T: Copy, L: Labels<Label = T>>(
 }
 
 /// What a property holds, where finding it depends on a label: a getter is called with this `this`.
-fn held<T: Copy, L: Labels<Label = T>>(
+pub(crate) fn held<T: Copy, L: Labels<Label = T>>(
     alloc: Global,
     labels: &mut L,
     label: T,

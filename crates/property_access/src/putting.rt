@@ -11,13 +11,12 @@ ghost use Rattle.js_values.specs.Readings.{read_heap, read_value};
 ghost use Rattle.js_values.specs.Walks.{object_chain};
 ghost use Rattle.object_heap.specs.Formed.{own_in};
 ghost use Rattle.prototype_walk.specs.Answers.{Means, IsPlan};
-ghost use Rattle.prototype_walk.specs.Plans.{can_put, IsNoElement};
+ghost use Rattle.prototype_walk.specs.Plans.{can_put};
 ghost use Rattle.prototype_walk.specs.declared.plan.PutPlan.TheVariants as plans;
-ghost use Rattle.es_meaning.specs.Objects.{is_element};
 ghost use Rattle.es_meaning.specs.Definitions.{setter_in};
 ghost use Rattle.flow_meaning.specs.Tracked.{called_value, put, put_by, setter_found};
 ghost use Rattle.property_access.specs.Accessors.{setter_with};
-ghost use Rattle.property_access.specs.Elements.{element_in};
+ghost use Rattle.property_access.specs.Elements.{length_in};
 ghost use Rattle.run_state.specs.Accesses.{HasPutting, read_putting};
 ghost use Rattle.run_state.specs.Acts.{Acts, HasAnswer};
 ghost use Rattle.run_state.specs.Worlds.{Belongs, Grows};
@@ -26,11 +25,11 @@ use crate::properties::{join, object};
 use crate::throwing::throw_error;
 use flow_frames::{FlowFault, Frames, Rule};
 use flow_text::{OutOfMemory, Text};
-use js_values::{Body, Class, Key, Labelled, Marks, ObjId};
+use js_values::{Body, Key, Labelled, Marks, ObjId, names_length};
 use native_protocol::ErrorKind;
 use origin_labels::Labels;
 use prototype_walk::{PutPlan, can_put_named};
-use run_state::{Leaving, Outcome, Putting, World};
+use run_state::{Outcome, Putting, World};
 use std::alloc::Global;
 
 /// The attributes of a property that a script makes (ECMA-262 8.12.5).
@@ -48,7 +47,8 @@ pub(crate) struct FoundSetter<T> {
 }
 
 /// Puts a value on an object by a key (ECMA-262 8.12.5): its property has another value by the rule, W1 for a name and W2 for a member, or is added by W3; or
-/// it has a setter, whose `this` is the object with a label of its own. `label` is that of base and key. Elements of arrays aren't built yet.
+/// it has a setter, whose `this` is the object with a label of its own. `label` is that of base and key. The `length` of an array is
+/// set behind two conversions, which are still to be done.
 pub fn put_on_object<T: Copy, L: Labels<Label = T>>(
     alloc: Global,
     labels: &mut L,
@@ -70,10 +70,6 @@ pub fn put_on_object<T: Copy, L: Labels<Label = T>>(
     ensures grows { Grows world.old world.new }
     ensures kept { IsKept L.made L.meaning L.room L.firm labels.old labels.new }
 {
-    let element = is_element(alloc, world, o, key)?;
-    if element {
-        return Ok(Outcome::Leaves(Leaving::Unbuilt));
-    }
     let plan = plan_of(labels, world, o, key)?;
     match plan {
         PutPlan::Write { walk } => write(labels, world, rule, o, key, label, walk, value),
@@ -91,34 +87,6 @@ pub fn put_on_object<T: Copy, L: Labels<Label = T>>(
     }
 }
 
-/// Whether the key names an element of the object, which is an array then.
-fn is_element<T: Copy>(
-    alloc: Global,
-    world: &World<T>,
-    o: ObjId,
-    key: &Text,
-) -> Result<bool, OutOfMemory>
-    ensures { IfOk result (λ yes. yes ≡ element_in key.now (slice_get world.now.heap o.0)) }
-{
-    if o.0 < world.heap.len() {
-        return names_element(alloc, world.heap.shape(o).class, key);
-    }
-    Ok(false)
-}
-
-/// Whether the key names an element in objects of the class.
-fn names_element(alloc: Global, class: Class, key: &Text) -> Result<bool, OutOfMemory>
-    ensures { IfOk result (λ yes. yes ≡ is_element class key.now) }
-{
-    match class {
-        Class::Array => {
-            let copied = Key::new(key.copy(alloc)?);
-            Ok(copied.index().is_some())
-        }
-        _ => Ok(false),
-    }
-}
-
 /// What a put does: on an object that isn't there it is refused.
 fn plan_of<T: Copy, L: Labels<Label = T>>(
     labels: &mut L,
@@ -126,7 +94,6 @@ fn plan_of<T: Copy, L: Labels<Label = T>>(
     o: ObjId,
     key: &Text,
 ) -> Result<PutPlan<T>, OutOfMemory>
-    requires other { IsNoElement key.now (slice_get world.now.heap o.0) }
     requires belongs { Belongs L.made L.meaning labels.old world.now }
     ensures plan { IfOk result (IsPlan L.made L.meaning labels.new (λ reading. can_put key.now (object_chain (read_heap reading world.now.heap) o.0))) }
     ensures kept { IsKept L.made L.meaning L.room L.firm labels.old labels.new }
@@ -138,7 +105,7 @@ fn plan_of<T: Copy, L: Labels<Label = T>>(
     Ok(PutPlan::Refused { walk })
 }
 
-/// Writes over the object's own property.
+/// Writes over the object's own property, but for the `length` of an array.
 fn write<T: Copy, L: Labels<Label = T>>(
     labels: &mut L,
     world: &mut World<T>,
@@ -160,9 +127,23 @@ fn write<T: Copy, L: Labels<Label = T>>(
     ensures grows { Grows world.old world.new }
     ensures kept { IsKept L.made L.meaning L.room L.firm labels.old labels.new }
 {
+    if is_length(world, o, key) {
+        let label = join(labels, label, walk)?;
+        return Ok(Outcome::Goes(Putting::Length { label, array: o }));
+    }
     let need = need_of(labels, &world.frames, label, walk)?;
     world.heap.write_named(labels, rule, o, key, need, value)?;
     Ok(Outcome::Goes(Putting::Put))
+}
+
+/// Whether the key names the `length` of an object, which is an array then.
+fn is_length<T: Copy>(world: &World<T>, o: ObjId, key: &Text) -> bool
+    ensures { result ≡ length_in key.now (slice_get world.now.heap o.0) }
+{
+    if o.0 < world.heap.len() {
+        return names_length(world.heap.shape(o).class, key);
+    }
+    false
 }
 
 /// Adds a property.
@@ -244,7 +225,7 @@ fn setter_at<T: Copy>(world: &World<T>, at: ObjId, key: &Text) -> Option<FoundSe
 }
 
 /// The setter of what a property holds.
-fn setter_in(body: &Body) -> Option<ObjId>
+pub(crate) fn setter_in(body: &Body) -> Option<ObjId>
     ensures { result ≡ setter_in body.now }
 {
     match body {
@@ -254,7 +235,7 @@ fn setter_in(body: &Body) -> Option<ObjId>
 }
 
 /// A put by a setter: without one it throws.
-fn enter_setter<T: Copy, L: Labels<Label = T>>(
+pub(crate) fn enter_setter<T: Copy, L: Labels<Label = T>>(
     labels: &mut L,
     world: &mut World<T>,
     label: T,

@@ -10,6 +10,7 @@ use Rattle.origin_labels.specs.Stores.{IsKept}
 use Rattle.flow_frames.specs.declared.faults.FlowFault.{FlowFault}
 use Rattle.flow_frames.specs.Frames.{context}
 use Rattle.flow_frames.specs.Held.{seen_frame}
+use Rattle.js_number.specs.declared.num.Num.TheVariants.{Int}
 use Rattle.js_number.specs.declared.primitive.Primitive.{Primitive}
 use Rattle.js_number.specs.declared.primitive.Primitive.TheVariants.{Num}
 use Rattle.js_values.specs.declared.ids.ObjId.{ObjId}
@@ -56,7 +57,7 @@ use Rattle.property_requests.proofs.HeldLaws.{shape_there}
 
 module _ {S T : Type 0} (made : S → T → Type 0) (meaning : S → T → Label) (room : S → ℕ) (firm : S → Bool) (before : List (Object T)) (here depends : T) (inner : Inner T) (count : ℤ) (o : ℕ) (number : o ≡ length before) where
   abbrev pub one : (T → Label) → Rows (Slot Label)
-  one reading = (length_name, added (reading here) (Data (value.Primitive (Num count))) (reading depends) fixed (reading here)) ∷ []
+  one reading = (length_name, added (reading here) (Data (value.Primitive (Num (Int count)))) (reading depends) fixed (reading here)) ∷ []
 
   abbrev pub two : (T → Label) → Rows (Slot Label)
   two reading = one reading ++ (codes "caller", added (reading here) (fixed_accessor caller_accessor).body bottom fixed (reading here)) ∷ []
@@ -65,8 +66,8 @@ module _ {S T : Type 0} (made : S → T → Type 0) (meaning : S → T → Label
   three reading = two reading ++ (codes "arguments", added (reading here) (fixed_accessor arguments_accessor).body bottom fixed (reading here)) ∷ []
 
   module _ (s t : S) (kept : IsKept made meaning room firm s t) (fresh heap : List (Object T)) where
-    pub with_length : Built made meaning before here inner s fresh (λ reading. []) → Adds made meaning t here o length_name (Data (value.Primitive (Num count))) depends fixed fresh heap → Built made meaning before here inner t heap one
-    with_length built adds = built_more made meaning before here inner o number s fresh (λ reading. []) built room firm t kept heap length_name (Data (value.Primitive (Num count))) fixed (λ reading. refl) depends adds
+    pub with_length : Built made meaning before here inner s fresh (λ reading. []) → Adds made meaning t here o length_name (Data (value.Primitive (Num (Int count)))) depends fixed fresh heap → Built made meaning before here inner t heap one
+    with_length built adds = built_more made meaning before here inner o number s fresh (λ reading. []) built room firm t kept heap length_name (Data (value.Primitive (Num (Int count)))) fixed (λ reading. refl) depends adds
 
     pub with_caller : Built made meaning before here inner s fresh one → AddsAlone made meaning t here o (codes "caller") (fixed_accessor caller_accessor).body fixed fresh heap → Built made meaning before here inner t heap two
     with_caller built adds = built_alone made meaning before here inner o number s fresh one built room firm t kept heap (codes "caller") (fixed_accessor caller_accessor).body fixed (λ reading. refl) adds
@@ -80,7 +81,7 @@ module _ {S T : Type 0} (made : S → T → Type 0) (meaning : S → T → Label
     says = λ reading agrees.
         built.says reading agrees
         ∙ ap (λ (k : ℤ). read_heap reading before ++ made_with (reading here) (read_inner reading inner)
-        ((length_name, added (reading here) (Data (value.Primitive (Num k))) (reading depends) fixed (reading here)) ∷ (codes "caller", added (reading here) (fixed_accessor caller_accessor).body bottom fixed (reading here)) ∷ (codes "arguments", added (reading here) (fixed_accessor arguments_accessor).body bottom fixed (reading here)) ∷ []) ∷ []) is;
+        ((length_name, added (reading here) (Data (value.Primitive (Num (Int k)))) (reading depends) fixed (reading here)) ∷ (codes "caller", added (reading here) (fixed_accessor caller_accessor).body bottom fixed (reading here)) ∷ (codes "arguments", added (reading here) (fixed_accessor arguments_accessor).body bottom fixed (reading here)) ∷ []) ∷ []) is;
   }
 
 -- ---- what a bound function takes from its target

@@ -9,45 +9,51 @@ use Rattle.origin_labels.specs.Label.{Label, bottom, within}
 use Rattle.origin_labels.specs.Stores.{IsKept}
 use Rattle.origin_labels.proofs.LabelLaws.{within-refl}
 use Rattle.flow_frames.specs.declared.faults.FlowStop.{FlowStop}
-use Rattle.flow_frames.specs.declared.faults.Rule.TheVariants.{W3}
+use Rattle.flow_frames.specs.declared.faults.Rule.TheVariants.{W2, W3}
 use Rattle.js_values.specs.declared.property.Body.{Body}
 use Rattle.js_values.specs.declared.property.Marks.{Marks}
 use Rattle.js_values.specs.declared.property.Slot.{Slot}
 use Rattle.js_values.specs.declared.inner.Class.TheVariants as class
 use Rattle.js_values.specs.declared.inner.Inner.{Inner}
-use Rattle.js_values.specs.Objects.{Rows, Object, own, with_row, fresh_object}
+use Rattle.js_values.specs.Objects.{Rows, Object, own, changed, with_row, fresh_object}
 use Rattle.js_values.specs.Readings.{IsReading, read_slot, read_inner, read_object, read_heap}
 use Rattle.js_values.proofs.ReadingLaws.{IsReading-earlier}
-use Rattle.object_heap.specs.Acts.{Acted, added, put_back, on_object, stretched, add_absent, add_own, add, new_object}
+use Rattle.object_heap.specs.Acts.{Acted, added, lengthened, put_back, on_object, stretched, under, value_have, with_rows, add_absent, add_own, add, new_object}
 use Rattle.object_heap.specs.Answers.{read_stop}
-use Rattle.object_heap.specs.Arrays.{length_key, element_of}
+use Rattle.js_values.specs.Arrays.{length_key, element_of}
 use Rattle.object_heap.specs.Formed.{own_in}
+use Rattle.object_heap.specs.Lengths.{IsBelow}
 use Rattle.es_meaning.specs.Start.{function_prototype}
-use Rattle.property_requests.specs.Building.{Opens, IsOpen, Adds, AddsAlone, IsLast}
+use Rattle.property_requests.specs.Building.{OpensFor, IsOpenFor, Adds, AddsAlone, IsLast}
 use Rattle.property_requests.proofs.HeldLaws.{read_own_in}
 
 -- ---- no rule stops a property that is added in the context in which its object was made
 
 module _ (key : List ℕ) (c : Label) (body : Body) (label : Label) (marks : Marks) where
-  absent_goes : (s : Option (Slot Label)) (p : Object Label) → p.structure ≡ c → element_of p.class key ≡ None → is_ok (add_absent s key c body label marks p) ≡ true
+  pub below_goes : (e : Option ℕ) (length : Option (Slot Label)) (p : Object Label) (more : Rows (Slot Label)) → IsBelow e length → stretched e length c p more ≡ Ok (with_rows p more)
+  below_goes None length p more below = refl
+  below_goes (Some i) None p more below = refl
+  below_goes (Some i) (Some s) p more below = ap (λ b. if b then under W2 c (value_have s) (Ok (with_rows p (changed length_key (lengthened i c) more))) else Ok (with_rows p more)) below
+
+  absent_goes : (s : Option (Slot Label)) (p : Object Label) → p.structure ≡ c → IsBelow (element_of p.class key) (own length_key p.rows) → is_ok (add_absent s key c body label marks p) ≡ true
   absent_goes (Some s) p structure element = refl
   absent_goes None p structure element =
       let more = with_row key (added c body label marks p.structure) p.rows in
       ap (λ b. is_ok (if b then stretched (element_of p.class key) (own length_key p.rows) c p more else Err (record { rule = W3; need = c; have = p.structure }))) (ap (within c) structure ∙ within-refl c)
-      ∙ ap (λ e. is_ok (stretched e (own length_key p.rows) c p more)) element
+      ∙ ap (λ (r : Acted (Object Label)). is_ok r) (below_goes (element_of p.class key) (own length_key p.rows) p more element)
 
   put_back_goes : (heap : List (Object Label)) (o : ℕ) (r : Acted (Object Label)) → is_ok r ≡ true → is_ok (put_back heap o r) ≡ true
   put_back_goes heap o (Ok p) goes = refl
   put_back_goes heap o (Err stop) goes = goes
 
-  object_goes : (p : Option (Object Label)) (heap : List (Object Label)) (o : ℕ) → Opens c p → is_ok (on_object p heap o (add_own key c body label marks)) ≡ true
+  object_goes : (p : Option (Object Label)) (heap : List (Object Label)) (o : ℕ) → OpensFor c key p → is_ok (on_object p heap o (add_own key c body label marks)) ≡ true
   object_goes None heap o opens = absurd opens
-  object_goes (Some p) heap o opens = put_back_goes heap o (add_own key c body label marks p) (absent_goes (own key p.rows) p opens.0 (opens.1 key))
+  object_goes (Some p) heap o opens = put_back_goes heap o (add_own key c body label marks p) (absent_goes (own key p.rows) p opens.0 opens.1)
 
-  never_stops : (o : ℕ) (heap : List (Object Label)) (stop : FlowStop Label) → Opens c (slice_get heap o) → add o key c body label marks heap ≡ Err stop → ⊥
+  never_stops : (o : ℕ) (heap : List (Object Label)) (stop : FlowStop Label) → OpensFor c key (slice_get heap o) → add o key c body label marks heap ≡ Err stop → ⊥
   never_stops o heap stop opens e = false≢true (sym (ap is_ok e) ∙ object_goes (slice_get heap o) heap o opens)
 
-pub unstopped : {S T : Type 0} (made : S → T → Type 0) (meaning : S → T → Label) (room : S → ℕ) (firm : S → Bool) (s t : S) (kept : IsKept made meaning room firm s t) (here label : T) (o : ℕ) (key : List ℕ) (body : Body) (marks : Marks) (old : List (Object T)) → IsOpen made meaning s old o here
+pub unstopped : {S T : Type 0} (made : S → T → Type 0) (meaning : S → T → Label) (room : S → ℕ) (firm : S → Bool) (s t : S) (kept : IsKept made meaning room firm s t) (here label : T) (o : ℕ) (key : List ℕ) (body : Body) (marks : Marks) (old : List (Object T)) → IsOpenFor made meaning s old o key here
     → (stop : FlowStop T) → ((reading : T → Label) → IsReading made meaning t reading → add o key (reading here) body (reading label) marks (read_heap reading old) ≡ Err (read_stop reading stop)) → ⊥
 unstopped made meaning room firm s t kept here label o key body marks old opened stop stops =
     let reading = meaning t in
@@ -65,11 +71,11 @@ adds_alone made meaning room firm s t kept here label o name key body marks old 
 
 -- ---- the last of a list
 
-last_there : {X : Type 0} (before : List X) (x : X) → slice_get (before ++ x ∷ []) (length before) ≡ Some x
+pub last_there : {X : Type 0} (before : List X) (x : X) → slice_get (before ++ x ∷ []) (length before) ≡ Some x
 last_there [] x = refl
 last_there (b ∷ before) x = last_there before x
 
-last_set : {X : Type 0} (before : List X) (x y : X) → set (before ++ x ∷ []) (length before) y ≡ before ++ y ∷ []
+pub last_set : {X : Type 0} (before : List X) (x y : X) → set (before ++ x ∷ []) (length before) y ≡ before ++ y ∷ []
 last_set [] x y = refl
 last_set (b ∷ before) x y = ap (λ xs. b ∷ xs) (last_set before x y)
 
@@ -91,11 +97,11 @@ added_last front o c inner rows key body label marks place absent =
     ∙ ap (λ b. put_back heap (length front) (if b then stretched None (own length_key rows) c q more else Err (record { rule = W3; need = c; have = c }))) (within-refl c)
     ∙ ap (λ (h : List (Object Label)). Ok h) (last_set front q (made_with c inner more))
 
-abbrev ok_or : Acted (List (Object Label)) → List (Object Label)
+abbrev pub ok_or : Acted (List (Object Label)) → List (Object Label)
 ok_or (Ok heap) = heap
 ok_or (Err stop) = []
 
-none_of : {A B : Type 0} (f : A → B) (x : Option A) → option_map f x ≡ None → x ≡ None
+pub none_of : {A B : Type 0} (f : A → B) (x : Option A) → option_map f x ≡ None → x ≡ None
 none_of f None e = refl
 none_of f (Some a) e = absurd (none-some (f a) (sym e))
 
@@ -111,10 +117,10 @@ module _ {S T : Type 0} (made : S → T → Type 0) (meaning : S → T → Label
     place reading = number ∙ sym (length-map before (read_object reading))
 
     module _ (s : S) (heap : List (Object T)) (rows : (T → Label) → Rows (Slot Label)) (built : Built s heap rows) where
-      pub built_open : IsOpen made meaning s heap o here
-      built_open = record {
+      pub built_open : (key : List ℕ) → IsOpenFor made meaning s heap o key here
+      built_open key = record {
         says = λ reading agrees.
-            subst (Opens (reading here)) (sym (ap₂ (λ (h : List (Object Label)) n. slice_get h n) (built.says reading agrees) (place reading) ∙ last_there (read_heap reading before) (made_with (reading here) (read_inner reading inner) (rows reading)))) (refl, λ key. refl);
+            subst (OpensFor (reading here) key) (sym (ap₂ (λ (h : List (Object Label)) n. slice_get h n) (built.says reading agrees) (place reading) ∙ last_there (read_heap reading before) (made_with (reading here) (read_inner reading inner) (rows reading)))) (refl, tt);
       }
 
       pub built_lacks : (key : List ℕ) → own key (rows (meaning s)) ≡ None → own_in key (slice_get heap o) ≡ None

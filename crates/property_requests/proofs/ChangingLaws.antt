@@ -16,9 +16,8 @@ use Rattle.flow_frames.specs.Held.{seen_frame}
 use Rattle.js_values.specs.declared.property.Body.{Body}
 use Rattle.js_values.specs.declared.property.Marks.{Marks}
 use Rattle.js_values.specs.declared.property.Slot.{Slot}
-use Rattle.js_values.specs.declared.value.Labelled.{Labelled}
 use Rattle.js_values.specs.Objects.{Rows, Object, own, changed, altered, row_or_none}
-use Rattle.js_values.specs.Readings.{read_heap, read_object, read_slot, read_value}
+use Rattle.js_values.specs.Readings.{read_heap, read_object, read_slot}
 use Rattle.object_heap.specs.Acts as heap_acts
 use Rattle.object_heap.specs.Acts.{Acted, on_object, on_slot, put_back, under, with_marks, with_rows}
 use Rattle.object_heap.specs.Answers as answers
@@ -28,11 +27,15 @@ use Rattle.es_meaning.specs.Definitions as definitions
 use Rattle.es_meaning.specs.Outcomes.{Outcome, Goes, and_then, ret, ◌>>=◌}
 use Rattle.flow_meaning.specs.Erased.{erased_slot}
 use Rattle.flow_meaning.specs.Requested.{body_label}
-use Rattle.flow_meaning.specs.Scopes.{Val, Halt, Jump, State, L}
-use Rattle.flow_meaning.specs.Tracked.{acted, set_body_if, set_marks}
+use Rattle.flow_meaning.specs.Scopes.{Halt, Jump, State, L}
+use Rattle.flow_meaning.specs.Tracked as tracked
+use Rattle.flow_meaning.specs.Tracked.{is_defined, acted, set_body_if, set_marks}
 use Rattle.run_state.specs.declared.outcome.Outcome as machine
 use Rattle.run_state.specs.declared.outcome.Outcome.TheVariants as outcome
+use Rattle.run_state.specs.declared.outcome.Defining.{Defining}
+use Rattle.run_state.specs.declared.outcome.Defining.TheVariants as defined_as
 use Rattle.run_state.specs.declared.world.World.{World}
+use Rattle.run_state.specs.Accesses.{read_defining}
 use Rattle.run_state.specs.Acts.{Acts, HasAnswer}
 use Rattle.run_state.specs.Worlds.{state_of}
 use Rattle.run_state.proofs.ActLaws.{Acts-as, Acts-passes, Acts-then}
@@ -41,13 +44,13 @@ use Rattle.property_requests.specs.declared.definition.Definition.{Definition}
 use Rattle.property_requests.specs.declared.defining.Change.{Change}
 use Rattle.property_requests.specs.declared.defining.NewBody.{NewBody}
 use Rattle.property_requests.specs.Defining.{body_of, body_set, changed_by, definition_of, HasNewBody, IsChange, IsNewBody}
-use Rattle.property_requests.specs.Finding.{nothing, went}
+use Rattle.property_requests.specs.Finding.{went}
 use Rattle.property_requests.proofs.HeldLaws.{read_own_in}
 
--- ---- calls without a value
+-- ---- calls that never throw
 
-pub went_refused : {T : Type 0} (f : FlowFault T) (result : Result (Unit {0}) (FlowFault T)) → IsErrAnd result (λ e. e ≡ f) → IsErrAnd (went result) (λ e. e ≡ f)
-went_refused f (Ok u) is = is
+pub went_refused : {X T : Type 0} (f : FlowFault T) (result : Result X (FlowFault T)) → IsErrAnd result (λ e. e ≡ f) → IsErrAnd (went result) (λ e. e ≡ f)
+went_refused f (Ok x) is = is
 went_refused f (Err e) is = is
 
 -- ---- the two acts
@@ -90,48 +93,54 @@ module _ {S T : Type 0} (made : S → T → Type 0) (meaning : S → T → Label
   abbrev marking : ℕ → List ℕ → T → T → Change T → (T → Label) → L (Unit {0})
   marking o key place given change reading = set_marks (union (reading place) (reading given)) change.marks o key
 
-  abbrev Changes : S → World T → World T → ℕ → List ℕ → T → T → Change T → Result (machine.Outcome (Labelled T) T) (FlowFault T) → Type 0
-  Changes store w after o key place given change result = Acts made meaning store (λ reading. read_value reading) (λ reading. changed_by reading change (reading place) (reading given) o key) w after result
+  abbrev Changes : S → World T → World T → ℕ → List ℕ → T → T → Change T → Result (machine.Outcome (Defining T) T) (FlowFault T) → Type 0
+  Changes store w after o key place given change result = Acts made meaning store (λ reading. read_defining reading) (λ reading. changed_by reading change (reading place) (reading given) o key) w after result
 
   -- what is done behind the attributes
-  abbrev behind : ℕ → List ℕ → T → Change T → (T → Label) → L Val
-  behind o key place change reading = body_set reading (reading place) change.body o key >>= λ w. ret (nothing (reading place))
+  abbrev behind : ℕ → List ℕ → T → Change T → (T → Label) → L tracked.Defining
+  behind o key place change reading = body_set reading (reading place) change.body o key >>= λ w. ret (is_defined (reading place))
 
   pub marks_fail : (store : S) (w after : World T) (o : ℕ) (key : List ℕ) (place given : T) (change : Change T) (r : Result (Unit {0}) (FlowFault T)) (f : FlowFault T) → r ≡ Err f → Gives store w after (marking o key place given change) r
-      → (result : Result (machine.Outcome (Labelled T) T) (FlowFault T)) → IsErrAnd result (λ e. e ≡ f) → Changes store w after o key place given change result
+      → (result : Result (machine.Outcome (Defining T) T) (FlowFault T)) → IsErrAnd result (λ e. e ≡ f) → Changes store w after o key place given change result
   marks_fail store w after o key place given change r f err acts result is =
-      Acts-passes made meaning store (λ reading (u : Unit {0}). u) (λ reading. read_value reading) (marking o key place given change) (λ reading u. behind o key place change reading) w after f result is
+      Acts-passes made meaning store (λ reading (u : Unit {0}). u) (λ reading. read_defining reading) (marking o key place given change) (λ reading u. behind o key place change reading) w after f result is
       (subst (Gives store w after (marking o key place given change)) err acts)
 
   module _ (room : S → ℕ) (firm : S → Bool) (old new : S) (kept : IsKept made meaning room firm old new) (w middle after : World T) (o : ℕ) (key : List ℕ) (place given : T) (change : Change T) (r : Result (Unit {0}) (FlowFault T)) (ok : r ≡ Ok tt) (acts : Gives old w middle (marking o key place given change) r) where
-    then_behind : (result : Result (machine.Outcome (Labelled T) T) (FlowFault T)) → Acts made meaning new (λ reading. read_value reading) (behind o key place change) middle after result → Changes new w after o key place given change result
+    then_behind : (result : Result (machine.Outcome (Defining T) T) (FlowFault T)) → Acts made meaning new (λ reading. read_defining reading) (behind o key place change) middle after result → Changes new w after o key place given change result
     then_behind result second =
-        Acts-then made meaning room firm old new kept (λ reading (u : Unit {0}). u) (λ reading. read_value reading) (marking o key place given change) (λ reading u. behind o key place change reading) w middle after tt result
+        Acts-then made meaning room firm old new kept (λ reading (u : Unit {0}). u) (λ reading. read_defining reading) (marking o key place given change) (λ reading u. behind o key place change reading) w middle after tt result
         (subst (Gives old w middle (marking o key place given change)) ok acts) second
 
     pub body_fails : (s : Result (Unit {0}) (FlowFault T)) (f : FlowFault T) → s ≡ Err f → Gives new middle after (λ reading. body_set reading (reading place) change.body o key) s
-        → (result : Result (machine.Outcome (Labelled T) T) (FlowFault T)) → IsErrAnd result (λ e. e ≡ f) → Changes new w after o key place given change result
+        → (result : Result (machine.Outcome (Defining T) T) (FlowFault T)) → IsErrAnd result (λ e. e ≡ f) → Changes new w after o key place given change result
     body_fails s f err second result is =
         then_behind result
-        (Acts-passes made meaning new (λ reading (u : Unit {0}). u) (λ reading. read_value reading) (λ reading. body_set reading (reading place) change.body o key) (λ reading w. ret (nothing (reading place))) middle after f result is
+        (Acts-passes made meaning new (λ reading (u : Unit {0}). u) (λ reading. read_defining reading) (λ reading. body_set reading (reading place) change.body o key) (λ reading w. ret (is_defined (reading place))) middle after f result is
         (subst (Gives new middle after (λ reading. body_set reading (reading place) change.body o key)) err second))
 
-    pub both_set : (s : Result (Unit {0}) (FlowFault T)) → s ≡ Ok tt → Gives new middle after (λ reading. body_set reading (reading place) change.body o key) s → (v : Labelled T) → v ≡ nothing place → Changes new w after o key place given change (Ok (outcome.Goes v))
+    pub both_set : (s : Result (Unit {0}) (FlowFault T)) → s ≡ Ok tt → Gives new middle after (λ reading. body_set reading (reading place) change.body o key) s → (v : Defining T) → v ≡ defined_as.Defined place → Changes new w after o key place given change (Ok (outcome.Goes v))
     both_set s done second v is =
         then_behind (Ok (outcome.Goes v)) (record {
           says = λ reading agrees told turns.
-              ap (λ (m : Outcome Halt Jump (Unit {0}) State). and_then m (λ w. ret (nothing (reading place)))) ((subst (Gives new middle after (λ reading. body_set reading (reading place) change.body o key)) done second).says reading agrees told turns)
-              ∙ ap (λ (x : Labelled T). Goes (read_value reading x) (state_of reading after told turns)) (sym is);
+              ap (λ (m : Outcome Halt Jump (Unit {0}) State). and_then m (λ w. ret (is_defined (reading place)))) ((subst (Gives new middle after (λ reading. body_set reading (reading place) change.body o key)) done second).says reading agrees told turns)
+              ∙ ap (λ (x : Defining T). Goes (read_defining reading x) (state_of reading after told turns)) (sym is);
         })
 
--- a fault that is handed on has labels of the store
-pub faults_has : {X T : Type 0} (made : T → Type 0) (has : X → Type 0) (r : Result (Unit {0}) (FlowFault T)) (f : FlowFault T) → r ≡ Err f → HasAnswer (λ u. Unit {0}) made (went r) → (result : Result (machine.Outcome X T) (FlowFault T)) → IsErrAnd result (λ e. e ≡ f) → HasAnswer has made result
-faults_has made has r f err answer (Ok x) is = absurd is
-faults_has {T = T} made has r f err answer (Err e) is = by e (subst (λ (x : Result (Unit {0}) (FlowFault T)). HasAnswer (λ u. Unit {0}) made (went x)) (err ∙ ap (λ (x : FlowFault T). Err x) (sym is)) answer)
+-- what a call goes on with has labels of the store, and so has a fault that is handed on
+pub went_has : {X T : Type 0} (made : T → Type 0) (has : X → Type 0) (r : Result X (FlowFault T)) (x : X) → r ≡ Ok x → HasAnswer has made (went r) → has x
+went_has {X = X} {T = T} made has r x ok answer = subst (λ (y : Result X (FlowFault T)). HasAnswer has made (went y)) ok answer
+
+pub passed_has : {X Y T : Type 0} (made : T → Type 0) (had : X → Type 0) (has : Y → Type 0) (r : Result X (FlowFault T)) (f : FlowFault T) → r ≡ Err f → HasAnswer had made (went r) → (result : Result (machine.Outcome Y T) (FlowFault T)) → IsErrAnd result (λ e. e ≡ f) → HasAnswer has made result
+passed_has made had has r f err answer (Ok y) is = absurd is
+passed_has {X = X} {T = T} made had has r f err answer (Err e) is = by e (subst (λ (x : Result X (FlowFault T)). HasAnswer had made (went x)) (err ∙ ap (λ (x : FlowFault T). Err x) (sym is)) answer)
   where
-    by : (e : FlowFault T) → HasAnswer {X = Unit {0}} (λ u. Unit {0}) made (Err e) → HasAnswer has made (Err e)
+    by : (e : FlowFault T) → HasAnswer {X = X} had made (Err e) → HasAnswer has made (Err e)
     by (fault.Stop stop) answer = answer
     by fault.OutOfMemory answer = tt
+
+pub faults_has : {X T : Type 0} (made : T → Type 0) (has : X → Type 0) (r : Result (Unit {0}) (FlowFault T)) (f : FlowFault T) → r ≡ Err f → HasAnswer (λ u. Unit {0}) made (went r) → (result : Result (machine.Outcome X T) (FlowFault T)) → IsErrAnd result (λ e. e ≡ f) → HasAnswer has made result
+faults_has made has r f err answer result is = passed_has made (λ u. Unit {0}) has r f err answer result is
 
 -- ---- what a definition changes
 
@@ -187,7 +196,7 @@ no_some : (s : Option (Slot Label)) → s ≡ None → IsSome s → ⊥
 no_some None e some = cc
 no_some (Some x) e some = none-some x (sym e)
 
-set_there : {X : Type 0} (xs : List X) (i : ℕ) (x y : X) → slice_get xs i ≡ Some x → slice_get (set xs i y) i ≡ Some y
+pub set_there : {X : Type 0} (xs : List X) (i : ℕ) (x y : X) → slice_get xs i ≡ Some x → slice_get (set xs i y) i ≡ Some y
 set_there [] i x y here = absurd (none-some x here)
 set_there (z ∷ xs) zero x y here = refl
 set_there (z ∷ xs) (suc i) x y here = set_there xs i x y here
@@ -225,14 +234,14 @@ module _ (o : ℕ) (key : List ℕ) (need : Label) (marks : Marks) (heap after :
   attributes_keep some is = by_object (slice_get heap o) refl some is
 
 module _ {T : Type 0} (reading : T → Label) where
-  read_there : (heap : List (Object T)) (o : ℕ) (key : List ℕ) → own_in key (slice_get (read_heap reading heap) o) ≡ option_map (read_slot reading) (own_in key (slice_get heap o))
+  pub read_there : (heap : List (Object T)) (o : ℕ) (key : List ℕ) → own_in key (slice_get (read_heap reading heap) o) ≡ option_map (read_slot reading) (own_in key (slice_get heap o))
   read_there heap o key = ap (own_in key) (slice_get-map (read_object reading) heap o) ∙ read_own_in reading key (slice_get heap o)
 
-  some_read : (s : Option (Slot T)) → IsSome s → IsSome (option_map (read_slot reading) s)
+  pub some_read : (s : Option (Slot T)) → IsSome s → IsSome (option_map (read_slot reading) s)
   some_read (Some s) some = refl
   some_read None some = cc
 
-  some_there : (s : Option (Slot T)) → IsSome (option_map (read_slot reading) s) → IsSome s
+  pub some_there : (s : Option (Slot T)) → IsSome (option_map (read_slot reading) s) → IsSome s
   some_there (Some s) some = refl
   some_there None some = cc
 

@@ -13,14 +13,12 @@ use Rattle.js_values.specs.Objects.{Object}
 use Rattle.js_values.specs.Readings.{read_object, read_value}
 use Rattle.native_protocol.specs.declared.request.ErrorKind.TheVariants as kinds
 use Rattle.prototype_walk.specs.Answers.{Means}
-use Rattle.es_meaning.specs.Operators.{not_built}
-use Rattle.es_meaning.specs.Outcomes.{left, Goes}
+use Rattle.es_meaning.specs.Outcomes.{Goes}
 use Rattle.flow_meaning.specs.Requested.{own_walk}
 use Rattle.flow_meaning.specs.Scopes.{Val, L}
-use Rattle.flow_meaning.specs.Tracked.{ends, on_object, on_object_in, throw_error}
+use Rattle.flow_meaning.specs.Tracked.{on_object, on_object_in, throw_error}
 use Rattle.run_state.specs.declared.outcome.Outcome.{Outcome}
 use Rattle.run_state.specs.declared.outcome.Outcome.TheVariants as outcome
-use Rattle.run_state.specs.declared.outcome.Leaving.TheVariants as leaving
 use Rattle.run_state.specs.declared.world.World.{World}
 use Rattle.run_state.specs.Acts.{Acts}
 use Rattle.run_state.specs.Worlds.{state_of}
@@ -61,11 +59,6 @@ module _ {S T : Type 0} (made : S → T → Type 0) (meaning : S → T → Label
         ∙ ap (λ (u : Val). Goes u s) (sym (same reading));
   }
 
-  -- what isn't built
-  pub base_leaves : (o : ObjId) → base.value ≡ value.Object o → Acts made meaning store read (λ reading. on_object (read_value reading base) (λ i. ends (left not_built))) w w (Ok (outcome.Leaves leaving.Unbuilt))
-  unfolding on_object_in
-  base_leaves o is = record { says = λ reading agrees told turns. ap (λ b. on_object_in (reading base.label) b (λ i. ends (left not_built)) (state_of reading w told turns)) is }
-
 -- ---- the own test
 
 pub place_means : {S T : Type 0} (made : S → T → Type 0) (meaning : S → T → Label) (store : S) (heap : List (Object T)) (o : ℕ) (key : List ℕ) (label test place : T) → IsTest key (slice_get heap o) test
@@ -75,3 +68,22 @@ place_means made meaning store heap o key label test place is means = record {
   belongs = means.belongs;
   is = λ reading agrees. means.is reading agrees ∙ ap (union (reading label)) (read_test reading key (slice_get heap o) test is);
 }
+
+-- ---- an act on an object, whatever it gives
+
+module _ {S T : Type 0} (made : S → T → Type 0) (meaning : S → T → Label) (store : S) (w : World T) (base : Labelled T) {X Y : Type 0} (read : (T → Label) → X → Y) (next : (T → Label) → ℕ → L Y) (after : World T) (result : Result (Outcome X T) (FlowFault T)) where
+  pub base_refuses : (p : Primitive) → base.value ≡ value.Primitive p → Acts made meaning store read (λ reading. throw_error {X = Y} kinds.TypeError (reading base.label)) w after result
+      → Acts made meaning store read (λ reading. on_object (read_value reading base) (next reading)) w after result
+  unfolding on_object_in
+  base_refuses p is acts =
+      Acts-as made meaning store read (λ reading. throw_error {X = Y} kinds.TypeError (reading base.label)) (λ reading. on_object (read_value reading base) (next reading)) w after result
+      (λ reading agrees told turns. ap (λ b. on_object_in (reading base.label) b (next reading) (state_of reading w told turns)) is)
+      acts
+
+  pub base_acts : (o : ObjId) → base.value ≡ value.Object o → Acts made meaning store read (λ reading. next reading o.0) w after result
+      → Acts made meaning store read (λ reading. on_object (read_value reading base) (next reading)) w after result
+  unfolding on_object_in
+  base_acts o is acts =
+      Acts-as made meaning store read (λ reading. next reading o.0) (λ reading. on_object (read_value reading base) (next reading)) w after result
+      (λ reading agrees told turns. ap (λ b. on_object_in (reading base.label) b (next reading) (state_of reading w told turns)) is)
+      acts

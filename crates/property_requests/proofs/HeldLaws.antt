@@ -97,6 +97,10 @@ pub none_mapped : {A B : Type 0} (f : A → B) (o : Option A) (p : Option B) →
 none_mapped f (Some a) p e none = cc
 none_mapped f None p e none = sym e
 
+pub never_some : {A : Type 0} (o : Option A) → o ≡ None → IsSome o → ⊥
+never_some None e some = cc
+never_some (Some a) e some = none-some a (sym e)
+
 -- what was taken out of one
 pub unwrapped : {A B : Type 0} (f : A → B) (o : Option A) (p : Option B) (a : A) → option_map f o ≡ p → o ≡ Some a → p ≡ Some (f a)
 unwrapped f o p a e is = sym e ∙ ap (option_map f) is

@@ -1,3 +1,4 @@
+mod ArrayLaws
 mod BindingLaws
 mod BuildingLaws
 mod ChangingLaws
@@ -7,6 +8,10 @@ mod ErasedLaws
 mod ExtendingLaws
 mod FindingLaws
 mod HeldLaws
+mod KeptLaws
+mod KeyLaws
+mod LengthLaws
 mod MakingLaws
 mod MeansLaws
 mod OwningLaws
+mod PlaceLaws

@@ -1,12 +1,16 @@
 -- What the code's words for definitions mean, and what is done by one.
-use Rattle.std.specs.Prelude.{◌≡◌, ℕ, true, false, List, Option, Some, None}
-use Rattle.std.specs.Option.{is_some}
-use Rattle.origin_labels.specs.Label.{Label, union}
+use Rattle.std.specs.Prelude.{◌≡◌, ℕ, Bool, true, false, ◌&&◌, List, Option, Some, None, length, slice_get}
+use Rattle.std.specs.Option.{is_some, option_map}
+use Rattle.origin_labels.specs.Label.{Label, bottom, union}
 use Rattle.js_values.specs.declared.ids.ObjId.{ObjId}
 use Rattle.js_values.specs.declared.value.Labelled.{Labelled}
 use Rattle.js_values.specs.declared.value.Value.{Value}
 use Rattle.js_values.specs.declared.property.Slot.{Slot}
-use Rattle.js_values.specs.Readings.{HasValue, read_value}
+use Rattle.js_values.specs.Arrays.{allows_element, element_of, is_length, length_key}
+use Rattle.js_values.specs.Objects.{Object, own}
+use Rattle.js_values.specs.Readings.{IsReading, HasValue, read_heap, read_object, read_value}
+use Rattle.native_protocol.specs.declared.request.ErrorKind.TheVariants as kinds
+use Rattle.native_protocol.specs.declared.request.GivenMarks.{GivenMarks}
 use Rattle.prototype_walk.specs.Answers.{Means}
 use Rattle.es_meaning.specs.Definitions as definitions
 use Rattle.es_meaning.specs.Definitions.{no_body, a_value, accessors, changes_body, keeps_a_half, defined_over}
@@ -14,10 +18,9 @@ use Rattle.es_meaning.specs.Operations.{Shape}
 use Rattle.es_meaning.specs.Outcomes.{Goes, ◌>>=◌, ret}
 use Rattle.es_meaning.specs.Plain.{undefined}
 use Rattle.flow_meaning.specs.Erased.{unlabelled, erased_slot}
-use Rattle.flow_meaning.specs.Requested.{body_label}
+use Rattle.flow_meaning.specs.Requested.{body_label, definition_test}
 use Rattle.flow_meaning.specs.Scopes.{Val, L}
-use Rattle.flow_meaning.specs.Tracked.{set_marks, set_body_if}
-use Rattle.property_requests.specs.Finding.{nothing}
+use Rattle.flow_meaning.specs.Tracked.{Defining, define_given, is_defined, set_marks, set_body_if, throw_error}
 use Rattle.property_requests.specs.declared.definition.Half.{Half}
 use Rattle.property_requests.specs.declared.definition.Half.TheVariants as half
 use Rattle.property_requests.specs.declared.definition.GivenBody.{GivenBody}
@@ -92,5 +95,45 @@ unfoldable pub body_set : {T : Type 0} → (T → Label) → Label → Option (N
 body_set reading place None o key s = Goes tt s
 body_set reading place (Some new) o key s = set_body_if true place new.body (reading new.label) o key s
 
-abbrev pub changed_by : {T : Type 0} → (T → Label) → Change T → Label → Label → ℕ → List ℕ → L Val
-changed_by reading change place given o key = set_marks (union place given) change.marks o key >>= λ u. body_set reading place change.body o key >>= λ w. ret (nothing place)
+abbrev pub changed_by : {T : Type 0} → (T → Label) → Change T → Label → Label → ℕ → List ℕ → L Defining
+changed_by reading change place given o key = set_marks (union place given) change.marks o key >>= λ u. body_set reading place change.body o key >>= λ w. ret (is_defined place)
+
+-- ---- how many properties an object has, and the label of its structure
+
+abbrev pub outline : Option (Object Label) → Option (ℕ × Label)
+outline None = None
+outline (Some p) = Some (length p.rows, p.structure)
+
+-- these stay as they were, in each reading that agrees with the store
+pub record SameOutline {S T : Type 0} (made : S → T → Type 0) (meaning : S → T → Label) (store : S) (o : ℕ) (old new : List (Object T)) : Type 0 where
+  pub is : (reading : T → Label) → IsReading made meaning store reading → outline (slice_get (read_heap reading new) o) ≡ outline (slice_get (read_heap reading old) o)
+
+-- ---- the own test of a definition, and whether the object may get the property
+
+abbrev pub test_of_definition : {T : Type 0} → (T → Label) → List ℕ → Option (Object T) → Label
+test_of_definition reading key None = bottom
+test_of_definition reading key (Some p) = definition_test key (own key (read_object reading p).rows) (read_object reading p)
+
+abbrev pub may_hold : {T : Type 0} → Option ℕ → Option (Slot T) → Bool
+may_hold None length = true
+may_hold (Some i) None = true
+may_hold (Some i) (Some s) = allows_element i s.marks s.body
+
+abbrev pub may_add_in : {T : Type 0} → List ℕ → Option (Object T) → Bool
+may_add_in key None = false
+may_add_in key (Some p) = p.extensible && may_hold (element_of p.class key) (own length_key p.rows)
+
+-- the `length` of an array is given a value
+abbrev pub gives_length : {T : Type 0} → List ℕ → GivenBody → Option (Object T) → Bool
+gives_length key (given.Value v) (Some p) = is_length p.class key
+gives_length key _ _ = false
+
+-- ---- a definition on an object that is there
+
+abbrev pub is_valued : Option GivenBody → Bool
+is_valued (Some (given.Value v)) = true
+is_valued _ = false
+
+abbrev pub given_at : Option (Object Label) → Option GivenBody → GivenMarks → Label → Label → ℕ → List ℕ → L Defining
+given_at None body marks place given o key s = throw_error kinds.TypeError place s
+given_at (Some p) body marks place given o key s = define_given (is_valued body) p marks (option_map body_of body) place given o key s

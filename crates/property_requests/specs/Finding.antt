@@ -2,6 +2,7 @@
 use Rattle.std.specs.Prelude.{◌≡◌, List, ℕ, Option, Some, None, Result, Ok, Err}
 use Rattle.origin_labels.specs.Label.{Label}
 use Rattle.flow_frames.specs.declared.faults.FlowFault.{FlowFault}
+use Rattle.flow_frames.specs.declared.faults.FlowFault.TheVariants as fault
 use Rattle.js_values.specs.declared.property.Slot.{Slot}
 use Rattle.js_values.specs.declared.value.Labelled.{Labelled}
 use Rattle.js_values.specs.Objects.{Object, own}
@@ -35,7 +36,12 @@ IfGoes P (outcome.Goes x) = P x
 IfGoes P (outcome.Throws v) = Unit {0}
 IfGoes P (outcome.Leaves why) = Unit {0}
 
--- what a call without a value comes to
-abbrev pub went : {T : Type 0} → Result (Unit {0}) (FlowFault T) → Result (Outcome (Unit {0}) T) (FlowFault T)
-went (Ok u) = Ok (outcome.Goes u)
+-- what a call comes to that never throws
+abbrev pub went : {X T : Type 0} → Result X (FlowFault T) → Result (Outcome X T) (FlowFault T)
+went (Ok x) = Ok (outcome.Goes x)
 went (Err fault) = Err fault
+
+-- and what one that makes a value comes to, where want of memory is its only fault
+abbrev pub valued : {X T E : Type 0} → Result X E → Result (Outcome X T) (FlowFault T)
+valued (Ok x) = Ok (outcome.Goes x)
+valued (Err e) = Err fault.OutOfMemory

@@ -7,7 +7,8 @@ ghost use Rattle.origin_labels.specs.Label.{union};
 ghost use Rattle.origin_labels.specs.Stores.{IsKept};
 ghost use Rattle.flow_policy.specs.Policies.{Tables};
 ghost use Rattle.flow_policy.specs.Inputs.{Given};
-ghost use Rattle.js_number.specs.declared.primitive.Primitive.TheVariants.{Num};
+ghost use Rattle.js_number.specs.declared.num.Num.TheVariants as nums;
+ghost use Rattle.js_number.specs.declared.primitive.Primitive.TheVariants as prims;
 ghost use Rattle.js_values.specs.declared.inner.Inner.TheVariants as inners;
 ghost use Rattle.js_values.specs.declared.property.Body.TheVariants as held;
 ghost use Rattle.js_values.specs.declared.value.Value.TheVariants as value;
@@ -23,14 +24,14 @@ ghost use Rattle.prototype_walk.specs.Answers.{Means};
 ghost use Rattle.run_state.specs.Acts.{Acts, HasAnswer};
 ghost use Rattle.run_state.specs.Worlds.{Belongs, Grows};
 ghost use Rattle.property_requests.specs.Binding.{function_with};
-ghost use Rattle.property_requests.specs.Building.{AddsAlone, IsLast, IsOpen};
+ghost use Rattle.property_requests.specs.Building.{AddsAlone, IsLast, IsOpenFor};
 
 use crate::building::add_row;
 use crate::descriptor::is_callable;
 use crate::parts::join;
 use flow_frames::FlowFault;
 use flow_text::{OutOfMemory, Text};
-use js_number::{Int, Primitive};
+use js_number::{Int, Num, Primitive};
 use js_values::{ArgList, Body, Class, Inner, Key, Labelled, Marks, ObjId, Slot, Value};
 use native_protocol::ErrorKind;
 use object_heap::Heap;
@@ -52,10 +53,10 @@ const ARGUMENTS: [u16; 9] = [0x61, 0x72, 0x67, 0x75, 0x6D, 0x65, 0x6E, 0x74, 0x7
 const FUNCTION_PROTOTYPE: ObjId = ObjId(9);
 
 /// The accessor of `caller` (ECMA-262 13.2.3).
-const CALLER_ACCESSOR: ObjId = ObjId(13);
+const CALLER_ACCESSOR: ObjId = ObjId(16);
 
 /// The accessor of `arguments`.
-const ARGUMENTS_ACCESSOR: ObjId = ObjId(14);
+const ARGUMENTS_ACCESSOR: ObjId = ObjId(17);
 
 /// The attributes of what can't be changed.
 const FIXED: Marks = Marks {
@@ -171,7 +172,9 @@ fn count_in<T: Copy>(slot: &Slot<T>) -> u64
     ensures bound { result < 2 ^ 53 }
 {
     match &slot.body {
-        Body::Data(Value::Primitive(Primitive::Num(n))) => u64::try_from(n.get()).unwrap_or(0),
+        Body::Data(Value::Primitive(Primitive::Num(Num::Int(n)))) => u64::try_from(
+            n.get(),
+        ).unwrap_or(0),
         _ => 0,
     }
 }
@@ -248,9 +251,9 @@ fn list_of<T: Copy>(alloc: Global, values: &[Labelled<T>]) -> Result<ArgList<T>,
 
 /// A property that holds a number.
 fn count_body(count: Int) -> Body
-    ensures { result ≡ held.Data (value.Primitive (Num count)) }
+    ensures { result ≡ held.Data (value.Primitive (prims.Num (nums.Int count))) }
 {
-    Body::Data(Value::Primitive(Primitive::Num(count)))
+    Body::Data(Value::Primitive(Primitive::Num(Num::Int(count))))
 }
 
 /// Makes a bound function with this inner part in the context.
@@ -319,7 +322,7 @@ fn add_accessor<T: Copy, L: Labels<Label = T>>(
 ) -> Result<(), OutOfMemory>
     requires there { o.0 < length heap.old }
     requires absent { own_in name.now (slice_get heap.old o.0) ≡ None }
-    requires opened { IsOpen L.made L.meaning labels.old heap.old o.0 context }
+    requires opened { IsOpenFor L.made L.meaning labels.old heap.old o.0 name.now context }
     requires context { L.made labels.old context }
     requires belongs { HasHeap (L.made labels.old) heap.old }
     ensures adds { OnOk result (AddsAlone L.made L.meaning labels.new context o.0 name.now (fixed_accessor accessor).body fixed heap.old heap.new) }

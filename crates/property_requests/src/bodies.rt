@@ -6,7 +6,7 @@ ghost use Rattle.es_meaning.specs.Operations.{own_marks};
 ghost use Rattle.es_meaning.specs.Requested.{function_value, mark_of, part_of_property};
 
 use flow_text::OutOfMemory;
-use js_number::{Int, Primitive};
+use js_number::{Int, Num, Primitive};
 use js_values::{Body, Marks, ObjId, Value};
 use std::alloc::Global;
 
@@ -77,5 +77,5 @@ pub(crate) fn marks_value(marks: Marks, body: &Body) -> Value
         + mark_of(4, marks.configurable);
     let number = attributes + mark_of(8, is_accessor(body));
     let number = Int::new(i64::from(number)).unwrap();
-    Value::Primitive(Primitive::Num(number))
+    Value::Primitive(Primitive::Num(Num::Int(number)))
 }

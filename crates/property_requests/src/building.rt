@@ -4,7 +4,7 @@ ghost use Rattle.std.specs.Prelude.{◌≡◌, ◌<◌, None, OnOk, length, slic
 ghost use Rattle.origin_labels.specs.Stores.{IsKept};
 ghost use Rattle.js_values.specs.Readings.{HasHeap};
 ghost use Rattle.object_heap.specs.Formed.{own_in};
-ghost use Rattle.property_requests.specs.Building.{Adds, IsOpen};
+ghost use Rattle.property_requests.specs.Building.{Adds, IsOpenFor};
 
 use flow_frames::FlowFault;
 use flow_text::OutOfMemory;
@@ -25,7 +25,7 @@ pub fn add_row<T: Copy, L: Labels<Label = T>>(
 ) -> Result<(), OutOfMemory>
     requires there { o.0 < length heap.old }
     requires absent { own_in key (slice_get heap.old o.0) ≡ None }
-    requires opened { IsOpen L.made L.meaning labels.old heap.old o.0 context }
+    requires opened { IsOpenFor L.made L.meaning labels.old heap.old o.0 key context }
     requires context { L.made labels.old context }
     requires label { L.made labels.old label }
     requires belongs { HasHeap (L.made labels.old) heap.old }

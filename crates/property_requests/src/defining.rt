@@ -10,15 +10,16 @@ ghost use Rattle.js_values.specs.Readings.{HasSlot, HasValue, read_slot, read_va
 ghost use Rattle.native_protocol.specs.declared.request.ErrorKind.TheVariants as kinds;
 ghost use Rattle.object_heap.specs.Formed.{own_in};
 ghost use Rattle.es_meaning.specs.Definitions as definitions;
-ghost use Rattle.es_meaning.specs.Operations as operations;
+ghost use Rattle.es_meaning.specs.Operations.{Ty, Res};
 ghost use Rattle.es_meaning.specs.Requested.{behind_definition};
 ghost use Rattle.flow_meaning.specs.Requested.{body_label, property_in, value_label};
 ghost use Rattle.flow_meaning.specs.Scopes.{Val};
-ghost use Rattle.flow_meaning.specs.Tracked.{act, define_given, define_in, define_over, set_marks, throw_error};
+ghost use Rattle.flow_meaning.specs.Tracked.{define_in, define_over, defining, set_marks, throw_error};
 ghost use Rattle.prototype_walk.specs.Answers.{Means};
 ghost use Rattle.run_state.specs.Acts.{Acts, HasAnswer};
 ghost use Rattle.run_state.specs.Worlds.{Belongs, Grows};
-ghost use Rattle.property_requests.specs.Defining.{body_of, body_set, changed_by, definition_of, given_in, shape_of, HasDescriptor, HasNewBody, IsChange, IsNewBody};
+ghost use Rattle.run_state.specs.Accesses.{HasDefining, read_defining};
+ghost use Rattle.property_requests.specs.Defining.{gives_length, given_at, may_add_in, body_of, body_set, changed_by, definition_of, given_in, shape_of, HasDescriptor, HasNewBody, IsChange, IsNewBody, SameOutline};
 ghost use Rattle.property_requests.specs.Finding.{went};
 
 use crate::bodies::is_accessor;
@@ -27,15 +28,15 @@ use crate::definition::{
     marks_of_kind, may_define_over,
 };
 use crate::descriptor::{Descriptor, given_body, given_label};
-use crate::parts::{is_array, join, need_of, place_of, undefined};
+use crate::parts::{join, need_of, place_of_definition};
 use flow_frames::FlowFault;
 use flow_text::OutOfMemory;
 use js_number::Primitive;
-use js_values::{Body, Key, Labelled, Marks, ObjId, Slot, Value};
+use js_values::{Body, Key, Labelled, Marks, ObjId, Slot, Value, names_length};
 use native_protocol::{ErrorKind, GivenMarks};
 use origin_labels::Labels;
 use property_access::throw_error;
-use run_state::{Leaving, Outcome, World};
+use run_state::{Defining, Outcome, World};
 use std::alloc::Global;
 
 /// Where a definition is done: the key in an object that is there. `place` is the label of the object and of the own test, `given` that of what is given.
@@ -62,7 +63,8 @@ pub(crate) struct NewBody<T> {
 }
 
 /// Defines the property that an object has of a key (ECMA-262 8.12.9), and gives undefined. Over a property that is there rule W6 is asked, and then W2 where it
-/// holds something else; one that isn't is added by rule W3. A refusal throws a TypeError, and so does a primitive base. Arrays aren't built yet.
+/// holds something else; one that isn't is added by rule W3. A refusal throws a TypeError, and so does a primitive base. A value
+/// for the `length` of an array is converted first, which is still to be done.
 pub fn define_property<T: Copy, L: Labels<Label = T>>(
     alloc: Global,
     labels: &mut L,
@@ -70,12 +72,12 @@ pub fn define_property<T: Copy, L: Labels<Label = T>>(
     base: &Labelled<T>,
     key: Key,
     descriptor: Descriptor<T>,
-) -> Result<Outcome<Labelled<T>, T>, FlowFault<T>>
+) -> Result<Outcome<Defining<T>, T>, FlowFault<T>>
     requires base { L.made labels.old base.now.label }
     requires descriptor { HasDescriptor (L.made labels.old) descriptor }
     requires belongs { Belongs L.made L.meaning labels.old world.old }
-    ensures acts { (tables : Tables) (inputs : Given) → Acts L.made L.meaning labels.new (λ reading. read_value reading) (λ reading. act tables inputs (operations.define key descriptor.marks (shape_of descriptor)) (read_value reading base.now ∷ given_in reading descriptor.value ∷ given_in reading descriptor.get ∷ given_in reading descriptor.set ∷ [])) world.old world.new result }
-    ensures made { HasAnswer (HasValue (L.made labels.new)) (L.made labels.new) result }
+    ensures acts { Acts L.made L.meaning labels.new (λ reading. read_defining reading) (λ reading. defining key descriptor.marks (shape_of descriptor) (read_value reading base.now) (given_in reading descriptor.value) (given_in reading descriptor.get) (given_in reading descriptor.set)) world.old world.new result }
+    ensures made { HasAnswer (HasDefining (L.made labels.new)) (L.made labels.new) result }
     ensures belongs { Belongs L.made L.meaning labels.new world.new }
     ensures grows { Grows world.old world.new }
     ensures kept { IsKept L.made L.meaning L.room L.firm labels.old labels.new }
@@ -95,12 +97,12 @@ fn define_on<T: Copy, L: Labels<Label = T>>(
     key: Key,
     label: T,
     descriptor: Descriptor<T>,
-) -> Result<Outcome<Labelled<T>, T>, FlowFault<T>>
+) -> Result<Outcome<Defining<T>, T>, FlowFault<T>>
     requires label { L.made labels.old label }
     requires descriptor { HasDescriptor (L.made labels.old) descriptor }
     requires belongs { Belongs L.made L.meaning labels.old world.old }
-    ensures acts { Acts L.made L.meaning labels.new (λ reading. read_value reading) (λ reading s. define_in (slice_get s.heap o.0) (reading label) o.0 key descriptor.marks (shape_of descriptor) (given_in reading descriptor.value) (given_in reading descriptor.get) (given_in reading descriptor.set) s) world.old world.new result }
-    ensures made { HasAnswer (HasValue (L.made labels.new)) (L.made labels.new) result }
+    ensures acts { Acts L.made L.meaning labels.new (λ reading. read_defining reading) (λ reading s. define_in (slice_get s.heap o.0) (reading label) o.0 key descriptor.marks (shape_of descriptor) (given_in reading descriptor.value) (given_in reading descriptor.get) (given_in reading descriptor.set) s) world.old world.new result }
+    ensures made { HasAnswer (HasDefining (L.made labels.new)) (L.made labels.new) result }
     ensures belongs { Belongs L.made L.meaning labels.new world.new }
     ensures grows { Grows world.old world.new }
     ensures kept { IsKept L.made L.meaning L.room L.firm labels.old labels.new }
@@ -108,11 +110,7 @@ fn define_on<T: Copy, L: Labels<Label = T>>(
     if o.0 >= world.heap.len() {
         return throw_error(labels, world, ErrorKind::TypeError, label);
     }
-    let shape = world.heap.shape(o);
-    if is_array(shape.class) {
-        return Ok(Outcome::Leaves(Leaving::Unbuilt));
-    }
-    let place = place_of(labels, &world.heap, o, &key, label)?;
+    let (place, allowed) = place_of_definition(labels, &world.heap, o, &key, label)?;
     let given = given_label(labels, &descriptor)?;
     let marks = descriptor.marks;
     let body = given_body(&world.heap, descriptor);
@@ -122,7 +120,7 @@ fn define_on<T: Copy, L: Labels<Label = T>>(
         place,
         given,
     };
-    define_given(alloc, labels, world, site, shape.extensible, marks, body)
+    define_given(alloc, labels, world, site, allowed, marks, body)
 }
 
 /// Defines a property so, if what is given isn't refused.
@@ -131,16 +129,17 @@ fn define_given<T: Copy, L: Labels<Label = T>>(
     labels: &mut L,
     world: &mut World<T>,
     site: Site<T>,
-    extensible: bool,
+    allowed: bool,
     marks: GivenMarks,
     body: Option<GivenBody>,
-) -> Result<Outcome<Labelled<T>, T>, FlowFault<T>>
+) -> Result<Outcome<Defining<T>, T>, FlowFault<T>>
     requires there { site.object.0 < length world.old.heap }
     requires place { L.made labels.old site.place }
     requires given { L.made labels.old site.given }
     requires belongs { Belongs L.made L.meaning labels.old world.old }
-    ensures acts { Acts L.made L.meaning labels.new (λ reading. read_value reading) (λ reading. define_given extensible (option_map (read_slot reading) (own_in site.key (slice_get world.old.heap site.object.0))) marks (option_map body_of body) (reading site.place) (reading site.given) site.object.0 site.key) world.old world.new result }
-    ensures made { HasAnswer (HasValue (L.made labels.new)) (L.made labels.new) result }
+    requires allowed { own_in site.key (slice_get world.old.heap site.object.0) ≡ None → allowed ≡ may_add_in site.key (slice_get world.old.heap site.object.0) }
+    ensures acts { Acts L.made L.meaning labels.new (λ reading. read_defining reading) (λ reading s. given_at (slice_get s.heap site.object.0) body marks (reading site.place) (reading site.given) site.object.0 site.key s) world.old world.new result }
+    ensures made { HasAnswer (HasDefining (L.made labels.new)) (L.made labels.new) result }
     ensures belongs { Belongs L.made L.meaning labels.new world.new }
     ensures grows { Grows world.old world.new }
     ensures kept { IsKept L.made L.meaning L.room L.firm labels.old labels.new }
@@ -148,25 +147,45 @@ fn define_given<T: Copy, L: Labels<Label = T>>(
     let Some(body) = body else {
         return refuse(labels, world, &site);
     };
+    if gives_length(world, &site, &body) {
+        return Ok(Outcome::Goes(Defining::Length {
+            label: site.place,
+            array: site.object,
+            marks,
+        }));
+    }
     let definition = Definition { marks, body };
     if world.heap.own(site.object, &site.key).is_some() {
         return define_present(alloc, labels, world, &site, definition);
     }
-    define_absent(alloc, labels, world, site, extensible, definition)
+    define_absent(alloc, labels, world, site, allowed, definition)
+}
+
+/// Whether the `length` of an array is given a value.
+fn gives_length<T: Copy>(world: &World<T>, site: &Site<T>, body: &GivenBody) -> bool
+    requires { site.now.object.0 < length world.now.heap }
+    ensures { result ≡ gives_length site.now.key body.now (slice_get world.now.heap site.now.object.0) }
+{
+    match body {
+        GivenBody::Value(_) => {
+            names_length(world.heap.shape(site.object).class, site.key.text())
+        }
+        GivenBody::Nothing | GivenBody::Accessors { .. } => false,
+    }
 }
 
 /// Throws a TypeError, whose cause is all that decides whether a definition is refused.
-fn refuse<T: Copy, L: Labels<Label = T>>(
+pub(crate) fn refuse<X, T: Copy, L: Labels<Label = T>>(
     labels: &mut L,
     world: &mut World<T>,
     site: &Site<T>,
-) -> Result<Outcome<Labelled<T>, T>, FlowFault<T>>
+) -> Result<Outcome<X, T>, FlowFault<T>>
     requires there { site.now.object.0 < length world.old.heap }
     requires place { L.made labels.old site.now.place }
     requires given { L.made labels.old site.now.given }
     requires belongs { Belongs L.made L.meaning labels.old world.old }
-    ensures acts { Acts L.made L.meaning labels.new (λ reading. read_value reading) (λ reading. throw_error {X = Val} kinds.TypeError (union (union (reading site.now.place) (reading site.now.given)) (value_label (option_map (read_slot reading) (own_in site.now.key (slice_get world.old.heap site.now.object.0)))))) world.old world.new result }
-    ensures made { HasAnswer (HasValue (L.made labels.new)) (L.made labels.new) result }
+    ensures acts { (t : Ty) (read : (T → Label) → X → Res Val t) → Acts L.made L.meaning labels.new read (λ reading. throw_error kinds.TypeError (union (union (reading site.now.place) (reading site.now.given)) (value_label (option_map (read_slot reading) (own_in site.now.key (slice_get world.old.heap site.now.object.0)))))) world.old world.new result }
+    ensures made { HasAnswer (λ x. ⊥) (L.made labels.new) result }
     ensures belongs { Belongs L.made L.meaning labels.new world.new }
     ensures grows { Grows world.old world.new }
     ensures kept { IsKept L.made L.meaning L.room L.firm labels.old labels.new }
@@ -212,21 +231,21 @@ fn define_absent<T: Copy, L: Labels<Label = T>>(
     labels: &mut L,
     world: &mut World<T>,
     site: Site<T>,
-    extensible: bool,
+    allowed: bool,
     definition: Definition,
-) -> Result<Outcome<Labelled<T>, T>, FlowFault<T>>
+) -> Result<Outcome<Defining<T>, T>, FlowFault<T>>
     requires there { site.object.0 < length world.old.heap }
     requires absent { own_in site.key (slice_get world.old.heap site.object.0) ≡ None }
     requires place { L.made labels.old site.place }
     requires given { L.made labels.old site.given }
     requires belongs { Belongs L.made L.meaning labels.old world.old }
-    ensures acts { Acts L.made L.meaning labels.new (λ reading. read_value reading) (λ reading. define_over None (definition_of definition) (reading site.place) (reading site.given) site.object.0 site.key (behind_definition extensible None (definition_of definition))) world.old world.new result }
-    ensures made { HasAnswer (HasValue (L.made labels.new)) (L.made labels.new) result }
+    ensures acts { Acts L.made L.meaning labels.new (λ reading. read_defining reading) (λ reading. define_over None (definition_of definition) (reading site.place) (reading site.given) site.object.0 site.key (behind_definition allowed None (definition_of definition))) world.old world.new result }
+    ensures made { HasAnswer (HasDefining (L.made labels.new)) (L.made labels.new) result }
     ensures belongs { Belongs L.made L.meaning labels.new world.new }
     ensures grows { Grows world.old world.new }
     ensures kept { IsKept L.made L.meaning L.room L.firm labels.old labels.new }
 {
-    if !extensible {
+    if !allowed {
         return refuse(labels, world, &site);
     }
     add_new(alloc, labels, world, site, definition)
@@ -239,14 +258,14 @@ fn add_new<T: Copy, L: Labels<Label = T>>(
     world: &mut World<T>,
     site: Site<T>,
     definition: Definition,
-) -> Result<Outcome<Labelled<T>, T>, FlowFault<T>>
+) -> Result<Outcome<Defining<T>, T>, FlowFault<T>>
     requires there { site.object.0 < length world.old.heap }
     requires absent { own_in site.key (slice_get world.old.heap site.object.0) ≡ None }
     requires place { L.made labels.old site.place }
     requires given { L.made labels.old site.given }
     requires belongs { Belongs L.made L.meaning labels.old world.old }
-    ensures acts { Acts L.made L.meaning labels.new (λ reading. read_value reading) (λ reading. define_over None (definition_of definition) (reading site.place) (reading site.given) site.object.0 site.key (Some (definitions.defined_new (definition_of definition)))) world.old world.new result }
-    ensures made { HasAnswer (HasValue (L.made labels.new)) (L.made labels.new) result }
+    ensures acts { Acts L.made L.meaning labels.new (λ reading. read_defining reading) (λ reading. define_over None (definition_of definition) (reading site.place) (reading site.given) site.object.0 site.key (Some (definitions.defined_new (definition_of definition)))) world.old world.new result }
+    ensures made { HasAnswer (HasDefining (L.made labels.new)) (L.made labels.new) result }
     ensures belongs { Belongs L.made L.meaning labels.new world.new }
     ensures grows { Grows world.old world.new }
     ensures kept { IsKept L.made L.meaning L.room L.firm labels.old labels.new }
@@ -266,7 +285,7 @@ fn add_new<T: Copy, L: Labels<Label = T>>(
     world
         .heap
         .add(labels, object, key, need, body, given, marks)?;
-    Ok(Outcome::Goes(undefined(place)))
+    Ok(Outcome::Goes(Defining::Defined { label: place }))
 }
 
 /// The attributes that a property has by default (ECMA-262 8.6.1).
@@ -283,14 +302,14 @@ fn define_present<T: Copy, L: Labels<Label = T>>(
     world: &mut World<T>,
     site: &Site<T>,
     definition: Definition,
-) -> Result<Outcome<Labelled<T>, T>, FlowFault<T>>
+) -> Result<Outcome<Defining<T>, T>, FlowFault<T>>
     requires there { site.now.object.0 < length world.old.heap }
     requires present { IsSome (own_in site.now.key (slice_get world.old.heap site.now.object.0)) }
     requires place { L.made labels.old site.now.place }
     requires given { L.made labels.old site.now.given }
     requires belongs { Belongs L.made L.meaning labels.old world.old }
-    ensures acts { (extensible : Bool) → Acts L.made L.meaning labels.new (λ reading. read_value reading) (λ reading. define_over (option_map (read_slot reading) (own_in site.now.key (slice_get world.old.heap site.now.object.0))) (definition_of definition) (reading site.now.place) (reading site.now.given) site.now.object.0 site.now.key (behind_definition extensible (property_in (option_map (read_slot reading) (own_in site.now.key (slice_get world.old.heap site.now.object.0)))) (definition_of definition))) world.old world.new result }
-    ensures made { HasAnswer (HasValue (L.made labels.new)) (L.made labels.new) result }
+    ensures acts { (extensible : Bool) → Acts L.made L.meaning labels.new (λ reading. read_defining reading) (λ reading. define_over (option_map (read_slot reading) (own_in site.now.key (slice_get world.old.heap site.now.object.0))) (definition_of definition) (reading site.now.place) (reading site.now.given) site.now.object.0 site.now.key (behind_definition extensible (property_in (option_map (read_slot reading) (own_in site.now.key (slice_get world.old.heap site.now.object.0)))) (definition_of definition))) world.old world.new result }
+    ensures made { HasAnswer (HasDefining (L.made labels.new)) (L.made labels.new) result }
     ensures belongs { Belongs L.made L.meaning labels.new world.new }
     ensures grows { Grows world.old world.new }
     ensures kept { IsKept L.made L.meaning L.room L.firm labels.old labels.new }
@@ -368,25 +387,25 @@ fn redefine<T: Copy, L: Labels<Label = T>>(
     world: &mut World<T>,
     site: &Site<T>,
     change: Change<T>,
-) -> Result<Outcome<Labelled<T>, T>, FlowFault<T>>
+) -> Result<Outcome<Defining<T>, T>, FlowFault<T>>
     requires present { IsSome (own_in site.now.key (slice_get world.old.heap site.now.object.0)) }
     requires place { L.made labels.old site.now.place }
     requires given { L.made labels.old site.now.given }
     requires body { HasNewBody (L.made labels.old) change.body }
     requires belongs { Belongs L.made L.meaning labels.old world.old }
-    ensures acts { Acts L.made L.meaning labels.new (λ reading. read_value reading) (λ reading. changed_by reading change (reading site.now.place) (reading site.now.given) site.now.object.0 site.now.key) world.old world.new result }
-    ensures made { HasAnswer (HasValue (L.made labels.new)) (L.made labels.new) result }
+    ensures acts { Acts L.made L.meaning labels.new (λ reading. read_defining reading) (λ reading. changed_by reading change (reading site.now.place) (reading site.now.given) site.now.object.0 site.now.key) world.old world.new result }
+    ensures made { HasAnswer (HasDefining (L.made labels.new)) (L.made labels.new) result }
     ensures belongs { Belongs L.made L.meaning labels.new world.new }
     ensures grows { Grows world.old world.new }
     ensures kept { IsKept L.made L.meaning L.room L.firm labels.old labels.new }
 {
     set_marks(labels, world, site, change.marks)?;
     set_body(labels, world, site, change.body)?;
-    Ok(Outcome::Goes(undefined(site.place)))
+    Ok(Outcome::Goes(Defining::Defined { label: site.place }))
 }
 
 /// Gives a property that is there other attributes, by rule W6.
-fn set_marks<T: Copy, L: Labels<Label = T>>(
+pub(crate) fn set_marks<T: Copy, L: Labels<Label = T>>(
     labels: &mut L,
     world: &mut World<T>,
     site: &Site<T>,
@@ -398,6 +417,7 @@ fn set_marks<T: Copy, L: Labels<Label = T>>(
     requires belongs { Belongs L.made L.meaning labels.old world.old }
     ensures acts { Acts L.made L.meaning labels.new (λ reading u. u) (λ reading. set_marks (union (reading site.now.place) (reading site.now.given)) marks site.now.object.0 site.now.key) world.old world.new (went result) }
     ensures present { OnOk result (IsSome (own_in site.now.key (slice_get world.new.heap site.now.object.0))) }
+    ensures outline { OnOk result (SameOutline L.made L.meaning labels.new site.now.object.0 world.old.heap world.new.heap) }
     ensures made { HasAnswer (λ u. Unit {0}) (L.made labels.new) (went result) }
     ensures belongs { Belongs L.made L.meaning labels.new world.new }
     ensures grows { Grows world.old world.new }
@@ -412,7 +432,7 @@ fn set_marks<T: Copy, L: Labels<Label = T>>(
 }
 
 /// Lets a property that is there hold something else, if that is given, by rule W2.
-fn set_body<T: Copy, L: Labels<Label = T>>(
+pub(crate) fn set_body<T: Copy, L: Labels<Label = T>>(
     labels: &mut L,
     world: &mut World<T>,
     site: &Site<T>,

@@ -9,7 +9,7 @@ ghost use Rattle.property_requests.specs.Defining.{body_of, half_of, definition_
 
 use crate::bodies::{getter_in, is_accessor, setter_in, value_in};
 use flow_text::OutOfMemory;
-use js_number::{Primitive, strict_equal};
+use js_number::same_value as same_primitive;
 use js_values::{Body, Marks, ObjId, Slot, Value};
 use native_protocol::GivenMarks;
 use std::alloc::Global;
@@ -88,7 +88,7 @@ fn same_value(a: &Value, b: &Value) -> bool
     ensures { result ≡ same_value a.now b.now }
 {
     match (a, b) {
-        (Value::Primitive(v), Value::Primitive(u)) => strict_equal(v, u),
+        (Value::Primitive(v), Value::Primitive(u)) => same_primitive(v, u),
         (Value::Object(o), Value::Object(p)) => o.0 == p.0,
         _ => false,
     }

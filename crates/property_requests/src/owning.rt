@@ -1,6 +1,6 @@
 //! What is known of an own property.
 
-ghost use Rattle.std.specs.Prelude.{◌≡◌, Bool, [], ◌∷◌, IfOk, slice_get};
+ghost use Rattle.std.specs.Prelude.{◌≡◌, ℕ, List, [], ◌∷◌, ◌++◌, IfOk, OnOk, length, slice_get};
 ghost use Rattle.std.specs.Option.{option_map};
 ghost use Rattle.origin_labels.specs.Stores.{IsKept};
 ghost use Rattle.flow_policy.specs.Policies.{Tables};
@@ -14,17 +14,22 @@ ghost use Rattle.flow_meaning.specs.Tracked.{act, own_property_in};
 ghost use Rattle.run_state.specs.Acts.{Acts, HasAnswer};
 ghost use Rattle.run_state.specs.Worlds.{Belongs, Grows};
 ghost use Rattle.property_requests.specs.Finding.{Finds, IfGoes, nothing};
+ghost use Rattle.prototype_walk.specs.Answers.{IsOwnList};
+ghost use Rattle.property_requests.specs.Arrays.{AreKeys};
 ghost use Rattle.property_requests.specs.Owning.{part_in, HasParts, own_label};
 
+use crate::arrays::{Element, make_array};
 use crate::bodies::{function_value, getter_in, marks_value, setter_in, value_in};
 use crate::parts::{join, place_of, undefined};
 use flow_frames::FlowFault;
 use flow_text::OutOfMemory;
-use js_values::{Key, Labelled, ObjId, Slot, Value};
+use js_number::Primitive;
+use js_values::{Key, KeyRow, Labelled, ObjId, Slot, Value};
 use native_protocol::ErrorKind;
 use origin_labels::Labels;
 use property_access::throw_error;
-use run_state::{Leaving, Outcome, World};
+use prototype_walk::{KeyList, own_keys as list_own_keys};
+use run_state::{Outcome, World};
 use std::alloc::Global;
 
 /// What is known of an own property. All of it is undefined where there is none.
@@ -62,23 +67,105 @@ pub fn own_property<T: Copy, L: Labels<Label = T>>(
     Ok(Outcome::Goes(known))
 }
 
-/// The own keys of an object as an array. Arrays aren't built yet, so the run leaves; a primitive base throws a TypeError.
+/// The own keys of an object as an array (ECMA-262 15.2.3.4, 15.2.3.14): all, or the enumerable ones. The reference to it depends on which there are, and on their
+/// marks. A primitive base throws a TypeError.
 pub fn own_keys<T: Copy, L: Labels<Label = T>>(
+    alloc: Global,
     labels: &mut L,
     world: &mut World<T>,
     base: &Labelled<T>,
+    all: bool,
 ) -> Result<Outcome<Labelled<T>, T>, FlowFault<T>>
     requires base { L.made labels.old base.now.label }
     requires belongs { Belongs L.made L.meaning labels.old world.old }
-    ensures acts { (tables : Tables) (inputs : Given) (all : Bool) → Acts L.made L.meaning labels.new (λ reading. read_value reading) (λ reading. act tables inputs (operations.own_keys all) (read_value reading base.now ∷ [])) world.old world.new result }
+    ensures acts { (tables : Tables) (inputs : Given) → Acts L.made L.meaning labels.new (λ reading. read_value reading) (λ reading. act tables inputs (operations.own_keys all) (read_value reading base.now ∷ [])) world.old world.new result }
     ensures made { HasAnswer (HasValue (L.made labels.new)) (L.made labels.new) result }
     ensures belongs { Belongs L.made L.meaning labels.new world.new }
     ensures grows { Grows world.old world.new }
     ensures kept { IsKept L.made L.meaning L.room L.firm labels.old labels.new }
 {
-    match base.value {
-        Value::Primitive(_) => throw_error(labels, world, ErrorKind::TypeError, base.label),
-        Value::Object(_) => Ok(Outcome::Leaves(Leaving::Unbuilt)),
+    let Value::Object(o) = base.value else {
+        return throw_error(labels, world, ErrorKind::TypeError, base.label);
+    };
+    let list = keys_of(alloc, labels, world, o, all)?;
+    let label = join(labels, base.label, list.walk)?;
+    let elements = elements_of(alloc, labels, list.keys.items())?;
+    let count = count_of(&elements)?;
+    let array = make_array(alloc, labels, world, count, elements)?;
+    Ok(Outcome::Goes(Labelled {
+        value: array.value,
+        label,
+    }))
+}
+
+/// The own keys of an object. One that isn't there has none.
+fn keys_of<T: Copy, L: Labels<Label = T>>(
+    alloc: Global,
+    labels: &mut L,
+    world: &World<T>,
+    o: ObjId,
+    all: bool,
+) -> Result<KeyList<T>, OutOfMemory>
+    requires { Belongs L.made L.meaning labels.old world.now }
+    ensures keys { IfOk result (IsOwnList L.made L.meaning labels.new world.now.heap o.0 all) }
+    ensures kept { IsKept L.made L.meaning L.room L.firm labels.old labels.new }
+{
+    if o.0 < world.heap.len() {
+        return list_own_keys(alloc, &world.heap, labels, o, all);
+    }
+    Ok(KeyList {
+        keys: KeyRow::new(alloc),
+        walk: labels.bottom(),
+    })
+}
+
+/// Elements that are the texts of keys, which depend on nothing.
+fn elements_of<T: Copy, L: Labels<Label = T>>(
+    alloc: Global,
+    labels: &L,
+    keys: &[Key],
+) -> Result<Vec<Element<T>>, OutOfMemory>
+    ensures { IfOk result (λ elements. AreKeys L.made L.meaning labels.now keys.now elements.items) }
+{
+    let mut elements = Vec::new(alloc);
+    for key in keys {
+        add_key(alloc, labels, key, &mut elements)?;
+    }
+    Ok(elements)
+}
+
+/// Appends the text of a key as an element, behind those that are there.
+fn add_key<T: Copy, L: Labels<Label = T>>(
+    alloc: Global,
+    labels: &L,
+    key: &Key,
+    elements: &mut Vec<Element<T>>,
+) -> Result<(), OutOfMemory>
+    ensures { OnOk result ((keys : List (List ℕ)) → AreKeys L.made L.meaning labels.now keys elements.old.items → AreKeys L.made L.meaning labels.now (keys ++ key.now ∷ []) elements.new.items) }
+{
+    let place = number_of(elements.len())?;
+    let text = key.text().copy(alloc)?;
+    let value = Labelled {
+        value: Value::Primitive(Primitive::Str(text)),
+        label: labels.bottom(),
+    };
+    elements.push(Element { place, value })?;
+    Ok(())
+}
+
+/// How many elements there are.
+fn count_of<T>(elements: &[Element<T>]) -> Result<u32, OutOfMemory>
+    ensures { IfOk result (λ n. n ≡ length elements.now) }
+{
+    number_of(elements.len())
+}
+
+fn number_of(n: usize) -> Result<u32, OutOfMemory>
+    ensures { IfOk result (λ m. m ≡ n) }
+{
+    match u32::try_from(n) {
+        Ok(n) => Ok(n),
+        Err(_) => Err(OutOfMemory),
     }
 }
 

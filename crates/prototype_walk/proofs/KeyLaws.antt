@@ -1,6 +1,7 @@
 -- Enumerations, row by row and object by object, in a reading of the labels.
 use Rattle.std.proofs.Common.{◌≡◌, ℕ, zero, suc, ◌+◌, Bool, true, false, ◌&&◌, ◌||◌, not, List, [], ◌∷◌, ◌++◌, drop, Option, Some, None, refl, sym, ap, ◌∙◌, arith, if◌then◌else◌}
 use Rattle.std.specs.List.{slice_get}
+use Rattle.std.specs.Option.{option_map}
 use Rattle.std.specs.Ordering.{nat_cmp}
 use Rattle.std.specs.Cmp.Lexicographic.{slice_cmp}
 use Rattle.std.specs.BTreeSet.{insert_key}
@@ -19,8 +20,9 @@ use Rattle.js_values.specs.Walks.{object_chain}
 use Rattle.js_values.proofs.ReadingLaws.{IsReading-earlier}
 use Rattle.object_heap.specs.declared.shape.Shape.{Shape}
 use Rattle.object_heap.specs.Formed.{IsFormed, row_in, IsShape}
-use Rattle.prototype_walk.specs.KeyLists.{fresh_keys, existences, Keys, keys_after, keys, rows_in}
-use Rattle.prototype_walk.specs.Answers.{Means, IsKeyList}
+use Rattle.prototype_walk.specs.declared.key_list.KeyList.{KeyList}
+use Rattle.prototype_walk.specs.KeyLists.{fresh_keys, listed_keys, own_keys_label, existences, Keys, keys_after, keys, rows_in}
+use Rattle.prototype_walk.specs.Answers.{Means, IsKeyList, IsOwnList}
 use Rattle.prototype_walk.proofs.HeldLaws.{HasShape, shape_there}
 use Rattle.prototype_walk.proofs.MetLaws.{has_append, meets_key}
 use Rattle.prototype_walk.proofs.WalkLaws.{chain_at}
@@ -68,6 +70,39 @@ module _ {T : Type 0} (o : Option (Object T)) (n : ℕ) (done all : List (List �
 
   pub fresh_all : (met : List (List ℕ)) → None ≡ row_in n o → done ++ fresh_keys met (drop n (rows_in o)) ≡ all → done ≡ all
   fresh_all met is same = sym (append-nil done) ∙ ap (λ rs. done ++ fresh_keys met rs) (sym (rows_end o n is)) ∙ same
+
+-- the own keys, row by row
+listed_first : {T : Type 0} (all : Bool) (r : List ℕ × Slot T) (rows : Rows (Slot T)) → listed_keys all (r ∷ rows) ≡ listed_keys all (r ∷ []) ++ listed_keys all rows
+listed_first all r rows = one (all || r.1.marks.enumerable)
+  where
+    one : (test : Bool) → (if test then r.0 ∷ listed_keys all rows else listed_keys all rows) ≡ (if test then r.0 ∷ [] else []) ++ listed_keys all rows
+    one true = refl
+    one false = refl
+
+module _ {T : Type 0} (o : Option (Object T)) (n : ℕ) (done whole : List (List ℕ)) (all : Bool) where
+  pub listed_on : (new : List (List ℕ)) (r : List ℕ × Slot T) → Some r ≡ row_in n o → new ≡ done ++ listed_keys all (r ∷ []) → done ++ listed_keys all (drop n (rows_in o)) ≡ whole → new ++ listed_keys all (drop (n + 1) (rows_in o)) ≡ whole
+  listed_on new r is grows same =
+      let rest = listed_keys all (drop (n + 1) (rows_in o)) in
+      ap (λ ks. ks ++ rest) grows ∙ append_assoc done (listed_keys all (r ∷ [])) rest
+      ∙ ap (λ ks. done ++ ks) (sym (listed_first all r (drop (n + 1) (rows_in o)))) ∙ ap (λ rs. done ++ listed_keys all rs) (sym (rows_more o n r is)) ∙ same
+
+  pub listed_all : None ≡ row_in n o → done ++ listed_keys all (drop n (rows_in o)) ≡ whole → done ≡ whole
+  listed_all is same = sym (append-nil done) ∙ ap (λ rs. done ++ listed_keys all rs) (sym (rows_end o n is)) ∙ same
+
+-- the own keys, with their label
+pub own_listed : {S T : Type 0} (made : S → T → Type 0) (meaning : S → T → Label) (store : S) (heap : List (Object T)) (o : ℕ) (all : Bool) (list : KeyList T) (shape : Shape T) → IsShape (slice_get heap o) shape → list.keys ≡ listed_keys all (rows_in (slice_get heap o))
+    → Means made meaning store list.walk (λ reading. union (reading shape.structure) (existences (read_rows reading (rows_in (slice_get heap o))))) → IsOwnList made meaning store heap o all list
+own_listed made meaning store heap o all list shape is keys means =
+    let there = shape_there heap o shape is in
+    record {
+      belongs = means.belongs;
+      keys = keys;
+      is = λ reading read.
+          means.is reading read
+          ∙ ap (λ (q : Shape _). union (reading q.structure) (existences (read_rows reading (rows_in (slice_get heap o))))) there.is
+          ∙ ap (λ p. union (reading there.object.structure) (existences (read_rows reading (rows_in p)))) there.here
+          ∙ ap (λ p. own_keys_label (option_map (read_object reading) p)) (sym there.here);
+    }
 
 -- the same keys are met
 abbrev pub MeetSame : List (List ℕ) → List (List ℕ) → Type 0

@@ -91,6 +91,9 @@ module _ {T : Type 0} (made : T → Type 0) (reading : T → Label) (read : (lab
   pub IsLabel-walk : (i : ℕ) → IsLabel (find key (object_chain (read_heap reading heap) i)).walk
   IsLabel-walk i = label_within (suc i) i
 
+  pub IsLabel-onwards : (o : Option ℕ) → IsLabel (find key (onwards o (object_chain (read_heap reading heap)))).walk
+  IsLabel-onwards o = label_onwards (object_chain (read_heap reading heap)) IsLabel-walk o
+
 -- ---- a walk that has come to an object
 
 -- what is found there, at the end of a walk with this label

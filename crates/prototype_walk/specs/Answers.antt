@@ -1,11 +1,11 @@
 -- What a call on a walk answers, in the labels of a store.
-use Rattle.std.specs.Prelude.{◌≡◌, ℕ, List, Option, IfSome}
+use Rattle.std.specs.Prelude.{◌≡◌, ℕ, Bool, List, Option, IfSome, slice_get}
 use Rattle.std.specs.Option.{option_map}
 use Rattle.origin_labels.specs.Label.{Label}
 use Rattle.js_values.specs.declared.ids.ObjId.{ObjId}
 use Rattle.js_values.specs.declared.property.Slot.{Slot}
 use Rattle.js_values.specs.Objects.{Object, number_of}
-use Rattle.js_values.specs.Readings.{IsReading, HasSlot, read_slot, read_heap}
+use Rattle.js_values.specs.Readings.{IsReading, HasSlot, read_slot, read_object, read_heap}
 use Rattle.js_values.specs.Walks as walks
 use Rattle.js_values.specs.Walks.{object_chain}
 use Rattle.prototype_walk.specs.declared.found.Found.{Found}
@@ -13,7 +13,7 @@ use Rattle.prototype_walk.specs.declared.plan.PutPlan.{PutPlan}
 use Rattle.prototype_walk.specs.declared.plan.PutPlan.TheVariants.{Write, Add, Setter, Refused}
 use Rattle.prototype_walk.specs.declared.key_list.KeyList.{KeyList}
 use Rattle.prototype_walk.specs.KeyLists as lists
-use Rattle.prototype_walk.specs.KeyLists.{keys}
+use Rattle.prototype_walk.specs.KeyLists.{keys, listed_keys, own_keys_label, rows_in}
 
 -- ---- labels
 
@@ -33,6 +33,12 @@ pub record IsPlace {S T : Type 0} (made : S → T → Type 0) (meaning : S → T
   pub belongs : made store walk
   pub slot : IfSome at (λ f. HasSlot (made store) f.1)
   pub is : (reading : T → Label) → IsReading made meaning store reading → read_place reading at walk ≡ walks.find key (object_chain (read_heap reading heap) o)
+
+-- a walk like this one ends at this property, or finds none
+pub record IsFoundFor {S T : Type 0} (made : S → T → Type 0) (meaning : S → T → Label) (store : S) (means : (T → Label) → walks.Found) (at : Option (ObjId × Slot T)) (walk : T) : Type 0 where
+  pub belongs : made store walk
+  pub slot : IfSome at (λ f. HasSlot (made store) f.1)
+  pub is : (reading : T → Label) → IsReading made meaning store reading → read_place reading at walk ≡ means reading
 
 -- the object at which the key is found, with the label of the walk to it
 pub record IsFound {S T : Type 0} (made : S → T → Type 0) (meaning : S → T → Label) (store : S) (heap : List (Object T)) (o : ℕ) (key : List ℕ) (found : Found T) : Type 0 where
@@ -69,3 +75,9 @@ read_keys reading list = record { keys = list.keys; walk = reading list.walk }
 pub record IsKeyList {S T : Type 0} (made : S → T → Type 0) (meaning : S → T → Label) (store : S) (heap : List (Object T)) (o : ℕ) (list : KeyList T) : Type 0 where
   pub belongs : made store list.walk
   pub is : (reading : T → Label) → IsReading made meaning store reading → read_keys reading list ≡ keys (object_chain (read_heap reading heap) o)
+
+-- the keys are own ones of the object: all, or the enumerable ones
+pub record IsOwnList {S T : Type 0} (made : S → T → Type 0) (meaning : S → T → Label) (store : S) (heap : List (Object T)) (o : ℕ) (all : Bool) (list : KeyList T) : Type 0 where
+  pub belongs : made store list.walk
+  pub keys : list.keys ≡ listed_keys all (rows_in (slice_get heap o))
+  pub is : (reading : T → Label) → IsReading made meaning store reading → reading list.walk ≡ own_keys_label (option_map (read_object reading) (slice_get heap o))

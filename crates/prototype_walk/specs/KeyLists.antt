@@ -1,6 +1,6 @@
 -- The keys that `for in` takes (ECMA-262 12.6.4): the enumerable ones in order of insertion, the object's own first, then those of each prototype. A key
 -- that was met nearer to the object, enumerable or not, is not taken again.
-use Rattle.std.specs.Prelude.{ℕ, ◌&&◌, not, List, [], ◌∷◌, ◌++◌, Option, Some, None, if◌then◌else◌}
+use Rattle.std.specs.Prelude.{ℕ, Bool, ◌&&◌, ◌||◌, not, List, [], ◌∷◌, ◌++◌, Option, Some, None, if◌then◌else◌}
 use Rattle.origin_labels.specs.Label.{Label, bottom, union}
 use Rattle.origin_labels.specs.Names.{has_name}
 use Rattle.js_values.specs.declared.property.Slot.{Slot}
@@ -33,7 +33,19 @@ keys_after met (e ∷ objects) = record {
 abbrev pub keys : List (ℕ × Object Label) → Keys
 keys objects = keys_after [] objects
 
+-- the own keys in their order: all, or the enumerable ones (15.2.3.4, 15.2.3.14)
+abbrev pub listed_keys : {T : Type 0} → Bool → Rows (Slot T) → List (List ℕ)
+listed_keys all [] = []
+listed_keys all (r ∷ rows) = if all || r.1.marks.enumerable then r.0 ∷ listed_keys all rows else listed_keys all rows
+
 -- the properties of an object that there may be
 abbrev pub rows_in : {T : Type 0} → Option (Object T) → Rows (Slot T)
 rows_in None = []
 rows_in (Some p) = p.rows
+
+-- ---- the own keys of an object
+
+-- they depend on which there are, and on the being there of each
+abbrev pub own_keys_label : Option (Object Label) → Label
+own_keys_label None = bottom
+own_keys_label (Some p) = union p.structure (existences p.rows)

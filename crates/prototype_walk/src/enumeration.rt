@@ -6,8 +6,8 @@ ghost use Rattle.origin_labels.specs.Names.{has_name};
 ghost use Rattle.origin_labels.specs.Stores.{IsKept};
 ghost use Rattle.js_values.specs.Objects.{keys_of};
 ghost use Rattle.js_values.specs.Readings.{HasHeap, read_rows};
-ghost use Rattle.prototype_walk.specs.KeyLists.{fresh_keys, existences, rows_in};
-ghost use Rattle.prototype_walk.specs.Answers.{Means, IsKeyList};
+ghost use Rattle.prototype_walk.specs.KeyLists.{fresh_keys, existences, listed_keys, rows_in};
+ghost use Rattle.prototype_walk.specs.Answers.{Means, IsKeyList, IsOwnList};
 
 use crate::key_list::KeyList;
 use crate::walk::{join, pass};
@@ -48,6 +48,63 @@ pub fn keys<T: Copy, L: Labels<Label = T>>(
             None => return Ok(KeyList { keys, walk }),
         }
     }
+}
+
+/// The own keys of an object in their order (ECMA-262 15.2.3.4, 15.2.3.14): all, or the enumerable ones. The label is that of its structure and of the existence
+/// of all its properties.
+pub fn own_keys<T: Copy, L: Labels<Label = T>>(
+    alloc: Global,
+    heap: &Heap<T>,
+    labels: &mut L,
+    o: ObjId,
+    all: bool,
+) -> Result<KeyList<T>, OutOfMemory>
+    requires there { o.0 < length heap.now }
+    requires belongs { HasHeap (L.made labels.old) heap.now }
+    ensures keys { IfOk result (IsOwnList L.made L.meaning labels.new heap.now o.0 all) }
+    ensures kept { IsKept L.made L.meaning L.room L.firm labels.old labels.new }
+{
+    let keys = list_own(alloc, heap, o, all)?;
+    let shape = heap.shape(o);
+    let walk = join_existences(heap, labels, o, shape.structure)?;
+    Ok(KeyList { keys, walk })
+}
+
+/// The own keys of an object: all, or the enumerable ones.
+fn list_own<T: Copy>(
+    alloc: Global,
+    heap: &Heap<T>,
+    o: ObjId,
+    all: bool,
+) -> Result<KeyRow, OutOfMemory>
+    requires { o.0 < length heap.now }
+    ensures { IfOk result (λ keys. keys ≡ listed_keys all (rows_in (slice_get heap.now o.0))) }
+{
+    let mut keys = KeyRow::new(alloc);
+    for n in 0..usize::MAX {
+        let Some((key, slot)) = heap.own_at(o, n) else {
+            return Ok(keys);
+        };
+        take_own(alloc, key, slot, all, &mut keys)?;
+    }
+    // No object has so many properties.
+    Err(OutOfMemory)
+}
+
+/// Appends a key, if it is enumerable or all are listed.
+fn take_own<T: Copy>(
+    alloc: Global,
+    key: &Key,
+    slot: &Slot<T>,
+    all: bool,
+    keys: &mut KeyRow,
+) -> Result<(), OutOfMemory>
+    ensures { OnOk result (keys.new ≡ keys.old ++ listed_keys all ((key.now, slot.now) ∷ [])) }
+{
+    if all || slot.marks.enumerable {
+        keys.push(key.copy(alloc)?)?;
+    }
+    Ok(())
 }
 
 /// Appends the enumerable keys of an object that weren't met.

@@ -3,6 +3,7 @@ use Rattle.std.specs.Prelude.{◌≡◌, ◌≤◌, ℕ, List, map, length}
 use Rattle.origin_labels.specs.Label.{Label}
 use Rattle.flow_frames.specs.Held.{Belong, CatchByTry, seen_frame}
 use Rattle.js_values.specs.Readings.{HasHeap, HasRecords, read_heap, read_records}
+use Rattle.es_meaning.specs.Start.{start_heap}
 use Rattle.flow_meaning.specs.Scopes.{LabelledLine, State}
 use Rattle.run_state.specs.declared.world.World.{World}
 
@@ -23,7 +24,7 @@ pub record Belongs {S T : Type 0} (made : S → T → Type 0) (meaning : S → T
   pub catch : CatchByTry w.frames.frames
   pub heap : HasHeap (made store) w.heap
   pub records : HasRecords (made store) w.records
-  pub started : 16 ≤ length w.heap
+  pub started : length start_heap ≤ length w.heap
 
 -- nothing that was there is gone
 pub record Grows {T : Type 0} (old new : World T) : Type 0 where

@@ -4,5 +4,5 @@
 mod outcome;
 mod world;
 
-pub use outcome::{Access, Leaving, Named, Outcome, Place, Putting};
+pub use outcome::{Access, Defining, Leaving, Named, Outcome, Place, Putting, SetLength};
 pub use world::World;

@@ -2,6 +2,7 @@
 
 use flow_text::Text;
 use js_values::{EnvId, Labelled, ObjId};
+use native_protocol::GivenMarks;
 
 /// What an act comes to, where no flow rule stops it and there is memory.
 #[derive(Drop)]
@@ -25,7 +26,8 @@ pub enum Access<T> {
     },
 }
 
-/// What a put comes to (ECMA-262 8.12.5): it is done; or a setter is called with this `this` in a frame that has the label.
+/// What a put comes to (ECMA-262 8.12.5): it is done; a setter is called with this `this` in a frame that has the label; or the `length` of an array is set, by a
+/// base, a key and a walk with this label.
 #[derive(Drop)]
 pub enum Putting<T> {
     Put,
@@ -34,6 +36,31 @@ pub enum Putting<T> {
         function: ObjId,
         this: Labelled<T>,
     },
+    Length {
+        label: T,
+        array: ObjId,
+    },
+}
+
+/// What a definition comes to: it is done, and depends on this label; or the `length` of an array is given a value beside these attributes, by a base and a key
+/// with this label.
+#[derive(Clone, Copy)]
+pub enum Defining<T> {
+    Defined {
+        label: T,
+    },
+    Length {
+        label: T,
+        array: ObjId,
+        marks: GivenMarks,
+    },
+}
+
+/// How the `length` of an array is set (ECMA-262 15.4.5.1): by a put, or by a definition that gives these attributes besides.
+#[derive(Clone, Copy, Debug, PartialEq, Eq)]
+pub enum SetLength {
+    Put,
+    Define(GivenMarks),
 }
 
 /// Why a run leaves the language.

@@ -21,8 +21,6 @@ mod told;
 #[cfg(test)]
 mod trees;
 #[cfg(test)]
-mod unbuilt;
-#[cfg(test)]
 mod whole_trees;
 
 fn main(_rt: HostRuntime) {}

@@ -64,6 +64,12 @@ const RUNS: &[Run] = &[
     (
         "print(\"pub\", read(\"note\") + read(\"note\") + \"x\");",
         "",
+        "pub NaNx\n! done\n",
+        Status::Done,
+    ),
+    (
+        "print(\"pub\", read(\"note\") / 2);",
+        "note 1\n",
         "! left number\n",
         Status::Left,
     ),
@@ -335,7 +341,7 @@ const BUILT_INS: &[Run] = &[
         "! stopped W6 need A have -\n",
         Status::Stopped,
     ),
-    ("Object.freeze({});", "", "! left unbuilt\n", Status::Left),
+    ("Object.freeze({});", "", "! done\n", Status::Done),
 ];
 
 // Scripts with functions, exceptions and jumps.
@@ -422,21 +428,17 @@ const REFUSED: &[Report] = &[
     ("var yield;", "! source StrictWord at 1:5\n"),
 ];
 
-// Programs with a node that can't be run so far, and the report of a run.
-const UNBUILT: &[Report] = &[
-    ("print(\"pub\", [1]);", "! source Unbuilt at 1:14\n"),
-    ("x.y = [];", "! source Unbuilt at 1:7\n"),
-    ("delete [];", "! source Unbuilt at 1:8\n"),
+// Array literals, and what a run prints.
+const ARRAYS: &[Report] = &[
     (
-        "function f() { return [lbl]; }",
-        "! source Unbuilt at 1:23\n",
+        "var a = [1, , 2]; print(\"pub\", a.length + \"\" + (1 in a) + a[2]);",
+        "pub 3false2\n! done\n",
     ),
-    ("({ get a() { return [] } });", "! source Unbuilt at 1:21\n"),
     (
-        "print(\"pub\", \"a\");\nx.y[[]];",
-        "! source Unbuilt at 2:5\n",
+        "var a = []; a[4] = 1; a.length = 2; print(\"pub\", \"\" + a.length);",
+        "pub 2\n! done\n",
     ),
-    ("if (1) ; else {\n  x([]);\n}", "! source Unbuilt at 2:5\n"),
+    ("[].length = -1;", "! threw object Error RangeError\n"),
 ];
 
 // A policy, and what a run of the empty script under it writes.
@@ -555,15 +557,19 @@ fn refused_sources(rt: HostRuntime) {
     }
 }
 
-// A check accepts what a run can't do yet.
 #[test]
-fn unbuilt_sources(rt: HostRuntime) {
+fn arrays(rt: HostRuntime) {
     let alloc = rt.alloc();
-    for (script, report) in UNBUILT {
-        let ran = runs(alloc, *script, POLICY, "", *report, Status::Source);
-        assert!(rt; holds(ran), "{script}");
-        let checked = checks(alloc, *script, "! accepted\n", Status::Done);
-        assert!(rt; holds(checked), "{script}");
+    for (script, bytes) in ARRAYS {
+        let status = if bytes.ends_with("done\n") {
+            Status::Done
+        } else {
+            Status::Threw
+        };
+        assert!(rt;
+            holds(runs(alloc, *script, POLICY, "", *bytes, status)),
+            "{script}"
+        );
     }
 }
 

@@ -4,7 +4,7 @@ ghost use Rattle.js_values.specs.Readings.{HasHeap};
 use crate::told::holds;
 use flow_frames::Rule;
 use flow_text::{OutOfMemory, Text};
-use js_number::{Int, Primitive};
+use js_number::{Int, Num, Primitive};
 use js_values::{Body, Class, Key, Labelled, Marks, ObjId, Value};
 use object_heap::*;
 use origin_labels::{Labels, Masks};
@@ -53,7 +53,7 @@ fn marks(writable: bool) -> Marks {
 
 fn number(n: i64) -> Value {
     match Int::new(n) {
-        Some(n) => Value::Primitive(Primitive::Num(n)),
+        Some(n) => Value::Primitive(Primitive::Num(Num::Int(n))),
         None => Value::Primitive(Primitive::Null),
     }
 }

@@ -315,10 +315,15 @@ type Pair = (
     Option<&'static str>,
 );
 
-// `node -e 'console.log(a === b, a == b, a < b, a + b)'`, and None where a text or undefined is converted and gives no integer.
+// `node -e 'console.log(a === b, a == b, a < b, a + b)'`, with None where an operand of the order is NaN, and where a number leaves.
 const PAIRS: &[Pair] = &[
-    ("undefined", "undefined", (true, Some(true), None), None),
-    ("undefined", "null", (false, Some(true), None), None),
+    (
+        "undefined",
+        "undefined",
+        (true, Some(true), None),
+        Some("NaN"),
+    ),
+    ("undefined", "null", (false, Some(true), None), Some("NaN")),
     ("null", "null", (true, Some(true), Some(false)), Some("0")),
     ("null", "0", (false, Some(false), Some(false)), Some("0")),
     ("0", "null", (false, Some(false), Some(false)), Some("0")),
@@ -328,8 +333,8 @@ const PAIRS: &[Pair] = &[
         (false, Some(false), Some(false)),
         Some("0"),
     ),
-    ("undefined", "0", (false, Some(false), None), None),
-    ("undefined", "true", (false, Some(false), None), None),
+    ("undefined", "0", (false, Some(false), None), Some("NaN")),
+    ("undefined", "true", (false, Some(false), None), Some("NaN")),
     ("true", "true", (true, Some(true), Some(false)), Some("2")),
     (
         "true",
@@ -371,8 +376,8 @@ const PAIRS: &[Pair] = &[
 ];
 
 const MORE_PAIRS: &[Pair] = &[
-    ("'B", "1", (false, None, None), Some("'B1")),
-    ("true", "'b", (false, None, None), Some("'trueb")),
+    ("'B", "1", (false, Some(false), None), Some("'B1")),
+    ("true", "'b", (false, Some(false), None), Some("'trueb")),
     (
         "'",
         "null",
@@ -429,26 +434,36 @@ const CONVERSIONS: &[(&str, bool, Option<i64>, &str)] = &[
     ("' x", true, None, " x"),
 ];
 
-fn value(answer: Result<Int, LeftNumbers>) -> Option<i64> {
+// The integer that an answer is: NaN is none, and neither is one that leaves.
+fn value(answer: Result<Num, LeftNumbers>) -> Option<i64> {
     match answer {
-        Ok(n) => Some(n.get()),
+        Ok(n) => {
+            if n == Num::Nan {
+                None
+            } else {
+                Some(n.to_integer())
+            }
+        }
         Err(LeftNumbers) => None,
     }
 }
 
+// An integer is copied where it is used again, and made a number at each use.
 fn arithmetic(a: Int, b: Int) -> [Option<i64>; 5] {
     [
-        value(add(a, b)),
-        value(sub(a, b)),
-        value(mul(a, b)),
-        value(div(a, b)),
-        value(rem(a, b)),
+        value(add(Num::Int(a), Num::Int(b))),
+        value(sub(Num::Int(a), Num::Int(b))),
+        value(mul(Num::Int(a), Num::Int(b))),
+        value(div(Num::Int(a), Num::Int(b))),
+        value(rem(Num::Int(a), Num::Int(b))),
     ]
 }
 
 fn is_arithmetic(a: i64, b: i64, wanted: &[Option<i64>]) -> bool {
     match (Int::new(a), Int::new(b)) {
-        (Some(a), Some(b)) => arithmetic(a, b).as_slice() == wanted && negate(a).get() == -a.get(),
+        (Some(m), Some(n)) => {
+            arithmetic(m, n).as_slice() == wanted && negate(Num::Int(m)).to_integer() == -a
+        }
         _ => false,
     }
 }
@@ -463,20 +478,23 @@ fn arithmetic_of_two(rt: HostRuntime) {
 
 fn bits(a: Int, b: Int) -> [i64; 7] {
     [
-        shift_left(a, b).get(),
-        shift_right(a, b).get(),
-        shift_zero(a, b).get(),
-        bit_and(a, b).get(),
-        bit_or(a, b).get(),
-        bit_xor(a, b).get(),
-        bit_not(a).get(),
+        shift_left(Num::Int(a), Num::Int(b)).to_integer(),
+        shift_right(Num::Int(a), Num::Int(b)).to_integer(),
+        shift_zero(Num::Int(a), Num::Int(b)).to_integer(),
+        bit_and(Num::Int(a), Num::Int(b)).to_integer(),
+        bit_or(Num::Int(a), Num::Int(b)).to_integer(),
+        bit_xor(Num::Int(a), Num::Int(b)).to_integer(),
+        bit_not(Num::Int(a)).to_integer(),
     ]
 }
 
+fn zero(a: Int) -> Num {
+    bit_xor(Num::Int(a), Num::Int(a))
+}
+
 fn has_both_integers(a: Int) -> bool {
-    let zero = bit_xor(a, a);
-    i64::from(to_int32(a)) == bit_or(a, zero).get()
-        && i64::from(to_uint32(a)) == shift_zero(a, zero).get()
+    i64::from(to_int32(Num::Int(a))) == bit_or(Num::Int(a), zero(a)).to_integer()
+        && i64::from(to_uint32(Num::Int(a))) == shift_zero(Num::Int(a), zero(a)).to_integer()
 }
 
 fn has_bits(a: i64, b: i64, wanted: &[i64; 7]) -> bool {
@@ -577,7 +595,11 @@ fn number_or_undefined(text: &Text) -> Result<Primitive, OutOfMemory> {
 }
 
 fn compared(x: &Primitive, y: &Primitive) -> (bool, Option<bool>, Option<bool>) {
-    (strict_equal(x, y), loose_equal(x, y).ok(), less(x, y).ok())
+    let less = match less(x, y) {
+        Ok(less) => less,
+        Err(LeftNumbers) => None,
+    };
+    (strict_equal(x, y), loose_equal(x, y).ok(), less)
 }
 
 // Whether the sum is the value that this spells; with none, the operands leave the numbers.
@@ -636,7 +658,7 @@ fn converts(
 
 fn is_number_spelled(alloc: Global, n: i64, spelling: &str) -> Result<bool, OutOfMemory> {
     match Int::new(n) {
-        Some(n) => Ok(number_to_text(alloc, n)? == Text::spelled(alloc, spelling)?),
+        Some(n) => Ok(number_to_text(alloc, Num::Int(n))? == Text::spelled(alloc, spelling)?),
         None => Ok(false),
     }
 }

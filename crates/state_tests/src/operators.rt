@@ -8,7 +8,7 @@ use env_records::Envs;
 use flow_frames::{FlowFault, Frames};
 use flow_text::{OutOfMemory, Text};
 use js_ast::{BinaryOperator, UnaryOperator};
-use js_number::{Int, Primitive};
+use js_number::{Int, Num, Primitive};
 use js_values::{Class, Inner, Labelled, ObjId, Value};
 use object_heap::Heap;
 use origin_labels::{Labels, Masks};
@@ -32,6 +32,7 @@ enum Given {
     Text(&'static str),
     Number(i64),
     Bool(bool),
+    Nan,
     Object,
     Undefined,
 }
@@ -70,7 +71,11 @@ const FRONTS: &[Front] = &[
         Wanted::Gives(Given::Text("function")),
     ),
     (UnaryOperator::Plus, Given::Object, Wanted::Converts),
-    (UnaryOperator::Plus, Given::Undefined, Wanted::NoNumber),
+    (
+        UnaryOperator::Plus,
+        Given::Undefined,
+        Wanted::Gives(Given::Nan),
+    ),
 ];
 
 // The same of an operator between two values.
@@ -121,7 +126,7 @@ const ORDERS: &[Middle] = &[
         Given::Undefined,
         BinaryOperator::Multiply,
         Given::Number(2),
-        Wanted::NoNumber,
+        Wanted::Gives(Given::Nan),
     ),
     (
         Given::Object,
@@ -170,7 +175,7 @@ fn text(alloc: Global, spelling: &str) -> Result<Value, OutOfMemory> {
 
 fn number(n: i64) -> Value {
     match Int::new(n) {
-        Some(n) => Value::Primitive(Primitive::Num(n)),
+        Some(n) => Value::Primitive(Primitive::Num(Num::Int(n))),
         None => Value::Primitive(Primitive::Null),
     }
 }
@@ -180,6 +185,7 @@ fn value_of(alloc: Global, given: Given) -> Result<Value, OutOfMemory> {
         Given::Text(spelling) => text(alloc, spelling),
         Given::Number(n) => Ok(number(n)),
         Given::Bool(b) => Ok(Value::Primitive(Primitive::Bool(b))),
+        Given::Nan => Ok(Value::Primitive(Primitive::Num(Num::Nan))),
         Given::Object => Ok(Value::Object(ObjId(0))),
         Given::Undefined => Ok(Value::Primitive(Primitive::Undefined)),
     }

@@ -4,7 +4,7 @@ ghost use Rattle.js_values.specs.Readings.{HasRecords};
 use crate::told::holds;
 use env_records::*;
 use flow_text::{OutOfMemory, Text};
-use js_number::{Int, Primitive};
+use js_number::{Int, Num, Primitive};
 use js_values::{EnvId, Labelled, Value};
 use origin_labels::{Labels, Masks};
 use std::alloc::Global;
@@ -32,7 +32,7 @@ fn number<T: Copy>(n: i64, label: T) -> Labelled<T>
     ensures { result.label ≡ label }
 {
     let value = match Int::new(n) {
-        Some(n) => Value::Primitive(Primitive::Num(n)),
+        Some(n) => Value::Primitive(Primitive::Num(Num::Int(n))),
         None => Value::Primitive(Primitive::Null),
     };
     Labelled { value, label }
@@ -199,7 +199,7 @@ fn found<T: Copy>(envs: &Envs<T>, e: EnvId, name: &Text) -> Option<(EnvId, usize
 {
     let place = envs.find(e, name)?;
     match &envs.read_at(place).value {
-        Value::Primitive(Primitive::Num(n)) => Some((place.record, place.place, n.get())),
+        Value::Primitive(Primitive::Num(Num::Int(n))) => Some((place.record, place.place, n.get())),
         _ => None,
     }
 }

@@ -1,6 +1,6 @@
 use crate::told::holds;
 use flow_text::{OutOfMemory, Text};
-use js_number::{Int, Primitive};
+use js_number::{Int, Num, Primitive};
 use js_values::*;
 use std::alloc::Global;
 use std::test::*;
@@ -71,7 +71,7 @@ fn copies_in_lists(alloc: Global) -> Result<bool, OutOfMemory> {
 
 fn is_number_listed(alloc: Global, n: i64) -> Result<bool, OutOfMemory> {
     match Int::new(n) {
-        Some(n) => is_listed(alloc, &Value::Primitive(Primitive::Num(n))),
+        Some(n) => is_listed(alloc, &Value::Primitive(Primitive::Num(Num::Int(n)))),
         None => Ok(false),
     }
 }

@@ -82,11 +82,11 @@ module _ {S T : Type 0} (made : S → T → Type 0) (meaning : S → T → Label
 
 -- ---- what is left to do
 
-pub lower_call : {T X : Type 0} (old new : Kept T) (n : ℕ) (result : Result Control X) → IfOk result (Adds 5 old new) → IfOk result (λ move. Lowers old (control.Call n) new move)
+pub lower_call : {T X : Type 0} (old new : Kept T) (n : ℕ) (result : Result Control X) → IfOk result (Adds 7 old new) → IfOk result (λ move. Lowers old (control.Call n) new move)
 lower_call old new n (Ok move) adds = omega (arith, adds)
 lower_call old new n (Err fault) adds = tt
 
-pub lower_construction : {T X : Type 0} (old new : Kept T) (n : ℕ) (result : Result Control X) → IfOk result (Adds 5 old new) → IfOk result (λ move. Lowers old (control.Construct n) new move)
+pub lower_construction : {T X : Type 0} (old new : Kept T) (n : ℕ) (result : Result Control X) → IfOk result (Adds 7 old new) → IfOk result (λ move. Lowers old (control.Construct n) new move)
 lower_construction old new n (Ok move) adds = omega (arith, adds)
 lower_construction old new n (Err fault) adds = tt
 
@@ -95,11 +95,11 @@ pub adds_under : {T X : Type 0} (old laid new : Kept T) (n : ℕ) (result : Resu
 adds_under old laid new n (Ok move) tasks adds = let same : load laid.tasks ≡ load old.tasks = ap load tasks in omega (arith, same, adds)
 adds_under old laid new n (Err fault) tasks adds = tt
 
-pub adds_more : {T X : Type 0} (old new : Kept T) (result : Result Control X) → IfOk result (Adds 4 old new) → IfOk result (Adds 5 old new)
+pub adds_more : {T X : Type 0} (old new : Kept T) (result : Result Control X) → IfOk result (Adds 6 old new) → IfOk result (Adds 7 old new)
 adds_more old new (Ok move) adds = omega (arith, adds)
 adds_more old new (Err fault) adds = tt
 
-pub adds_running : {T X : Type 0} (old new : Kept T) (result : Result Control X) → IfOk result (Adds 1 old new) → IfOk result (Adds 4 old new)
+pub adds_running : {T X : Type 0} (old new : Kept T) (result : Result Control X) → IfOk result (Adds 1 old new) → IfOk result (Adds 6 old new)
 adds_running old new (Ok move) adds = omega (arith, adds)
 adds_running old new (Err fault) adds = tt
 

@@ -101,7 +101,7 @@ fn call_object<'p, L: Labels, N: Natives>(
     requires standing { Invariant L.made L.meaning labels.old stack.old world.old count (scopes_of stack.old.tasks) (length states.old.states) control.Value }
     ensures calls { (tables : Tables) (inputs : Given) → CallsObject L.made L.meaning labels.new tables inputs (built_ins_of (N.entries natives.now) (N.begin natives.now) (N.after natives.now) (N.asks natives.now)) (table functions.now) (waiting_steps (N.after natives.now) (N.asks natives.now) states.old) (steps_behind (N.after natives.now) (N.asks natives.now) states.new result) f label stack.old stack.new world.old world.new result }
     ensures standing { IfOk result (λ move. Invariant L.made L.meaning labels.new stack.new world.new (values_of move) (scopes_of stack.new.tasks) (length states.new.states) move) }
-    ensures adds { IfOk result (Adds 5 stack.old stack.new) }
+    ensures adds { IfOk result (Adds 7 stack.old stack.new) }
     ensures stopped { IfErr result (IfStop (HasStop (L.made labels.new))) }
     ensures grows { Grows world.old world.new }
     ensures kept { IsKept L.made L.meaning L.room L.firm labels.old labels.new }
@@ -145,7 +145,7 @@ fn call_reached<'p, L: Labels, N: Natives>(
     requires standing { Invariant L.made L.meaning labels.old stack.old world.old count (scopes_of stack.old.tasks) (length states.old.states) control.Value }
     ensures calls { (tables : Tables) (inputs : Given) → CallsBy L.made L.meaning labels.new tables inputs (built_ins_of (N.entries natives.now) (N.begin natives.now) (N.after natives.now) (N.asks natives.now)) (table functions.now) (waiting_steps (N.after natives.now) (N.asks natives.now) states.old) (steps_behind (N.after natives.now) (N.asks natives.now) states.new result) (callee_of what.entry) label o.0 stack.old stack.new world.old world.new result }
     ensures standing { IfOk result (λ move. Invariant L.made L.meaning labels.new stack.new world.new (values_of move) (scopes_of stack.new.tasks) (length states.new.states) move) }
-    ensures adds { IfOk result (Adds 5 stack.old stack.new) }
+    ensures adds { IfOk result (Adds 7 stack.old stack.new) }
     ensures stopped { IfErr result (IfStop (HasStop (L.made labels.new))) }
     ensures grows { Grows world.old world.new }
     ensures kept { IsKept L.made L.meaning L.room L.firm labels.old labels.new }
@@ -181,7 +181,7 @@ fn call_function<'p, L: Labels>(
     ensures calls { (tables : Tables) (inputs : Given) (set : BuiltIns) (ns : List Steps) → CallsBy L.made L.meaning labels.new tables inputs set (table functions.now) ns ns (callee_of what.entry) label _o.0 stack.old stack.new world.old world.new result }
     ensures quiet { IfOk result (λ move. running move ≡ 0) }
     ensures standing { IfOk result (λ move. Invariant L.made L.meaning labels.new stack.new world.new (values_of move) (scopes_of stack.new.tasks) (waiting stack.old.tasks) move) }
-    ensures adds { IfOk result (Adds 5 stack.old stack.new) }
+    ensures adds { IfOk result (Adds 7 stack.old stack.new) }
     ensures stopped { IfErr result (IfStop (HasStop (L.made labels.new))) }
     ensures grows { Grows world.old world.new }
     ensures kept { IsKept L.made L.meaning L.room L.firm labels.old labels.new }
@@ -211,7 +211,7 @@ fn go_in<'p, L: Labels>(
     ensures calls { (tables : Tables) (inputs : Given) (set : BuiltIns) (ns : List Steps) → InCall L.made L.meaning labels.new tables inputs set (table functions.now) ns (callee_of what.entry) label depth stack.old stack.new world.old world.new result }
     ensures quiet { IfOk result (λ move. running move ≡ 0) }
     ensures standing { IfOk result (λ move. Invariant L.made L.meaning labels.new stack.new world.new (values_of move) (scopes_of stack.new.tasks) (waiting stack.old.tasks) move) }
-    ensures adds { IfOk result (Adds 5 stack.old stack.new) }
+    ensures adds { IfOk result (Adds 7 stack.old stack.new) }
     ensures stopped { IfErr result (IfStop (HasStop (L.made labels.new))) }
     ensures grows { Grows world.old world.new }
     ensures kept { IsKept L.made L.meaning L.room L.firm labels.old labels.new }

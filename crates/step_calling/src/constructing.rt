@@ -67,7 +67,7 @@ pub(crate) fn construct_script<'p, L: Labels>(
     ensures constructs { (tables : Tables) (inputs : Given) (set : BuiltIns) (ns : List Steps) → InConstruction L.made L.meaning labels.new tables inputs set (table functions.now) ns (of_script number (view_function function.entry.now) place.0) _label object.0 (length world.old.heap) depth stack.old stack.new world.old world.new result }
     ensures quiet { IfOk result (λ move. running move ≡ 0) }
     ensures standing { IfOk result (λ move. Invariant L.made L.meaning labels.new stack.new world.new (values_of move) (scopes_of stack.new.tasks) (waiting stack.old.tasks) move) }
-    ensures adds { IfOk result (Adds 5 stack.old stack.new) }
+    ensures adds { IfOk result (Adds 7 stack.old stack.new) }
     ensures stopped { IfErr result (IfStop (HasStop (L.made labels.new))) }
     ensures grows { Grows world.old world.new }
     ensures kept { IsKept L.made L.meaning L.room L.firm labels.old labels.new }

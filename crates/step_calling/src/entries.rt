@@ -62,7 +62,7 @@ pub(crate) fn begin_body<'p, T: Copy>(
     ensures begins { IfOk result (StartsBody (body_of (view_function function.entry.now)) stack.old stack.new) }
     ensures quiet { IfOk result (λ move. running move ≡ 0) }
     ensures keeps { IfOk result (Keeps stack.old stack.new) }
-    ensures adds { IfOk result (Adds 4 stack.old stack.new) }
+    ensures adds { IfOk result (Adds 6 stack.old stack.new) }
 {
     let next = begin_statements(stack, body(function))?;
     if is_request(next) {
@@ -92,7 +92,7 @@ pub(crate) fn enter_script<'p, L: Labels>(
     ensures calls { (tables : Tables) (inputs : Given) (set : BuiltIns) (ns : List Steps) → InCall L.made L.meaning labels.new tables inputs set (table functions.now) ns (of_script number (view_function function.entry.now) place.0) _label depth stack.old stack.new world.old world.new result }
     ensures quiet { IfOk result (λ move. running move ≡ 0) }
     ensures standing { IfOk result (λ move. Invariant L.made L.meaning labels.new stack.new world.new (values_of move) (scopes_of stack.new.tasks) (waiting stack.old.tasks) move) }
-    ensures adds { IfOk result (Adds 5 stack.old stack.new) }
+    ensures adds { IfOk result (Adds 7 stack.old stack.new) }
     ensures stopped { IfErr result (IfStop (HasStop (L.made labels.new))) }
     ensures grows { Grows world.old world.new }
     ensures kept { IsKept L.made L.meaning L.room L.firm labels.old labels.new }

@@ -41,7 +41,7 @@ pub fn callee<'p, L: Labels>(
     requires standing { Invariant L.made L.meaning labels.old stack.old world.old (owns (continuation.Callee args) + 1) (scopes_of stack.old.tasks ++ scope_of (continuation.Callee args)) (waiting stack.old.tasks) control.Value }
     ensures resumes { (tables : Tables) (inputs : Given) (set : BuiltIns) (functions : List FunctionCode) (ns : List Steps) → Resumes L.made L.meaning labels.new tables inputs set functions (continuation.Callee args.entry) ns ns stack.old stack.new world.old world.new result }
     ensures standing { IfOk result (λ move. running move ≡ 0 → Invariant L.made L.meaning labels.new stack.new world.new (values_of move) (scopes_of stack.new.tasks) (waiting stack.old.tasks) move) }
-    ensures adds { IfOk result (Adds (weight (continuation.Callee args.entry) + 3) stack.old stack.new) }
+    ensures adds { IfOk result (Adds (weight (continuation.Callee args.entry) + 5) stack.old stack.new) }
     ensures stopped { IfErr result (IfStop (HasStop (L.made labels.new))) }
     ensures grows { Grows world.old world.new }
     ensures kept { IsKept L.made L.meaning L.room L.firm labels.old labels.new }
@@ -67,7 +67,7 @@ pub fn constructor<'p, L: Labels>(
     requires standing { Invariant L.made L.meaning labels.old stack.old world.old (owns (continuation.Constructor args) + 1) (scopes_of stack.old.tasks ++ scope_of (continuation.Constructor args)) (waiting stack.old.tasks) control.Value }
     ensures resumes { (tables : Tables) (inputs : Given) (set : BuiltIns) (functions : List FunctionCode) (ns : List Steps) → Resumes L.made L.meaning labels.new tables inputs set functions (continuation.Constructor args.entry) ns ns stack.old stack.new world.old world.new result }
     ensures standing { IfOk result (λ move. running move ≡ 0 → Invariant L.made L.meaning labels.new stack.new world.new (values_of move) (scopes_of stack.new.tasks) (waiting stack.old.tasks) move) }
-    ensures adds { IfOk result (Adds (weight (continuation.Constructor args.entry) + 3) stack.old stack.new) }
+    ensures adds { IfOk result (Adds (weight (continuation.Constructor args.entry) + 5) stack.old stack.new) }
     ensures stopped { IfErr result (IfStop (HasStop (L.made labels.new))) }
     ensures grows { Grows world.old world.new }
     ensures kept { IsKept L.made L.meaning L.room L.firm labels.old labels.new }

@@ -10,7 +10,7 @@ use Rattle.es_meaning.specs.Operations.{Ty, One, Value}
 use Rattle.es_meaning.specs.Plain.{undefined, choose}
 use Rattle.flow_meaning.specs.Erased.{unlabelled}
 use Rattle.flow_meaning.specs.Scopes.{Val, State, Jump, Left, caught, cut_to, popped, settled}
-use Rattle.flow_meaning.specs.Planned.{Give, gave, jumped, as_plan, end_branch, end_round, end_last, end_setter, end_instance}
+use Rattle.flow_meaning.specs.Planned.{Give, gave, jumped, as_plan, end_branch, end_round, end_first, end_last, end_putting, end_instance}
 use Rattle.std.specs.Borrow.{Bor}
 use Rattle.js_ast.specs.declared.trees.Stmt.{Stmt}
 use Rattle.js_values.specs.Readings.{read_value}
@@ -138,7 +138,7 @@ module _ {S T : Type 0} (made : S → T → Type 0) (meaning : S → T → Label
 -- a jump passes all work without a frame of its own in which it may not stay
 pub work_passes : (tables : Tables) (inputs : Given) (set : BuiltIns) (functions : List FunctionCode) (w : Continuation) (vs : List Val) (e : Setting) (j : Jump) (s : State) → scope_of w ≡ [] → may_stay w ≡ false
     → after tables inputs set functions w vs e (jumped j) s ≡ Give (jumped j) s
-unfolding end_last end_setter end_instance
+unfolding end_first end_last end_putting end_instance
 work_passes tables inputs set functions (continuation.Falls cs i) vs e j s none goes = fallen_passes tables inputs set functions i (view_clauses cs.now) e.env j s
 work_passes tables inputs set functions (continuation.EndBranch gives depth) vs e j s none goes = absurd cc
 work_passes tables inputs set functions (continuation.EndRound turn depth of) vs e j s none goes = absurd cc

@@ -60,11 +60,11 @@ fn branch<'p, L: Labels>(
     requires belongs { Belong L.made L.meaning labels.old frames.old.frames }
     requires then { values_of then ≡ 0 }
     requires other { values_of other ≡ 0 }
-    requires little { lift then ≤ 4 }
-    requires other_little { lift other ≤ 4 }
+    requires little { lift then ≤ 6 }
+    requires other_little { lift other ≤ 6 }
     ensures forks { IfOk result (Forks L.made L.meaning labels.new gives (λ tables inputs set functions v e. next_plan tables inputs set functions then.entry [] e) (λ tables inputs set functions v e. next_plan tables inputs set functions other.entry [] e) stack.old stack.new frames.old.frames frames.new.frames) }
     ensures opened { IfOk result (Opened stack.old stack.new frames.old.frames frames.new.frames) }
-    ensures adds { IfOk result (Adds 5 stack.old stack.new) }
+    ensures adds { IfOk result (Adds 7 stack.old stack.new) }
     ensures belongs { Belong L.made L.meaning labels.new frames.new.frames }
     ensures kept { IsKept L.made L.meaning L.room L.firm labels.old labels.new }
 {
@@ -90,7 +90,7 @@ pub fn and_right<'p, L: Labels>(
     requires belongs { Belong L.made L.meaning labels.old frames.old.frames }
     ensures goes_on { IfOk result (ResumesIn L.made L.meaning labels.new (continuation.AndRight right.entry) stack.old stack.new frames.old.frames frames.new.frames) }
     ensures opened { IfOk result (Opened stack.old stack.new frames.old.frames frames.new.frames) }
-    ensures adds { IfOk result (Adds 5 stack.old stack.new) }
+    ensures adds { IfOk result (Adds 7 stack.old stack.new) }
     ensures belongs { Belong L.made L.meaning labels.new frames.new.frames }
     ensures kept { IsKept L.made L.meaning L.room L.firm labels.old labels.new }
 {
@@ -117,7 +117,7 @@ pub fn or_right<'p, L: Labels>(
     requires belongs { Belong L.made L.meaning labels.old frames.old.frames }
     ensures goes_on { IfOk result (ResumesIn L.made L.meaning labels.new (continuation.OrRight right.entry) stack.old stack.new frames.old.frames frames.new.frames) }
     ensures opened { IfOk result (Opened stack.old stack.new frames.old.frames frames.new.frames) }
-    ensures adds { IfOk result (Adds 5 stack.old stack.new) }
+    ensures adds { IfOk result (Adds 7 stack.old stack.new) }
     ensures belongs { Belong L.made L.meaning labels.new frames.new.frames }
     ensures kept { IsKept L.made L.meaning L.room L.firm labels.old labels.new }
 {
@@ -146,7 +146,7 @@ pub fn choose_expr<'p, L: Labels>(
     requires belongs { Belong L.made L.meaning labels.old frames.old.frames }
     ensures goes_on { IfOk result (ResumesIn L.made L.meaning labels.new (continuation.Choose then.entry other.entry) stack.old stack.new frames.old.frames frames.new.frames) }
     ensures opened { IfOk result (Opened stack.old stack.new frames.old.frames frames.new.frames) }
-    ensures adds { IfOk result (Adds 5 stack.old stack.new) }
+    ensures adds { IfOk result (Adds 7 stack.old stack.new) }
     ensures belongs { Belong L.made L.meaning labels.new frames.new.frames }
     ensures kept { IsKept L.made L.meaning L.room L.firm labels.old labels.new }
 {
@@ -174,7 +174,7 @@ pub fn choose_stmt<'p, L: Labels>(
     requires belongs { Belong L.made L.meaning labels.old frames.old.frames }
     ensures goes_on { IfOk result (ResumesIn L.made L.meaning labels.new (continuation.ChooseStmt then.entry) stack.old stack.new frames.old.frames frames.new.frames) }
     ensures opened { IfOk result (Opened stack.old stack.new frames.old.frames frames.new.frames) }
-    ensures adds { IfOk result (Adds 5 stack.old stack.new) }
+    ensures adds { IfOk result (Adds 7 stack.old stack.new) }
     ensures belongs { Belong L.made L.meaning labels.new frames.new.frames }
     ensures kept { IsKept L.made L.meaning L.room L.firm labels.old labels.new }
 {
@@ -203,7 +203,7 @@ pub fn choose_stmts<'p, L: Labels>(
     requires belongs { Belong L.made L.meaning labels.old frames.old.frames }
     ensures goes_on { IfOk result (ResumesIn L.made L.meaning labels.new (continuation.ChooseStmts then.entry other.entry) stack.old stack.new frames.old.frames frames.new.frames) }
     ensures opened { IfOk result (Opened stack.old stack.new frames.old.frames frames.new.frames) }
-    ensures adds { IfOk result (Adds 5 stack.old stack.new) }
+    ensures adds { IfOk result (Adds 7 stack.old stack.new) }
     ensures belongs { Belong L.made L.meaning labels.new frames.new.frames }
     ensures kept { IsKept L.made L.meaning L.room L.firm labels.old labels.new }
 {

@@ -50,7 +50,7 @@ pub fn tested<'p, L: Labels>(
     requires belongs { Belong L.made L.meaning labels.old frames.old.frames }
     ensures goes_on { IfOk result (ResumesIn L.made L.meaning labels.new (continuation.Tested round.entry) stack.old stack.new frames.old.frames frames.new.frames) }
     ensures keeps { IfOk result (Keeps (without_top stack.old) stack.new) }
-    ensures adds { IfOk result (Adds 4 stack.old stack.new) }
+    ensures adds { IfOk result (Adds 6 stack.old stack.new) }
     ensures length { length frames.new.frames ≡ length frames.old.frames }
     ensures belongs { Belong L.made L.meaning labels.new frames.new.frames }
     ensures kept { IsKept L.made L.meaning L.room L.firm labels.old labels.new }
@@ -79,7 +79,7 @@ pub fn end_branch_value<'p, L: Labels>(
     requires belongs { Belong L.made L.meaning labels.old frames.old.frames }
     ensures goes_on { IfOk result (ResumesIn L.made L.meaning labels.new (continuation.EndBranch true depth) stack.old stack.new frames.old.frames frames.new.frames) }
     ensures closed { IfOk result (Closed stack.old stack.new frames.old.frames frames.new.frames) }
-    ensures adds { IfOk result (Adds 4 stack.old stack.new) }
+    ensures adds { IfOk result (Adds 6 stack.old stack.new) }
     ensures made { IfOk result (λ _. All (HasValue (L.made labels.new)) stack.new.loose) }
     ensures belongs { Belong L.made L.meaning labels.new frames.new.frames }
     ensures kept { IsKept L.made L.meaning L.room L.firm labels.old labels.new }
@@ -111,7 +111,7 @@ pub fn end_branch<'p, L: Labels>(
     ensures goes_on { ResumesDoneIn L.made L.meaning labels.now (continuation.EndBranch false depth) stack.old stack.new frames.old.frames frames.new.frames result }
     ensures closed { Closed stack.old stack.new frames.old.frames frames.new.frames result }
     ensures none { stack.new.loose ≡ [] }
-    ensures adds { Adds 4 stack.old stack.new result }
+    ensures adds { Adds 6 stack.old stack.new result }
     ensures belongs { Belong L.made L.meaning labels.now frames.new.frames }
 {
     let _waiting = &*stack;
@@ -136,7 +136,7 @@ pub fn end_round<'p, L: Labels>(
     ensures tried { ResumesDoneIn L.made L.meaning labels.now (continuation.EndTry depth) stack.old stack.new frames.old.frames frames.new.frames result }
     ensures closed { Closed stack.old stack.new frames.old.frames frames.new.frames result }
     ensures none { stack.new.loose ≡ [] }
-    ensures adds { Adds 4 stack.old stack.new result }
+    ensures adds { Adds 6 stack.old stack.new result }
     ensures belongs { Belong L.made L.meaning labels.now frames.new.frames }
 {
     let _waiting = &*stack;

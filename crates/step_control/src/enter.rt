@@ -6,10 +6,10 @@ ghost use Rattle.flow_policy.specs.Policies.{Tables};
 ghost use Rattle.js_ast.specs.Functions.{FunctionCode};
 ghost use Rattle.es_meaning.specs.BuiltIns.{BuiltIns};
 ghost use Rattle.js_ast.specs.Nodes.{nodes_of};
-ghost use Rattle.js_ast.specs.Trees.{labelled};
+ghost use Rattle.js_ast.specs.Trees.{block as block_statement, labelled};
 ghost use Rattle.es_meaning.specs.Environments.{thrown};
 ghost use Rattle.es_meaning.specs.Directives.{upgrade_of};
-ghost use Rattle.js_ast.specs.Views.{view_clauses, view_expr, view_exprs, view_maybe_expr, view_stmt, view_first, view_target};
+ghost use Rattle.js_ast.specs.Views.{view_block, view_clauses, view_expr, view_exprs, view_maybe_expr, view_stmt, view_first, view_target};
 ghost use Rattle.es_meaning.specs.Operations.{One, Value, postfixed};
 ghost use Rattle.es_meaning.specs.Evaluation.{expr_step, callee_step, construct_value, is_reference, choose_expr, comma_right, stmt_step, named_step, label_step, carries_labels, return_step, first_step, behind_expression, jump_with, choose_stmt, choose_stmts, enumerated, switched};
 ghost use Rattle.flow_meaning.specs.Planned.{planned, asking};
@@ -22,12 +22,12 @@ ghost use Rattle.continuations.specs.Settings.{Setting, entrance};
 
 use crate::operators::{assigned_by, begin_binary, begin_unary, is_reference};
 use continuations::{
-    Continuation, Control, Enumeration, Reason, Round, Stack, Use, begin_index, begin_member,
+    Continuation, Control, Enumeration, Round, Stack, Use, begin_index, begin_items, begin_member,
     begin_properties, begin_statements,
 };
 use flow_text::{OutOfMemory, Text};
 use js_ast::{
-    BinaryOperator, ClauseList, Expr, ExprKind, ForFirst, PostfixOperator, Stmt, StmtKind,
+    BinaryOperator, Block, ClauseList, Expr, ExprKind, ForFirst, PostfixOperator, Stmt, StmtKind,
 };
 
 /// A call. Its callee is a reference, or else an expression.
@@ -123,7 +123,7 @@ pub fn begin_expression<'p, T: Copy>(
     requires { length stack.old.loose ≡ 0 }
     ensures goes_on { IfOk result (Begins (λ tables inputs set functions f. expr_step (planned tables inputs set functions) (entrance tables inputs set functions) (asking tables inputs set functions) (view_expr e.entry.now) f.env.place) stack.old stack.new) }
     ensures keeps { IfOk result (Keeps stack.old stack.new) }
-    ensures adds { IfOk result (Adds 9 stack.old stack.new) }
+    ensures adds { IfOk result (Adds 11 stack.old stack.new) }
 {
     match &*e.kind {
         ExprKind::Name(name) => Ok(Control::Name(name)),
@@ -159,7 +159,7 @@ pub fn begin_expression<'p, T: Copy>(
         ExprKind::Object { properties, .. } => begin_properties(stack, properties, 0),
         ExprKind::Member { base, name } => begin_member(stack, Use::Valued, base, name),
         ExprKind::Index { base, index } => begin_index(stack, Use::Valued, base, index),
-        ExprKind::Array { .. } => Ok(Control::Leave(Reason::Unbuilt)),
+        ExprKind::Array { items, .. } => begin_items(stack, items, 0, 0),
     }
 }
 
@@ -174,7 +174,7 @@ fn begin_for<'p, T: Copy>(
     requires { length stack.old.loose ≡ 0 }
     ensures goes_on { IfOk result (Begins (λ tables inputs set functions e. first_step (planned tables inputs set functions) (entrance tables inputs set functions) (asking tables inputs set functions) (view_first first.entry.now) (round_of round.entry) e.env) stack.old stack.new) }
     ensures keeps { IfOk result (Keeps stack.old stack.new) }
-    ensures adds { IfOk result (Adds 6 stack.old stack.new) }
+    ensures adds { IfOk result (Adds 8 stack.old stack.new) }
 {
     match first {
         ForFirst::Expr(None) => Ok(Control::Loop(round)),
@@ -244,7 +244,7 @@ fn begin_return<'p, T: Copy>(
     requires { length stack.old.loose ≡ 0 }
     ensures goes_on { IfOk result (Begins (λ tables inputs set functions f. return_step (planned tables inputs set functions) (entrance tables inputs set functions) (asking tables inputs set functions) (view_maybe_expr value.entry.now) f.env) stack.old stack.new) }
     ensures keeps { IfOk result (Keeps stack.old stack.new) }
-    ensures adds { IfOk result (Adds 5 stack.old stack.new) }
+    ensures adds { IfOk result (Adds 7 stack.old stack.new) }
 {
     match value {
         None => Ok(Control::Return),
@@ -378,7 +378,7 @@ fn begin_labelled<'p>(
     ensures plan { IfOk result (λ next. (tables : Tables) (inputs : Given) (set : BuiltIns) (functions : List FunctionCode) (vs : List Val) (e : Setting) (s : State) (at : ℕ) → behind_labels passed (view_stmt of.entry.now) ≡ labelled at label.entry.now (view_stmt body.entry.now)
         → next_plan tables inputs set functions next vs e s ≡ label_step (planned tables inputs set functions) (entrance tables inputs set functions) (asking tables inputs set functions) (carries_labels (view_stmt body.entry.now)) (passed_labels passed [] (view_stmt of.entry.now)) label.entry.now (view_stmt body.entry.now) e.env s) }
     ensures values { IfOk result (λ next. values_of next ≡ 0) }
-    ensures lifts { IfOk result (λ next. lift next ≤ 5) }
+    ensures lifts { IfOk result (λ next. lift next ≤ 7) }
 {
     if carries_labels(body) {
         match passed.checked_add(1) {
@@ -401,7 +401,7 @@ pub fn begin_named<'p, T: Copy>(
     requires { length stack.old.loose ≡ 0 }
     ensures goes_on { IfOk result (Begins (λ tables inputs set functions f. named_step (planned tables inputs set functions) (entrance tables inputs set functions) (asking tables inputs set functions) (passed_labels passed [] (view_stmt of.entry.now)) (behind_labels passed (view_stmt of.entry.now)) f.env) stack.old stack.new) }
     ensures keeps { IfOk result (Keeps stack.old stack.new) }
-    ensures adds { IfOk result (Adds 6 stack.old stack.new) }
+    ensures adds { IfOk result (Adds 8 stack.old stack.new) }
 {
     let s = behind_labels(of, passed);
     match &*s.kind {
@@ -429,7 +429,7 @@ pub fn begin_statement<'p, T: Copy>(
     requires { length stack.old.loose ≡ 0 }
     ensures goes_on { IfOk result (Begins (λ tables inputs set functions f. stmt_step (planned tables inputs set functions) (entrance tables inputs set functions) (asking tables inputs set functions) (view_stmt s.entry.now) f.env) stack.old stack.new) }
     ensures keeps { IfOk result (Keeps stack.old stack.new) }
-    ensures adds { IfOk result (Adds 9 stack.old stack.new) }
+    ensures adds { IfOk result (Adds 11 stack.old stack.new) }
 {
     match &*s.kind {
         StmtKind::Block(list) => begin_statements(stack, list.items()),
@@ -455,4 +455,17 @@ pub fn begin_statement<'p, T: Copy>(
         | StmtKind::Switch { .. }
         | StmtKind::Labelled { .. } => begin_named(stack, s, 0),
     }
+}
+
+/// A block of a `try` statement, as a block statement.
+pub fn begin_block<'p, T: Copy>(
+    stack: &mut Stack<'p, T>,
+    block: &'p Block,
+) -> Result<Control<'p>, OutOfMemory>
+    requires { length stack.old.loose ≡ 0 }
+    ensures goes_on { IfOk result (Begins (λ tables inputs set functions f. stmt_step (planned tables inputs set functions) (entrance tables inputs set functions) (asking tables inputs set functions) (block_statement (view_block block.entry.now)) f.env) stack.old stack.new) }
+    ensures keeps { IfOk result (Keeps stack.old stack.new) }
+    ensures adds { IfOk result (Adds 6 stack.old stack.new) }
+{
+    begin_statements(stack, block.body.items())
 }

@@ -12,7 +12,7 @@ mod visits;
 
 pub use branches::{and_right, choose_expr, choose_stmt, choose_stmts, or_right};
 pub use ends::{end_branch, end_branch_value, end_round, tested};
-pub use enter::{begin_expression, begin_named, begin_statement};
+pub use enter::{begin_block, begin_expression, begin_named, begin_statement};
 pub use operators::{binary_right, comma_right, compound_right, give_behind, instance_right};
 pub use passing::{pass, pass_branch, pass_round};
 pub use scopes::{begin_do_loop, begin_loop, begin_turn};

@@ -14,7 +14,7 @@ ghost use Rattle.continuations.specs.Resuming.{Begins, Keeps, Resumes, ResumesBe
 ghost use Rattle.continuations.specs.Shapes.{use_of, evaluates_both};
 ghost use Rattle.continuations.specs.Settings.{entrance};
 
-use continuations::{Continuation, Control, Reason, Stack, Target, Use};
+use continuations::{Continuation, Control, Stack, Target, Use};
 use flow_text::OutOfMemory;
 use js_ast::{AssignOperator, BinaryOperator, Expr, ExprKind, UnaryOperator};
 
@@ -96,8 +96,8 @@ fn begin_logical<'p, T: Copy>(
             stack.push(Continuation::InstanceRight(right))?;
             Ok(Control::Expr(left))
         }
-        // no other evaluates so
-        _ => Ok(Control::Leave(Reason::Unbuilt)),
+        // each other operator evaluates both
+        _ => unreachable!(),
     }
 }
 
@@ -291,7 +291,7 @@ pub fn compound_right<'p, T: Copy>(
     requires { length stack.old.loose ≡ owns_target target + 1 }
     ensures goes_on { IfOk result (ResumesBehind (continuation.CompoundRight operator right.entry target.entry) stack.old stack.new) }
     ensures keeps { IfOk result (Keeps stack.old stack.new) }
-    ensures adds { IfOk result (Adds 9 stack.old stack.new) }
+    ensures adds { IfOk result (Adds 11 stack.old stack.new) }
 {
     stack.push(Continuation::CompoundDone(operator, target))?;
     Ok(Control::Expr(right))
@@ -299,12 +299,12 @@ pub fn compound_right<'p, T: Copy>(
 
 /// Behind a setter the value that its assignment gives, which lies below the setter's.
 #[inline(always)]
-#[tactic(auto, unfolding(es_meaning::specs::Evaluation::give, flow_meaning::specs::Planned::end_setter))]
+#[tactic(auto, unfolding(es_meaning::specs::Evaluation::give, flow_meaning::specs::Planned::end_putting))]
 pub fn give_behind<'p, T: Copy>(stack: &mut Stack<'p, T>) -> Control<'p>
     requires { length stack.old.loose ≡ 2 }
     ensures goes_on { ResumesBeside continuation.GiveBehind stack.old stack.new result }
     ensures keeps { Keeps (without_top stack.old) stack.new result }
-    ensures adds { Adds 4 stack.old stack.new result }
+    ensures adds { Adds 6 stack.old stack.new result }
 {
     stack.forget();
     Control::Value

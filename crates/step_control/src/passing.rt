@@ -33,7 +33,7 @@ pub fn pass<'p, T: Copy>(
     requires loose { length stack.old.loose ≡ owns work + 1 }
     ensures goes_on { IfOk result (Passes jump work.entry stack.old stack.new) }
     ensures keeps { IfOk result (Passed jump stack.old stack.new) }
-    ensures adds { IfOk result (Adds 4 stack.old stack.new) }
+    ensures adds { IfOk result (Adds 6 stack.old stack.new) }
 {
     let value = stack.pop();
     stack.clear(work.owns());
@@ -58,7 +58,7 @@ pub fn pass_branch<'p, L: Labels>(
     requires belongs { Belong L.made L.meaning labels.now frames.old.frames }
     ensures goes_on { IfOk result (PassesIn L.made L.meaning labels.now jump (continuation.EndBranch gives depth) stack.old stack.new frames.old.frames frames.new.frames) }
     ensures leaves { IfOk result (LeavesAt depth stack.old stack.new frames.old.frames frames.new.frames) }
-    ensures adds { IfOk result (Adds 4 stack.old stack.new) }
+    ensures adds { IfOk result (Adds 6 stack.old stack.new) }
     ensures made { IfOk result (λ _. All (HasValue (L.made labels.now)) stack.new.loose) }
     ensures belongs { Belong L.made L.meaning labels.now frames.new.frames }
 {
@@ -90,7 +90,7 @@ pub fn pass_round<'p, L: Labels>(
     ensures label { (text : Bor (List ℕ)) → PassesIn L.made L.meaning labels.now jump (continuation.EndLabel depth text) stack.old stack.new frames.old.frames frames.new.frames result }
     ensures tried { PassesIn L.made L.meaning labels.now jump (continuation.EndTry depth) stack.old stack.new frames.old.frames frames.new.frames result }
     ensures leaves { LeavesAt depth stack.old stack.new frames.old.frames frames.new.frames result }
-    ensures adds { Adds 4 stack.old stack.new result }
+    ensures adds { Adds 6 stack.old stack.new result }
     ensures made { All (HasValue (L.made labels.now)) stack.new.loose }
     ensures belongs { Belong L.made L.meaning labels.now frames.new.frames }
 {
@@ -115,7 +115,7 @@ fn reach_value<'p, L: Labels>(
     requires belongs { Belong L.made L.meaning labels.now frames.old.frames }
     ensures goes_on { IfOk result (PassesIn L.made L.meaning labels.now _jump (continuation.EndBranch true depth) stack.old stack.new frames.old.frames frames.new.frames) }
     ensures leaves { IfOk result (LeavesAt depth stack.old stack.new frames.old.frames frames.new.frames) }
-    ensures adds { IfOk result (Adds 4 stack.old stack.new) }
+    ensures adds { IfOk result (Adds 6 stack.old stack.new) }
     ensures made { IfOk result (λ _. All (HasValue (L.made labels.now)) stack.new.loose) }
     ensures belongs { Belong L.made L.meaning labels.now frames.new.frames }
 {
@@ -145,7 +145,7 @@ fn reach<'p, L: Labels>(
     ensures tried { (jump : Jump) → PassesIn L.made L.meaning labels.now jump (continuation.EndTry depth) stack.old stack.new frames.old.frames frames.new.frames result }
     ensures round { (jump : Jump) (turn : Bool) (of : Bor Stmt) → PassesIn L.made L.meaning labels.now jump (continuation.EndRound turn depth of) stack.old stack.new frames.old.frames frames.new.frames result }
     ensures leaves { LeavesAt depth stack.old stack.new frames.old.frames frames.new.frames result }
-    ensures adds { Adds 4 stack.old stack.new result }
+    ensures adds { Adds 6 stack.old stack.new result }
     ensures none { stack.new.loose ≡ [] }
     ensures belongs { Belong L.made L.meaning labels.now frames.new.frames }
 {

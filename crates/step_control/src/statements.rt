@@ -24,7 +24,7 @@ pub fn more_statements<'p, T: Copy>(
     requires { length stack.old.loose ≡ 0 }
     ensures goes_on { IfOk result (ResumesDone (continuation.Statements rest.entry) stack.old stack.new) }
     ensures keeps { IfOk result (Keeps stack.old stack.new) }
-    ensures adds { IfOk result (Adds 4 stack.old stack.new) }
+    ensures adds { IfOk result (Adds 6 stack.old stack.new) }
 {
     begin_statements(stack, rest)
 }
@@ -36,7 +36,7 @@ pub fn discard<'p, T: Copy>(stack: &mut Stack<'p, T>) -> Control<'p>
     requires { length stack.old.loose ≡ 1 }
     ensures goes_on { Resumes continuation.Discard stack.old stack.new result }
     ensures keeps { Keeps (without_top stack.old) stack.new result }
-    ensures adds { Adds 4 stack.old stack.new result }
+    ensures adds { Adds 6 stack.old stack.new result }
 {
     stack.forget();
     Control::Done

@@ -38,7 +38,7 @@ pub fn begin_enumeration<'p, L: Labels>(
     requires belongs { Belong L.made L.meaning labels.old frames.old.frames }
     ensures goes_on { IfOk result (ResumesIn L.made L.meaning labels.new (continuation.Enumerated enumeration.entry) stack.old stack.new frames.old.frames frames.new.frames) }
     ensures opened { IfOk result (Opened stack.old stack.new frames.old.frames frames.new.frames) }
-    ensures adds { IfOk result (Adds 7 stack.old stack.new) }
+    ensures adds { IfOk result (Adds 9 stack.old stack.new) }
     ensures belongs { Belong L.made L.meaning labels.new frames.new.frames }
     ensures kept { IsKept L.made L.meaning L.room L.firm labels.old labels.new }
 {
@@ -64,7 +64,7 @@ pub fn begin_visit<'p, L: Labels>(
     requires belongs { Belong L.made L.meaning labels.old frames.old.frames }
     ensures goes_on { IfOk result (BeginsBeside L.made L.meaning labels.new (λ tables inputs set functions vs e. visit_step (planned tables inputs set functions) (entrance tables inputs set functions) (asking tables inputs set functions) (visit_of enumeration.entry count vs) e.env) stack.old stack.new frames.old.frames frames.new.frames) }
     ensures opened { IfOk result (Opened stack.old stack.new frames.old.frames frames.new.frames) }
-    ensures adds { IfOk result (Adds 12 stack.old stack.new) }
+    ensures adds { IfOk result (Adds 16 stack.old stack.new) }
     ensures belongs { Belong L.made L.meaning labels.new frames.new.frames }
     ensures kept { IsKept L.made L.meaning L.room L.firm labels.old labels.new }
 {
@@ -84,7 +84,7 @@ pub fn begin_visit<'p, L: Labels>(
 fn given_key<'p>(target: &'p ForTarget) -> Control<'p>
     ensures plan { (tables : Tables) (inputs : Given) (set : BuiltIns) (functions : List FunctionCode) (v : Val) (e : Setting) (s : State) → next_plan tables inputs set functions result (v ∷ []) e s ≡ target_step (planned tables inputs set functions) (entrance tables inputs set functions) (asking tables inputs set functions) (view_target target.entry.now) (key_text v.value) e.env.place s }
     ensures value { values_of result ≡ 1 }
-    ensures lifts { lift result ≤ 8 }
+    ensures lifts { lift result ≤ 12 }
 {
     match target {
         ForTarget::Expr(target) => Control::Use(Use::GivenText, target),
@@ -116,7 +116,7 @@ pub fn visited<'p, T: Copy>(
     requires { length _stack.now.loose ≡ count + 1 }
     ensures goes_on { ResumesDoneBehind (continuation.Visited enumeration.entry count) _stack.now _stack.now result }
     ensures keeps { Keeps _stack.now _stack.now result }
-    ensures adds { Adds 5 _stack.now _stack.now result }
+    ensures adds { Adds 7 _stack.now _stack.now result }
 {
     Control::Visits(enumeration, count)
 }

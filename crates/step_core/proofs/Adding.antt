@@ -7,8 +7,8 @@ use Rattle.js_ast.specs.Functions.{FunctionCode}
 use Rattle.js_values.specs.Readings as readings
 use Rattle.js_ast.specs.Nodes.{nodes_of}
 use Rattle.js_ast.specs.declared.operators.BinaryOperator.{BinaryOperator}
-use Rattle.js_ast.specs.Trees.{Block, block_of, Clauses, no_clauses, case, default, getter, Ident, MaybeExpr, absent, present, Properties, no_properties, more_properties, setter, Statement, Target, value, try_catch, try_finally, try_both}
-use Rattle.js_ast.specs.Views.{view_expr, view_exprs, view_properties, view_target, view_stmt, view_stmts, view_clauses, view_declarations, view_other_declarations, view_name, view_function}
+use Rattle.js_ast.specs.Trees.{block, Clauses, no_clauses, case, default, getter, Ident, MaybeExpr, absent, present, Properties, no_properties, more_properties, setter, Statement, Target, value, try_catch, try_finally, try_both}
+use Rattle.js_ast.specs.Views.{view_expr, view_exprs, view_items, view_properties, view_target, view_stmt, view_stmts, view_clauses, view_declarations, view_other_declarations, view_name, view_function}
 use Rattle.es_meaning.specs.BuiltIns.{BuiltIns}
 use Rattle.es_meaning.specs.Plain.{object_or_default}
 use Rattle.es_meaning.specs.Environments.{Env, thrown, returned, left_by}
@@ -17,28 +17,30 @@ use Rattle.js_number.specs.declared.primitive.Primitive.TheVariants as prims
 use Rattle.es_meaning.specs.Operations as meaning
 use Rattle.es_meaning.specs.Operations.{One, Value, Act, object_of, Ops, Rec, Visit}
 use Rattle.es_meaning.specs.Evaluation as evaluation
-use Rattle.es_meaning.specs.Evaluation.{block_step, call_with, cases, Conversion, compared, conversion_of, give, keyed, more_values, more_variables, numbers, parts_of, primitives, properties, put_behind, read_value, text_of_label, unconverted, unhandled, used, variable_list, variables, visited, visits, with_keys}
+use Rattle.es_meaning.specs.Evaluation.{call_with, cases, Conversion, compared, conversion_of, give, keyed, more_values, more_variables, numbers, parts_of, primitives, properties, put_behind, read_value, text_of_label, unconverted, unhandled, used, variable_list, variables, visited, visits, with_keys}
 use Rattle.es_meaning.proofs.Link as link
 use Rattle.es_meaning.proofs.Link.{Rels, nils, conses, visits_of, Callings, both_call, both_construct, EnteringLinked, Link, Linked}
 use Rattle.es_meaning.proofs.RequestLinks as requests
 use Rattle.flow_meaning.specs.Scopes.{Val, State}
 use Rattle.flow_meaning.specs.Laws.{performed_run}
 use Rattle.flow_meaning.specs.Tracked.{Reference, resolved}
-use Rattle.flow_meaning.specs.Planned.{Ask, Completion, Enters, Give, Plan, an_expr, end_setter, planned, asking, perform, with_result}
+use Rattle.flow_meaning.specs.Planned.{Ask, Completion, Enters, Give, Plan, an_expr, end_putting, planned, asking, perform, with_result}
 use Rattle.flow_meaning.specs.Planned as plans
 use Rattle.low_equal.specs.Observed.{Front}
-use Rattle.low_equal.proofs.Adding.{Continued, front_continued, lines_run, Adds, Adding, adding, asking_adding, ask_adds, give_adds, end_adds, and_adds, result_adds, branch_adds, round_adds, call_adds, construction_adds, handler_adds, block_adds, instance_end_adds, setter_adds, waiting_adds}
+use Rattle.low_equal.proofs.Adding.{Continued, front_continued, lines_run, Adds, Adding, adding, asking_adding, ask_adds, give_adds, end_adds, and_adds, result_adds, branch_adds, round_adds, call_adds, construction_adds, handler_adds, block_adds, instance_end_adds, putting_end_adds, first_end_adds, both_end_adds, length_adding, convert_length_adding, entered, EntersAdding, waiting_adds}
 use Rattle.continuations.specs.declared.continuation.Continuation.{Continuation}
 use Rattle.continuations.specs.declared.continuation.Continuation.TheVariants as continuation
 use Rattle.continuations.specs.declared.continuation.Control.{Control}
 use Rattle.continuations.specs.declared.continuation.Control.TheVariants as control
 use Rattle.continuations.specs.declared.continuation.Use.TheVariants as use_as
+use Rattle.run_state.specs.declared.outcome.SetLength.{SetLength}
+use Rattle.run_state.specs.Accesses.{defines, marks_given}
 use Rattle.continuations.specs.Settings.{Setting, entrance, outermost_steps}
 use Rattle.continuations.specs.declared.continuation.Counting.TheVariants as counting
 use Rattle.continuations.specs.Shapes.{all_labels, calling_of, finishes, handles, labels_at, nth, use_of, target_of, round_of, statements_from, waiting_of}
 use Rattle.continuations.specs.declared.continuation.Calling.{Calling}
 use Rattle.continuations.specs.declared.continuation.Calling.TheVariants as calling
-use Rattle.continuations.specs.Pending.{Task, behind_setter, converted_left, fallen, handler_of, last_of, owns_calling, owns_use, owns_target, setting_inside, first_or_undefined, keys_left, tests_of, visit_behind, result_type, after, next_plan, after_task, behind}
+use Rattle.continuations.specs.Pending.{Task, array_act, behind_setter, end_both, sets_length, converted_left, fallen, handler_of, last_of, owns_calling, owns_use, owns_target, setting_inside, first_or_undefined, keys_left, tests_of, visit_behind, result_type, after, next_plan, after_task, behind}
 
 module _ (tables : Tables) (inputs : Given) (set : BuiltIns) (functions : List FunctionCode) where
   -- the plans
@@ -63,6 +65,11 @@ module _ (tables : Tables) (inputs : Given) (set : BuiltIns) (functions : List F
 
   abbrev H : EnteringLinked K.W K.RV K.RE K.Lift E E
   H = link.entering_linked A A K R R h set
+
+  -- what is called only adds lines
+  enters_adding : EntersAdding tables inputs set functions E
+  unfolding adding
+  enters_adding = entered tables inputs set functions {E = E} {D = E} H
 
   -- values of which nothing is asked
   any_values : (vs : List Val) → Rels (λ (v u : Val). Unit {0}) vs vs
@@ -89,10 +96,6 @@ module _ (tables : Tables) (inputs : Given) (set : BuiltIns) (functions : List F
   fallen_adds i (default ss cs) e came s = and_adds tables inputs set functions s _ _ (result_adds tables inputs set functions One _ (λ a. link.behind_linked A A K R R h (statements_from i ss) {w = tt} {e = e} {d = e} tt) came s) (result_adds tables inputs set functions One _ (λ a. link.falls_on_linked A A K E E H R R h cs {w = tt} {e = e} {d = e} tt))
 
   -- the parts of a `try` statement
-  block_step_adds : (b : Block) (e : Env ℕ) → Adding tables inputs set functions (block_step A E R b e)
-  unfolding adding
-  block_step_adds (block_of at body) e = link.statements_linked A A K R R h body {w = tt} {e = e} {d = e} tt
-
   handled_adds : (x : Statement) (e : Env ℕ) (v : Val) → Adding tables inputs set functions (handler_of tables inputs set functions x e v)
   unfolding adding unhandled
   handled_adds (try_catch at b ident handler) e v = link.handled_linked A A K E E H R R h ident handler {w = tt} {e = e} {d = e} {v = v} {v' = v} tt tt
@@ -100,8 +103,9 @@ module _ (tables : Tables) (inputs : Given) (set : BuiltIns) (functions : List F
   handled_adds _ e v = K.ret_one tt
 
   last_adds : (x : Statement) (e : Env ℕ) → Adding tables inputs set functions (last_of tables inputs set functions x e)
-  last_adds (try_finally at b last) e = block_step_adds last e
-  last_adds (try_both at b ident handler last) e = block_step_adds last e
+  unfolding adding
+  last_adds (try_finally at b last) e = h.stmt (block last) tt e e tt
+  last_adds (try_both at b ident handler last) e = h.stmt (block last) tt e e tt
   last_adds _ e = record { adds = λ s. give_adds tables inputs set functions _ s }
 
   -- an operator with its left operand converted
@@ -115,7 +119,7 @@ module _ (tables : Tables) (inputs : Given) (set : BuiltIns) (functions : List F
 
   -- what comes behind a setter
   behind_adding : (next : Unit {0} → State → Plan) → ((u : Unit {0}) → Adding tables inputs set functions (next u)) → (c : Completion) (s : State) → Adds tables inputs set functions s (behind_setter tables inputs set functions next c s)
-  behind_adding next adds c s = and_adds tables inputs set functions s (end_setter c s) (with_result One next) (setter_adds tables inputs set functions c s) (result_adds tables inputs set functions One next adds)
+  behind_adding next adds c s = and_adds tables inputs set functions s (end_putting c s) (with_result One next) (putting_end_adds tables inputs set functions c s) (result_adds tables inputs set functions One next adds)
 
   -- variables with their first values
   variables_adds : (ds : List (Ident × MaybeExpr)) (i : ℕ) (s : State) → Adds tables inputs set functions s (variables A E R ds i s)
@@ -140,6 +144,10 @@ module _ (tables : Tables) (inputs : Given) (set : BuiltIns) (functions : List F
       and_adds tables inputs set functions s (Ask (an_expr x i) s Give) (with_result Value (more_values A E R act vs ps i)) (ask_adds tables inputs set functions (an_expr x i) s) (more_adds act vs ps i)
   properties_adds act vs (more_properties (getter at key f) ps) i s = and_adds tables inputs set functions s (A.function f i s) (with_result Value (more_values A E R act vs ps i)) ((K.function {w = tt} f {i = i} {j = i} tt).adds s) (more_adds act vs ps i)
   properties_adds act vs (more_properties (setter at key f) ps) i s = and_adds tables inputs set functions s (A.function f i s) (with_result Value (more_values A E R act vs ps i)) ((K.function {w = tt} f {i = i} {j = i} tt).adds s) (more_adds act vs ps i)
+
+  -- the `length` of an array is given a number
+  sets_adding : (how : SetLength) (array : Val) (n : ℕ) (given : Label) → Adding tables inputs set functions (sets_length tables inputs set functions how array n given)
+  sets_adding how array n given = length_adding tables inputs set functions (defines how) array.label (object_or_default array.value).0 (marks_given how) n given
 
   -- what work does with a completion
   after_adds : (w : Continuation) (vs : List Val) (e : Setting) (c : Completion) (s : State) → Adds tables inputs set functions s (after tables inputs set functions w vs e c s)
@@ -172,6 +180,10 @@ module _ (tables : Tables) (inputs : Given) (set : BuiltIns) (functions : List F
       (λ v. link.index_key_linked A A K E E H R R h (use_of how vs) {w = tt} {i = e.env.place} {j = e.env.place} {b = nth (owns_use how) vs} {k = v} {b' = nth (owns_use how) vs} {k' = v} tt tt tt)
   after_adds (continuation.Property ps count) vs e = result_adds tables inputs set functions Value _
       (λ v. link.more_values_linked A A K E E H R R h (object_of (parts_of (view_properties (nodes_of ps.now)))) (view_properties (drop (count + 1) (nodes_of ps.now))) {w = tt} {i = e.env.place} {j = e.env.place} {vs = vs} {us = vs} {v = v} {v' = v} tt (any_values vs) tt)
+  after_adds (continuation.Item is place count) vs e = result_adds tables inputs set functions Value _
+      (λ v. link.more_items_linked A A K E E H R R h (array_act tables inputs set functions (view_items (nodes_of is.now))) (view_items (drop (place + 1) (nodes_of is.now))) {w = tt} {i = e.env.place} {j = e.env.place} {vs = vs} {us = vs} {v = v} {v' = v} tt (any_values vs) tt)
+  after_adds (continuation.LengthOnce how) vs e = first_end_adds tables inputs set functions {E = E} enters_adding (nth 0 vs).label (nth 1 vs) (sets_length tables inputs set functions how (nth 0 vs)) (λ n given. sets_adding how (nth 0 vs) n given)
+  after_adds (continuation.LengthTwice how) vs e = both_end_adds tables inputs set functions (nth 0 vs).label (sets_length tables inputs set functions how (nth 0 vs)) (nth 1 vs) (λ n given. sets_adding how (nth 0 vs) n given)
   after_adds continuation.Discard vs e = result_adds tables inputs set functions Value _ (λ v. link.discard_linked A A K {w = tt} {v = v} {v' = v} tt)
   after_adds (continuation.ChooseStmt s) vs e = result_adds tables inputs set functions Value _ (λ v. link.choose_stmt_linked A A K E E H R R h (view_stmt s.now) {w = tt} {e = e.env} {d = e.env} {v = v} {v' = v} tt tt)
   after_adds (continuation.ChooseStmts s t) vs e = result_adds tables inputs set functions Value _ (λ v. link.choose_stmts_linked A A K E E H R R h (view_stmt s.now) (view_stmt t.now) {w = tt} {e = e.env} {d = e.env} {v = v} {v' = v} tt tt)
@@ -265,6 +277,7 @@ module _ (tables : Tables) (inputs : Given) (set : BuiltIns) (functions : List F
   next_adds (control.Expr x) vs e s = ask_adds tables inputs set functions _ s
   next_adds (control.Use how x) vs e s = ask_adds tables inputs set functions _ s
   next_adds (control.Stmt x) vs e s = ask_adds tables inputs set functions _ s
+  next_adds (control.Block x) vs e s = ask_adds tables inputs set functions _ s
   next_adds (control.Named x n) vs e s = ask_adds tables inputs set functions _ s
   next_adds (control.Variables ds) vs e s = variables_adds (variable_list (view_declarations ds.now)) e.env.place s
   next_adds (control.Turn r) vs e s = ask_adds tables inputs set functions _ s
@@ -275,6 +288,8 @@ module _ (tables : Tables) (inputs : Given) (set : BuiltIns) (functions : List F
   next_adds (control.Construct count) vs e s = (call_adding (calling_of calling.Constructs vs) (drop 1 vs)).adds s
   next_adds (control.Request count) vs e s = ask_adds tables inputs set functions _ s
   next_adds (control.Convert kind) vs e s = (K.primitive {w = tt} kind {v = first_or_undefined vs} {v' = first_or_undefined vs} {E = E} {D = E} tt H).adds s
+  next_adds control.ConvertBeside vs e s = (convert_length_adding tables inputs set functions {E = E} enters_adding (nth 0 vs).label (nth 1 vs)).adds s
+  next_adds (control.Array is count) vs e s = (K.act {w = tt} (array_act tables inputs set functions (view_items (nodes_of is.now))) {vs = vs} {us = vs} (any_values vs)).adds s
   next_adds control.Compare vs e s = (K.comparable {w = tt} {v = nth 0 vs} {u = nth 1 vs} {v' = nth 0 vs} {u' = nth 1 vs} {E = E} {D = E} tt tt H).adds s
   next_adds (control.Function f) vs e s = (K.function {w = tt} (view_function f.now) {i = e.env.place} {j = e.env.place} tt).adds s
   next_adds (control.Break turn label) vs e s = (K.jump {w = tt} (left_by turn (text_of_label (view_name label.now))) {e = e.env} {d = e.env} {v = A.literal prims.Undefined} {v' = A.literal prims.Undefined} tt tt).adds s

@@ -25,7 +25,7 @@ use Rattle.flow_meaning.specs.Scopes.{LabelledLine, State, Val}
 use Rattle.flow_meaning.specs.Scopes.{Jump as Jumps}
 use Rattle.es_meaning.specs.Evaluation.{put_behind}
 use Rattle.flow_meaning.specs.Laws.{performed_run}
-use Rattle.flow_meaning.specs.Planned.{Ask, Give, Plan, end_setter, a_request, gave, jumped, meaning, perform, plan}
+use Rattle.flow_meaning.specs.Planned.{Ask, Give, Plan, end_putting, a_request, gave, jumped, meaning, perform, plan}
 use Rattle.run_state.specs.declared.world.World.{World}
 use Rattle.run_state.specs.Worlds.{state_of}
 use Rattle.step_natives.specs.States.{States, running_steps, told, waiting_steps}
@@ -142,7 +142,7 @@ module _ {S T X : Type 0} (made : S → T → Type 0) (meaning_of : S → T → 
 module _ {S T X : Type 0} (made : S → T → Type 0) (meaning_of : S → T → Label) (store : S) (tables : Tables) (inputs : Given) (set : BuiltIns) (functions : List FunctionCode) (tells : X → Answer → X) (asks : X → Request) where
   -- a jump passes the work of a built-in in whatever setting
   jumped_past : (count : ℕ) (to : Option Reg) (vs us : List Val) (e f : Setting) (j : Jumps) (s : State) → after tables inputs set functions (continuation.Answered count to) vs e (jumped j) s ≡ after tables inputs set functions (continuation.Answered count to) us f (jumped j) s
-  unfolding put_behind end_setter
+  unfolding put_behind end_putting
   jumped_past count (Some to) vs us e f j s = refl
   jumped_past count None vs us e f j s = refl
 
@@ -150,7 +150,7 @@ module _ {S T X : Type 0} (made : S → T → Type 0) (meaning_of : S → T → 
       → length m.natives.states ≡ waiting m.stack.tasks + 1 → length natives.states + 1 ≡ length m.natives.states
       → ((front : List Steps) (steps : Steps) → waiting_steps tells asks m.natives ≡ front ++ steps ∷ [] → waiting_steps tells asks natives ≡ front)
       → ((front : List Steps) → Passes made meaning_of store tables inputs set functions j (continuation.Answered count to) value front front m.stack new m.world m.world moved)
-      → IfOk moved (StandsStill made meaning_of store (waiting m.stack.tasks) new m.world) → IfOk moved (Adds 4 m.stack new) → IfErr moved (IfStop (HasStop (made store)))
+      → IfOk moved (StandsStill made meaning_of store (waiting m.stack.tasks) new m.world) → IfOk moved (Adds 6 m.stack new) → IfErr moved (IfStop (HasStop (made store)))
       → IfOk result (Stepped made meaning_of store tables inputs set functions tells asks (λ reading. remaining_run_after tables inputs set functions tells asks reading m (continuation.Answered count to) (jumped (jump_of j (read_value reading value)))) (ahead m (control.Jumps j) + 1)
       (record { world = m.world; stack = new; natives = natives; turns = m.turns }))
   left_steps m count to j value new natives moved result is size fewer rest passes standing adds stopped =
@@ -214,7 +214,7 @@ module _ {S T X : Type 0} (made : S → T → Type 0) (meaning_of : S → T → 
     asked_for reading told front steps is size = entered_after tables inputs set functions tells asks reading m (front ++ steps ∷ []) (control.Request count) is (wants front steps size) told turns some
 
     -- it is done, and this comes next
-    pub asked_goes : (move : Control) → Does (Ok (move, None)) → StandsBefore made meaning_of store behind_it move → Adds 7 m.stack stack move
+    pub asked_goes : (move : Control) → Does (Ok (move, None)) → StandsBefore made meaning_of store behind_it move → Adds 11 m.stack stack move
         → Stepped made meaning_of store tables inputs set functions tells asks (λ reading. remaining_run tables inputs set functions tells asks reading m (control.Request count)) (ahead m (control.Request count)) behind_it (advance.Goes move)
     asked_goes move does standing adds = record {
       comes = λ reading told read.
@@ -229,7 +229,7 @@ module _ {S T X : Type 0} (made : S → T → Type 0) (meaning_of : S → T → 
     }
 
     -- it printed a line
-    pub asked_prints : (move : Control) (line : Printed T) (s : Advance T) → Does (Ok (move, Some line)) → Prints line move s → StandsBefore made meaning_of store behind_it move → Adds 7 m.stack stack move → IsPrinted (made store) (length tables.outputs) line
+    pub asked_prints : (move : Control) (line : Printed T) (s : Advance T) → Does (Ok (move, Some line)) → Prints line move s → StandsBefore made meaning_of store behind_it move → Adds 11 m.stack stack move → IsPrinted (made store) (length tables.outputs) line
         → Stepped made meaning_of store tables inputs set functions tells asks (λ reading. remaining_run tables inputs set functions tells asks reading m (control.Request count)) (ahead m (control.Request count)) behind_it s
     asked_prints move line (advance.Line box after_move) does prints standing adds printed = record {
       comes = λ reading told read.
@@ -262,7 +262,7 @@ module _ {S T X : Type 0} (made : S → T → Type 0) (meaning_of : S → T → 
     }
 
     -- whichever it was
-    pub asked_steps : (moved : Result (Control × Option (Printed T)) (FlowFault T)) (result : Result (Advance T) OutOfMemory) → IfOk result (IsAsked moved) → Does moved → IfOk moved (λ moves. StandsBefore made meaning_of store behind_it moves.0) → IfOk moved (λ moves. Adds 7 m.stack stack moves.0)
+    pub asked_steps : (moved : Result (Control × Option (Printed T)) (FlowFault T)) (result : Result (Advance T) OutOfMemory) → IfOk result (IsAsked moved) → Does moved → IfOk moved (λ moves. StandsBefore made meaning_of store behind_it moves.0) → IfOk moved (λ moves. Adds 11 m.stack stack moves.0)
         → IfOk moved (λ moves. IfSome moves.1 (IsPrinted (made store) (length tables.outputs))) → IfErr moved (IfStop (HasStop (made store)))
         → IfOk result (Stepped made meaning_of store tables inputs set functions tells asks (λ reading. remaining_run tables inputs set functions tells asks reading m (control.Request count)) (ahead m (control.Request count)) behind_it)
     asked_steps moved (Err f) is does standing adds printed stopped = tt

@@ -24,7 +24,7 @@ use Rattle.run_state.specs.Worlds.{state_of}
 use Rattle.continuations.specs.declared.continuation.Continuation.{Continuation}
 use Rattle.continuations.specs.declared.continuation.Continuation.TheVariants as continuation
 use Rattle.continuations.specs.declared.continuation.Control.{Control}
-use Rattle.continuations.specs.Kept.{Kept}
+use Rattle.continuations.specs.Kept.{Kept, waits}
 use Rattle.continuations.specs.Pending.{Task, owns, env_above, setting_inside, setting_above, after, behind, fallen, first_or_undefined}
 use Rattle.continuations.specs.Settings.{Setting, setting_of}
 use Rattle.continuations.specs.Resuming.{coming, with_frames, Resumes, ResumesBeside, ResumesDone, ResumesBehind, ResumesDoneBehind, ResumesIn, ResumesDoneIn}
@@ -174,12 +174,15 @@ goes_alone (continuation.KeyOf how) old new move idle never led raised asks size
 goes_alone (continuation.Counted how o t) old new move idle never led raised asks size goes = absurd cc
 goes_alone (continuation.CountedNumber how o t) old new move idle never led raised asks size goes = absurd cc
 goes_alone continuation.InstanceTest old new move idle never led raised asks size goes = absurd cc
+goes_alone (continuation.LengthOnce how) old new move idle never led raised asks size goes = absurd cc
+goes_alone (continuation.LengthTwice how) old new move idle never led raised asks size goes = absurd cc
 goes_alone (continuation.Answered count to) old new move idle never led raised asks size goes = absurd cc
 goes_alone (continuation.CompoundRight o x t) old new move idle never led raised asks size goes = goes_behind (continuation.CompoundRight o x t) old new move size goes
 goes_alone (continuation.CalledBy es) old new move idle never led raised asks size goes = goes_beside (continuation.CalledBy es) old new move refl size goes
 goes_alone continuation.GiveBehind old new move idle never led raised asks size goes = goes_beside continuation.GiveBehind old new move refl size goes
 goes_alone (continuation.Argument f count rest) old new move idle never led raised asks size goes = goes_behind (continuation.Argument f count rest) old new move size goes
 goes_alone (continuation.Property ps count) old new move idle never led raised asks size goes = goes_behind (continuation.Property ps count) old new move size goes
+goes_alone (continuation.Item is place count) old new move idle never led raised asks size goes = goes_behind (continuation.Item is place count) old new move size goes
 goes_alone (continuation.IndexBase how x) old new move idle never led raised asks size goes = goes_behind (continuation.IndexBase how x) old new move size goes
 goes_alone (continuation.Visited x count) old new move idle never led raised asks size goes = goes_done_behind (continuation.Visited x count) old new move (omega (arith, size)) goes
 goes_alone (continuation.Statements ss) old new move idle never led raised asks size goes = goes_end (continuation.Statements ss) old new move refl size goes
@@ -266,6 +269,8 @@ module _ {S T : Type 0} (made : S → T → Type 0) (meaning : S → T → Label
   goes_acting (continuation.Counted how o t) old new world_old world_new result acting size goes = acts_behind (continuation.Counted how o t) old new world_old world_new result size goes
   goes_acting (continuation.CountedNumber how o t) old new world_old world_new result acting size goes = acts_behind (continuation.CountedNumber how o t) old new world_old world_new result size goes
   goes_acting continuation.InstanceTest old new world_old world_new result acting size goes = acts_behind continuation.InstanceTest old new world_old world_new result size goes
+  goes_acting (continuation.LengthOnce how) old new world_old world_new result acting size goes = acts_behind (continuation.LengthOnce how) old new world_old world_new result size goes
+  goes_acting (continuation.LengthTwice how) old new world_old world_new result acting size goes = acts_behind (continuation.LengthTwice how) old new world_old world_new result size goes
   goes_acting (continuation.VariablesBehind ds) old new world_old world_new result acting size goes = acts_at (continuation.VariablesBehind ds) old new world_old world_new result size goes
   goes_acting (continuation.Variable n ds) old new world_old world_new result acting size goes = acts_at (continuation.Variable n ds) old new world_old world_new result size goes
   goes_acting _ old new world_old world_new result acting size goes = absurd cc
@@ -280,6 +285,19 @@ module _ {S T : Type 0} (made : S → T → Type 0) (meaning : S → T → Label
       (ap (λ ts. behind tables inputs set functions reading ts (setting_of natives here) (continued tables inputs set functions reading w middle.loose (setting_above ts (setting_of natives here)) s)) tasks
       ∙ ap (λ p. behind tables inputs set functions reading old.tasks (setting_of natives here) p) (same tables inputs set functions reading (setting_above old.tasks (setting_of natives here)) s (IsReading-earlier made meaning room firm before store reading kept read)))
       (resumes reading told turns read)
+
+-- work that is neither a directive's nor a built-in's, as the default arm of a `match` knows it
+pub no_directive : (w : Continuation) → ((e : _) → w ≡ continuation.Raise e → ⊥) → raises w ≡ false
+no_directive (continuation.Raise e) none = absurd (none e refl)
+no_directive _ none = refl
+
+pub no_answer : (w : Continuation) → ((count : _) (to : _) → w ≡ continuation.Answered count to → ⊥) → answers w ≡ false
+no_answer (continuation.Answered count to) none = absurd (none count to refl)
+no_answer _ none = refl
+
+pub none_waits : (w : Continuation) → ((count : _) (to : _) → w ≡ continuation.Answered count to → ⊥) → waits w ≡ 0
+none_waits (continuation.Answered count to) none = absurd (none count to refl)
+none_waits _ none = refl
 
 -- work of an operator acts without a look at the record in which it stands
 pub acts_anywhere : {S T : Type 0} (made : S → T → Type 0) (meaning : S → T → Label) (store : S) (w : Continuation) (old new : Kept T) (world_old world_new : World T) (result : Result Control (FlowFault T)) → operates w ≡ true

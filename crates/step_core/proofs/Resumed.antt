@@ -62,6 +62,7 @@ module _ {T : Type 0} (P : T → Type 0) (stack : Kept T) where
   used_all (continuation.BinaryRight o r) all = all
   used_all (continuation.Argument f count rest) all = all
   used_all (continuation.Property ps count) all = all
+  used_all (continuation.Item is place count) all = all
   used_all (continuation.IndexBase how x) all = all
   used_all (continuation.CompoundRight o x t) all = all
   used_all (continuation.CalledBy es) all = all
@@ -76,6 +77,7 @@ used_tasks : {T : Type 0} → (w : Continuation) (stack : Kept T) → (used_of w
 used_tasks (continuation.BinaryRight o r) stack = refl
 used_tasks (continuation.Argument f count rest) stack = refl
 used_tasks (continuation.Property ps count) stack = refl
+used_tasks (continuation.Item is place count) stack = refl
 used_tasks (continuation.IndexBase how x) stack = refl
 used_tasks (continuation.CompoundRight o x t) stack = refl
 used_tasks (continuation.CalledBy es) stack = refl

@@ -10,7 +10,7 @@ use Rattle.js_ast.specs.Functions.{FunctionCode, functions_of}
 use Rattle.flow_frames.specs.declared.faults.FlowFault.{FlowFault}
 use Rattle.flow_frames.specs.declared.faults.FlowFault.TheVariants as fault
 use Rattle.flow_frames.specs.Stops.{IfStop}
-use Rattle.js_ast.specs.Views.{view_expr, view_stmt}
+use Rattle.js_ast.specs.Views.{view_block, view_expr, view_stmt}
 use Rattle.js_values.specs.declared.value.Labelled.{Labelled}
 use Rattle.js_values.specs.Readings.{HasValue, IsReading, read_heap, read_value}
 use Rattle.native_protocol.specs.declared.request.Answer.{Answer}
@@ -29,7 +29,7 @@ use Rattle.flow_meaning.specs.Scopes.{Jump as Jumps}
 use Rattle.es_meaning.specs.Evaluation.{begun, discard, statements}
 use Rattle.flow_meaning.specs.Tracked.{act, throw_error, tracked_run, start}
 use Rattle.flow_meaning.proofs.Depth.{is_performed}
-use Rattle.js_ast.specs.Trees.{Statements}
+use Rattle.js_ast.specs.Trees.{Statements, block}
 use Rattle.flow_meaning.specs.Laws.{performed_run}
 use Rattle.flow_meaning.specs.Planned.{Completion, Part, an_expr, a_use, a_stmt, a_named, a_turn, a_visit, Plan, Give, Ask, gave, jumped, and_plan, as_plan, with_result, Ran, completed, perform, meaning, planned, asking, plan, program_meaning, program_plan}
 use Rattle.run_state.specs.declared.world.World.{World}
@@ -133,6 +133,7 @@ module _ (tables : Tables) (inputs : Given) (set : BuiltIns) (functions : List F
   asks_for (control.Expr x) e h = record { part = λ vs. an_expr (view_expr x.now) e.env.place; is = λ vs. refl; asks = λ vs s. refl }
   asks_for (control.Use how x) e h = record { part = λ vs. a_use (use_of how vs) (view_expr x.now) e.env.place; is = λ vs. refl; asks = λ vs s. refl }
   asks_for (control.Stmt x) e h = record { part = λ vs. a_stmt (view_stmt x.now) e.env; is = λ vs. refl; asks = λ vs s. refl }
+  asks_for (control.Block x) e h = record { part = λ vs. a_stmt (block (view_block x.now)) e.env; is = λ vs. refl; asks = λ vs s. refl }
   asks_for (control.Named x n) e h = record { part = λ vs. a_named (passed_labels n [] (view_stmt x.now)) (behind_labels n (view_stmt x.now)) e.env; is = λ vs. refl; asks = λ vs s. refl }
   asks_for (control.Turn r) e h = record { part = λ vs. a_turn (round_of r) e.env; is = λ vs. refl; asks = λ vs s. refl }
   asks_for (control.Visit x count) e h = record { part = λ vs. a_visit (visit_of x count vs) e.env; is = λ vs. refl; asks = λ vs s. refl }
@@ -214,16 +215,16 @@ one_less zero none = absurd (none refl)
 one_less (suc n) none = omega arith
 
 -- what adds at most so much leaves less than so much more
-pub lowers_by : {T F : Type 0} (old new : Kept T) (k turns : ℕ) (result : Result Control F) → IfOk result (Adds (k + 3) old new) → IfOk result (λ n. 16 * turns + load new.tasks + lift n < 16 * turns + load old.tasks + 4 + k)
+pub lowers_by : {T F : Type 0} (old new : Kept T) (k turns : ℕ) (result : Result Control F) → IfOk result (Adds (k + 5) old new) → IfOk result (λ n. 18 * turns + load new.tasks + lift n < 18 * turns + load old.tasks + 6 + k)
 lowers_by old new k turns (Ok n) adds = omega (arith, adds)
 lowers_by old new k turns (Err e) adds = tt
 
 -- for a part a turn was spent
-pub lowers_turn : {T F : Type 0} (old new : Kept T) (move : Control) (turns : ℕ) (result : Result Control F) → IfOk result (Adds 15 old new) → IfOk result (λ n. 16 * turns + load new.tasks + lift n < 16 * (suc turns) + load old.tasks + lift move)
+pub lowers_turn : {T F : Type 0} (old new : Kept T) (move : Control) (turns : ℕ) (result : Result Control F) → IfOk result (Adds 17 old new) → IfOk result (λ n. 18 * turns + load new.tasks + lift n < 18 * (suc turns) + load old.tasks + lift move)
 lowers_turn old new move turns (Ok n) adds = omega (arith, adds)
 lowers_turn old new move turns (Err e) adds = tt
 
-pub lowers_move : {T F : Type 0} (old new : Kept T) (move : Control) (turns : ℕ) (result : Result Control F) → IfOk result (Lowers old move new) → IfOk result (λ n. 16 * turns + load new.tasks + lift n < 16 * turns + load old.tasks + lift move)
+pub lowers_move : {T F : Type 0} (old new : Kept T) (move : Control) (turns : ℕ) (result : Result Control F) → IfOk result (Lowers old move new) → IfOk result (λ n. 18 * turns + load new.tasks + lift n < 18 * turns + load old.tasks + lift move)
 lowers_move old new move turns (Ok n) lowers = omega (arith, lowers)
 lowers_move old new move turns (Err e) lowers = tt
 
@@ -374,10 +375,10 @@ still_behind made meaning_of store m waits (Ok n) same stands = λ still. subst 
 still_behind made meaning_of store m waits (Err f) same stands = tt
 
 -- how much is left to do is what there was without the work that was taken
-pub ahead_taken : {T : Type 0} (old taken : Kept T) (w : Continuation) (turns : ℕ) → Taken old taken w → 16 * turns + load taken.tasks + 4 + weight w ≡ 16 * turns + load old.tasks + 4
+pub ahead_taken : {T : Type 0} (old taken : Kept T) (w : Continuation) (turns : ℕ) → Taken old taken w → 18 * turns + load taken.tasks + 6 + weight w ≡ 18 * turns + load old.tasks + 6
 ahead_taken old taken w turns took = let more = ap load took.tasks ∙ load_more taken.tasks (w, take (owns w) taken.loose) in omega (arith, more)
 
-pub ahead_handed : {T : Type 0} (old taken : Kept T) (w : Continuation) (gave : Bool) (turns : ℕ) → Taken old taken w → 16 * turns + load taken.tasks + 4 + weight w ≡ 16 * turns + load old.tasks + lift (handed gave)
+pub ahead_handed : {T : Type 0} (old taken : Kept T) (w : Continuation) (gave : Bool) (turns : ℕ) → Taken old taken w → 18 * turns + load taken.tasks + 6 + weight w ≡ 18 * turns + load old.tasks + lift (handed gave)
 ahead_handed old taken w true turns took = ahead_taken old taken w turns took
 ahead_handed old taken w false turns took = ahead_taken old taken w turns took
 
@@ -414,7 +415,7 @@ module _ {S T X : Type 0} (made : S → T → Type 0) (meaning_of : S → T → 
   -- a part is entered, for a turn
   pub entered_steps : (m : Progress T X) (move : Control) (turns : ℕ) (stack : Kept T) (world : World T) (moved : Result Control (FlowFault T)) (result : Result (Advance T) OutOfMemory) → result ≡ still_step moved → enters_part move ≡ true → m.turns ≡ suc turns → length m.natives.states ≡ waiting m.stack.tasks
       → ((part : (T → Label) → Part) → ((reading : T → Label) → part_in (map (read_value reading) m.stack.loose) (setting_above m.stack.tasks (setting_of (waiting_steps tells asks m.natives) here)) move ≡ Some (part reading)) → Enters made meaning_of store tables inputs set functions (waiting_steps tells asks m.natives) m.stack stack m.world world part moved)
-      → IfOk moved (StandsStill made meaning_of store (waiting m.stack.tasks) stack world) → IfOk moved (Adds 15 m.stack stack) → IfErr moved (IfStop (HasStop (made store)))
+      → IfOk moved (StandsStill made meaning_of store (waiting m.stack.tasks) stack world) → IfOk moved (Adds 17 m.stack stack) → IfErr moved (IfStop (HasStop (made store)))
       → IfOk result (Stepped made meaning_of store tables inputs set functions tells asks (λ reading. remaining_run tables inputs set functions tells asks reading m move) (ahead m move) (record { world = world; stack = stack; natives = m.natives; turns = turns }))
   entered_steps m move turns stack world moved result is enters some same comes standing adds stopped =
       let new : Progress T X = record { world = world; stack = stack; natives = m.natives; turns = turns } in
@@ -422,9 +423,9 @@ module _ {S T X : Type 0} (made : S → T → Type 0) (meaning_of : S → T → 
       let waits = steps_still tells asks m.natives move (enters_still move enters) in
       let wanted = asks_for tables inputs set functions move (setting_above m.stack.tasks (setting_of natives here)) enters in
       let p : (T → Label) → List LabelledLine → ℕ → Plan = λ reading told n. behind tables inputs set functions reading m.stack.tasks (setting_of natives here) (plan tables inputs set functions (wanted.part (map (read_value reading) m.stack.loose)) (state_of reading m.world told n)) in
-      stepped_as made meaning_of store tables inputs set functions tells asks (λ reading told. perform (meaning tables inputs set functions) (p reading told turns)) (λ reading. remaining_run tables inputs set functions tells asks reading m move) (16 * (suc turns) + load m.stack.tasks + lift move) (ahead m move) new result
-      (λ reading told read. entered_after tables inputs set functions tells asks reading m natives move waits wanted told turns some) (ap (λ n. 16 * n + load m.stack.tasks + lift move) (sym some))
-      (still_steps made meaning_of store tables inputs set functions tells asks p new (16 * (suc turns) + load m.stack.tasks + lift move) moved result is
+      stepped_as made meaning_of store tables inputs set functions tells asks (λ reading told. perform (meaning tables inputs set functions) (p reading told turns)) (λ reading. remaining_run tables inputs set functions tells asks reading m move) (18 * (suc turns) + load m.stack.tasks + lift move) (ahead m move) new result
+      (λ reading told read. entered_after tables inputs set functions tells asks reading m natives move waits wanted told turns some) (ap (λ n. 18 * n + load m.stack.tasks + lift move) (sym some))
+      (still_steps made meaning_of store tables inputs set functions tells asks p new (18 * (suc turns) + load m.stack.tasks + lift move) moved result is
       (comes (λ reading. wanted.part (map (read_value reading) m.stack.loose)) (λ reading. wanted.is (map (read_value reading) m.stack.loose))) (still_behind made meaning_of store new (waiting m.stack.tasks) moved same standing) (lowers_turn m.stack stack move turns moved adds) stopped)
 
   -- without a turn the run ends
@@ -438,14 +439,14 @@ module _ {S T X : Type 0} (made : S → T → Type 0) (meaning_of : S → T → 
       (λ reading told. spent_alone tables inputs set functions tells asks reading m natives move waits wanted told none)
 
   -- work that was taken goes on with a completion, and no built-in runs behind it
-  pub after_steps : (m : Progress T X) (w : Continuation) (c : (T → Label) → Completion) (move : Control) (stack : Kept T) (world : World T) (moved : Result Control (FlowFault T)) (result : Result (Advance T) OutOfMemory) → result ≡ still_step moved → lift move ≡ 4 → length m.natives.states ≡ waiting m.stack.tasks
+  pub after_steps : (m : Progress T X) (w : Continuation) (c : (T → Label) → Completion) (move : Control) (stack : Kept T) (world : World T) (moved : Result Control (FlowFault T)) (result : Result (Advance T) OutOfMemory) → result ≡ still_step moved → lift move ≡ 6 → length m.natives.states ≡ waiting m.stack.tasks
       → Continues made meaning_of store tables inputs set functions c w (waiting_steps tells asks m.natives) (waiting_steps tells asks m.natives) m.stack stack m.world world moved
-      → IfOk moved (StandsStill made meaning_of store (waiting m.stack.tasks) stack world) → IfOk moved (Adds (weight w + 3) m.stack stack) → IfErr moved (IfStop (HasStop (made store)))
+      → IfOk moved (StandsStill made meaning_of store (waiting m.stack.tasks) stack world) → IfOk moved (Adds (weight w + 5) m.stack stack) → IfErr moved (IfStop (HasStop (made store)))
       → IfOk result (Stepped made meaning_of store tables inputs set functions tells asks (λ reading. remaining_run_after tables inputs set functions tells asks reading m w (c reading)) (ahead m move + weight w) (record { world = world; stack = stack; natives = m.natives; turns = m.turns }))
-  after_steps m w c move stack world moved result is four same continues standing adds stopped =
+  after_steps m w c move stack world moved result is six same continues standing adds stopped =
       let new : Progress T X = record { world = world; stack = stack; natives = m.natives; turns = m.turns } in
       let p : (T → Label) → List LabelledLine → ℕ → Plan = λ reading told turns. behind tables inputs set functions reading m.stack.tasks (setting_of (waiting_steps tells asks m.natives) here)
       (after tables inputs set functions w (map (read_value reading) (take (owns w) m.stack.loose)) (setting_above m.stack.tasks (setting_of (waiting_steps tells asks m.natives) here)) (c reading) (state_of reading m.world told turns)) in
-      stepped_as made meaning_of store tables inputs set functions tells asks (λ reading told. perform (meaning tables inputs set functions) (p reading told m.turns)) (λ reading. remaining_run_after tables inputs set functions tells asks reading m w (c reading)) (16 * m.turns + load m.stack.tasks + 4 + weight w) (ahead m move + weight w) new result
-      (λ reading told read. refl) (ap (λ n. 16 * m.turns + load m.stack.tasks + n + weight w) (sym four))
-      (still_steps made meaning_of store tables inputs set functions tells asks p new (16 * m.turns + load m.stack.tasks + 4 + weight w) moved result is continues (still_behind made meaning_of store new (waiting m.stack.tasks) moved same standing) (lowers_by m.stack stack (weight w) m.turns moved adds) stopped)
+      stepped_as made meaning_of store tables inputs set functions tells asks (λ reading told. perform (meaning tables inputs set functions) (p reading told m.turns)) (λ reading. remaining_run_after tables inputs set functions tells asks reading m w (c reading)) (18 * m.turns + load m.stack.tasks + 6 + weight w) (ahead m move + weight w) new result
+      (λ reading told read. refl) (ap (λ n. 18 * m.turns + load m.stack.tasks + n + weight w) (sym six))
+      (still_steps made meaning_of store tables inputs set functions tells asks p new (18 * m.turns + load m.stack.tasks + 6 + weight w) moved result is continues (still_behind made meaning_of store new (waiting m.stack.tasks) moved same standing) (lowers_by m.stack stack (weight w) m.turns moved adds) stopped)

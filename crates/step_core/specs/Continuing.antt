@@ -41,6 +41,8 @@ acts (continuation.KeyOf how) = true
 acts (continuation.Counted how o n) = true
 acts (continuation.CountedNumber how o n) = true
 acts continuation.InstanceTest = true
+acts (continuation.LengthOnce how) = true
+acts (continuation.LengthTwice how) = true
 acts (continuation.VariablesBehind ds) = true
 acts _ = false
 
@@ -57,6 +59,8 @@ operates continuation.KeyHas = true
 operates (continuation.Counted how o n) = true
 operates (continuation.CountedNumber how o n) = true
 operates continuation.InstanceTest = true
+operates (continuation.LengthOnce how) = true
+operates (continuation.LengthTwice how) = true
 operates _ = false
 
 -- the work that enters, raises or leaves a frame
@@ -110,6 +114,7 @@ module _ {T : Type 0} where
   abbrev pub GoesAlone : Continuation → Kept T → Kept T → Control → Type 0
   GoesAlone (continuation.Argument f count rest) = ResumesBehind (continuation.Argument f count rest)
   GoesAlone (continuation.Property ps count) = ResumesBehind (continuation.Property ps count)
+  GoesAlone (continuation.Item is place count) = ResumesBehind (continuation.Item is place count)
   GoesAlone (continuation.IndexBase how x) = ResumesBehind (continuation.IndexBase how x)
   GoesAlone (continuation.CompoundRight o x t) = ResumesBehind (continuation.CompoundRight o x t)
   GoesAlone (continuation.CalledBy es) = ResumesBeside (continuation.CalledBy es)
@@ -125,6 +130,7 @@ module _ {T : Type 0} where
   used_of (continuation.BinaryRight o r) stack = stack
   used_of (continuation.Argument f count rest) stack = stack
   used_of (continuation.Property ps count) stack = stack
+  used_of (continuation.Item is place count) stack = stack
   used_of (continuation.IndexBase how x) stack = stack
   used_of (continuation.CompoundRight o x t) stack = stack
   used_of (continuation.CalledBy es) stack = stack

@@ -5,7 +5,8 @@ use Rattle.flow_policy.specs.Policies.{Tables}
 use Rattle.flow_policy.specs.Inputs.{Given}
 use Rattle.js_ast.specs.Functions.{FunctionCode}
 use Rattle.flow_frames.specs.declared.faults.FlowFault.{FlowFault}
-use Rattle.js_ast.specs.Views.{view_expr, view_stmt}
+use Rattle.js_ast.specs.Trees.{block}
+use Rattle.js_ast.specs.Views.{view_block, view_expr, view_stmt}
 use Rattle.native_protocol.specs.Steps.{Steps}
 use Rattle.es_meaning.specs.BuiltIns.{BuiltIns}
 use Rattle.flow_meaning.specs.Scopes.{Val}
@@ -26,6 +27,7 @@ abbrev pub part_in : List Val → Setting → Control → Option Part
 part_in vs e (control.Expr x) = Some (an_expr (view_expr x.now) e.env.place)
 part_in vs e (control.Use how x) = Some (a_use (use_of how vs) (view_expr x.now) e.env.place)
 part_in vs e (control.Stmt x) = Some (a_stmt (view_stmt x.now) e.env)
+part_in vs e (control.Block x) = Some (a_stmt (block (view_block x.now)) e.env)
 part_in vs e (control.Named x n) = Some (a_named (passed_labels n [] (view_stmt x.now)) (behind_labels n (view_stmt x.now)) e.env)
 part_in vs e (control.Turn r) = Some (a_turn (round_of r) e.env)
 part_in vs e (control.Visit x count) = Some (a_visit (visit_of x count vs) e.env)

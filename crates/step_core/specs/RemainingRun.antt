@@ -31,9 +31,9 @@ use Rattle.step_core.specs.declared.steps.Advance.TheVariants as advance
 use Rattle.step_core.specs.declared.steps.Ending as code
 use Rattle.step_core.specs.declared.steps.Ending.TheVariants as ending
 
--- how much a machine does before its run ends: each part that it enters costs a turn, and the work of less than sixteen steps
+-- how much a machine does before its run ends: each part that it enters costs a turn, and the work of less than eighteen steps
 abbrev pub ahead : {T X : Type 0} → Progress T X → Control → ℕ
-ahead m next = 16 * m.turns + load m.stack.tasks + lift next
+ahead m next = 18 * m.turns + load m.stack.tasks + lift next
 
 module _ {T X : Type 0} (reading : T → Label) where
   -- how a run ended

@@ -102,6 +102,7 @@ abbrev pub enters_part : Control → Bool
 enters_part (control.Expr x) = true
 enters_part (control.Use how x) = true
 enters_part (control.Stmt x) = true
+enters_part (control.Block x) = true
 enters_part (control.Named x n) = true
 enters_part (control.Turn r) = true
 enters_part (control.Visit x count) = true
@@ -131,6 +132,7 @@ begins_work _ = false
 abbrev pub makes_value : Control → Bool
 makes_value (control.Function f) = true
 makes_value (control.Object ps count) = true
+makes_value (control.Array is count) = true
 makes_value _ = false
 
 -- the moves that may begin a built-in
@@ -138,5 +140,6 @@ abbrev pub calls_function : Control → Bool
 calls_function (control.Call count) = true
 calls_function (control.Construct count) = true
 calls_function (control.Convert h) = true
+calls_function control.ConvertBeside = true
 calls_function control.Compare = true
 calls_function _ = false

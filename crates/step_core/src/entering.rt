@@ -35,7 +35,7 @@ use continuations::{Control, Enumeration, Round, Stack, Use};
 use flow_frames::FlowFault;
 use flow_text::{OutOfMemory, Text};
 use function_table::Functions;
-use js_ast::{Declarations, Expr, Function, Ident, PropertyList, Stmt};
+use js_ast::{Block, Declarations, Expr, Function, Ident, ItemList, PropertyList, Stmt};
 use js_number::Int;
 use js_values::EnvId;
 use native_protocol::Natives;
@@ -44,12 +44,12 @@ use run_state::World;
 use std::alloc::Global;
 use step_calling::{call, construct, function};
 use step_control::{
-    begin_do_loop, begin_expression, begin_loop, begin_named, begin_statement, begin_turn,
-    begin_visit,
+    begin_block, begin_do_loop, begin_expression, begin_loop, begin_named, begin_statement,
+    begin_turn, begin_visit,
 };
 use step_jumps::{begin_try, is_try, leave_by, return_nothing};
-use step_literals::{boolean, null, number, object, text};
-use step_natives::{NativeStates, compare, convert};
+use step_literals::{array, boolean, null, number, object, text};
+use step_natives::{NativeStates, compare, convert, convert_beside};
 use step_references::{begin_use, declare, give_variable, read_name, this};
 use step_statements::{begin_labelled, next_visit, take_keys};
 
@@ -82,7 +82,7 @@ pub(crate) fn enter<'p, L: Labels>(
     requires standing { Invariant L.made L.meaning labels.old stack.old world.old (values_of next) (scopes_of stack.old.tasks) (waiting stack.old.tasks) next }
     ensures enters { (tables : Tables) (inputs : Given) (set : BuiltIns) (functions : List FunctionCode) (natives : List Steps) (part : (L.Label → Label) → Part) → ((reading : L.Label → Label) → part_in (map (read_value reading) stack.old.loose) (setting_above stack.old.tasks (setting_of natives here)) next.entry ≡ Some (part reading)) → Enters L.made L.meaning labels.new tables inputs set functions natives stack.old stack.new world.old world.new part result }
     ensures standing { IfOk result (StandsStill L.made L.meaning labels.new (waiting stack.old.tasks) stack.new world.new) }
-    ensures adds { IfOk result (Adds 15 stack.old stack.new) }
+    ensures adds { IfOk result (Adds 17 stack.old stack.new) }
     ensures stopped { IfErr result (IfStop (HasStop (L.made labels.new))) }
     ensures grows { Grows world.old world.new }
     ensures kept { IsKept L.made L.meaning L.room L.firm labels.old labels.new }
@@ -91,6 +91,7 @@ pub(crate) fn enter<'p, L: Labels>(
         Control::Expr(e) => enter_expression_apart(labels, world, stack, e),
         Control::Use(how, target) => enter_use(alloc, labels, world, stack, how, target),
         Control::Stmt(s) => enter_statement_apart(labels, world, stack, s),
+        Control::Block(block) => enter_block(labels, world, stack, block),
         Control::Named(of, passed) => enter_named(labels, world, stack, of, passed),
         Control::Turn(round) => enter_turn(labels, world, stack, round),
         Control::Visit(enumeration, count) => enter_visit(labels, world, stack, enumeration, count),
@@ -109,7 +110,7 @@ pub(crate) fn enter_expression<'p, L: Labels>(
     requires standing { Invariant L.made L.meaning _labels.now stack.old _world.now 0 (scopes_of stack.old.tasks) (waiting stack.old.tasks) (control.Expr e) }
     ensures enters { (tables : Tables) (inputs : Given) (set : BuiltIns) (functions : List FunctionCode) (natives : List Steps) (part : (L.Label → Label) → Part) → ((reading : L.Label → Label) → part_in (map (read_value reading) stack.old.loose) (setting_above stack.old.tasks (setting_of natives here)) (control.Expr e.entry) ≡ Some (part reading)) → Enters L.made L.meaning _labels.now tables inputs set functions natives stack.old stack.new _world.now _world.now part result }
     ensures standing { IfOk result (StandsStill L.made L.meaning _labels.now (waiting stack.old.tasks) stack.new _world.now) }
-    ensures adds { IfOk result (Adds 15 stack.old stack.new) }
+    ensures adds { IfOk result (Adds 17 stack.old stack.new) }
     ensures stopped { IfErr result (IfStop (HasStop (L.made _labels.now))) }
 {
     let next = begin_expression(stack, e)?;
@@ -127,7 +128,7 @@ fn enter_expression_apart<'p, L: Labels>(
     requires standing { Invariant L.made L.meaning _labels.now stack.old _world.now 0 (scopes_of stack.old.tasks) (waiting stack.old.tasks) (control.Expr e) }
     ensures enters { (tables : Tables) (inputs : Given) (set : BuiltIns) (functions : List FunctionCode) (natives : List Steps) (part : (L.Label → Label) → Part) → ((reading : L.Label → Label) → part_in (map (read_value reading) stack.old.loose) (setting_above stack.old.tasks (setting_of natives here)) (control.Expr e.entry) ≡ Some (part reading)) → Enters L.made L.meaning _labels.now tables inputs set functions natives stack.old stack.new _world.now _world.now part result }
     ensures standing { IfOk result (StandsStill L.made L.meaning _labels.now (waiting stack.old.tasks) stack.new _world.now) }
-    ensures adds { IfOk result (Adds 15 stack.old stack.new) }
+    ensures adds { IfOk result (Adds 17 stack.old stack.new) }
     ensures stopped { IfErr result (IfStop (HasStop (L.made _labels.now))) }
 {
     enter_expression(_labels, _world, stack, e)
@@ -146,7 +147,7 @@ fn enter_use<'p, L: Labels>(
     requires standing { Invariant L.made L.meaning labels.old stack.old world.old (owns_use how) (scopes_of stack.old.tasks) (waiting stack.old.tasks) (control.Use how target) }
     ensures enters { (tables : Tables) (inputs : Given) (set : BuiltIns) (functions : List FunctionCode) (natives : List Steps) (part : (L.Label → Label) → Part) → ((reading : L.Label → Label) → part_in (map (read_value reading) stack.old.loose) (setting_above stack.old.tasks (setting_of natives here)) (control.Use how.entry target.entry) ≡ Some (part reading)) → Enters L.made L.meaning labels.new tables inputs set functions natives stack.old stack.new world.old world.new part result }
     ensures standing { IfOk result (StandsStill L.made L.meaning labels.new (waiting stack.old.tasks) stack.new world.new) }
-    ensures adds { IfOk result (Adds 15 stack.old stack.new) }
+    ensures adds { IfOk result (Adds 17 stack.old stack.new) }
     ensures stopped { IfErr result (IfStop (HasStop (L.made labels.new))) }
     ensures grows { Grows world.old world.new }
     ensures kept { IsKept L.made L.meaning L.room L.firm labels.old labels.new }
@@ -166,7 +167,7 @@ pub(crate) fn enter_statement<'p, L: Labels>(
     requires standing { Invariant L.made L.meaning _labels.now stack.old _world.now 0 (scopes_of stack.old.tasks) (waiting stack.old.tasks) (control.Stmt s) }
     ensures enters { (tables : Tables) (inputs : Given) (set : BuiltIns) (functions : List FunctionCode) (natives : List Steps) (part : (L.Label → Label) → Part) → ((reading : L.Label → Label) → part_in (map (read_value reading) stack.old.loose) (setting_above stack.old.tasks (setting_of natives here)) (control.Stmt s.entry) ≡ Some (part reading)) → Enters L.made L.meaning _labels.now tables inputs set functions natives stack.old stack.new _world.now _world.now part result }
     ensures standing { IfOk result (StandsStill L.made L.meaning _labels.now (waiting stack.old.tasks) stack.new _world.now) }
-    ensures adds { IfOk result (Adds 15 stack.old stack.new) }
+    ensures adds { IfOk result (Adds 17 stack.old stack.new) }
     ensures stopped { IfErr result (IfStop (HasStop (L.made _labels.now))) }
 {
     let next = begin_statement(stack, s)?;
@@ -184,10 +185,27 @@ fn enter_statement_apart<'p, L: Labels>(
     requires standing { Invariant L.made L.meaning _labels.now stack.old _world.now 0 (scopes_of stack.old.tasks) (waiting stack.old.tasks) (control.Stmt s) }
     ensures enters { (tables : Tables) (inputs : Given) (set : BuiltIns) (functions : List FunctionCode) (natives : List Steps) (part : (L.Label → Label) → Part) → ((reading : L.Label → Label) → part_in (map (read_value reading) stack.old.loose) (setting_above stack.old.tasks (setting_of natives here)) (control.Stmt s.entry) ≡ Some (part reading)) → Enters L.made L.meaning _labels.now tables inputs set functions natives stack.old stack.new _world.now _world.now part result }
     ensures standing { IfOk result (StandsStill L.made L.meaning _labels.now (waiting stack.old.tasks) stack.new _world.now) }
-    ensures adds { IfOk result (Adds 15 stack.old stack.new) }
+    ensures adds { IfOk result (Adds 17 stack.old stack.new) }
     ensures stopped { IfErr result (IfStop (HasStop (L.made _labels.now))) }
 {
     enter_statement(_labels, _world, stack, s)
+}
+
+/// A block of a `try` statement is entered.
+fn enter_block<'p, L: Labels>(
+    _labels: &L,
+    _world: &World<L::Label>,
+    stack: &mut Stack<'p, L::Label>,
+    block: &'p Block,
+) -> Result<Control<'p>, FlowFault<L::Label>>
+    requires standing { Invariant L.made L.meaning _labels.now stack.old _world.now 0 (scopes_of stack.old.tasks) (waiting stack.old.tasks) (control.Block block) }
+    ensures enters { (tables : Tables) (inputs : Given) (set : BuiltIns) (functions : List FunctionCode) (natives : List Steps) (part : (L.Label → Label) → Part) → ((reading : L.Label → Label) → part_in (map (read_value reading) stack.old.loose) (setting_above stack.old.tasks (setting_of natives here)) (control.Block block.entry) ≡ Some (part reading)) → Enters L.made L.meaning _labels.now tables inputs set functions natives stack.old stack.new _world.now _world.now part result }
+    ensures standing { IfOk result (StandsStill L.made L.meaning _labels.now (waiting stack.old.tasks) stack.new _world.now) }
+    ensures adds { IfOk result (Adds 17 stack.old stack.new) }
+    ensures stopped { IfErr result (IfStop (HasStop (L.made _labels.now))) }
+{
+    let next = begin_block(stack, block)?;
+    Ok(next)
 }
 
 /// A loop, a `switch` or a labelled statement is entered that stands behind labels.
@@ -202,7 +220,7 @@ fn enter_named<'p, L: Labels>(
     requires standing { Invariant L.made L.meaning _labels.now stack.old _world.now 0 (scopes_of stack.old.tasks) (waiting stack.old.tasks) (control.Named of passed) }
     ensures enters { (tables : Tables) (inputs : Given) (set : BuiltIns) (functions : List FunctionCode) (natives : List Steps) (part : (L.Label → Label) → Part) → ((reading : L.Label → Label) → part_in (map (read_value reading) stack.old.loose) (setting_above stack.old.tasks (setting_of natives here)) (control.Named of.entry passed) ≡ Some (part reading)) → Enters L.made L.meaning _labels.now tables inputs set functions natives stack.old stack.new _world.now _world.now part result }
     ensures standing { IfOk result (StandsStill L.made L.meaning _labels.now (waiting stack.old.tasks) stack.new _world.now) }
-    ensures adds { IfOk result (Adds 15 stack.old stack.new) }
+    ensures adds { IfOk result (Adds 17 stack.old stack.new) }
     ensures stopped { IfErr result (IfStop (HasStop (L.made _labels.now))) }
 {
     let next = begin_named(stack, of, passed)?;
@@ -220,7 +238,7 @@ fn enter_turn<'p, L: Labels>(
     requires standing { Invariant L.made L.meaning labels.old stack.old world.old 0 (scopes_of stack.old.tasks) (waiting stack.old.tasks) (control.Turn round) }
     ensures enters { (tables : Tables) (inputs : Given) (set : BuiltIns) (functions : List FunctionCode) (natives : List Steps) (part : (L.Label → Label) → Part) → ((reading : L.Label → Label) → part_in (map (read_value reading) stack.old.loose) (setting_above stack.old.tasks (setting_of natives here)) (control.Turn round.entry) ≡ Some (part reading)) → Enters L.made L.meaning labels.new tables inputs set functions natives stack.old stack.new world.old world.new part result }
     ensures standing { IfOk result (StandsStill L.made L.meaning labels.new (waiting stack.old.tasks) stack.new world.new) }
-    ensures adds { IfOk result (Adds 15 stack.old stack.new) }
+    ensures adds { IfOk result (Adds 17 stack.old stack.new) }
     ensures stopped { IfErr result (IfStop (HasStop (L.made labels.new))) }
     ensures grows { Grows world.old world.new }
     ensures kept { IsKept L.made L.meaning L.room L.firm labels.old labels.new }
@@ -242,7 +260,7 @@ fn enter_visit<'p, L: Labels>(
     requires standing { Invariant L.made L.meaning labels.old stack.old world.old (count + 2) (scopes_of stack.old.tasks) (waiting stack.old.tasks) (control.Visit enumeration count) }
     ensures enters { (tables : Tables) (inputs : Given) (set : BuiltIns) (functions : List FunctionCode) (natives : List Steps) (part : (L.Label → Label) → Part) → ((reading : L.Label → Label) → part_in (map (read_value reading) stack.old.loose) (setting_above stack.old.tasks (setting_of natives here)) (control.Visit enumeration.entry count) ≡ Some (part reading)) → Enters L.made L.meaning labels.new tables inputs set functions natives stack.old stack.new world.old world.new part result }
     ensures standing { IfOk result (StandsStill L.made L.meaning labels.new (waiting stack.old.tasks) stack.new world.new) }
-    ensures adds { IfOk result (Adds 15 stack.old stack.new) }
+    ensures adds { IfOk result (Adds 17 stack.old stack.new) }
     ensures stopped { IfErr result (IfStop (HasStop (L.made labels.new))) }
     ensures grows { Grows world.old world.new }
     ensures kept { IsKept L.made L.meaning L.room L.firm labels.old labels.new }
@@ -656,6 +674,7 @@ pub(crate) fn begin_calling<'p, L: Labels, N: Natives>(
         ),
         Control::Convert(hint) => convert(labels, world, stack, states, hint),
         Control::Compare => compare(labels, world, stack, states),
+        Control::ConvertBeside => convert_beside(labels, world, stack, states),
         _ => unreachable!(),
     }
 }
@@ -684,6 +703,7 @@ pub(crate) fn make_value<'p, L: Labels>(
         Control::Object(list, count) => {
             begin_object(alloc, labels, world, functions, stack, list, count)
         }
+        Control::Array(list, count) => begin_array(alloc, labels, world, stack, list, count),
         _ => unreachable!(),
     }
 }
@@ -731,4 +751,25 @@ fn begin_object<'p, L: Labels>(
 {
     let place = present(world, stack)?;
     object(alloc, labels, world, functions, stack, place, list, count)
+}
+
+/// An array of a literal.
+#[inline(always)]
+fn begin_array<'p, L: Labels>(
+    alloc: Global,
+    labels: &mut L,
+    world: &mut World<L::Label>,
+    stack: &mut Stack<'p, L::Label>,
+    list: &'p ItemList,
+    count: u32,
+) -> Result<Control<'p>, FlowFault<L::Label>>
+    requires standing { Invariant L.made L.meaning labels.old stack.old world.old count (scopes_of stack.old.tasks) (waiting stack.old.tasks) (control.Array list count) }
+    ensures begins { (tables : Tables) (inputs : Given) (set : BuiltIns) (functions : List FunctionCode) (natives : List Steps) → Begins L.made L.meaning labels.new tables inputs set functions natives natives stack.old stack.new world.old world.new (control.Array list.entry count) result }
+    ensures standing { IfOk result (StandsStill L.made L.meaning labels.new (waiting stack.old.tasks) stack.new world.new) }
+    ensures lowers { IfOk result (λ n. Lowers stack.old (control.Array list.entry count) stack.new n) }
+    ensures stopped { IfErr result (IfStop (HasStop (L.made labels.new))) }
+    ensures grows { Grows world.old world.new }
+    ensures kept { IsKept L.made L.meaning L.room L.firm labels.old labels.new }
+{
+    array(alloc, labels, world, stack, list, count)
 }

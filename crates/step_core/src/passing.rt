@@ -46,7 +46,7 @@ pub(crate) fn pass_work<'p, L: Labels>(
     requires standing { Invariant L.made L.meaning labels.old stack.old world.old (owns work + 1) (scopes_of stack.old.tasks ++ scope_of work) (waiting stack.old.tasks) (control.Jumps jump) }
     ensures passes { (tables : Tables) (inputs : Given) (set : BuiltIns) (functions : List FunctionCode) (natives : List Steps) (value : Labelled L.Label) → drop (owns work.entry) stack.old.loose ≡ value ∷ [] → Passes L.made L.meaning labels.new tables inputs set functions jump work.entry value natives natives stack.old stack.new world.old world.new result }
     ensures standing { IfOk result (StandsStill L.made L.meaning labels.new (waiting stack.old.tasks) stack.new world.new) }
-    ensures adds { IfOk result (Adds (weight work.entry + 3) stack.old stack.new) }
+    ensures adds { IfOk result (Adds (weight work.entry + 5) stack.old stack.new) }
     ensures stopped { IfErr result (IfStop (HasStop (L.made labels.new))) }
     ensures grows { Grows world.old world.new }
     ensures kept { IsKept L.made L.meaning L.room L.firm labels.old labels.new }
@@ -86,7 +86,7 @@ pub(crate) fn pass_by<'p, L: Labels>(
     requires passes { may_stay work ≡ false }
     ensures passes { (tables : Tables) (inputs : Given) (set : BuiltIns) (functions : List FunctionCode) (natives : List Steps) (value : Labelled L.Label) → drop (owns work.entry) stack.old.loose ≡ value ∷ [] → Passes L.made L.meaning _labels.now tables inputs set functions jump work.entry value natives natives stack.old stack.new _world.now _world.now result }
     ensures standing { IfOk result (StandsStill L.made L.meaning _labels.now (waiting stack.old.tasks) stack.new _world.now) }
-    ensures adds { IfOk result (Adds (weight work.entry + 3) stack.old stack.new) }
+    ensures adds { IfOk result (Adds (weight work.entry + 5) stack.old stack.new) }
     ensures stopped { IfErr result (IfStop (HasStop (L.made _labels.now))) }
 {
     let next = pass(stack, jump, work)?;
@@ -106,7 +106,7 @@ fn end_branch_by<'p, L: Labels>(
     requires standing { Invariant L.made L.meaning labels.now stack.old world.old 1 (scopes_of stack.old.tasks ++ depth ∷ []) (waiting stack.old.tasks) (control.Jumps jump) }
     ensures passes { (tables : Tables) (inputs : Given) (set : BuiltIns) (functions : List FunctionCode) (natives : List Steps) (value : Labelled L.Label) → stack.old.loose ≡ value ∷ [] → Passes L.made L.meaning labels.now tables inputs set functions jump (continuations.EndBranch gives depth) value natives natives stack.old stack.new world.old world.new result }
     ensures standing { IfOk result (StandsStill L.made L.meaning labels.now (waiting stack.old.tasks) stack.new world.new) }
-    ensures adds { IfOk result (Adds 4 stack.old stack.new) }
+    ensures adds { IfOk result (Adds 6 stack.old stack.new) }
     ensures stopped { IfErr result (IfStop (HasStop (L.made labels.now))) }
     ensures grows { Grows world.old world.new }
 {
@@ -129,7 +129,7 @@ fn end_round_by<'p, L: Labels>(
     ensures label { (tables : Tables) (inputs : Given) (set : BuiltIns) (functions : List FunctionCode) (natives : List Steps) (value : Labelled L.Label) → stack.old.loose ≡ value ∷ [] → (text : Bor (List ℕ)) → Passes L.made L.meaning labels.now tables inputs set functions jump (continuations.EndLabel depth text) value natives natives stack.old stack.new world.old world.new (Ok result) }
     ensures tried { (tables : Tables) (inputs : Given) (set : BuiltIns) (functions : List FunctionCode) (natives : List Steps) (value : Labelled L.Label) → stack.old.loose ≡ value ∷ [] → Passes L.made L.meaning labels.now tables inputs set functions jump (continuations.EndTry depth) value natives natives stack.old stack.new world.old world.new (Ok result) }
     ensures standing { StandsStill L.made L.meaning labels.now (waiting stack.old.tasks) stack.new world.new result }
-    ensures adds { Adds 4 stack.old stack.new result }
+    ensures adds { Adds 6 stack.old stack.new result }
     ensures grows { Grows world.old world.new }
 {
     let next = pass_round(labels, &mut world.frames, stack, jump, depth);
@@ -151,7 +151,7 @@ fn end_block_by<'p, L: Labels>(
     requires standing { Invariant L.made L.meaning labels.old stack.old world.old 1 (scopes_of stack.old.tasks) (waiting stack.old.tasks) (control.Jumps jump) }
     ensures passes { (tables : Tables) (inputs : Given) (set : BuiltIns) (functions : List FunctionCode) (natives : List Steps) (value : Labelled L.Label) → stack.old.loose ≡ value ∷ [] → Passes L.made L.meaning labels.new tables inputs set functions jump (continuations.EndBlock s.entry depth) value natives natives stack.old stack.new world.old world.new result }
     ensures standing { IfOk result (StandsStill L.made L.meaning labels.new (waiting stack.old.tasks) stack.new world.new) }
-    ensures adds { IfOk result (Adds 6 stack.old stack.new) }
+    ensures adds { IfOk result (Adds 8 stack.old stack.new) }
     ensures stopped { IfErr result (IfStop (HasStop (L.made labels.new))) }
     ensures grows { Grows world.old world.new }
     ensures kept { IsKept L.made L.meaning L.room L.firm labels.old labels.new }

@@ -34,7 +34,8 @@ ghost use Rattle.continuations.specs.Invariant.{Invariant, awaits, given};
 
 use crate::entering::present;
 use continuations::{
-    Continuation, Control, Stack, Target, called_by, index_base, more_arguments, more_properties,
+    Continuation, Control, Stack, Target, called_by, index_base, more_arguments, more_items,
+    more_properties,
 };
 use flow_frames::{FlowFault, Frames};
 use flow_policy::Policy;
@@ -58,7 +59,7 @@ use step_jumps::{
 };
 use step_operators::{
     binary_done, compound_done, counted, counted_number, instance_done, instance_test, key_has,
-    left_converted, operate_converted, unary_converted, unary_done,
+    left_converted, length_once, length_twice, operate_converted, unary_converted, unary_done,
 };
 use step_references::{assigned, index_key, key_of, member, more_variables, variables_behind};
 use step_statements::{compared, falls, switched};
@@ -80,7 +81,7 @@ pub(crate) fn resume_acting<'p, L: Labels>(
     requires standing { Invariant L.made L.meaning labels.old stack.old world.old (owns work + given gave) (scopes_of stack.old.tasks ++ scope_of work) (waiting stack.old.tasks) control.Value }
     ensures resumes { (tables : Tables) (inputs : Given) (set : BuiltIns) (functions : List FunctionCode) (natives : List Steps) → Resumes L.made L.meaning labels.new tables inputs set functions work.entry natives natives stack.old stack.new world.old world.new result }
     ensures standing { IfOk result (StandsStill L.made L.meaning labels.new (waiting stack.old.tasks) stack.new world.new) }
-    ensures adds { IfOk result (Adds (weight work.entry + 3) stack.old stack.new) }
+    ensures adds { IfOk result (Adds (weight work.entry + 5) stack.old stack.new) }
     ensures stopped { IfErr result (IfStop (HasStop (L.made labels.new))) }
     ensures grows { Grows world.old world.new }
     ensures kept { IsKept L.made L.meaning L.room L.firm labels.old labels.new }
@@ -104,7 +105,7 @@ pub(crate) fn resume_scoped<'p, L: Labels>(
     requires standing { Invariant L.made L.meaning labels.old stack.old world.old (owns work + given gave) (scopes_of stack.old.tasks ++ scope_of work) (waiting stack.old.tasks) control.Value }
     ensures resumes { (tables : Tables) (inputs : Given) (set : BuiltIns) (functions : List FunctionCode) (natives : List Steps) → Resumes L.made L.meaning labels.new tables inputs set functions work.entry natives natives stack.old stack.new world.old world.new result }
     ensures standing { IfOk result (StandsStill L.made L.meaning labels.new (waiting stack.old.tasks) stack.new world.new) }
-    ensures adds { IfOk result (Adds (weight work.entry + 3) stack.old stack.new) }
+    ensures adds { IfOk result (Adds (weight work.entry + 5) stack.old stack.new) }
     ensures stopped { IfErr result (IfStop (HasStop (L.made labels.new))) }
     ensures grows { Grows world.old world.new }
     ensures kept { IsKept L.made L.meaning L.room L.firm labels.old labels.new }
@@ -129,7 +130,7 @@ pub(crate) fn resume_leading<'p, L: Labels>(
     requires standing { Invariant L.made L.meaning labels.old stack.old world.old (owns work + given gave) (scopes_of stack.old.tasks ++ scope_of work) (waiting stack.old.tasks) control.Value }
     ensures resumes { (tables : Tables) (inputs : Given) (set : BuiltIns) (functions : List FunctionCode) (natives : List Steps) → Resumes L.made L.meaning labels.new tables inputs set functions work.entry natives natives stack.old stack.new world.old world.new result }
     ensures standing { IfOk result (StandsStill L.made L.meaning labels.new (waiting stack.old.tasks) stack.new world.new) }
-    ensures adds { IfOk result (Adds (weight work.entry + 3) stack.old stack.new) }
+    ensures adds { IfOk result (Adds (weight work.entry + 5) stack.old stack.new) }
     ensures stopped { IfErr result (IfStop (HasStop (L.made labels.new))) }
     ensures grows { Grows world.old world.new }
     ensures kept { IsKept L.made L.meaning L.room L.firm labels.old labels.new }
@@ -155,7 +156,7 @@ pub(crate) fn resume_alone<'p, L: Labels>(
     requires standing { Invariant L.made L.meaning labels.old stack.old world.old (owns work + given gave) (scopes_of stack.old.tasks ++ scope_of work) (waiting stack.old.tasks) control.Value }
     ensures resumes { (tables : Tables) (inputs : Given) (set : BuiltIns) (functions : List FunctionCode) (natives : List Steps) → Resumes L.made L.meaning labels.new tables inputs set functions work.entry natives natives stack.old stack.new world.old world.new result }
     ensures standing { IfOk result (StandsStill L.made L.meaning labels.new (waiting stack.old.tasks) stack.new world.new) }
-    ensures adds { IfOk result (Adds (weight work.entry + 3) stack.old stack.new) }
+    ensures adds { IfOk result (Adds (weight work.entry + 5) stack.old stack.new) }
     ensures stopped { IfErr result (IfStop (HasStop (L.made labels.new))) }
     ensures grows { Grows world.old world.new }
     ensures kept { IsKept L.made L.meaning L.room L.firm labels.old labels.new }
@@ -234,7 +235,7 @@ fn go_on_acting<'p, L: Labels>(
     requires standing { Invariant L.made L.meaning labels.old stack.old world.old (owns work + awaits work) (scopes_of stack.old.tasks ++ scope_of work) (waiting stack.old.tasks) control.Value }
     ensures resumes { (tables : Tables) (inputs : Given) (set : BuiltIns) (functions : List FunctionCode) (natives : List Steps) → Resumes L.made L.meaning labels.new tables inputs set functions work.entry natives natives stack.old stack.new world.old world.new result }
     ensures standing { IfOk result (StandsStill L.made L.meaning labels.new (waiting stack.old.tasks) stack.new world.new) }
-    ensures adds { IfOk result (Adds (weight work.entry + 3) stack.old stack.new) }
+    ensures adds { IfOk result (Adds (weight work.entry + 5) stack.old stack.new) }
     ensures stopped { IfErr result (IfStop (HasStop (L.made labels.new))) }
     ensures grows { Grows world.old world.new }
     ensures kept { IsKept L.made L.meaning L.room L.firm labels.old labels.new }
@@ -256,7 +257,7 @@ fn go_on_scoped<'p, L: Labels>(
     requires standing { Invariant L.made L.meaning labels.old stack.old world.old (owns work + awaits work) (scopes_of stack.old.tasks ++ scope_of work) (waiting stack.old.tasks) control.Value }
     ensures resumes { (tables : Tables) (inputs : Given) (set : BuiltIns) (functions : List FunctionCode) (natives : List Steps) → Resumes L.made L.meaning labels.new tables inputs set functions work.entry natives natives stack.old stack.new world.old world.new result }
     ensures standing { IfOk result (StandsStill L.made L.meaning labels.new (waiting stack.old.tasks) stack.new world.new) }
-    ensures adds { IfOk result (Adds (weight work.entry + 3) stack.old stack.new) }
+    ensures adds { IfOk result (Adds (weight work.entry + 5) stack.old stack.new) }
     ensures stopped { IfErr result (IfStop (HasStop (L.made labels.new))) }
     ensures grows { Grows world.old world.new }
     ensures kept { IsKept L.made L.meaning L.room L.firm labels.old labels.new }
@@ -282,7 +283,7 @@ fn go_on_quietly<'p, L: Labels>(
     requires standing { Invariant L.made L.meaning _labels.now stack.old _world.now (owns work + awaits work) (scopes_of stack.old.tasks ++ scope_of work) (waiting stack.old.tasks) control.Value }
     ensures resumes { (tables : Tables) (inputs : Given) (set : BuiltIns) (functions : List FunctionCode) (natives : List Steps) → Resumes L.made L.meaning _labels.now tables inputs set functions work.entry natives natives stack.old stack.new _world.now _world.now result }
     ensures standing { IfOk result (StandsStill L.made L.meaning _labels.now (waiting stack.old.tasks) stack.new _world.now) }
-    ensures adds { IfOk result (Adds (weight work.entry + 3) stack.old stack.new) }
+    ensures adds { IfOk result (Adds (weight work.entry + 5) stack.old stack.new) }
     ensures stopped { IfErr result (IfStop (HasStop (L.made _labels.now))) }
 {
     let next = go_on_alone(stack, work)?;
@@ -294,26 +295,28 @@ fn go_on_quietly<'p, L: Labels>(
 pub(crate) fn acts(work: Continuation<'_>) -> bool
     ensures { result ≡ acts work.entry }
 {
-    matches!(
-        work,
-        Continuation::Unary(_)
-            | Continuation::BinaryDone(_)
-            | Continuation::AssignTo(_)
-            | Continuation::CompoundDone(_, _)
-            | Continuation::Variable(_, _)
-            | Continuation::MemberBase(_, _)
-            | Continuation::IndexKey(_)
-            | Continuation::InstanceDone
-            | Continuation::ConvertedLeft(_)
-            | Continuation::Operate(_)
-            | Continuation::UnaryConverted(_)
-            | Continuation::KeyHas
-            | Continuation::KeyOf(_)
-            | Continuation::Counted(_, _, _)
-            | Continuation::CountedNumber(_, _, _)
-            | Continuation::InstanceTest
-            | Continuation::VariablesBehind(_)
-    )
+    match work {
+        Continuation::Unary(_) => true,
+        Continuation::BinaryDone(_) => true,
+        Continuation::AssignTo(_) => true,
+        Continuation::CompoundDone(_, _) => true,
+        Continuation::Variable(_, _) => true,
+        Continuation::MemberBase(_, _) => true,
+        Continuation::IndexKey(_) => true,
+        Continuation::InstanceDone => true,
+        Continuation::ConvertedLeft(_) => true,
+        Continuation::Operate(_) => true,
+        Continuation::UnaryConverted(_) => true,
+        Continuation::KeyHas => true,
+        Continuation::KeyOf(_) => true,
+        Continuation::Counted(_, _, _) => true,
+        Continuation::CountedNumber(_, _, _) => true,
+        Continuation::InstanceTest => true,
+        Continuation::LengthOnce(_) => true,
+        Continuation::LengthTwice(_) => true,
+        Continuation::VariablesBehind(_) => true,
+        _ => false,
+    }
 }
 
 /// Enters, raises or leaves a frame.
@@ -373,7 +376,7 @@ fn go_on_alone<'p, T: Copy>(
     requires loose { length stack.old.loose ≡ owns work + awaits work }
     ensures goes_on { IfOk result (GoesAlone work.entry stack.old stack.new) }
     ensures keeps { IfOk result (Keeps (used_of work.entry stack.old) stack.new) }
-    ensures adds { IfOk result (Adds (weight work.entry + 3) stack.old stack.new) }
+    ensures adds { IfOk result (Adds (weight work.entry + 5) stack.old stack.new) }
 {
     match work {
         Continuation::BinaryRight(operator, right) => binary_right(stack, operator, right),
@@ -383,6 +386,7 @@ fn go_on_alone<'p, T: Copy>(
             stack, function, count, rest,
         ),
         Continuation::Property(list, count) => more_properties(stack, list, count),
+        Continuation::Item(list, place, count) => more_items(stack, list, place, count),
         Continuation::IndexBase(how, index) => index_base(stack, how, index),
         Continuation::CompoundRight(operator, right, target) => {
             compound_right(stack, operator, right, target)
@@ -419,7 +423,7 @@ fn go_on_in_frames<'p, L: Labels>(
     ensures leaves { IfOk result (LeavesIn work.entry stack.old stack.new frames.old.frames frames.new.frames) }
     ensures still { StillIn work.entry frames.old.frames frames.new.frames }
     ensures made { IfOk result (λ _. MadeIn (L.made labels.new) work.entry stack.new.loose) }
-    ensures adds { IfOk result (Adds (weight work.entry + 3) stack.old stack.new) }
+    ensures adds { IfOk result (Adds (weight work.entry + 5) stack.old stack.new) }
     ensures belongs { Belong L.made L.meaning labels.new frames.new.frames }
     ensures kept { IsKept L.made L.meaning L.room L.firm labels.old labels.new }
 {
@@ -460,7 +464,7 @@ fn act<'p, L: Labels>(
     requires records { 0 < length world.old.records }
     requires belongs { Belongs L.made L.meaning labels.old world.old }
     ensures goes_on { GoesActing L.made L.meaning labels.new work.entry stack.old stack.new world.old world.new result }
-    ensures moved { IfOk result (Moved (L.made labels.new) (weight work.entry + 3) stack.old stack.new world.old world.new) }
+    ensures moved { IfOk result (Moved (L.made labels.new) (weight work.entry + 5) stack.old stack.new world.old world.new) }
     ensures stopped { IfErr result (IfStop (HasStop (L.made labels.new))) }
     ensures belongs { Belongs L.made L.meaning labels.new world.new }
     ensures grows { Grows world.old world.new }
@@ -492,7 +496,7 @@ fn give_variables<'p, L: Labels>(
     requires made { All (HasValue (L.made labels.old)) stack.old.loose }
     requires belongs { Belongs L.made L.meaning labels.old world.old }
     ensures goes_on { GoesActing L.made L.meaning labels.new (continuations.Variable target.entry rest.entry) stack.old stack.new world.old world.new result }
-    ensures moved { IfOk result (Moved (L.made labels.new) 7 stack.old stack.new world.old world.new) }
+    ensures moved { IfOk result (Moved (L.made labels.new) 11 stack.old stack.new world.old world.new) }
     ensures stopped { IfErr result (IfStop (HasStop (L.made labels.new))) }
     ensures belongs { Belongs L.made L.meaning labels.new world.new }
     ensures grows { Grows world.old world.new }
@@ -514,7 +518,7 @@ fn declare_behind<'p, L: Labels>(
     requires loose { length stack.old.loose ≡ 1 }
     requires belongs { Belongs L.made L.meaning labels.old world.now }
     ensures goes_on { GoesActing L.made L.meaning labels.new (continuations.VariablesBehind rest.entry) stack.old stack.new world.now world.now result }
-    ensures moved { IfOk result (Moved (L.made labels.new) 4 stack.old stack.new world.now world.now) }
+    ensures moved { IfOk result (Moved (L.made labels.new) 6 stack.old stack.new world.now world.now) }
     ensures stopped { IfErr result (IfStop (HasStop (L.made labels.new))) }
     ensures belongs { Belongs L.made L.meaning labels.new world.now }
     ensures kept { IsKept L.made L.meaning L.room L.firm labels.old labels.new }
@@ -539,7 +543,7 @@ fn act_by_operator<'p, L: Labels>(
     requires made { All (HasValue (L.made labels.old)) stack.old.loose }
     requires belongs { Belongs L.made L.meaning labels.old world.old }
     ensures goes_on { GoesActing L.made L.meaning labels.new work.entry stack.old stack.new world.old world.new result }
-    ensures moved { IfOk result (Moved (L.made labels.new) (weight work.entry + 3) stack.old stack.new world.old world.new) }
+    ensures moved { IfOk result (Moved (L.made labels.new) (weight work.entry + 5) stack.old stack.new world.old world.new) }
     ensures stopped { IfErr result (IfStop (HasStop (L.made labels.new))) }
     ensures belongs { Belongs L.made L.meaning labels.new world.new }
     ensures grows { Grows world.old world.new }
@@ -562,7 +566,7 @@ fn operate<'p, L: Labels>(
     requires made { All (HasValue (L.made labels.old)) stack.old.loose }
     requires belongs { Belongs L.made L.meaning labels.old world.old }
     ensures goes_on { Resumed L.made L.meaning labels.new work.entry stack.old stack.new world.old world.new result }
-    ensures moved { IfOk result (Moved (L.made labels.new) (weight work.entry + 3) stack.old stack.new world.old world.new) }
+    ensures moved { IfOk result (Moved (L.made labels.new) (weight work.entry + 5) stack.old stack.new world.old world.new) }
     ensures stopped { IfErr result (IfStop (HasStop (L.made labels.new))) }
     ensures belongs { Belongs L.made L.meaning labels.new world.new }
     ensures grows { Grows world.old world.new }
@@ -591,6 +595,11 @@ fn operate<'p, L: Labels>(
         }
         Continuation::InstanceDone => instance_done(alloc, labels, world, stack),
         Continuation::InstanceTest => instance_test(labels, world, stack),
+        Continuation::LengthOnce(how) => {
+            let next = length_once(alloc, labels, world, stack, how)?;
+            Ok(next)
+        }
+        Continuation::LengthTwice(how) => length_twice(alloc, labels, world, stack, how),
         _ => unreachable!(),
     }
 }
@@ -608,7 +617,7 @@ fn lead_on<'p, L: Labels>(
     requires standing { Invariant L.made L.meaning labels.old stack.old world.old (owns work + awaits work) (scopes_of stack.old.tasks ++ scope_of work) (waiting stack.old.tasks) control.Value }
     ensures resumes { (tables : Tables) (inputs : Given) (set : BuiltIns) (functions : List FunctionCode) (natives : List Steps) → Resumes L.made L.meaning labels.new tables inputs set functions work.entry natives natives stack.old stack.new world.old world.new result }
     ensures standing { IfOk result (StandsStill L.made L.meaning labels.new (waiting stack.old.tasks) stack.new world.new) }
-    ensures adds { IfOk result (Adds (weight work.entry + 3) stack.old stack.new) }
+    ensures adds { IfOk result (Adds (weight work.entry + 5) stack.old stack.new) }
     ensures stopped { IfErr result (IfStop (HasStop (L.made labels.new))) }
     ensures grows { Grows world.old world.new }
     ensures kept { IsKept L.made L.meaning L.room L.firm labels.old labels.new }
@@ -648,7 +657,7 @@ pub(crate) fn raise_on<'p, L: Labels>(
     requires room { length policy.now.origins ≤ L.room labels.old }
     ensures resumes { (inputs : Given) (set : BuiltIns) (functions : List FunctionCode) (natives : List Steps) → Resumes L.made L.meaning labels.new policy.now inputs set functions (continuations.Raise e.entry) natives natives stack.old stack.new world.old world.new result }
     ensures standing { IfOk result (StandsStill L.made L.meaning labels.new (waiting stack.old.tasks) stack.new world.new) }
-    ensures adds { IfOk result (Adds 4 stack.old stack.new) }
+    ensures adds { IfOk result (Adds 6 stack.old stack.new) }
     ensures stopped { IfErr result (IfStop (HasStop (L.made labels.new))) }
     ensures grows { Grows world.old world.new }
     ensures kept { IsKept L.made L.meaning L.room L.firm labels.old labels.new }

@@ -77,16 +77,21 @@ pub(crate) fn stepped<'p, L: Labels, N: Natives>(
         Control::Request(count) => {
             request_next(alloc, labels, natives, policy, inputs, progress, count)
         }
-        Control::Call(_) | Control::Construct(_) | Control::Convert(_) | Control::Compare =>
-            begin_call(alloc, labels, natives, functions, progress, next),
-        Control::Function(_) | Control::Object(_, _) => {
+        Control::Call(_)
+        | Control::Construct(_)
+        | Control::Convert(_)
+        | Control::Compare
+        | Control::ConvertBeside => begin_call(alloc, labels, natives, functions, progress, next),
+        Control::Function(_) | Control::Object(_, _) | Control::Array(_, _) => {
             begin_making(alloc, labels, functions, progress, next)
         }
         Control::Expr(e) => begin_expr(labels, progress, e),
         Control::Stmt(s) => begin_stmt(labels, progress, s),
-        Control::Use(_, _) | Control::Named(_, _) | Control::Turn(_) | Control::Visit(_, _) => {
-            enter_part(alloc, labels, progress, next)
-        }
+        Control::Use(_, _)
+        | Control::Block(_)
+        | Control::Named(_, _)
+        | Control::Turn(_)
+        | Control::Visit(_, _) => enter_part(alloc, labels, progress, next),
         Control::Null
         | Control::Bool(_)
         | Control::Number(_)

@@ -22,7 +22,7 @@ use Rattle.js_values.specs.Readings.{IsReading, read_value, read_record}
 use Rattle.es_meaning.specs.Environments.{Env, with_place}
 use Rattle.es_meaning.specs.Operations.{One}
 use Rattle.es_meaning.specs.Outcomes.{ret}
-use Rattle.es_meaning.specs.Evaluation.{block_step, handled, unhandled, statements, stmt_step}
+use Rattle.es_meaning.specs.Evaluation.{handled, unhandled, stmt_step}
 use Rattle.es_meaning.specs.Plain.{undefined, choose}
 use Rattle.es_meaning.specs.BuiltIns.{BuiltIns}
 use Rattle.flow_meaning.specs.Erased.{unlabelled}
@@ -46,11 +46,10 @@ use Rattle.continuations.proofs.Handed.{jumps_alone}
 use Rattle.continuations.specs.Settings.{setting_of, entrance}
 use Rattle.function_entry.specs.Changing.{Changes}
 use Rattle.step_jumps.proofs.Places.{place_is}
-use Rattle.step_jumps.specs.Parts.{statements_in, tried_in, caught_by}
-use Rattle.step_jumps.specs.Trying.{catching_plan, last_plan, reacting_plan, trying_plan}
+use Rattle.step_jumps.specs.Parts.{tried_in, caught_by}
+use Rattle.step_jumps.specs.Trying.{block_plan, catching_plan, last_plan, reacting_plan, trying_plan}
 use Rattle.step_jumps.proofs.Comings.{begins_beside, begins_at, begins_anywhere}
 use Rattle.step_jumps.proofs.FinishLaws.{Quieted, block_stays, block_passes, handler_stays, handler_passes, uncaught, caught_as}
-use Rattle.step_jumps.proofs.PlanLaws.{block_is}
 use Rattle.native_protocol.specs.Steps.{Steps}
 
 pub quiets_else : {T : Type 0} (reading : T → Label) (b : Bool) (old new : List (Held T)) (t : State) → b ≡ false → Quieted old new → as_plan One (choose b (ret tt) quiet (with_frames reading old t)) ≡ Give (gave (unlabelled undefined)) (with_frames reading new t)
@@ -61,23 +60,23 @@ quiets_else reading b old new t isnt quiets =
 
 module _ (tables : Tables) (inputs : Given) (set : BuiltIns) (functions : List FunctionCode) where
   handled_is : (ident : Ident) (b : Block) (f : Env ℕ) (v : Val) (t : State) → handled (planned tables inputs set functions) (entrance tables inputs set functions) (asking tables inputs set functions) ident b f v t
-      ≡ statements (planned tables inputs set functions) (asking tables inputs set functions) (statements_in b) (with_place (length t.records) f) (with_name f.place ident.text v t)
+      ≡ block_plan tables inputs set functions b (with_place (length t.records) f) (with_name f.place ident.text v t)
   unfolding handled
-  handled_is ident b f v t = block_is tables inputs set functions b (with_place (length t.records) f) (with_name f.place ident.text v t)
+  handled_is ident b f v t = refl
 
   tried_block : (h fi : Bool) (handler : Val → State → Plan) (last : State → Plan) (c b : Block) (f : Env ℕ) (t : State) → Some c ≡ Some b
-      → (planned tables inputs set functions).attempt h fi (block_step (planned tables inputs set functions) (entrance tables inputs set functions) (asking tables inputs set functions) c f) handler last t
-      ≡ and_plan (and_plan (statements (planned tables inputs set functions) (asking tables inputs set functions) (statements_in b) f (pushed_on kind.Try bottom t)) (end_block h fi handler last (length t.frames))) (end_round (length t.frames))
+      → (planned tables inputs set functions).attempt h fi (block_plan tables inputs set functions c f) handler last t
+      ≡ and_plan (and_plan (block_plan tables inputs set functions b f (pushed_on kind.Try bottom t)) (end_block h fi handler last (length t.frames))) (end_round (length t.frames))
   tried_block h fi handler last c b f t same =
       ap (λ p. and_plan (and_plan p (end_block h fi handler last (length t.frames))) (end_round (length t.frames)))
-      (block_is tables inputs set functions c f (pushed_on kind.Try bottom t) ∙ ap (λ d. statements (planned tables inputs set functions) (asking tables inputs set functions) (statements_in d) f (pushed_on kind.Try bottom t)) (same_Some c b same))
+      (ap (λ d. block_plan tables inputs set functions d f (pushed_on kind.Try bottom t)) (same_Some c b same))
 
   try_is : (s : Statement) (b : Block) (f : Env ℕ) (t : State) → tried_in s ≡ Some b
-      → stmt_step (planned tables inputs set functions) (entrance tables inputs set functions) (asking tables inputs set functions) s f t ≡ trying_plan tables inputs set functions s (length t.frames) (statements_in b) f (pushed_on kind.Try bottom t)
+      → stmt_step (planned tables inputs set functions) (entrance tables inputs set functions) (asking tables inputs set functions) s f t ≡ trying_plan tables inputs set functions s (length t.frames) b f (pushed_on kind.Try bottom t)
   unfolding stmt_step
   try_is (try_catch at c ident handler) b f t is = tried_block true false (handled (planned tables inputs set functions) (entrance tables inputs set functions) (asking tables inputs set functions) ident handler f) (λ u. Give (gave (unlabelled undefined)) u) c b f t is
-  try_is (try_finally at c last) b f t is = tried_block false true (unhandled (planned tables inputs set functions) (entrance tables inputs set functions) (asking tables inputs set functions)) (block_step (planned tables inputs set functions) (entrance tables inputs set functions) (asking tables inputs set functions) last f) c b f t is
-  try_is (try_both at c ident handler last) b f t is = tried_block true true (handled (planned tables inputs set functions) (entrance tables inputs set functions) (asking tables inputs set functions) ident handler f) (block_step (planned tables inputs set functions) (entrance tables inputs set functions) (asking tables inputs set functions) last f) c b f t is
+  try_is (try_finally at c last) b f t is = tried_block false true (unhandled (planned tables inputs set functions) (entrance tables inputs set functions) (asking tables inputs set functions)) (block_plan tables inputs set functions last f) c b f t is
+  try_is (try_both at c ident handler last) b f t is = tried_block true true (handled (planned tables inputs set functions) (entrance tables inputs set functions) (asking tables inputs set functions) ident handler f) (block_plan tables inputs set functions last f) c b f t is
   try_is _ b f t is = absurd (none-some b is)
 
   -- whatever was given, the end of a part is the same
@@ -96,7 +95,7 @@ module _ {S T : Type 0} (made : S → T → Type 0) (meaning : S → T → Label
   pub catches : (place : ℕ) (s : Statement) (ident : Ident) (b : Block) (depth own : ℕ) (value : Labelled T) (old middle new : Kept T) (before later : World T) (result : Result Control OutOfMemory)
       → middle.tasks ≡ old.tasks → old.loose ≡ middle.loose ++ value ∷ [] → length old.loose ≡ 1 → own ≡ length before.records
       → Changes made meaning store (λ reading. with_name place ident.text (read_value reading value)) before later
-      → IfOk result (BeginsBehind (λ tables inputs set functions vs e t. and_plan (statements (planned tables inputs set functions) (asking tables inputs set functions) (statements_in b) (with_place own e.env) t) (end_handler (finishes s) (last_of tables inputs set functions s e.env) depth)) middle new)
+      → IfOk result (BeginsBehind (λ tables inputs set functions vs e t. and_plan (block_plan tables inputs set functions b (with_place own e.env) t) (end_handler (finishes s) (last_of tables inputs set functions s e.env) depth)) middle new)
       → IfOk result (λ move. BeginsAt made meaning store place (catching_plan s depth ident b old.loose) old new before later (Ok move))
   catches place s ident b depth own value old middle new before later (Err fault) tasks top one number changes begins = tt
   catches place s ident b depth own value old middle new before later (Ok move) tasks top one number changes begins = λ tables inputs set functions reading e told turns read there.
@@ -105,11 +104,11 @@ module _ {S T : Type 0} (made : S → T → Type 0) (meaning : S → T → Label
       let none : middle.loose ≡ [] = nil_from_length middle.loose (let size = ap length top in omega (arith, one, size, length_push middle.loose value)) in
       let alone : old.loose ≡ value ∷ [] = top ∙ ap (λ vs. vs ++ value ∷ []) none in
       let counted : own ≡ length t.records = number ∙ sym (length-map before.records (read_record reading)) in
-      let enters = ap₂ (λ n u. statements (planned tables inputs set functions) (asking tables inputs set functions) (statements_in b) (with_place n f) u) counted (changes.says reading read told turns)
-      ∙ ap₂ (λ i v. statements (planned tables inputs set functions) (asking tables inputs set functions) (statements_in b) (with_place (length t.records) f) (with_name i ident.text v t)) (sym there) (sym (ap (λ vs. first_or_undefined (map (read_value reading) vs)) alone))
+      let enters = ap₂ (λ n u. block_plan tables inputs set functions b (with_place n f) u) counted (changes.says reading read told turns)
+      ∙ ap₂ (λ i v. block_plan tables inputs set functions b (with_place (length t.records) f) (with_name i ident.text v t)) (sym there) (sym (ap (λ vs. first_or_undefined (map (read_value reading) vs)) alone))
       ∙ sym (handled_is tables inputs set functions ident b f (first_or_undefined (map (read_value reading) old.loose)) t) in
       begins tables inputs set functions reading e (state_of reading later told turns)
-      ∙ ap (λ ts. behind tables inputs set functions reading ts e (and_plan (statements (planned tables inputs set functions) (asking tables inputs set functions) (statements_in b) (with_place own (setting_above ts e).env) (state_of reading later told turns)) (end_handler (finishes s) (last_of tables inputs set functions s (setting_above ts e).env) depth))) tasks
+      ∙ ap (λ ts. behind tables inputs set functions reading ts e (and_plan (block_plan tables inputs set functions b (with_place own (setting_above ts e).env) (state_of reading later told turns)) (end_handler (finishes s) (last_of tables inputs set functions s (setting_above ts e).env) depth))) tasks
       ∙ ap (λ p. behind tables inputs set functions reading old.tasks e (and_plan p (end_handler (finishes s) (last_of tables inputs set functions s f) depth))) enters
 
   -- a jump has reached the block
@@ -144,14 +143,14 @@ module _ {S T : Type 0} (made : S → T → Type 0) (meaning : S → T → Label
   -- the statement begins
   pub tries_with : (s : Statement) (b : Block) (depth : ℕ) (old new : Kept T) (before : World T) (frames : held.Kept T) (result : Result Control OutOfMemory) → tried_in s ≡ Some b → depth ≡ length before.frames.frames
       → ((reading : T → Label) → IsReading made meaning store reading → map (seen_frame reading) frames.frames ≡ map (seen_frame reading) before.frames.frames ++ pushed kind.Try bottom ∷ [])
-      → IfOk result (BeginsBehind (λ tables inputs set functions vs e t. trying_plan tables inputs set functions s depth (statements_in b) e.env t) old new)
+      → IfOk result (BeginsBehind (λ tables inputs set functions vs e t. trying_plan tables inputs set functions s depth b e.env t) old new)
       → IfOk result (λ move. BeginsWith made meaning store (λ tables inputs set functions reading e. stmt_step (planned tables inputs set functions) (entrance tables inputs set functions) (asking tables inputs set functions) s e.env) old new before (record before { frames = frames }) (Ok move))
   tries_with s b depth old new before frames (Err fault) is deep entered begins = tt
   tries_with s b depth old new before frames (Ok move) is deep entered begins =
-      begins_beside made meaning store (λ tables inputs set functions vs e t. trying_plan tables inputs set functions s depth (statements_in b) e.env t) (λ tables inputs set functions reading e. stmt_step (planned tables inputs set functions) (entrance tables inputs set functions) (asking tables inputs set functions) s e.env) old new before (record before { frames = frames }) move
+      begins_beside made meaning store (λ tables inputs set functions vs e t. trying_plan tables inputs set functions s depth b e.env t) (λ tables inputs set functions reading e. stmt_step (planned tables inputs set functions) (entrance tables inputs set functions) (asking tables inputs set functions) s e.env) old new before (record before { frames = frames }) move
       (λ tables inputs set functions reading f told turns read.
       let t = state_of reading before told turns in
-      ap₂ (λ d (fs : List Frame). trying_plan tables inputs set functions s d (statements_in b) f.env (record t { frames = fs })) (deep ∙ sym (length-map before.frames.frames (seen_frame reading))) (entered reading read)
+      ap₂ (λ d (fs : List Frame). trying_plan tables inputs set functions s d b f.env (record t { frames = fs })) (deep ∙ sym (length-map before.frames.frames (seen_frame reading))) (entered reading read)
       ∙ sym (try_is tables inputs set functions s b f.env t is))
       begins
 

@@ -1,5 +1,5 @@
 -- Calls that go on with one plan and so with an equal one, also in front of work that was pushed.
-use Rattle.std.proofs.Common.{ap, subst, ◌∙◌, ◌≡◌, ℕ, List, [], ◌∷◌, ◌++◌, map, Result, Ok, Err, IfOk}
+use Rattle.std.proofs.Common.{Bor, refl, ap, subst, ◌∙◌, ◌≡◌, ℕ, List, [], ◌∷◌, ◌++◌, map, Result, Ok, Err, IfOk}
 use Rattle.origin_labels.specs.Label.{Label}
 use Rattle.flow_policy.specs.Policies.{Tables}
 use Rattle.flow_policy.specs.Inputs.{Given}
@@ -7,20 +7,21 @@ use Rattle.flow_text.specs.declared.memory.OutOfMemory.{OutOfMemory}
 use Rattle.flow_frames.specs.declared.faults.FlowFault.{FlowFault}
 use Rattle.js_ast.specs.Functions.{FunctionCode}
 use Rattle.js_values.specs.Readings.{IsReading, read_value}
-use Rattle.js_ast.specs.Trees.{Block, Statements}
-use Rattle.es_meaning.specs.Evaluation.{statements}
+use Rattle.js_ast.specs.declared.trees.Block.{Block}
+use Rattle.js_ast.specs.Views.{view_block}
 use Rattle.es_meaning.specs.BuiltIns.{BuiltIns}
 use Rattle.flow_meaning.specs.Scopes.{LabelledLine, State, Val}
-use Rattle.flow_meaning.specs.Planned.{Plan, and_plan, planned, asking}
+use Rattle.flow_meaning.specs.Planned.{Plan, and_plan}
 use Rattle.run_state.specs.declared.world.World.{World}
 use Rattle.run_state.specs.Worlds.{state_of}
 use Rattle.continuations.specs.declared.continuation.Continuation.{Continuation}
 use Rattle.continuations.specs.declared.continuation.Control.{Control}
+use Rattle.continuations.specs.declared.continuation.Control.TheVariants as control
 use Rattle.continuations.specs.Kept.{Kept}
 use Rattle.continuations.specs.Moving.{Moves, Planning, BeginsWith, BeginsAt}
 use Rattle.continuations.specs.Pending.{inside, setting_inside, setting_above, after, behind}
 use Rattle.continuations.specs.Resuming.{Begins, BeginsBehind}
-use Rattle.step_jumps.specs.Parts.{statements_in}
+use Rattle.step_jumps.specs.Trying.{block_plan}
 use Rattle.continuations.proofs.Behind.{behind_more, setting_more}
 use Rattle.continuations.specs.Settings.{Setting}
 
@@ -77,15 +78,11 @@ module _ {T : Type 0} where
       begins tables inputs set functions reading e s ∙ ap (behind tables inputs set functions reading old.tasks e) (same tables inputs set functions (map (read_value reading) old.loose) (setting_above old.tasks e) s)
   beside_as p q old new (Err fault) same begins = tt
 
-  -- the statements of a block
-  pub block_begins : (b : Block) (ss : Statements) (w : Continuation) (old middle new : Kept T) (result : Result Control OutOfMemory) → ss ≡ statements_in b → middle ≡ record { tasks = old.tasks ++ (w, old.loose) ∷ []; loose = [] }
-      → IfOk result (Begins (λ tables inputs set functions e. statements (planned tables inputs set functions) (asking tables inputs set functions) ss e.env) middle new)
-      → IfOk result (BeginsBehind (λ tables inputs set functions vs e s. and_plan (statements (planned tables inputs set functions) (asking tables inputs set functions) (statements_in b) (inside w e.env) s) (after tables inputs set functions w vs e)) old new)
-  block_begins b ss w old middle new result same is begins =
-      beside_as (λ tables inputs set functions vs e s. and_plan (statements (planned tables inputs set functions) (asking tables inputs set functions) ss (inside w e.env) s) (after tables inputs set functions w vs e))
-      (λ tables inputs set functions vs e s. and_plan (statements (planned tables inputs set functions) (asking tables inputs set functions) (statements_in b) (inside w e.env) s) (after tables inputs set functions w vs e)) old new result
-      (λ tables inputs set functions vs f s. ap (λ us. and_plan (statements (planned tables inputs set functions) (asking tables inputs set functions) us (inside w f.env) s) (after tables inputs set functions w vs f)) same)
-      (pushed_begins (λ tables inputs set functions e. statements (planned tables inputs set functions) (asking tables inputs set functions) ss e.env) w old middle new result is begins)
+  -- a block of a `try` statement, behind new work
+  pub block_begins : (b : Bor Block) (w : Continuation) (old middle : Kept T) → middle ≡ record { tasks = old.tasks ++ (w, old.loose) ∷ []; loose = [] }
+      → BeginsBehind (λ tables inputs set functions vs e s. and_plan (block_plan tables inputs set functions (view_block b.now) (inside w e.env) s) (after tables inputs set functions w vs e)) old middle (control.Block b)
+  block_begins b w old middle is =
+      pushed_begins (λ tables inputs set functions e. block_plan tables inputs set functions (view_block b.now) e.env) w old middle middle (Ok (control.Block b)) is (λ tables inputs set functions reading e s none. refl)
 
 module _ {S T : Type 0} (made : S → T → Type 0) (meaning : S → T → Label) (store : S) where
   -- the same in one record

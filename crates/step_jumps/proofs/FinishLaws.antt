@@ -15,7 +15,7 @@ use Rattle.js_ast.specs.Trees.{Ident, Block, Statement, try_catch, try_both}
 use Rattle.js_values.specs.Readings.{read_value}
 use Rattle.es_meaning.specs.Environments.{Env}
 use Rattle.es_meaning.specs.Outcomes.{Goes, Jumps}
-use Rattle.es_meaning.specs.Evaluation.{handled, statements}
+use Rattle.es_meaning.specs.Evaluation.{handled}
 use Rattle.es_meaning.specs.Plain.{undefined, choose, is_throw}
 use Rattle.es_meaning.specs.BuiltIns.{BuiltIns}
 use Rattle.flow_meaning.specs.Erased.{unlabelled}
@@ -32,8 +32,8 @@ use Rattle.continuations.specs.Pending.{handler_of}
 use Rattle.continuations.specs.Resuming.{BeginsBehind}
 use Rattle.continuations.specs.Shapes.{jump_of, waiting_of, handles}
 use Rattle.continuations.specs.Settings.{entrance}
-use Rattle.step_jumps.specs.Parts.{statements_in, last_in, caught_by}
-use Rattle.step_jumps.specs.Trying.{ending_plan, last_plan}
+use Rattle.step_jumps.specs.Parts.{last_in, caught_by}
+use Rattle.step_jumps.specs.Trying.{block_plan, ending_plan, last_plan}
 use Rattle.step_jumps.proofs.Comings.{begins_from, begins_beside}
 use Rattle.step_jumps.proofs.PlanLaws.{last_some, last_none}
 
@@ -47,13 +47,13 @@ module _ {S T : Type 0} (made : S → T → Type 0) (meaning : S → T → Label
 
   -- something is done last
   pub finishes_last : (b : Block) (move : Control) → last_in s ≡ Some b
-      → BeginsBehind (λ tables inputs set functions vs e t. and_plan (statements (planned tables inputs set functions) (asking tables inputs set functions) (statements_in b) e.env t) (end_last (waiting_of waiting vs))) old new move
+      → BeginsBehind (λ tables inputs set functions vs e t. and_plan (block_plan tables inputs set functions b e.env t) (end_last (waiting_of waiting vs))) old new move
       → BeginsWith made meaning store (last_plan s waiting old.loose) old new world (record world { frames = frames }) (Ok move)
   finishes_last b move is begins =
-      begins_beside made meaning store (λ tables inputs set functions vs e t. and_plan (statements (planned tables inputs set functions) (asking tables inputs set functions) (statements_in b) e.env t) (end_last (waiting_of waiting vs))) (last_plan s waiting old.loose) old new world (record world { frames = frames }) move
+      begins_beside made meaning store (λ tables inputs set functions vs e t. and_plan (block_plan tables inputs set functions b e.env t) (end_last (waiting_of waiting vs))) (last_plan s waiting old.loose) old new world (record world { frames = frames }) move
       (λ tables inputs set functions reading f told turns read.
       let how = waiting_of waiting (map (read_value reading) old.loose) in
-      ap (λ t. and_plan (statements (planned tables inputs set functions) (asking tables inputs set functions) (statements_in b) f.env t) (end_last how)) (quiet_state reading told turns)
+      ap (λ t. and_plan (block_plan tables inputs set functions b f.env t) (end_last how)) (quiet_state reading told turns)
       ∙ sym (last_some tables inputs set functions s b f.env how (state_of reading world told turns) is))
       begins
 

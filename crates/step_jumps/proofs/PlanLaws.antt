@@ -4,23 +4,19 @@ use Rattle.std.proofs.lemmas.Option.{none-some, same_Some}
 use Rattle.flow_policy.specs.Policies.{Tables}
 use Rattle.flow_policy.specs.Inputs.{Given}
 use Rattle.js_ast.specs.Functions.{FunctionCode}
-use Rattle.js_ast.specs.Trees.{Block, block_of, Statement, try_finally, try_both}
+use Rattle.js_ast.specs.Trees.{Block, Statement, try_finally, try_both}
 use Rattle.es_meaning.specs.Environments.{Env}
-use Rattle.es_meaning.specs.Evaluation.{block_step, statements}
 use Rattle.es_meaning.specs.Plain.{undefined}
 use Rattle.es_meaning.specs.BuiltIns.{BuiltIns}
 use Rattle.flow_meaning.specs.Erased.{unlabelled}
 use Rattle.flow_meaning.specs.Scopes.{State, Came, quiet, quieted_in}
-use Rattle.flow_meaning.specs.Planned.{Plan, and_plan, gave, planned, asking, do_last, end_last}
+use Rattle.flow_meaning.specs.Planned.{Plan, and_plan, gave, do_last, end_last}
 use Rattle.continuations.specs.Pending.{last_of}
 use Rattle.continuations.specs.Shapes.{finishes}
-use Rattle.continuations.specs.Settings.{entrance}
-use Rattle.step_jumps.specs.Parts.{statements_in, last_in}
+use Rattle.step_jumps.specs.Parts.{last_in}
+use Rattle.step_jumps.specs.Trying.{block_plan}
 
 module _ (tables : Tables) (inputs : Given) (set : BuiltIns) (functions : List FunctionCode) where
-  pub block_is : (b : Block) (e : Env ℕ) (t : State) → block_step (planned tables inputs set functions) (entrance tables inputs set functions) (asking tables inputs set functions) b e t ≡ statements (planned tables inputs set functions) (asking tables inputs set functions) (statements_in b) e t
-  block_is (block_of at ss) e t = refl
-
   -- the frame catches no longer, and statements are done last
   quiet_last : (last : State → Plan) (how : Came (Unit {0})) (t : State) → do_last true last how t ≡ and_plan (last (quieted_in t)) (end_last how)
   unfolding quiet
@@ -31,13 +27,13 @@ module _ (tables : Tables) (inputs : Given) (set : BuiltIns) (functions : List F
   quiet_alone last how t = refl
 
   last_block : (b c : Block) (e : Env ℕ) (how : Came (Unit {0})) (t : State) → Some b ≡ Some c
-      → do_last true (block_step (planned tables inputs set functions) (entrance tables inputs set functions) (asking tables inputs set functions) b e) how t ≡ and_plan (statements (planned tables inputs set functions) (asking tables inputs set functions) (statements_in c) e (quieted_in t)) (end_last how)
+      → do_last true (block_plan tables inputs set functions b e) how t ≡ and_plan (block_plan tables inputs set functions c e (quieted_in t)) (end_last how)
   last_block b c e how t same =
-      quiet_last (block_step (planned tables inputs set functions) (entrance tables inputs set functions) (asking tables inputs set functions) b e) how t
-      ∙ ap (λ p. and_plan p (end_last how)) (block_is b e (quieted_in t) ∙ ap (λ d. statements (planned tables inputs set functions) (asking tables inputs set functions) (statements_in d) e (quieted_in t)) (same_Some b c same))
+      quiet_last (block_plan tables inputs set functions b e) how t
+      ∙ ap (λ d. and_plan (block_plan tables inputs set functions d e (quieted_in t)) (end_last how)) (same_Some b c same)
 
   pub last_some : (s : Statement) (c : Block) (e : Env ℕ) (how : Came (Unit {0})) (t : State) → last_in s ≡ Some c
-      → do_last (finishes s) (last_of tables inputs set functions s e) how t ≡ and_plan (statements (planned tables inputs set functions) (asking tables inputs set functions) (statements_in c) e (quieted_in t)) (end_last how)
+      → do_last (finishes s) (last_of tables inputs set functions s e) how t ≡ and_plan (block_plan tables inputs set functions c e (quieted_in t)) (end_last how)
   last_some (try_finally at b last) c e how t is = last_block last c e how t is
   last_some (try_both at b ident handler last) c e how t is = last_block last c e how t is
   last_some _ c e how t is = absurd (none-some c is)

@@ -2,16 +2,13 @@
 use Rattle.std.specs.Prelude.{Bool, true, false, Option, Some, None}
 use Rattle.continuations.specs.declared.continuation.Jump as moves
 use Rattle.continuations.specs.declared.continuation.Jump.TheVariants.{Throws}
-use Rattle.js_ast.specs.Trees.{Ident, Block, block_of, Statement, Statements, try_catch, try_finally, try_both}
+use Rattle.js_ast.specs.Trees.{Ident, Block, Statement, try_catch, try_finally, try_both}
 
 abbrev pub is_try : Statement → Bool
 is_try (try_catch at b ident handler) = true
 is_try (try_finally at b last) = true
 is_try (try_both at b ident handler last) = true
 is_try _ = false
-
-abbrev pub statements_in : Block → Statements
-statements_in (block_of at ss) = ss
 
 -- what is tried
 abbrev pub tried_in : Statement → Option Block

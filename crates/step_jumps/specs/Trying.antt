@@ -4,11 +4,11 @@ use Rattle.origin_labels.specs.Label.{Label}
 use Rattle.flow_policy.specs.Policies.{Tables}
 use Rattle.flow_policy.specs.Inputs.{Given}
 use Rattle.js_ast.specs.Functions.{FunctionCode}
-use Rattle.js_ast.specs.Trees.{Ident, Block, Statement, Statements}
+use Rattle.js_ast.specs.Trees.{Ident, Block, Statement, block}
 use Rattle.js_values.specs.declared.value.Labelled.{Labelled}
 use Rattle.js_values.specs.Readings.{read_value}
 use Rattle.es_meaning.specs.Environments.{Env}
-use Rattle.es_meaning.specs.Evaluation.{handled, statements}
+use Rattle.es_meaning.specs.Evaluation.{handled}
 use Rattle.es_meaning.specs.Plain.{undefined}
 use Rattle.es_meaning.specs.BuiltIns.{BuiltIns}
 use Rattle.flow_meaning.specs.Erased.{unlabelled}
@@ -38,13 +38,17 @@ reacting_plan s depth j vs tables inputs set functions reading e = do_react (han
 
 -- the handler, in front of what it caught
 abbrev pub catching_plan : {T : Type 0} → Statement → ℕ → Ident → Block → List (Labelled T) → Planning T
-catching_plan s depth ident block vs tables inputs set functions reading e t =
-    and_plan (handled (planned tables inputs set functions) (entrance tables inputs set functions) (asking tables inputs set functions) ident block e.env (first_or_undefined (map (read_value reading) vs)) t) (end_handler (finishes s) (last_of tables inputs set functions s e.env) depth)
+catching_plan s depth ident handler vs tables inputs set functions reading e t =
+    and_plan (handled (planned tables inputs set functions) (entrance tables inputs set functions) (asking tables inputs set functions) ident handler e.env (first_or_undefined (map (read_value reading) vs)) t) (end_handler (finishes s) (last_of tables inputs set functions s e.env) depth)
+
+-- a block is entered as a block statement
+abbrev pub block_plan : Tables → Given → BuiltIns → List FunctionCode → Block → Env ℕ → State → Plan
+block_plan tables inputs set functions b e t = (asking tables inputs set functions).stmt (block b) e t
 
 -- the block, and behind it the handler and what is done last, in the frame at a depth
-abbrev pub trying_plan : Tables → Given → BuiltIns → List FunctionCode → Statement → ℕ → Statements → Env ℕ → State → Plan
-trying_plan tables inputs set functions s depth ss e t =
-    and_plan (and_plan (statements (planned tables inputs set functions) (asking tables inputs set functions) ss e t) (end_block (handles s) (finishes s) (handler_of tables inputs set functions s e) (last_of tables inputs set functions s e) depth)) (end_round depth)
+abbrev pub trying_plan : Tables → Given → BuiltIns → List FunctionCode → Statement → ℕ → Block → Env ℕ → State → Plan
+trying_plan tables inputs set functions s depth b e t =
+    and_plan (and_plan (block_plan tables inputs set functions b e t) (end_block (handles s) (finishes s) (handler_of tables inputs set functions s e) (last_of tables inputs set functions s e) depth)) (end_round depth)
 
 -- where no built-in is to run next, a run stands whose next move is this, with so many built-ins that wait
 abbrev pub StandsStill : {S T : Type 0} → (S → T → Type 0) → (S → T → Label) → S → ℕ → Kept T → World T → Control → Type 0

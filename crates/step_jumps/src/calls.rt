@@ -90,7 +90,7 @@ pub fn end_call<'p, L: Labels>(
     requires standing { Invariant L.made L.meaning labels.old stack.old world.old (owns (continuation.EndCall own depth)) (scopes_of stack.old.tasks ++ scope_of (continuation.EndCall own depth)) (waiting stack.old.tasks) control.Value }
     ensures resumes { (tables : Tables) (inputs : Given) (set : BuiltIns) (functions : List FunctionCode) (natives : List Steps) → Resumes L.made L.meaning labels.new tables inputs set functions (continuation.EndCall own depth) natives natives stack.old stack.new world.old world.new result }
     ensures standing { IfOk result (λ move. Invariant L.made L.meaning labels.new stack.new world.new (values_of move) (scopes_of stack.new.tasks) (waiting stack.old.tasks) move) }
-    ensures adds { IfOk result (Adds (weight (continuation.EndCall own depth) + 3) stack.old stack.new) }
+    ensures adds { IfOk result (Adds (weight (continuation.EndCall own depth) + 5) stack.old stack.new) }
     ensures stopped { IfErr result (IfStop (HasStop (L.made labels.new))) }
     ensures grows { Grows world.old world.new }
     ensures kept { IsKept L.made L.meaning L.room L.firm labels.old labels.new }
@@ -117,7 +117,7 @@ pub fn pass_call<'p, L: Labels>(
     requires standing { Invariant L.made L.meaning labels.old stack.old world.old (owns (continuation.EndCall own depth) + 1) (scopes_of stack.old.tasks ++ scope_of (continuation.EndCall own depth)) (waiting stack.old.tasks) (control.Jumps jump) }
     ensures passes { (tables : Tables) (inputs : Given) (set : BuiltIns) (functions : List FunctionCode) (natives : List Steps) (value : LabelledOf L.Label) → drop (owns (continuation.EndCall own depth)) stack.old.loose ≡ value ∷ [] → Passes L.made L.meaning labels.new tables inputs set functions jump (continuation.EndCall own depth) value natives natives stack.old stack.new world.old world.new result }
     ensures standing { IfOk result (λ move. Invariant L.made L.meaning labels.new stack.new world.new (values_of move) (scopes_of stack.new.tasks) (waiting stack.old.tasks) move) }
-    ensures adds { IfOk result (Adds (weight (continuation.EndCall own depth) + 3) stack.old stack.new) }
+    ensures adds { IfOk result (Adds (weight (continuation.EndCall own depth) + 5) stack.old stack.new) }
     ensures stopped { IfErr result (IfStop (HasStop (L.made labels.new))) }
     ensures grows { Grows world.old world.new }
     ensures kept { IsKept L.made L.meaning L.room L.firm labels.old labels.new }
@@ -152,7 +152,7 @@ pub fn end_construction<'p, L: Labels>(
     requires standing { Invariant L.made L.meaning labels.old stack.old world.old (owns (continuation.EndNew own depth)) (scopes_of stack.old.tasks ++ scope_of (continuation.EndNew own depth)) (waiting stack.old.tasks) control.Value }
     ensures resumes { (tables : Tables) (inputs : Given) (set : BuiltIns) (functions : List FunctionCode) (natives : List Steps) → Resumes L.made L.meaning labels.new tables inputs set functions (continuation.EndNew own depth) natives natives stack.old stack.new world.old world.new result }
     ensures standing { IfOk result (λ move. Invariant L.made L.meaning labels.new stack.new world.new (values_of move) (scopes_of stack.new.tasks) (waiting stack.old.tasks) move) }
-    ensures adds { IfOk result (Adds (weight (continuation.EndNew own depth) + 3) stack.old stack.new) }
+    ensures adds { IfOk result (Adds (weight (continuation.EndNew own depth) + 5) stack.old stack.new) }
     ensures stopped { IfErr result (IfStop (HasStop (L.made labels.new))) }
     ensures grows { Grows world.old world.new }
     ensures kept { IsKept L.made L.meaning L.room L.firm labels.old labels.new }
@@ -194,7 +194,7 @@ pub fn pass_construction<'p, L: Labels>(
     requires standing { Invariant L.made L.meaning labels.old stack.old world.old (owns (continuation.EndNew own depth) + 1) (scopes_of stack.old.tasks ++ scope_of (continuation.EndNew own depth)) (waiting stack.old.tasks) (control.Jumps jump) }
     ensures passes { (tables : Tables) (inputs : Given) (set : BuiltIns) (functions : List FunctionCode) (natives : List Steps) (value : LabelledOf L.Label) → drop (owns (continuation.EndNew own depth)) stack.old.loose ≡ value ∷ [] → Passes L.made L.meaning labels.new tables inputs set functions jump (continuation.EndNew own depth) value natives natives stack.old stack.new world.old world.new result }
     ensures standing { IfOk result (λ move. Invariant L.made L.meaning labels.new stack.new world.new (values_of move) (scopes_of stack.new.tasks) (waiting stack.old.tasks) move) }
-    ensures adds { IfOk result (Adds (weight (continuation.EndNew own depth) + 3) stack.old stack.new) }
+    ensures adds { IfOk result (Adds (weight (continuation.EndNew own depth) + 5) stack.old stack.new) }
     ensures stopped { IfErr result (IfStop (HasStop (L.made labels.new))) }
     ensures grows { Grows world.old world.new }
     ensures kept { IsKept L.made L.meaning L.room L.firm labels.old labels.new }

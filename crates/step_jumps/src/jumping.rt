@@ -43,7 +43,7 @@ fn issue<'p, L: Labels>(
     requires standing { Invariant L.made L.meaning labels.old stack.now world.old 1 (scopes_of stack.now.tasks ++ []) (waiting stack.now.tasks) control.Value }
     ensures issues { (tables : Tables) (inputs : Given) (set : BuiltIns) (functions : List FunctionCode) (natives : List Steps) → IssuesAt L.made L.meaning labels.new tables inputs set functions natives jump stack.now world.old world.new result }
     ensures standing { IfOk result (λ move. Invariant L.made L.meaning labels.new stack.now world.new (values_of move) (scopes_of stack.now.tasks) (waiting stack.now.tasks) move) }
-    ensures adds { IfOk result (Adds 4 stack.now stack.now) }
+    ensures adds { IfOk result (Adds 6 stack.now stack.now) }
     ensures stopped { IfErr result (IfStop (HasStop (L.made labels.new))) }
     ensures grows { Grows world.old world.new }
     ensures kept { IsKept L.made L.meaning L.room L.firm labels.old labels.new }
@@ -63,7 +63,7 @@ pub fn throw_value<'p, L: Labels>(
     requires standing { Invariant L.made L.meaning labels.old stack.old world.old (owns continuation.Throw + 1) (scopes_of stack.old.tasks ++ scope_of continuation.Throw) (waiting stack.old.tasks) control.Value }
     ensures resumes { (tables : Tables) (inputs : Given) (set : BuiltIns) (functions : List FunctionCode) (natives : List Steps) → Resumes L.made L.meaning labels.new tables inputs set functions continuation.Throw natives natives stack.old stack.new world.old world.new result }
     ensures standing { IfOk result (λ move. Invariant L.made L.meaning labels.new stack.new world.new (values_of move) (scopes_of stack.new.tasks) (waiting stack.old.tasks) move) }
-    ensures adds { IfOk result (Adds (weight continuation.Throw + 3) stack.old stack.new) }
+    ensures adds { IfOk result (Adds (weight continuation.Throw + 5) stack.old stack.new) }
     ensures stopped { IfErr result (IfStop (HasStop (L.made labels.new))) }
     ensures grows { Grows world.old world.new }
     ensures kept { IsKept L.made L.meaning L.room L.firm labels.old labels.new }
@@ -83,7 +83,7 @@ pub fn return_value<'p, L: Labels>(
     requires standing { Invariant L.made L.meaning labels.old stack.old world.old (owns continuation.Return + 1) (scopes_of stack.old.tasks ++ scope_of continuation.Return) (waiting stack.old.tasks) control.Value }
     ensures resumes { (tables : Tables) (inputs : Given) (set : BuiltIns) (functions : List FunctionCode) (natives : List Steps) → Resumes L.made L.meaning labels.new tables inputs set functions continuation.Return natives natives stack.old stack.new world.old world.new result }
     ensures standing { IfOk result (λ move. Invariant L.made L.meaning labels.new stack.new world.new (values_of move) (scopes_of stack.new.tasks) (waiting stack.old.tasks) move) }
-    ensures adds { IfOk result (Adds (weight continuation.Return + 3) stack.old stack.new) }
+    ensures adds { IfOk result (Adds (weight continuation.Return + 5) stack.old stack.new) }
     ensures stopped { IfErr result (IfStop (HasStop (L.made labels.new))) }
     ensures grows { Grows world.old world.new }
     ensures kept { IsKept L.made L.meaning L.room L.firm labels.old labels.new }
@@ -120,7 +120,7 @@ pub fn return_nothing<'p, L: Labels>(
     requires standing { Invariant L.made L.meaning labels.old stack.old world.old (values_of control.Return) (scopes_of stack.old.tasks) (waiting stack.old.tasks) control.Return }
     ensures begins { (tables : Tables) (inputs : Given) (set : BuiltIns) (functions : List FunctionCode) (natives : List Steps) → Begins L.made L.meaning labels.new tables inputs set functions natives natives stack.old stack.new world.old world.new control.Return result }
     ensures standing { IfOk result (λ move. Invariant L.made L.meaning labels.new stack.new world.new (values_of move) (scopes_of stack.new.tasks) (waiting stack.old.tasks) move) }
-    ensures adds { IfOk result (Adds 4 stack.old stack.new) }
+    ensures adds { IfOk result (Adds 6 stack.old stack.new) }
     ensures stopped { IfErr result (IfStop (HasStop (L.made labels.new))) }
     ensures grows { Grows world.old world.new }
     ensures kept { IsKept L.made L.meaning L.room L.firm labels.old labels.new }
@@ -143,7 +143,7 @@ pub fn leave_by<'p, L: Labels>(
     requires standing { Invariant L.made L.meaning labels.old stack.old world.old (values_of (control.Break turn label)) (scopes_of stack.old.tasks) (waiting stack.old.tasks) (control.Break turn label) }
     ensures begins { (tables : Tables) (inputs : Given) (set : BuiltIns) (functions : List FunctionCode) (natives : List Steps) → Begins L.made L.meaning labels.new tables inputs set functions natives natives stack.old stack.new world.old world.new (control.Break turn label.entry) result }
     ensures standing { IfOk result (λ move. Invariant L.made L.meaning labels.new stack.new world.new (values_of move) (scopes_of stack.new.tasks) (waiting stack.old.tasks) move) }
-    ensures adds { IfOk result (Adds 4 stack.old stack.new) }
+    ensures adds { IfOk result (Adds 6 stack.old stack.new) }
     ensures stopped { IfErr result (IfStop (HasStop (L.made labels.new))) }
     ensures grows { Grows world.old world.new }
     ensures kept { IsKept L.made L.meaning L.room L.firm labels.old labels.new }

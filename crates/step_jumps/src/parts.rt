@@ -1,9 +1,9 @@
 //! The parts of a `try` statement.
 
 ghost use Rattle.std.specs.Prelude.{◌≡◌, Some, true, option_map};
-ghost use Rattle.js_ast.specs.Views.{view_block, view_ident, view_stmt, view_stmts};
+ghost use Rattle.js_ast.specs.Views.{view_block, view_ident, view_stmt};
 ghost use Rattle.continuations.specs.Shapes.{finishes};
-ghost use Rattle.step_jumps.specs.Parts.{caught_by, handler_in, last_in, statements_in, tried_in, is_try};
+ghost use Rattle.step_jumps.specs.Parts.{caught_by, handler_in, last_in, tried_in, is_try};
 
 use continuations::Jump;
 use js_ast::{Block, Ident, Stmt, StmtKind};
@@ -16,13 +16,6 @@ pub fn is_try(s: &Stmt) -> bool
         &*s.kind,
         StmtKind::TryCatch { .. } | StmtKind::TryFinally { .. } | StmtKind::TryBoth { .. }
     )
-}
-
-/// The statements of a block.
-pub(crate) fn statements(block: &Block) -> &[Stmt]
-    ensures { view_stmts result.now ≡ statements_in (view_block block.entry.now) }
-{
-    block.body.items()
 }
 
 /// The block that is tried.

@@ -57,7 +57,7 @@ pub fn raise_by<'p, L: Labels>(
     requires standing { Invariant L.made L.meaning labels.old stack.old world.old (owns (continuation.Raise e) + 1) (scopes_of stack.old.tasks ++ scope_of (continuation.Raise e)) (waiting stack.old.tasks) control.Value }
     ensures resumes { (inputs : Given) (set : BuiltIns) (functions : List FunctionCode) (natives : List Steps) → Resumes L.made L.meaning labels.new policy.now inputs set functions (continuation.Raise e.entry) natives natives stack.old stack.new world.old world.new result }
     ensures standing { IfOk result (λ move. Invariant L.made L.meaning labels.new stack.new world.new (values_of move) (scopes_of stack.new.tasks) (waiting stack.old.tasks) move) }
-    ensures adds { IfOk result (Adds (weight (continuation.Raise e.entry) + 3) stack.old stack.new) }
+    ensures adds { IfOk result (Adds (weight (continuation.Raise e.entry) + 5) stack.old stack.new) }
     ensures stopped { IfErr result (IfStop (HasStop (L.made labels.new))) }
     ensures grows { Grows world.old world.new }
     ensures kept { IsKept L.made L.meaning L.room L.firm labels.old labels.new }

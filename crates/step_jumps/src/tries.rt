@@ -10,7 +10,7 @@ ghost use Rattle.flow_frames.specs.Stops.{IfStop};
 ghost use Rattle.js_ast.specs.Functions.{FunctionCode};
 ghost use Rattle.js_ast.specs.Views.{view_block, view_ident, view_stmt};
 ghost use Rattle.js_values.specs.declared.value.Labelled.{Labelled as LabelledOf};
-ghost use Rattle.es_meaning.specs.Evaluation.{statements as statements_meant, stmt_step};
+ghost use Rattle.es_meaning.specs.Evaluation.{stmt_step};
 ghost use Rattle.es_meaning.specs.Environments.{with_place};
 ghost use Rattle.es_meaning.specs.Operations.{One};
 ghost use Rattle.es_meaning.specs.Outcomes.{ret};
@@ -32,14 +32,14 @@ ghost use Rattle.continuations.specs.Shapes.{finishes as finishes_meant, waiting
 ghost use Rattle.continuations.specs.Invariant.{Invariant};
 ghost use Rattle.continuations.specs.Stops.{HasStop};
 ghost use Rattle.continuations.specs.Settings.{entrance};
-ghost use Rattle.step_jumps.specs.Parts.{is_try, statements_in, tried_in};
-ghost use Rattle.step_jumps.specs.Trying.{EndsAt, StandsStill, catching_plan, ending_plan, last_plan, reacting_plan, trying_plan};
+ghost use Rattle.step_jumps.specs.Parts.{is_try, tried_in};
+ghost use Rattle.step_jumps.specs.Trying.{EndsAt, StandsStill, block_plan, catching_plan, ending_plan, last_plan, reacting_plan, trying_plan};
 ghost use Rattle.native_protocol.specs.Steps.{Steps};
 
 use crate::again::jump_again;
-use crate::parts::{caught, finishes, last, statements, tried};
+use crate::parts::{caught, finishes, last, tried};
 use crate::quieting::quiet_last;
-use continuations::{Continuation, Control, Jump, Stack, begin_statements};
+use continuations::{Continuation, Control, Jump, Stack};
 use flow_frames::{FlowFault, Frames, Kind};
 use flow_text::OutOfMemory;
 use function_entry::bind_name;
@@ -51,19 +51,19 @@ use std::alloc::Global;
 
 // ---- what is done last
 
-/// The statements that are done last, and behind them the jump that waits.
+/// The block that is done last, and behind it the jump that waits.
 fn begin_last<'p, T: Copy>(
     stack: &mut Stack<'p, T>,
     block: &'p Block,
     waiting: Option<Jump>,
 ) -> Result<Control<'p>, OutOfMemory>
     requires { length stack.old.loose ≡ owns_waiting waiting }
-    ensures goes_on { IfOk result (BeginsBehind (λ tables inputs set functions vs e s. and_plan (statements_meant (planned tables inputs set functions) (asking tables inputs set functions) (statements_in (view_block block.entry.now)) e.env s) (end_last_meant (waiting_of waiting vs))) stack.old stack.new) }
+    ensures goes_on { IfOk result (BeginsBehind (λ tables inputs set functions vs e s. and_plan (block_plan tables inputs set functions (view_block block.entry.now) e.env s) (end_last_meant (waiting_of waiting vs))) stack.old stack.new) }
     ensures keeps { IfOk result (Keeps stack.old stack.new) }
-    ensures adds { IfOk result (Adds 5 stack.old stack.new) }
+    ensures adds { IfOk result (Adds 7 stack.old stack.new) }
 {
     stack.push(Continuation::EndLast(waiting))?;
-    begin_statements(stack, statements(block))
+    Ok(Control::Block(block))
 }
 
 /// Nothing is left to be done in the frame but the jump that waits, which is issued again.
@@ -76,7 +76,7 @@ fn leave<'p, L: Labels>(
     requires standing { Invariant L.made L.meaning labels.old stack.old world.old (owns_waiting waiting) (scopes_of stack.old.tasks) (natives_waiting stack.old.tasks) control.Value }
     ensures begins { BeginsWith L.made L.meaning labels.new (ending_plan waiting stack.old.loose) stack.old stack.new world.old world.new result }
     ensures standing { IfOk result (λ move. Invariant L.made L.meaning labels.new stack.new world.new (values_of move) (scopes_of stack.new.tasks) (natives_waiting stack.old.tasks) move) }
-    ensures adds { IfOk result (Adds 4 stack.old stack.new) }
+    ensures adds { IfOk result (Adds 6 stack.old stack.new) }
     ensures stopped { IfErr result (IfStop (HasStop (L.made labels.new))) }
     ensures grows { Grows world.old world.new }
     ensures kept { IsKept L.made L.meaning L.room L.firm labels.old labels.new }
@@ -102,7 +102,7 @@ fn finish<'p, L: Labels>(
     requires standing { Invariant L.made L.meaning labels.old stack.old world.old (owns_waiting waiting) (scopes_of stack.old.tasks) (natives_waiting stack.old.tasks) control.Value }
     ensures begins { BeginsWith L.made L.meaning labels.new (last_plan (view_stmt s.entry.now) waiting stack.old.loose) stack.old stack.new world.old world.new result }
     ensures standing { IfOk result (StandsStill L.made L.meaning labels.new (natives_waiting stack.old.tasks) stack.new world.new) }
-    ensures adds { IfOk result (Adds 5 stack.old stack.new) }
+    ensures adds { IfOk result (Adds 7 stack.old stack.new) }
     ensures stopped { IfErr result (IfStop (HasStop (L.made labels.new))) }
     ensures grows { Grows world.old world.new }
     ensures kept { IsKept L.made L.meaning L.room L.firm labels.old labels.new }
@@ -127,7 +127,7 @@ pub fn end_last<'p, L: Labels>(
     requires standing { Invariant L.made L.meaning labels.old stack.old world.old (owns (continuation.EndLast waiting)) (scopes_of stack.old.tasks ++ scope_of (continuation.EndLast waiting)) (natives_waiting stack.old.tasks) control.Value }
     ensures resumes { (tables : Tables) (inputs : Given) (set : BuiltIns) (functions : List FunctionCode) (natives : List Steps) → Resumes L.made L.meaning labels.new tables inputs set functions (continuation.EndLast waiting) natives natives stack.old stack.new world.old world.new result }
     ensures standing { IfOk result (λ move. Invariant L.made L.meaning labels.new stack.new world.new (values_of move) (scopes_of stack.new.tasks) (natives_waiting stack.old.tasks) move) }
-    ensures adds { IfOk result (Adds (weight (continuation.EndLast waiting) + 3) stack.old stack.new) }
+    ensures adds { IfOk result (Adds (weight (continuation.EndLast waiting) + 5) stack.old stack.new) }
     ensures stopped { IfErr result (IfStop (HasStop (L.made labels.new))) }
     ensures grows { Grows world.old world.new }
     ensures kept { IsKept L.made L.meaning L.room L.firm labels.old labels.new }
@@ -137,7 +137,7 @@ pub fn end_last<'p, L: Labels>(
 
 // ---- the handler
 
-/// The statements of the handler, whose record was made.
+/// The block of the handler, whose record was made.
 fn begin_handler<'p, T: Copy>(
     stack: &mut Stack<'p, T>,
     s: &'p Stmt,
@@ -146,12 +146,12 @@ fn begin_handler<'p, T: Copy>(
     block: &'p Block,
 ) -> Result<Control<'p>, OutOfMemory>
     requires { length stack.old.loose ≡ 0 }
-    ensures goes_on { IfOk result (BeginsBehind (λ tables inputs set functions vs e t. and_plan (statements_meant (planned tables inputs set functions) (asking tables inputs set functions) (statements_in (view_block block.entry.now)) (with_place own.0 e.env) t) (end_handler_meant (finishes_meant (view_stmt s.entry.now)) (last_of tables inputs set functions (view_stmt s.entry.now) e.env) depth)) stack.old stack.new) }
+    ensures goes_on { IfOk result (BeginsBehind (λ tables inputs set functions vs e t. and_plan (block_plan tables inputs set functions (view_block block.entry.now) (with_place own.0 e.env) t) (end_handler_meant (finishes_meant (view_stmt s.entry.now)) (last_of tables inputs set functions (view_stmt s.entry.now) e.env) depth)) stack.old stack.new) }
     ensures keeps { IfOk result (Keeps stack.old stack.new) }
-    ensures adds { IfOk result (Adds 6 stack.old stack.new) }
+    ensures adds { IfOk result (Adds 8 stack.old stack.new) }
 {
     stack.push(Continuation::EndHandler(s, own, depth))?;
-    begin_statements(stack, statements(block))
+    Ok(Control::Block(block))
 }
 
 /// What lies loose is caught: it has a name in the handler, in a record of its own.
@@ -169,7 +169,7 @@ fn catch_value<'p, L: Labels>(
     requires standing { Invariant L.made L.meaning labels.old stack.old world.old 1 (scopes_of stack.old.tasks) (natives_waiting stack.old.tasks) control.Value }
     ensures begins { IfOk result (λ move. BeginsAt L.made L.meaning labels.new place.0 (catching_plan (view_stmt s.entry.now) depth (view_ident ident.entry.now) (view_block block.entry.now) stack.old.loose) stack.old stack.new world.old world.new (Ok move)) }
     ensures standing { IfOk result (StandsStill L.made L.meaning labels.new (natives_waiting stack.old.tasks) stack.new world.new) }
-    ensures adds { IfOk result (Adds 6 stack.old stack.new) }
+    ensures adds { IfOk result (Adds 8 stack.old stack.new) }
     ensures grows { Grows world.old world.new }
     ensures kept { IsKept L.made L.meaning L.room L.firm labels.old labels.new }
 {
@@ -207,7 +207,7 @@ fn react<'p, L: Labels>(
     requires standing { Invariant L.made L.meaning labels.old stack.old world.old 1 (scopes_of stack.old.tasks) (natives_waiting stack.old.tasks) control.Value }
     ensures begins { BeginsAt L.made L.meaning labels.new place.0 (reacting_plan (view_stmt s.entry.now) depth jump stack.old.loose) stack.old stack.new world.old world.new result }
     ensures standing { IfOk result (StandsStill L.made L.meaning labels.new (natives_waiting stack.old.tasks) stack.new world.new) }
-    ensures adds { IfOk result (Adds 6 stack.old stack.new) }
+    ensures adds { IfOk result (Adds 8 stack.old stack.new) }
     ensures stopped { IfErr result (IfStop (HasStop (L.made labels.new))) }
     ensures grows { Grows world.old world.new }
     ensures kept { IsKept L.made L.meaning L.room L.firm labels.old labels.new }
@@ -256,7 +256,7 @@ pub fn end_block<'p, L: Labels>(
     requires standing { Invariant L.made L.meaning labels.old stack.old world.old (owns (continuation.EndBlock s depth)) (scopes_of stack.old.tasks ++ scope_of (continuation.EndBlock s depth)) (natives_waiting stack.old.tasks) control.Value }
     ensures resumes { (tables : Tables) (inputs : Given) (set : BuiltIns) (functions : List FunctionCode) (natives : List Steps) → Resumes L.made L.meaning labels.new tables inputs set functions (continuation.EndBlock s.entry depth) natives natives stack.old stack.new world.old world.new result }
     ensures standing { IfOk result (StandsStill L.made L.meaning labels.new (natives_waiting stack.old.tasks) stack.new world.new) }
-    ensures adds { IfOk result (Adds (weight (continuation.EndBlock s.entry depth) + 3) stack.old stack.new) }
+    ensures adds { IfOk result (Adds (weight (continuation.EndBlock s.entry depth) + 5) stack.old stack.new) }
     ensures stopped { IfErr result (IfStop (HasStop (L.made labels.new))) }
     ensures grows { Grows world.old world.new }
     ensures kept { IsKept L.made L.meaning L.room L.firm labels.old labels.new }
@@ -277,7 +277,7 @@ pub fn end_handler<'p, L: Labels>(
     requires standing { Invariant L.made L.meaning labels.old stack.old world.old (owns (continuation.EndHandler s own depth)) (scopes_of stack.old.tasks ++ scope_of (continuation.EndHandler s own depth)) (natives_waiting stack.old.tasks) control.Value }
     ensures resumes { (tables : Tables) (inputs : Given) (set : BuiltIns) (functions : List FunctionCode) (natives : List Steps) → Resumes L.made L.meaning labels.new tables inputs set functions (continuation.EndHandler s.entry own depth) natives natives stack.old stack.new world.old world.new result }
     ensures standing { IfOk result (StandsStill L.made L.meaning labels.new (natives_waiting stack.old.tasks) stack.new world.new) }
-    ensures adds { IfOk result (Adds (weight (continuation.EndHandler s.entry own depth) + 3) stack.old stack.new) }
+    ensures adds { IfOk result (Adds (weight (continuation.EndHandler s.entry own depth) + 5) stack.old stack.new) }
     ensures stopped { IfErr result (IfStop (HasStop (L.made labels.new))) }
     ensures grows { Grows world.old world.new }
     ensures kept { IsKept L.made L.meaning L.room L.firm labels.old labels.new }
@@ -301,7 +301,7 @@ pub fn pass_block<'p, L: Labels>(
     requires place { (env_above stack.old.tasks here).place ≡ place.0 }
     ensures passes { (tables : Tables) (inputs : Given) (set : BuiltIns) (functions : List FunctionCode) (natives : List Steps) (value : LabelledOf L.Label) → drop (owns (continuation.EndBlock s.entry depth)) stack.old.loose ≡ value ∷ [] → Passes L.made L.meaning labels.new tables inputs set functions jump (continuation.EndBlock s.entry depth) value natives natives stack.old stack.new world.old world.new result }
     ensures standing { IfOk result (StandsStill L.made L.meaning labels.new (natives_waiting stack.old.tasks) stack.new world.new) }
-    ensures adds { IfOk result (Adds (weight (continuation.EndBlock s.entry depth) + 3) stack.old stack.new) }
+    ensures adds { IfOk result (Adds (weight (continuation.EndBlock s.entry depth) + 5) stack.old stack.new) }
     ensures stopped { IfErr result (IfStop (HasStop (L.made labels.new))) }
     ensures grows { Grows world.old world.new }
     ensures kept { IsKept L.made L.meaning L.room L.firm labels.old labels.new }
@@ -326,7 +326,7 @@ pub fn pass_handler<'p, L: Labels>(
     requires standing { Invariant L.made L.meaning labels.old stack.old world.old (owns (continuation.EndHandler s own depth) + 1) (scopes_of stack.old.tasks ++ scope_of (continuation.EndHandler s own depth)) (natives_waiting stack.old.tasks) (control.Jumps jump) }
     ensures passes { (tables : Tables) (inputs : Given) (set : BuiltIns) (functions : List FunctionCode) (natives : List Steps) (value : LabelledOf L.Label) → drop (owns (continuation.EndHandler s.entry own depth)) stack.old.loose ≡ value ∷ [] → Passes L.made L.meaning labels.new tables inputs set functions jump (continuation.EndHandler s.entry own depth) value natives natives stack.old stack.new world.old world.new result }
     ensures standing { IfOk result (StandsStill L.made L.meaning labels.new (natives_waiting stack.old.tasks) stack.new world.new) }
-    ensures adds { IfOk result (Adds (weight (continuation.EndHandler s.entry own depth) + 3) stack.old stack.new) }
+    ensures adds { IfOk result (Adds (weight (continuation.EndHandler s.entry own depth) + 5) stack.old stack.new) }
     ensures stopped { IfErr result (IfStop (HasStop (L.made labels.new))) }
     ensures grows { Grows world.old world.new }
     ensures kept { IsKept L.made L.meaning L.room L.firm labels.old labels.new }
@@ -341,7 +341,7 @@ pub fn pass_handler<'p, L: Labels>(
 
 // ---- the beginning
 
-/// The work of a `try` statement in the frame at this depth, and the statements of its block.
+/// The work of a `try` statement in the frame at this depth, and its block.
 fn begin_block<'p, T: Copy>(
     stack: &mut Stack<'p, T>,
     s: &'p Stmt,
@@ -349,16 +349,16 @@ fn begin_block<'p, T: Copy>(
     block: &'p Block,
 ) -> Result<Control<'p>, OutOfMemory>
     requires { length stack.old.loose ≡ 0 }
-    ensures goes_on { IfOk result (BeginsBehind (λ tables inputs set functions vs e t. trying_plan tables inputs set functions (view_stmt s.entry.now) depth (statements_in (view_block block.entry.now)) e.env t) stack.old stack.new) }
+    ensures goes_on { IfOk result (BeginsBehind (λ tables inputs set functions vs e t. trying_plan tables inputs set functions (view_stmt s.entry.now) depth (view_block block.entry.now) e.env t) stack.old stack.new) }
     ensures values { IfOk result (λ move. length stack.new.loose ≡ values_of move) }
     ensures scopes { IfOk result (λ move. scopes_of stack.new.tasks ≡ scopes_of stack.old.tasks ++ depth ∷ []) }
     ensures natives { IfOk result (λ move. natives_waiting stack.new.tasks ≡ natives_waiting stack.old.tasks) }
     ensures operands { IfOk result (λ move. operands_of stack.new ≡ operands_of stack.old) }
-    ensures adds { IfOk result (Adds 8 stack.old stack.new) }
+    ensures adds { IfOk result (Adds 10 stack.old stack.new) }
 {
     stack.push(Continuation::EndTry(depth))?;
     stack.push(Continuation::EndBlock(s, depth))?;
-    begin_statements(stack, statements(block))
+    Ok(Control::Block(block))
 }
 
 /// Enters the frame of a `try` statement with this block.
@@ -373,7 +373,7 @@ fn enter_try<'p, L: Labels>(
     requires block { tried_in (view_stmt s.now) ≡ Some (view_block block.now) }
     ensures begins { IfOk result (λ move. BeginsWith L.made L.meaning labels.new (λ tables inputs set functions reading e. stmt_step (planned tables inputs set functions) (entrance tables inputs set functions) (asking tables inputs set functions) (view_stmt s.entry.now) e.env) stack.old stack.new world.old world.new (Ok move)) }
     ensures standing { IfOk result (StandsStill L.made L.meaning labels.new (natives_waiting stack.old.tasks) stack.new world.new) }
-    ensures adds { IfOk result (Adds 8 stack.old stack.new) }
+    ensures adds { IfOk result (Adds 10 stack.old stack.new) }
     ensures grows { Grows world.old world.new }
     ensures kept { IsKept L.made L.meaning L.room L.firm labels.old labels.new }
 {
@@ -395,7 +395,7 @@ pub fn begin_try<'p, L: Labels>(
     requires tries { is_try (view_stmt s.now) ≡ true }
     ensures begins { (tables : Tables) (inputs : Given) (set : BuiltIns) (functions : List FunctionCode) (natives : List Steps) → BeginsHere L.made L.meaning labels.new tables inputs set functions natives natives stack.old stack.new world.old world.new (control.Try s.entry) result }
     ensures standing { IfOk result (StandsStill L.made L.meaning labels.new (natives_waiting stack.old.tasks) stack.new world.new) }
-    ensures adds { IfOk result (Adds 8 stack.old stack.new) }
+    ensures adds { IfOk result (Adds 10 stack.old stack.new) }
     ensures stopped { IfErr result (IfStop (HasStop (L.made labels.new))) }
     ensures grows { Grows world.old world.new }
     ensures kept { IsKept L.made L.meaning L.room L.firm labels.old labels.new }

@@ -1,1 +1,2 @@
 pub mod LiteralLaws
+pub mod ArrayLaws

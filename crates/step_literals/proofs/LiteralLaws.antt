@@ -1,8 +1,8 @@
 -- The parts of a literal, and the object that they make.
-use Rattle.std.proofs.Common.{refl, sym, ap, ap₂, subst, ◌∙◌, ◌≡◌, ◌⊎◌, inl, inr, ◌<◌, ◌≤◌, ◌+◌, ℕ, zero, suc, Bool, List, [], ◌∷◌, ◌++◌, length, map, take, drop, min, get_or, Result, Ok, Err, IfOk, arith}
+use Rattle.std.proofs.Common.{refl, sym, ap, ap₂, subst, ◌∙◌, ◌≡◌, ◌⊎◌, inl, inr, ◌<◌, ◌≤◌, ◌+◌, ℕ, zero, suc, Bool, List, [], ◌∷◌, ◌++◌, length, map, take, drop, min, get_or, Result, arith}
 use Rattle.std.specs.Borrow.{Bor}
 use Rattle.std.specs.List.{All}
-use Rattle.std.proofs.lemmas.List.{length-append, length-map, map-append, take_all, take_more, take-map}
+use Rattle.std.proofs.lemmas.List.{length-append, length-map, map-append, take_more, take-map}
 use Rattle.std.proofs.lemmas.List.Elements.{All-take}
 use Rattle.std.proofs.lemmas.Simd.{map-map}
 use Rattle.origin_labels.specs.Label.{Label, bottom}
@@ -21,22 +21,22 @@ use Rattle.js_ast.specs.declared.node_list.NodeList.{NodeList}
 use Rattle.js_ast.specs.Functions.{FunctionCode}
 use Rattle.js_ast.specs.Keys.{key_text}
 use Rattle.js_ast.specs.Nodes.{nodes_of}
-use Rattle.js_ast.specs.Views.{view_expr, view_function, view_key, view_property_kind, view_properties}
+use Rattle.js_ast.specs.Views.{view_function, view_key, view_property_kind, view_properties}
 use Rattle.js_values.specs.declared.value.Labelled.{Labelled}
 use Rattle.js_values.specs.Objects.{Rows}
 use Rattle.js_values.specs.declared.property.Slot.{Slot}
-use Rattle.js_values.specs.Readings.{IsReading, HasValue, read_value}
+use Rattle.js_values.specs.Readings.{HasValue, read_value}
 use Rattle.js_values.proofs.ReadingLaws.{IsReading-earlier}
 use Rattle.es_meaning.specs.BuiltIns.{BuiltIns}
 use Rattle.es_meaning.specs.Evaluation.{more_values, part_of, parts_of, properties}
-use Rattle.es_meaning.specs.Operations.{Act, Part, Value, object_of}
+use Rattle.es_meaning.specs.Operations.{Part, Value, object_of}
 use Rattle.es_meaning.specs.Outcomes.{Outcome, Goes}
 use Rattle.es_meaning.specs.Start.{id}
 use Rattle.flow_meaning.specs.Erased.{unlabelled}
-use Rattle.flow_meaning.specs.Planned.{gave, Give, an_expr, Plan, and_plan, as_plan, asking, planned, with_result}
+use Rattle.flow_meaning.specs.Planned.{gave, Give, and_plan, as_plan, asking, planned, with_result}
 use Rattle.flow_meaning.specs.Requested.{literal_object, with_parts, with_part}
-use Rattle.flow_meaning.specs.Scopes.{Val, State, Halt, Jump, LabelledLine}
-use Rattle.flow_meaning.specs.Tracked.{act, make_function, make_object}
+use Rattle.flow_meaning.specs.Scopes.{Val, State, Halt, Jump}
+use Rattle.flow_meaning.specs.Tracked.{act, make_object}
 use Rattle.step_objects.specs.declared.literals.LiteralPart.{LiteralPart}
 use Rattle.step_objects.specs.Literals.{keys_in, kind_of, values_in}
 use Rattle.run_state.specs.declared.world.World.{World}
@@ -51,13 +51,13 @@ use Rattle.continuations.proofs.Handed.{laid_value}
 use Rattle.continuations.specs.Kept.{Kept}
 use Rattle.continuations.specs.Literals.{IsPart, literal_act, literal_from}
 use Rattle.continuations.specs.Moving.{BeginsAnywhere, following}
-use Rattle.continuations.specs.Pending.{Task, after, behind, next_plan, setting_above}
+use Rattle.continuations.specs.Pending.{after, behind, next_plan, setting_above}
 use Rattle.continuations.specs.Settings.{Setting, entrance}
 use Rattle.continuations.proofs.Steps.{values_more}
 use Rattle.step_references.specs.Moving.{Begun}
 use Rattle.step_references.proofs.Begun.{moves_as}
 use Rattle.step_references.proofs.Plans.{given_follows}
-use Rattle.step_literals.specs.Building.{AreParts, Building, Builds, Laid, Made, kind_in, part_in, parts_from}
+use Rattle.step_literals.specs.Building.{AreParts, Builds, Laid, Made, kind_in, part_in}
 
 -- ---- parts beyond the values, and values beyond the parts, make nothing
 

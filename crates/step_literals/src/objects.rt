@@ -46,7 +46,7 @@ pub fn object<'p, L: Labels>(
     requires made { All (HasValue (L.made labels.old)) stack.old.loose }
     requires belongs { Belongs L.made L.meaning labels.old world.old }
     ensures goes_on { Builds L.made L.meaning labels.new (table functions.now) at.0 (λ tables inputs set reading e. next_plan tables inputs set (table functions.now) (control.Object list.entry count) (map (read_value reading) stack.old.loose) e) stack.old stack.new world.old world.new result }
-    ensures moved { IfOk result (Moved (L.made labels.new) 4 stack.old stack.new world.old world.new) }
+    ensures moved { IfOk result (Moved (L.made labels.new) 6 stack.old stack.new world.old world.new) }
     ensures stopped { IfErr result (IfStop (HasStop (L.made labels.new))) }
     ensures belongs { Belongs L.made L.meaning labels.new world.new }
     ensures grows { Grows world.old world.new }
@@ -108,7 +108,7 @@ fn begin_value<'p, L: Labels>(
     requires made { All (HasValue (L.made labels.now)) stack.old.loose }
     requires part { IsPart (part.Value value) list.now count }
     ensures goes_on { IfOk result (λ next. Begun L.made L.meaning labels.now (λ tables inputs set functions reading e. literal_from list.entry.now count tables inputs set functions (map (read_value reading) stack.old.loose) e) stack.old stack.new world.now world.now (Ok next)) }
-    ensures moved { IfOk result (Moved (L.made labels.now) 4 stack.old stack.new world.now world.now) }
+    ensures moved { IfOk result (Moved (L.made labels.now) 6 stack.old stack.new world.now world.now) }
 {
     stack.push(Continuation::Property(list, count))?;
     Ok(Control::Expr(value))
@@ -127,7 +127,7 @@ fn build<'p, L: Labels>(
     requires made { All (HasValue (L.made labels.old)) stack.old.loose }
     requires belongs { Belongs L.made L.meaning labels.old world.old }
     ensures goes_on { Begun L.made L.meaning labels.new (λ tables inputs set functions reading e. (planned tables inputs set functions).act (literal_act list.entry.now) (map (read_value reading) stack.old.loose)) stack.old stack.new world.old world.new result }
-    ensures moved { IfOk result (Moved (L.made labels.new) 4 stack.old stack.new world.old world.new) }
+    ensures moved { IfOk result (Moved (L.made labels.new) 6 stack.old stack.new world.old world.new) }
     ensures stopped { IfErr result (IfStop (HasStop (L.made labels.new))) }
     ensures belongs { Belongs L.made L.meaning labels.new world.new }
     ensures grows { Grows world.old world.new }

@@ -8,7 +8,7 @@ ghost use Rattle.step_literals.specs.Building.{AreParts, kind_in};
 
 use flow_text::OutOfMemory;
 use js_ast::{Key as PropertyKey, Property, PropertyKind};
-use js_number::number_to_text;
+use js_number::{Num, number_to_text};
 use js_values::{Key, Labelled};
 use std::alloc::Global;
 use step_objects::{LiteralPart, Part};
@@ -49,7 +49,7 @@ fn key_of(alloc: Global, key: &PropertyKey) -> Result<Key, OutOfMemory>
     let text = match key {
         PropertyKey::Name(text) => text.copy(alloc)?,
         PropertyKey::String { value, .. } => value.copy(alloc)?,
-        PropertyKey::Number(n) => number_to_text(alloc, *n)?,
+        PropertyKey::Number(n) => number_to_text(alloc, Num::Int(*n))?,
     };
     Ok(Key::new(text))
 }

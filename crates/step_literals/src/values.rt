@@ -9,7 +9,7 @@ ghost use Rattle.continuations.specs.Moving.{BeginsAnywhere, Rests};
 
 use continuations::{Control, Stack};
 use flow_text::{OutOfMemory, Text};
-use js_number::{Int, Primitive};
+use js_number::{Int, Num, Primitive};
 use js_values::{Labelled, Value};
 use origin_labels::Labels;
 use std::alloc::Global;
@@ -23,9 +23,9 @@ pub fn number<'p, L: Labels>(
     requires loose { length stack.old.loose ≡ 0 }
     ensures goes_on { IfOk result (BeginsAnywhere L.made L.meaning labels.now (λ tables inputs set functions e. next_plan tables inputs set functions (control.Number n.entry) [] e) stack.old stack.new) }
     ensures rests { IfOk result (Rests (L.made labels.now) stack.old stack.new) }
-    ensures adds { IfOk result (Adds 4 stack.old stack.new) }
+    ensures adds { IfOk result (Adds 6 stack.old stack.new) }
 {
-    literal(labels, stack, Primitive::Num(*n))
+    literal(labels, stack, Primitive::Num(Num::Int(*n)))
 }
 
 /// A text that stands in the script.
@@ -38,7 +38,7 @@ pub fn text<'p, L: Labels>(
     requires loose { length stack.old.loose ≡ 0 }
     ensures goes_on { IfOk result (BeginsAnywhere L.made L.meaning labels.now (λ tables inputs set functions e. next_plan tables inputs set functions (control.Text units.entry) [] e) stack.old stack.new) }
     ensures rests { IfOk result (Rests (L.made labels.now) stack.old stack.new) }
-    ensures adds { IfOk result (Adds 4 stack.old stack.new) }
+    ensures adds { IfOk result (Adds 6 stack.old stack.new) }
 {
     let units = units.copy(alloc)?;
     literal(labels, stack, Primitive::Str(units))
@@ -53,7 +53,7 @@ pub fn boolean<'p, L: Labels>(
     requires loose { length stack.old.loose ≡ 0 }
     ensures goes_on { IfOk result (BeginsAnywhere L.made L.meaning labels.now (λ tables inputs set functions e. next_plan tables inputs set functions (control.Bool b) [] e) stack.old stack.new) }
     ensures rests { IfOk result (Rests (L.made labels.now) stack.old stack.new) }
-    ensures adds { IfOk result (Adds 4 stack.old stack.new) }
+    ensures adds { IfOk result (Adds 6 stack.old stack.new) }
 {
     literal(labels, stack, Primitive::Bool(b))
 }
@@ -66,7 +66,7 @@ pub fn null<'p, L: Labels>(
     requires loose { length stack.old.loose ≡ 0 }
     ensures goes_on { IfOk result (BeginsAnywhere L.made L.meaning labels.now (λ tables inputs set functions e. next_plan tables inputs set functions control.Null [] e) stack.old stack.new) }
     ensures rests { IfOk result (Rests (L.made labels.now) stack.old stack.new) }
-    ensures adds { IfOk result (Adds 4 stack.old stack.new) }
+    ensures adds { IfOk result (Adds 6 stack.old stack.new) }
 {
     literal(labels, stack, Primitive::Null)
 }
@@ -80,7 +80,7 @@ fn literal<'p, L: Labels>(
     requires loose { length stack.old.loose ≡ 0 }
     ensures goes_on { IfOk result (BeginsAnywhere L.made L.meaning labels.now (λ tables inputs set functions e s. Give (gave ((planned tables inputs set functions).literal value)) s) stack.old stack.new) }
     ensures rests { IfOk result (Rests (L.made labels.now) stack.old stack.new) }
-    ensures adds { IfOk result (Adds 4 stack.old stack.new) }
+    ensures adds { IfOk result (Adds 6 stack.old stack.new) }
 {
     stack.lay(Labelled {
         value: Value::Primitive(value),

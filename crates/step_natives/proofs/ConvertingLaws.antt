@@ -124,6 +124,36 @@ module _ {S T X : Type 0} (made : S → T → Type 0) (meaning : S → T → Lab
         ∙ gives_alone tables inputs set functions reading old laid (record { value = v.value; label = label }) (setting_of (waiting_steps tells asks natives_old) here) s tasks lies
         ∙ sym (compared_so false is reading read s)
 
+    abbrev converted_beside : Bool → Label → (T → Label) → State → Plan
+    converted_beside b l reading s = convert_by b (entrance tables inputs set functions) hint.Number l (read_value reading u) (read_value reading u) s
+
+    converted_so : (b : Bool) → is_object u.value ≡ b → (reading : T → Label) → IsReading made meaning store reading → (s : State)
+        → coming tables inputs set functions reading old control.ConvertBeside (setting_of (waiting_steps tells asks natives_old) here) s ≡ behind tables inputs set functions reading old.tasks (setting_of (waiting_steps tells asks natives_old) here) (converted_beside b (reading label) reading s)
+    converted_so b is reading read s =
+        ap (λ vs. behind tables inputs set functions reading old.tasks (setting_of (waiting_steps tells asks natives_old) here) (next_plan tables inputs set functions control.ConvertBeside (map (read_value reading) vs) (setting_above old.tasks (setting_of (waiting_steps tells asks natives_old) here)) s)) lie
+        ∙ ap₂ (λ t l. behind tables inputs set functions reading old.tasks (setting_of (waiting_steps tells asks natives_old) here) (converted_beside t l reading s)) is (sym (means reading read))
+
+    -- the second of them is converted with the label of both
+    pub second_begins : is_object u.value ≡ true → laid.loose ≡ u ∷ [] → (move : Control) → Converts made meaning store tables inputs set functions (waiting_steps tells asks natives_old) (steps_at tells asks natives_new) hint.Number label laid new world world_new move
+        → Begins made meaning store tables inputs set functions (waiting_steps tells asks natives_old) (steps_behind {T = T} tells asks natives_new (Ok move)) old new world world_new control.ConvertBeside (Ok move)
+    unfolding convert_by
+    second_begins is lies move converts = λ reading told turns read.
+        let ns = waiting_steps tells asks natives_old in
+        let s = state_of reading world told turns in
+        converts reading told turns read
+        ∙ ap₂ (λ ts vs. behind tables inputs set functions reading ts (setting_of ns here) (in_frame kind.Native (reading label) ((entrance tables inputs set functions).conversion hint.Number (first_or_undefined (map (read_value reading) vs))) s)) tasks lies
+        ∙ sym (converted_so true is reading read s)
+
+    -- or stays, where it is a primitive value
+    pub second_stays : is_object u.value ≡ false → laid.loose ≡ u ∷ [] → natives_new ≡ natives_old
+        → Begins made meaning store tables inputs set functions (waiting_steps tells asks natives_old) (waiting_steps tells asks natives_new) old laid world world control.ConvertBeside (Ok control.Value)
+    unfolding convert_by
+    second_stays is lies same = λ reading told turns read.
+        let s = state_of reading world told turns in
+        ap (λ (n : States X). coming tables inputs set functions reading laid control.Value (setting_of (waiting_steps tells asks n) here) s) same
+        ∙ gives_alone tables inputs set functions reading old laid u (setting_of (waiting_steps tells asks natives_old) here) s tasks lies
+        ∙ sym (converted_so false is reading read s)
+
 -- ---- steps and labels
 
 pub steps_size : {X : Type 0} (tells : X → Answer → X) (asks : X → Request) (natives : States X) → length (waiting_steps tells asks natives) ≡ length natives.states
@@ -141,6 +171,10 @@ union_read made meaning room firm old joined last first second a b label m k n i
 -- ---- what stands
 
 module _ {S T : Type 0} (made : S → T → Type 0) (meaning : S → T → Label) (room : S → ℕ) (firm : S → Bool) (old_store new_store : S) (kept : IsKept made meaning room firm old_store new_store) where
+  -- a conversion with a value beside it stands as a comparison does
+  pub as_compared : (old : Kept T) (world : World T) (natives : ℕ) → Invariant made meaning old_store old world 2 (scopes_of old.tasks) natives control.ConvertBeside → Invariant made meaning old_store old world 2 (scopes_of old.tasks) natives control.Compare
+  as_compared old world natives s = record { belongs = s.belongs; operands = s.operands; values = s.values; scopes = s.scopes; frames = s.frames; records = s.records; natives = s.natives }
+
   -- two values were taken, and one was laid
   pub stands_one : (old laid : Kept T) (world : World T) (natives : ℕ) (v u w : Labelled T) → Invariant made meaning old_store old world 2 (scopes_of old.tasks) natives control.Compare → Belongs made meaning new_store world
       → old.loose ≡ v ∷ u ∷ [] → laid.tasks ≡ old.tasks → laid.loose ≡ w ∷ [] → made new_store w.label

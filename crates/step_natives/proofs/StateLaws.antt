@@ -1,7 +1,9 @@
 -- What is left of the steps of built-ins.
-use Rattle.std.proofs.Common.{arith, get_or, set, ◌≡◌, ◌≤◌, ℕ, zero, suc, ◌-◌, List, [], ◌∷◌, ◌++◌, map, take, length, refl, sym, ◌∙◌, ap, Bool}
+use Rattle.std.proofs.Common.{arith, get_or, set, ◌≡◌, ◌≤◌, ◌<◌, Option, Some, None, ℕ, zero, suc, ◌-◌, List, [], ◌∷◌, ◌++◌, map, take, length, refl, sym, ◌∙◌, ap, Bool}
 use mathlib.Core.Path.{fun_ext}
+use Rattle.std.specs.List.{slice_get}
 use Rattle.std.proofs.lemmas.List.{length-append, length-map, take-map}
+use Rattle.std.proofs.lemmas.Option.{none-some, slice_get_past}
 use Rattle.native_protocol.specs.declared.hint.Hint.{Hint}
 use Rattle.native_protocol.specs.declared.default_value.DefaultValue.{DefaultValue}
 use Rattle.native_protocol.specs.declared.request.Answer.{Answer}
@@ -11,7 +13,7 @@ use Rattle.native_protocol.specs.Pieces.{whole_begin}
 use Rattle.native_protocol.specs.Steps.{Steps, conversion}
 use Rattle.native_protocol.specs.Sets.{SeenEntry}
 use Rattle.native_protocol.proofs.PieceLaws.{whole_is}
-use Rattle.es_meaning.specs.BuiltIns.{begins_in, built_ins_of, steps_behind}
+use Rattle.es_meaning.specs.BuiltIns.{begins_entry, begins_in, built_ins_of, steps_behind}
 use Rattle.step_natives.specs.declared.state.Accessor.TheVariants as accessor
 use Rattle.step_natives.specs.declared.state.NativeState.{NativeState}
 use Rattle.step_natives.specs.declared.state.NativeState.TheVariants as state
@@ -27,6 +29,12 @@ told_last a (first ∷ second ∷ front) steps = ap (λ more. first ∷ more) (t
 map_last : {X Y : Type 0} (f : X → Y) (xs : List X) (x : X) → map f (xs ++ x ∷ []) ≡ map f xs ++ f x ∷ []
 map_last f [] x = refl
 map_last f (y ∷ xs) x = ap (λ more. f y ∷ more) (map_last f xs x)
+
+-- what stands in a list is there
+there_is : {X : Type 0} (xs : List X) (n : ℕ) → n < length xs → slice_get xs n ≡ None → ⊥
+there_is [] n lt none = omega (arith, lt)
+there_is (x ∷ xs) zero lt none = none-some x (sym none)
+there_is (x ∷ xs) (suc n) lt none = there_is xs n (omega (arith, lt)) none
 
 -- one that begins
 begun_steps : {S : Type 0} (after : S → Answer → S) (asks : S → Request) (states : List (NativeState S)) (one : NativeState S) → running_steps after asks (record { states = states ++ one ∷ []; answer = answer.Begin }) ≡ map (steps_of after asks) states ++ steps_behind (steps_of after asks one) answer.Begin ∷ []
@@ -51,10 +59,23 @@ module _ {S : Type 0} (entries : List SeenEntry) (begin : ℕ → ℕ → Bool �
   pub begun_callee : (which argc : ℕ) (construct : Bool) (old new : States S) → which ≡ 2 → new ≡ record { states = old.states ++ state.Leaves accessor.Callee ∷ []; answer = answer.Begin } → Begins which argc construct old new
   begun_callee which argc construct old new is e = begun after asks old new (state.Leaves accessor.Callee) e ∙ ap (λ n. waiting_steps after asks old ++ begins_in (built_ins_of entries begin after asks) n argc construct ∷ []) (sym is)
 
-  pub begun_in_set : (which argc : ℕ) (construct : Bool) (old new : States S) (one : S) → 3 ≤ which → one ≡ begin (which - 3) argc construct → new ≡ record { states = old.states ++ state.Set one ∷ []; answer = answer.Begin } → Begins which argc construct old new
-  begun_in_set which argc construct old new one enough is e =
+  begins_there : (n argc : ℕ) (construct : Bool) (old : States S) (o : Option SeenEntry) → slice_get entries n ≡ o → n < length entries
+      → (waiting_steps after asks old ++ steps_behind (steps_of after asks (state.Set (begin n argc construct))) answer.Begin ∷ []) ≡ (waiting_steps after asks old ++ begins_entry (slice_get entries n) (built_ins_of entries begin after asks) n argc construct ∷ [])
+  begins_there n argc construct old None is there = absurd (there_is entries n there is)
+  begins_there n argc construct old (Some e) is there = ap (λ o. waiting_steps after asks old ++ begins_entry o (built_ins_of entries begin after asks) n argc construct ∷ []) (sym is)
+
+  pub begun_in_set : (which argc : ℕ) (construct : Bool) (old new : States S) (one : S) → 3 ≤ which → which - 3 < length entries → one ≡ begin (which - 3) argc construct → new ≡ record { states = old.states ++ state.Set one ∷ []; answer = answer.Begin } → Begins which argc construct old new
+  begun_in_set which argc construct old new one enough there is e =
       begun after asks old new (state.Set one) e
       ∙ ap (λ s. waiting_steps after asks old ++ steps_behind (steps_of after asks (state.Set s)) answer.Begin ∷ []) is
+      ∙ begins_there (which - 3) argc construct old (slice_get entries (which - 3)) refl there
+      ∙ ap (λ n. waiting_steps after asks old ++ begins_in (built_ins_of entries begin after asks) n argc construct ∷ []) (let whole : suc (suc (suc (which - 3))) ≡ which = omega arith in whole)
+
+  -- and where the set doesn't have it
+  pub begun_unknown : (which argc : ℕ) (construct : Bool) (old new : States S) → 3 ≤ which → length entries ≤ which - 3 → new ≡ record { states = old.states ++ state.Leaves accessor.Unknown ∷ []; answer = answer.Begin } → Begins which argc construct old new
+  begun_unknown which argc construct old new enough past e =
+      begun after asks old new (state.Leaves accessor.Unknown) e
+      ∙ ap (λ o. waiting_steps after asks old ++ begins_entry o (built_ins_of entries begin after asks) (which - 3) argc construct ∷ []) (sym (slice_get_past entries (which - 3) past))
       ∙ ap (λ n. waiting_steps after asks old ++ begins_in (built_ins_of entries begin after asks) n argc construct ∷ []) (let whole : suc (suc (suc (which - 3))) ≡ which = omega arith in whole)
 
 -- the conversion of an object begins

@@ -16,11 +16,12 @@ pub record States (S : Type 0) : Type 0 where
   pub states : List (NativeState S)
   pub answer : Answer
 
--- the name by which an accessor leaves the language
+-- the name by which an accessor leaves the language, and a built-in that the set doesn't have
 abbrev pub accessor_name : Accessor → List ℕ
 accessor_name accessor.Caller = codes "caller"
 accessor_name accessor.Arguments = codes "arguments"
 accessor_name accessor.Callee = codes "callee"
+accessor_name accessor.Unknown = []
 
 -- what is left of the steps of the last is what is left of them behind an answer
 abbrev pub told : Answer → List Steps → List Steps

@@ -82,6 +82,33 @@ fn begin_conversion<'p, L: Labels, S: Drop>(
     Ok(next)
 }
 
+/// The second of the two values that lie loose comes to a primitive one. An object is converted in a frame of its own, which has the first one's label besides.
+pub fn convert_beside<'p, L: Labels, S: Drop>(
+    labels: &mut L,
+    world: &mut World<L::Label>,
+    stack: &mut Stack<'p, L::Label>,
+    states: &mut NativeStates<S>,
+) -> Result<Control<'p>, FlowFault<L::Label>>
+    requires standing { Invariant L.made L.meaning labels.old stack.old world.old (values_of control.ConvertBeside) (scopes_of stack.old.tasks) (length states.old.states) control.ConvertBeside }
+    ensures begins { (tables : Tables) (inputs : Given) (set : BuiltIns) (functions : List FunctionCode) (tells : S → Answer → S) (asks : S → Request) → Begins L.made L.meaning labels.new tables inputs set functions (waiting_steps tells asks states.old) (steps_behind tells asks states.new result) stack.old stack.new world.old world.new control.ConvertBeside result }
+    ensures standing { IfOk result (λ move. Invariant L.made L.meaning labels.new stack.new world.new (values_of move) (scopes_of stack.new.tasks) (length states.new.states) move) }
+    ensures lowers { IfOk result (λ move. Lowers stack.old control.ConvertBeside stack.new move) }
+    ensures stopped { IfErr result (IfStop (HasStop (L.made labels.new))) }
+    ensures grows { Grows world.old world.new }
+    ensures kept { IsKept L.made L.meaning L.room L.firm labels.old labels.new }
+{
+    let value = stack.pop();
+    let beside = stack.pop();
+    let label = labels.join(beside.label, value.label)?;
+    let object = is_object(&value.value);
+    stack.lay(value)?;
+    if !object {
+        return Ok(Control::Value);
+    }
+    let next = begin_conversion(labels, world, stack, states, Hint::Number, label)?;
+    Ok(next)
+}
+
 /// The first of the two values that lie loose, converted as `==` does beside the second, with the label of both.
 pub fn compare<'p, L: Labels, S: Drop>(
     labels: &mut L,

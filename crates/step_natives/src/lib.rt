@@ -7,7 +7,7 @@ mod natives;
 mod state;
 mod states;
 
-pub use converting::{compare, convert};
+pub use converting::{compare, convert, convert_beside};
 pub use frames::{enter_frame, leading};
 pub use natives::begin_native;
 pub use state::{Accessor, NativeState};

@@ -8,12 +8,14 @@ use flow_text::{OutOfMemory, Text};
 use native_protocol::{Answer, DefaultValue, Natives, Request};
 use std::alloc::Global;
 
-/// The accessors that leave the language by their names.
+/// The accessors that leave the language by their names, and a built-in that the set doesn't have.
 #[derive(Clone, Copy, Debug, PartialEq, Eq)]
 pub enum Accessor {
     Caller,
     Arguments,
     Callee,
+    /// None of these: the name is empty. No function has such a built-in.
+    Unknown,
 }
 
 /// The state of a built-in of a set, of the conversion of an object, or of one of the accessors.
@@ -34,6 +36,7 @@ impl Accessor {
             Accessor::Caller => Text::spelled(alloc, "caller"),
             Accessor::Arguments => Text::spelled(alloc, "arguments"),
             Accessor::Callee => Text::spelled(alloc, "callee"),
+            Accessor::Unknown => Ok(Text::new(alloc)),
         }
     }
 

@@ -44,9 +44,9 @@ impl<S: Drop> NativeStates<S> {
         }
     }
 
-    /// A built-in with this number is called, with so many arguments, and runs. No value of a run has a number that is none of a built-in's: that is
-    /// answered as want of memory.
-    #[tactic(auto, using(crate::proofs::StateLaws::begun_caller, crate::proofs::StateLaws::begun_arguments, crate::proofs::StateLaws::begun_callee, crate::proofs::StateLaws::begun_in_set))]
+    /// A built-in with this number is called, with so many arguments, and runs. One that the set doesn't have leaves the language
+    /// by the empty name: no function has it.
+    #[tactic(auto, using(crate::proofs::StateLaws::begun_caller, crate::proofs::StateLaws::begun_arguments, crate::proofs::StateLaws::begun_callee, crate::proofs::StateLaws::begun_in_set, crate::proofs::StateLaws::begun_unknown))]
     pub fn begin<N: Natives<State = S>>(
         &mut self,
         alloc: Global,
@@ -66,7 +66,7 @@ impl<S: Drop> NativeStates<S> {
             _ => {
                 let which = which - FIRST;
                 if which >= natives.count() {
-                    return Err(OutOfMemory);
+                    return self.add(NativeState::Leaves(Accessor::Unknown));
                 }
                 let state = natives.start(alloc, which, argc, construct)?;
                 self.add(NativeState::Set(state))

@@ -21,7 +21,7 @@ use Rattle.js_ast.specs.declared.operators.PostfixOperator.{PostfixOperator}
 use Rattle.js_ast.specs.declared.operators.PostfixOperator.TheVariants as postfix_operator
 use Rattle.js_ast.specs.declared.operators.UnaryOperator.TheVariants as unary_operator
 use Rattle.js_number.specs.declared.primitive.Primitive.{Primitive}
-use Rattle.js_number.specs.declared.primitive.Primitive.TheVariants.{Num, Str}
+use Rattle.js_number.specs.declared.primitive.Primitive.TheVariants.{Str}
 use Rattle.js_values.specs.declared.value.Value as values
 use Rattle.js_values.specs.declared.value.Value.TheVariants as value
 use Rattle.js_values.specs.declared.value.Labelled.{Labelled}
@@ -53,7 +53,7 @@ use Rattle.step_values.specs.Converted.{converts}
 use Rattle.continuations.specs.Shapes.{step_of}
 use Rattle.continuations.specs.Settings.{entrance}
 use Rattle.step_numbers.specs.Assigned.{Finishes, Gives, Puts, PutsAt, Rebinds}
-use Rattle.step_numbers.specs.Evaluated.{Evaluates, labelled_number}
+use Rattle.step_numbers.specs.Evaluated.{integer, Evaluates, labelled_number}
 use Rattle.step_numbers.specs.Named.{IsNamed}
 use Rattle.step_numbers.proofs.EvaluationLaws.{asked_gave, later, one_left, operated_plan}
 
@@ -119,24 +119,24 @@ module _ (tables : Tables) (inputs : inputs.Given) (set : BuiltIns) (functions :
       ∙ ap (perform M) (assigned_plan name x t u puts)
 
   -- a name's number with one more or less is given to it, and the number is what is given
-  postfix_counts : (o : BinaryOperator) (n : Reference) (a c : ℤ) (l : Label) (s : State) → unary_of unary_operator.Plus (seen_as.Prim (Num a)) ≡ Ok (Num a) → binary_of o (value.Primitive (Num a)) (value.Primitive (Num (pos 1))) ≡ Ok (Num c)
-      → postfix_value (planned tables inputs set functions) (entrance tables inputs set functions) o n (record { value = value.Primitive (Num a); label = l }) s ≡ assign_giving (planned tables inputs set functions) (entrance tables inputs set functions) n (record { value = value.Primitive (Num a); label = l }) (record { value = value.Primitive (Num c); label = union l bottom }) s
+  postfix_counts : (o : BinaryOperator) (n : Reference) (a c : ℤ) (l : Label) (s : State) → unary_of unary_operator.Plus (seen_as.Prim (integer a)) ≡ Ok (integer a) → binary_of o (value.Primitive (integer a)) (value.Primitive (integer (pos 1))) ≡ Ok (integer c)
+      → postfix_value (planned tables inputs set functions) (entrance tables inputs set functions) o n (record { value = value.Primitive (integer a); label = l }) s ≡ assign_giving (planned tables inputs set functions) (entrance tables inputs set functions) n (record { value = value.Primitive (integer a); label = l }) (record { value = value.Primitive (integer c); label = union l bottom }) s
   unfolding postfix_value postfix_number postfix_by convert_by given seen
   postfix_counts o n a c l s plus counts =
-      let v : Val = record { value = value.Primitive (Num a); label = l } in
+      let v : Val = record { value = value.Primitive (integer a); label = l } in
       ap (λ r. and_plan (as_plan Value (given l r s)) (with_result Value (postfix_by (planned tables inputs set functions) (entrance tables inputs set functions) o n))) plus
       ∙ ap (λ r. and_plan (as_plan Value (given (union l bottom) r s)) (with_result Value (assign_giving (planned tables inputs set functions) (entrance tables inputs set functions) n v))) counts
 
   postfix_plan : (place there at : ℕ) (text : List ℕ) (operator : PostfixOperator) (s u : State) (a c : ℤ) (l : Label) (n : ℕ) → IsLabel l
-      → unary_of unary_operator.Plus (seen_as.Prim (Num a)) ≡ Ok (Num a) → binary_of (step_of operator) (value.Primitive (Num a)) (value.Primitive (Num (pos 1))) ≡ Ok (Num c)
-      → accessed (resolved s.records s.heap at text) (record s { turns = n }) ≡ Goes (has_value (record { value = value.Primitive (Num a); label = l })) (record s { turns = n })
-      → put_value (resolved s.records s.heap at text) (record { value = value.Primitive (Num c); label = l }) (record s { turns = n }) ≡ Goes is_put u
-      → meaning tables inputs set functions (an_expr (trees.postfix place (trees.name there text) operator) at) (record s { turns = suc (suc n) }) ≡ Goes (record { value = value.Primitive (Num a); label = l }) u
+      → unary_of unary_operator.Plus (seen_as.Prim (integer a)) ≡ Ok (integer a) → binary_of (step_of operator) (value.Primitive (integer a)) (value.Primitive (integer (pos 1))) ≡ Ok (integer c)
+      → accessed (resolved s.records s.heap at text) (record s { turns = n }) ≡ Goes (has_value (record { value = value.Primitive (integer a); label = l })) (record s { turns = n })
+      → put_value (resolved s.records s.heap at text) (record { value = value.Primitive (integer c); label = l }) (record s { turns = n }) ≡ Goes is_put u
+      → meaning tables inputs set functions (an_expr (trees.postfix place (trees.name there text) operator) at) (record s { turns = suc (suc n) }) ≡ Goes (record { value = value.Primitive (integer a); label = l }) u
   unfolding used enter_access perform completed
   postfix_plan place there at text operator s u a c l n is_label plus counts gets puts =
       let M = meaning tables inputs set functions in
       let o = step_of operator in
-      let v : Val = record { value = value.Primitive (Num a); label = l } in
+      let v : Val = record { value = value.Primitive (integer a); label = l } in
       let name : Reference = resolved s.records s.heap at text in
       let now : State = record s { turns = n } in
       is_performed.some_left tables inputs set functions (an_expr (trees.postfix place (trees.name there text) operator) at) s (suc n)
@@ -146,8 +146,8 @@ module _ (tables : Tables) (inputs : inputs.Given) (set : BuiltIns) (functions :
       ∙ ap (perform M) (asks_use (postfixed o) there text at now)
       ∙ ap (λ x. perform M (and_plan (with_outcome x (enter_access functions (entrance tables inputs set functions))) (with_result Value (postfix_value (planned tables inputs set functions) (entrance tables inputs set functions) o name)))) gets
       ∙ ap (perform M) (postfix_counts o name a c l now plus counts)
-      ∙ ap (λ k. perform M (assign_giving (planned tables inputs set functions) (entrance tables inputs set functions) name v (record { value = value.Primitive (Num c); label = k }) now)) (union-bottom l is_label)
-      ∙ ap (perform M) (giving_plan name v (record { value = value.Primitive (Num c); label = l }) now u puts)
+      ∙ ap (λ k. perform M (assign_giving (planned tables inputs set functions) (entrance tables inputs set functions) name v (record { value = value.Primitive (integer c); label = k }) now)) (union-bottom l is_label)
+      ∙ ap (perform M) (giving_plan name v (record { value = value.Primitive (integer c); label = l }) now u puts)
 
   -- a text gives itself
   text_plan : (place : ℕ) (text units : List ℕ) (at n : ℕ) (s : State) → meaning tables inputs set functions (an_expr (trees.string place text units) at) (record s { turns = suc n }) ≡ Goes (record { value = value.Primitive (Str units); label = bottom }) (record s { turns = n })
@@ -216,7 +216,7 @@ module _ {S T : Type 0} (made : S → T → Type 0) (meaning_of : S → T → La
   -- a name's number that was changed by one is what the expression gives
   pub counted_gives : (rising : (store : S) (label : T) → made store label → IsLabel (meaning_of store label)) (place there at : ℕ) (old new : World T) (turns left : ℕ) (target : Expr) (operator : PostfixOperator) (text : List ℕ) (a c : ℤ) (label : T) → target ≡ trees.name there text → 2 ≤ turns
       → IsNamed made meaning_of earlier at text old (labelled_number a label) → left ≡ turns - 2
-      → unary_of unary_operator.Plus (seen_as.Prim (Num a)) ≡ Ok (Num a) → binary_of (step_of operator) (value.Primitive (Num a)) (value.Primitive (Num (pos 1))) ≡ Ok (Num c)
+      → unary_of unary_operator.Plus (seen_as.Prim (integer a)) ≡ Ok (integer a) → binary_of (step_of operator) (value.Primitive (integer a)) (value.Primitive (integer (pos 1))) ≡ Ok (integer c)
       → Puts made meaning_of store at text (labelled_number c label) old new → Gives made meaning_of store (trees.postfix place target operator) at old new turns (labelled_number a label) left
   counted_gives rising place there at old new turns left target operator text a c label is enough named none plus counts puts =
       let n = turns - 2 in

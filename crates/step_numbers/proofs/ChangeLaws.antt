@@ -30,11 +30,12 @@ use Rattle.object_heap.specs.Formed.{own_in}
 use Rattle.object_heap.proofs.ReadLaws.{read_own}
 use Rattle.run_state.specs.declared.world.World.{World}
 use Rattle.run_state.specs.Worlds.{Belongs}
+use Rattle.property_access.proofs.HeldLaws.{own_has}
 use Rattle.property_access.proofs.NameLaws.{name_has}
 use Rattle.property_access.proofs.Reading.{read_bound_in, read_frames}
 use Rattle.step_numbers.specs.Assigned.{changes, changes_at, changes_binding, changes_global, context_of, covers, written_in}
 use Rattle.step_numbers.specs.Evaluated.{global_in}
-use Rattle.step_numbers.proofs.GlobalLaws.{own_made, written_slot}
+use Rattle.step_numbers.proofs.GlobalLaws.{written_slot}
 
 -- ---- in each reading that agrees with the store the same names can be given a value
 
@@ -58,7 +59,7 @@ module _ {S T : Type 0} (made : S → T → Type 0) (meaning_of : S → T → La
 
     global_alike : (a b : Label) (text : List ℕ) → a ≡ b → changes_global reading a text (global_in w.heap) ≡ changes_global (meaning_of store) b text (global_in w.heap)
     global_alike a b text same =
-        ap (λ c. is_some (written_in text (global_in w.heap)) && c) (slot_alike a b (own_in text (global_in w.heap)) same (λ s is. own_made (made store) text w.heap 1 s belongs.heap is))
+        ap (λ c. is_some (written_in text (global_in w.heap)) && c) (slot_alike a b (own_in text (global_in w.heap)) same (λ s is. own_has w.heap 1 (made store) text s belongs.heap is))
 
     place_alike : (p : Option ℕ) (text : List ℕ) → changes_at reading w p text ≡ changes_at (meaning_of store) w p text
     place_alike (Some i) text = bound_alike (context_of reading w) (context_of (meaning_of store) w) i text context_alike
@@ -150,7 +151,7 @@ module _ {S T : Type 0} (made : S → T → Type 0) (meaning_of : S → T → La
       → made earlier label → meaning_of earlier label ≡ context (held.seen meaning_of earlier w.frames.frames) → made joined need → meaning_of joined need ≡ union (meaning_of earlier label) (meaning_of earlier walk)
       → is_ok (heap_acts.write W1 1 name (meaning_of store need) (read_value (meaning_of store) v) (read_heap (meaning_of store) w.heap)) ≡ changes_global (meaning_of earlier) (context_of (meaning_of earlier) w) name (global_in w.heap)
   global_slot name v s walk label need here there e m is m_need means =
-      let m_slot = own_made (made earlier) name w.heap 1 s belongs.heap here in
+      let m_slot = own_has w.heap 1 (made earlier) name s belongs.heap here in
       let same : (l : T) → made earlier l → meaning_of store l ≡ meaning_of earlier l = λ l has. (behind.labels l (before.labels l has).0).1 ∙ (before.labels l has).1 in
       let need_is : meaning_of store need ≡ union (context_of (meaning_of earlier) w) (meaning_of earlier s.existence) = (behind.labels need m_need).1 ∙ means ∙ ap₂ union is (ap (meaning_of earlier) (sym there)) in
       written_as (meaning_of store) name (meaning_of store need) (read_value (meaning_of store) v) w.heap s here

@@ -11,7 +11,6 @@ use Rattle.js_ast.specs.declared.operators.BinaryOperator.TheVariants as binary_
 use Rattle.js_ast.specs.Trees as trees
 use Rattle.js_ast.specs.Trees.{Expr}
 use Rattle.js_number.specs.declared.primitive.Primitive.{Primitive}
-use Rattle.js_number.specs.declared.primitive.Primitive.TheVariants.{Num}
 use Rattle.js_values.specs.declared.value.Labelled.{Labelled}
 use Rattle.js_values.specs.declared.value.Value as values
 use Rattle.js_values.specs.declared.value.Value.TheVariants as value
@@ -34,7 +33,7 @@ use Rattle.continuations.specs.Shapes.{evaluates_both}
 use Rattle.continuations.proofs.Steps.{both_operands}
 use Rattle.continuations.specs.Settings.{entrance}
 use Rattle.step_numbers.specs.declared.evaluating.Counted.{Counted}
-use Rattle.step_numbers.specs.Evaluated.{Evaluates, labelled_number}
+use Rattle.step_numbers.specs.Evaluated.{integer, Evaluates, labelled_number}
 use Rattle.step_numbers.specs.Named.{IsNamed}
 use Rattle.step_numbers.proofs.NumberLaws.{none_converts}
 
@@ -72,7 +71,7 @@ module _ (tables : Tables) (inputs : inputs.Given) (set : BuiltIns) (functions :
   unfolding perform and_go
   asked_gave part f s t v h = ap (λ o. and_go o (λ c u. perform (meaning tables inputs set functions) (with_result Value f c u))) h
 
-  number_plan : (place at : ℕ) (n : ℤ) (s : State) → perform (meaning tables inputs set functions) (plan tables inputs set functions (an_expr (trees.number place n) at) s) ≡ Goes (record { value = value.Primitive (Num n); label = bottom }) s
+  number_plan : (place at : ℕ) (n : ℤ) (s : State) → perform (meaning tables inputs set functions) (plan tables inputs set functions (an_expr (trees.number place n) at) s) ≡ Goes (record { value = value.Primitive (integer n); label = bottom }) s
   unfolding plan expr_step perform completed
   number_plan place at n s = refl
 
@@ -120,7 +119,7 @@ module _ {S T : Type 0} (made : S → T → Type 0) (meaning_of : S → T → La
     comes = λ tables inputs set functions reading told read.
         entered tables inputs set functions reading w told (trees.number place n) at turns some
         ∙ number_plan tables inputs set functions place at n (state_of reading w told (turns - 1))
-        ∙ ap (λ l. Goes (record { value = value.Primitive (Num n); label = l }) (state_of reading w told (turns - 1))) (sym (read.agrees label has ∙ means));
+        ∙ ap (λ l. Goes (record { value = value.Primitive (integer n); label = l }) (state_of reading w told (turns - 1))) (sym (read.agrees label has ∙ means));
     labelled = has;
     fewer = one_left turns some;
   }
@@ -194,10 +193,10 @@ module _ {S T : Type 0} (made : S → T → Type 0) (meaning_of : S → T → La
 
     pub binary_counts : (e l r : Expr) (place at : ℕ) (w : World T) (turns : ℕ) (o : BinaryOperator) (first second : Counted T) (result : Option (Counted T)) → e ≡ trees.binary place l o r → (turns ≡ 0 → ⊥)
         → Evaluates made meaning_of earlier l at w (turns - 1) (labelled_number first.number first.label) first.turns → Evaluates made meaning_of middle r at w first.turns (labelled_number second.number second.label) second.turns
-        → IfSome result (λ c. binary_of o (value.Primitive (Num first.number)) (value.Primitive (Num second.number)) ≡ Ok (Num c.number)) → IfSome result (λ c. evaluates_both o ≡ true) → IfSome result (λ c. made store c.label)
+        → IfSome result (λ c. binary_of o (value.Primitive (integer first.number)) (value.Primitive (integer second.number)) ≡ Ok (integer c.number)) → IfSome result (λ c. evaluates_both o ≡ true) → IfSome result (λ c. made store c.label)
         → IfSome result (λ c. meaning_of store c.label ≡ union (meaning_of middle first.label) (meaning_of middle second.label)) → IfSome result (λ c. c.turns ≡ second.turns) → Counts store e at w turns result
     binary_counts e l r place at w turns o first second None is some left right gives both has means turned = tt
     binary_counts e l r place at w turns o first second (Some c) is some left right gives both has means turned =
         subst (λ x. Evaluates made meaning_of store x at w turns (labelled_number c.number c.label) c.turns) (sym is)
         (subst (λ n. Evaluates made meaning_of store (trees.binary place l o r) at w turns (labelled_number c.number c.label) n) (sym turned)
-        (operands_evaluated place at w turns l r o (labelled_number first.number first.label) (labelled_number second.number second.label) first.turns second.turns (Num c.number) c.label some both (none_converts o first.number second.number) left right gives has means))
+        (operands_evaluated place at w turns l r o (labelled_number first.number first.label) (labelled_number second.number second.label) first.turns second.turns (integer c.number) c.label some both (none_converts o first.number second.number) left right gives has means))

@@ -1,18 +1,16 @@
 -- Names, where they stand: in a record, or as a property of the global object.
-use Rattle.std.proofs.Common.{refl, sym, ap, ap₂, subst, ◌∙◌, ◌≡◌, ℕ, suc, ℤ, Bool, true, false, List, [], ◌∷◌, if◌then◌else◌, Option, Some, None, is_some, IsSome, IfSome, Result, Ok, Err, IfOk, arith}
-use Rattle.std.specs.List.{All, slice_get}
+use Rattle.std.proofs.Common.{refl, sym, ap, ap₂, subst, ◌∙◌, ◌≡◌, ℕ, Bool, true, false, List, if◌then◌else◌, Option, Some, None, is_some, IsSome, IfSome, Result, Ok, Err, IfOk}
+use Rattle.std.specs.List.{slice_get}
 use Rattle.std.specs.Option.{option_map}
 use Rattle.std.specs.Result.{result_ok}
 use Rattle.std.proofs.lemmas.Bool.{true≢false, false≢true}
-use Rattle.std.proofs.lemmas.Option.{none-some, same_Some, slice_get-map, slice_get_within, get_or_from_slice_get}
+use Rattle.std.proofs.lemmas.Option.{none-some, same_Some, slice_get-map}
 use Rattle.origin_labels.specs.Label.{Label, IsLabel, bottom, union}
-use Rattle.origin_labels.specs.Names.{same_name}
 use Rattle.origin_labels.proofs.LabelLaws.{union-bottom_left, union-same}
 use Rattle.origin_labels.specs.Stores.{IsKept}
 use Rattle.flow_frames.specs.declared.faults.Rule.TheVariants.{W1}
 use Rattle.flow_frames.specs.Frames.{context}
 use Rattle.flow_frames.specs.Held as frames
-use Rattle.js_number.specs.declared.primitive.Primitive.TheVariants.{Num}
 use Rattle.js_values.specs.declared.inner.Class.{Class}
 use Rattle.js_values.specs.declared.inner.Class.TheVariants as class
 use Rattle.js_values.specs.declared.property.Body.{Body}
@@ -20,10 +18,10 @@ use Rattle.js_values.specs.declared.property.Body.TheVariants.{Data, Accessor}
 use Rattle.js_values.specs.declared.property.Slot.{Slot}
 use Rattle.js_values.specs.declared.value.Labelled.{Labelled}
 use Rattle.js_values.specs.declared.value.Value.{Value}
-use Rattle.js_values.specs.declared.value.Value.TheVariants as value
 use Rattle.js_values.specs.Chains.{beginning, onwards, chain_within}
-use Rattle.js_values.specs.Objects.{Object, Rows, number_of, own}
-use Rattle.js_values.specs.Readings.{HasHeap, HasObject, HasRecords, HasSlot, IsReading, read_heap, read_object, read_records, read_slot, read_value}
+use Rattle.js_values.specs.Arrays.{is_length}
+use Rattle.js_values.specs.Objects.{Object, number_of, own}
+use Rattle.js_values.specs.Readings.{HasHeap, HasRecords, HasSlot, IsReading, read_heap, read_object, read_records, read_slot, read_value}
 use Rattle.js_values.specs.Records.{Binding, Record, bound_in, lookup}
 use Rattle.js_values.specs.Walks.{Found, find, found_at, object_chain}
 use Rattle.js_values.proofs.ReadingLaws.{IsReading-earlier}
@@ -33,31 +31,30 @@ use Rattle.object_heap.specs.Formed.{IsShape, own_in, rows_in}
 use Rattle.object_heap.proofs.ReadLaws.{read_own}
 use Rattle.prototype_walk.specs.declared.plan.PutPlan.TheVariants.{Write}
 use Rattle.prototype_walk.specs.Plans.{can_put, if_allowed, own_plan, plan_at}
-use Rattle.es_meaning.specs.Objects.{is_element}
 use Rattle.es_meaning.specs.Outcomes.{Goes}
 use Rattle.es_meaning.specs.Plain.{in_record, on_global, place_beyond, place_from}
 use Rattle.flow_meaning.specs.Scopes.{State, Val}
-use Rattle.flow_meaning.specs.Tracked.{accessed, acted, found_globally, global_value, global_walk, has_value, held, is_element_of, is_put, named, of_name, put, put_by, put_named, put_on, put_value, resolved, walk_from}
+use Rattle.flow_meaning.specs.Tracked.{accessed, acted, found_globally, global_value, global_walk, has_value, held, is_length_in, is_put, named, of_name, overwritten, put, put_by, put_named, put_value, resolved, walk_from}
 use Rattle.run_state.specs.declared.world.World.{World}
 use Rattle.run_state.specs.Worlds.{Belongs, state_of}
-use Rattle.property_access.specs.Elements.{element_in}
+use Rattle.property_access.specs.Elements.{length_in}
+use Rattle.property_access.proofs.HeldLaws.{own_has}
 use Rattle.property_access.proofs.NameLaws.{name_has, name_read}
 use Rattle.property_access.proofs.ObjectLaws.{with_heap}
-use Rattle.property_access.proofs.PlanLaws.{read_element}
+use Rattle.property_access.proofs.PlanLaws.{read_length}
 use Rattle.property_access.proofs.Reading.{read_frames, read_lookup}
-use Rattle.step_numbers.specs.declared.evaluating.Counted.{Counted}
 use Rattle.step_numbers.specs.Assigned.{Puts, PutsAt, array_in, if_data, is_array, slot_there, written_in}
-use Rattle.step_numbers.specs.Evaluated.{global_in, labelled_number}
+use Rattle.step_numbers.specs.Evaluated.{global_in}
 use Rattle.step_numbers.specs.Named.{IsHeld, IsNamed}
 
 -- the value of a binding that is found at a place
 pub value_bound : {T : Type 0} {found bound : Option (Binding (Labelled T))} {v : Labelled T} → found ≡ bound → option_map (λ b. b.value) found ≡ Some v → option_map (λ b. b.value) bound ≡ Some v
 value_bound same is = ap (option_map (λ b. b.value)) (sym same) ∙ is
 
--- the number of a value that a name is bound to
-pub number_found : {T : Type 0} (result : Option (Counted T)) (v : Labelled T) (bound : Option (Labelled T)) → bound ≡ Some v → IfSome result (λ c. labelled_number c.number c.label ≡ v) → IfSome result (λ c. Some (labelled_number c.number c.label) ≡ bound)
-number_found None v bound is found = tt
-number_found (Some c) v bound is found = ap Some found ∙ sym is
+-- what is made of it
+pub made_found : {T : Type 0} {X : Type 0} (as_value : X → Labelled T) (result : Option X) (v : Labelled T) (bound : Option (Labelled T)) → bound ≡ Some v → IfSome result (λ x. as_value x ≡ v) → IfSome result (λ x. Some (as_value x) ≡ bound)
+made_found as_value None v bound is found = tt
+made_found as_value (Some x) v bound is found = ap Some found ∙ sym is
 
 -- ---- an object that has a property itself
 
@@ -74,7 +71,7 @@ module _ {T : Type 0} (reading : T → Label) (key : List ℕ) (heap : List (Obj
 
   first_planned : (p : Option (Object T)) (s : Slot T) → own_in key p ≡ Some s → can_put key (beginning o (option_map (read_object reading) p) onto) ≡ own_plan o (read_slot reading s) s.body (reading s.existence)
   first_planned None s has = absurd (none-some s has)
-  first_planned (Some p) s has = ap (λ x. plan_at o (read_object reading p) x (find key (onto (read_object reading p)))) (own_read p s has)
+  first_planned (Some p) s has = ap (λ x. plan_at key o (read_object reading p) x (find key (onto (read_object reading p)))) (own_read p s has)
 
   -- a walk ends there
   pub own_found : (s : Slot T) → own_in key (slice_get heap o) ≡ Some s → find key (object_chain (read_heap reading heap) o) ≡ record { at = Some (o, read_slot reading s); walk = reading s.existence }
@@ -87,23 +84,6 @@ module _ {T : Type 0} (reading : T → Label) (key : List ℕ) (heap : List (Obj
       ∙ first_planned (slice_get heap o) s has
       ∙ ap (λ b. own_plan o (read_slot reading s) b (reading s.existence)) holds
       ∙ ap (λ b. if_allowed b (Write (reading s.existence)) (reading s.existence)) writable
-
--- its labels were made
-module _ {T : Type 0} (made : T → Type 0) (key : List ℕ) where
-  slot_at : (r : List ℕ × Slot T) (s : Slot T) (rest : Option (Slot T)) (test : Bool) → HasSlot made r.1 → (rest ≡ Some s → HasSlot made s) → (if test then Some r.1 else rest) ≡ Some s → HasSlot made s
-  slot_at r s rest true first behind is = subst (HasSlot made) (same_Some r.1 s is) first
-  slot_at r s rest false first behind is = behind is
-
-  slot_has : (rows : Rows (Slot T)) (s : Slot T) → All (λ r. HasSlot made r.1) rows → own key rows ≡ Some s → HasSlot made s
-  slot_has [] s has is = absurd (none-some s is)
-  slot_has (r ∷ rows) s has is = slot_at r s (own key rows) (same_name r.0 key) (has 0 r (omega arith)) (λ there. slot_has rows s (λ k d lt. has (suc k) d (omega arith)) there) is
-
-  own_at : (heap : List (Object T)) (o : ℕ) (p : Option (Object T)) (s : Slot T) → slice_get heap o ≡ p → HasHeap made heap → own_in key p ≡ Some s → HasSlot made s
-  own_at heap o None s here has is = absurd (none-some s is)
-  own_at heap o (Some p) s here has is = slot_has p.rows s (subst (HasObject made) (get_or_from_slice_get heap o p p here) (has o p (slice_get_within heap o p here))).rows is
-
-  pub own_made : (heap : List (Object T)) (o : ℕ) (s : Slot T) → HasHeap made heap → own_in key (slice_get heap o) ≡ Some s → HasSlot made s
-  own_made heap o s has is = own_at heap o (slice_get heap o) s refl has is
 
 -- ---- what a name stands for
 
@@ -149,15 +129,6 @@ module _ {S T : Type 0} (made : S → T → Type 0) (meaning_of : S → T → La
     labelled = m;
   }
 
-  pub number_is_held : (name : List ℕ) (heap : List (Object T)) (s : Slot T) (n : ℤ) (label : T) → own_in name (global_in heap) ≡ Some s → s.body ≡ Data (value.Primitive (Num n)) → HasSlot (made earlier) s
-      → made store label → meaning_of store label ≡ union (meaning_of earlier s.existence) (meaning_of earlier s.label) → IsHeld made meaning_of store name heap (labelled_number n label)
-  number_is_held name heap s n label has is slot m means = value_is_held name heap s (value.Primitive (Num n)) label has is slot m means
-
--- the value that was found, if it was taken
-pub value_found : {T : Type 0} (result : Option (Labelled T)) (v : Labelled T) (bound : Option (Labelled T)) → bound ≡ Some v → IfSome result (λ x. x ≡ v) → IfSome result (λ x. Some x ≡ bound)
-value_found None v bound is found = tt
-value_found (Some x) v bound is found = ap Some found ∙ sym is
-
 module _ {S T : Type 0} (made : S → T → Type 0) (meaning_of : S → T → Label) (store : S) (at : ℕ) (name : List ℕ) (w : World T) where
   bound_named : (e : ℕ) (v : Labelled T) → Some e ≡ lookup name w.records at → HasRecords (made store) w.records → Some v ≡ option_map (λ b. b.value) (bound_in name (slice_get w.records e)) → IsNamed made meaning_of store at name w v
   unfolding accessed named
@@ -177,26 +148,16 @@ module _ {S T : Type 0} (made : S → T → Type 0) (meaning_of : S → T → La
     labelled = held.labelled;
   }
 
-  pub value_inside : (e : ℕ) (result : Option (Labelled T)) → Some e ≡ lookup name w.records at → HasRecords (made store) w.records
-      → IfSome result (λ v. Some v ≡ option_map (λ b. b.value) (bound_in name (slice_get w.records e))) → IfSome result (IsNamed made meaning_of store at name w)
-  value_inside e None is has found = tt
-  value_inside e (Some v) is has found = bound_named e v is has found
+  -- what the code answers, as a value
+  module _ {X : Type 0} (as_value : X → Labelled T) where
+    pub named_inside : (e : ℕ) (result : Option X) → Some e ≡ lookup name w.records at → HasRecords (made store) w.records
+        → IfSome result (λ x. Some (as_value x) ≡ option_map (λ b. b.value) (bound_in name (slice_get w.records e))) → IfSome result (λ x. IsNamed made meaning_of store at name w (as_value x))
+    named_inside e None is has found = tt
+    named_inside e (Some x) is has found = bound_named e (as_value x) is has found
 
-  pub value_beyond : (result : Option (Labelled T)) → None ≡ lookup name w.records at → IfSome result (IsHeld made meaning_of store name w.heap) → IfSome result (IsNamed made meaning_of store at name w)
-  value_beyond None is held = tt
-  value_beyond (Some v) is held = held_named v is held
-
-  abbrev pub IsNumber : Option (Counted T) → Type 0
-  IsNumber result = IfSome result (λ c. IsNamed made meaning_of store at name w (labelled_number c.number c.label))
-
-  pub named_inside : (e : ℕ) (result : Option (Counted T)) → Some e ≡ lookup name w.records at → HasRecords (made store) w.records
-      → IfSome result (λ c. Some (labelled_number c.number c.label) ≡ option_map (λ b. b.value) (bound_in name (slice_get w.records e))) → IsNumber result
-  named_inside e None is has found = tt
-  named_inside e (Some c) is has found = bound_named e (labelled_number c.number c.label) is has found
-
-  pub named_beyond : (result : Option (Counted T)) → None ≡ lookup name w.records at → IfSome result (λ c. IsHeld made meaning_of store name w.heap (labelled_number c.number c.label)) → IsNumber result
-  named_beyond None is held = tt
-  named_beyond (Some c) is held = held_named (labelled_number c.number c.label) is held
+    pub named_beyond : (result : Option X) → None ≡ lookup name w.records at → IfSome result (λ x. IsHeld made meaning_of store name w.heap (as_value x)) → IfSome result (λ x. IsNamed made meaning_of store at name w (as_value x))
+    named_beyond None is held = tt
+    named_beyond (Some x) is held = held_named (as_value x) is held
 
 -- ---- it is given a value
 
@@ -221,8 +182,8 @@ module _ {S T : Type 0} (made : S → T → Type 0) (meaning_of : S → T → La
 
 -- ---- a property that can be written over
 
--- it is no element of an array
-no_array : (key : List ℕ) (c : Class) → is_array c ≡ false → is_element c key ≡ false
+-- it isn't the `length` of an array
+no_array : (key : List ℕ) (c : Class) → is_array c ≡ false → is_length c key ≡ false
 no_array key class.Array none = absurd (true≢false none)
 no_array key _ none = refl
 
@@ -251,9 +212,9 @@ module _ {T : Type 0} where
   no_array_there true o walk e = absurd (none-some walk (sym e))
   no_array_there false o walk e = (refl, writable_there o walk e)
 
-  no_element : (key : List ℕ) (p : Option (Object T)) → array_in p ≡ false → element_in key p ≡ false
-  no_element key None none = refl
-  no_element key (Some p) none = no_array key p.class none
+  no_length : (key : List ℕ) (p : Option (Object T)) → array_in p ≡ false → length_in key p ≡ false
+  no_length key None none = refl
+  no_length key (Some p) none = no_array key p.class none
 
   pub class_seen : (p : Option (Object T)) (shape : Shape T) → IsShape p shape → is_array shape.class ≡ array_in p
   class_seen None shape is = absurd is
@@ -278,25 +239,26 @@ module _ {T : Type 0} where
   pub written_made : (made : T → Type 0) (name : List ℕ) (heap : List (Object T)) (walk : T) → HasHeap made heap → Some walk ≡ written_in name (global_in heap) → made walk
   written_made made name heap walk has e =
       let there = (no_array_there (array_in (global_in heap)) (own_in name (global_in heap)) walk e).1 in
-      subst made there.existence (own_made made name heap 1 there.slot has there.here).1
+      subst made there.existence (own_has heap 1 made name there.slot has there.here).1
 
   -- a put writes over it
-  pub put_writes : (reading : T → Label) (name : List ℕ) (heap : List (Object T)) (walk : T) (v : Val) (s : State) → Some walk ≡ written_in name (global_in heap) → s.heap ≡ read_heap reading heap → put W1 1 name bottom global_value v s ≡ put_by (Write (reading walk)) W1 1 name bottom global_value v s
-  unfolding put put_on
+  pub put_writes : (reading : T → Label) (name : List ℕ) (heap : List (Object T)) (walk : T) (v : Val) (s : State) → Some walk ≡ written_in name (global_in heap) → s.heap ≡ read_heap reading heap
+      → put W1 1 name bottom global_value v s ≡ acted is_put (heap_acts.write W1 1 name (union (context s.frames) (union bottom (reading walk))) v s.heap) s
+  unfolding put put_by overwritten
   put_writes reading name heap walk v s e same =
       let parts = no_array_there (array_in (global_in heap)) (own_in name (global_in heap)) walk e in
       let there = parts.1 in
-      ap (λ h. put_on (is_element_of (slice_get h 1) name) W1 1 name bottom global_value v s) same
-      ∙ ap (λ b. put_on b W1 1 name bottom global_value v s) (read_element reading name heap 1 ∙ no_element name (global_in heap) parts.0)
-      ∙ ap (λ h. put_by (can_put name (object_chain h 1)) W1 1 name bottom global_value v s) same
+      ap (λ h. put_by (can_put name (object_chain h 1)) W1 1 name bottom global_value v s) same
       ∙ ap (λ p. put_by p W1 1 name bottom global_value v s) (own_planned reading name heap 1 there.slot there.what there.here there.holds there.writable ∙ ap (λ l. Write (reading l)) there.existence)
+      ∙ ap (λ h. overwritten (is_length_in name (slice_get h 1)) W1 1 name (union bottom (reading walk)) v s) same
+      ∙ ap (λ b. overwritten b W1 1 name (union bottom (reading walk)) v s) (read_length reading name heap 1 ∙ no_length name (global_in heap) parts.0)
 
 module _ {S T : Type 0} (made : S → T → Type 0) (meaning_of : S → T → Label) (room : S → ℕ) (firm : S → Bool) (earlier joined store : S) (before : IsKept made meaning_of room firm earlier joined) (behind : IsKept made meaning_of room firm joined store) where
   -- the global object's property has another value
   pub puts_globally : (w : World T) (name : List ℕ) (v : Labelled T) (walk label need : T) (heap : List (Object T)) → Belongs made meaning_of earlier w → Some walk ≡ written_in name (global_in w.heap)
       → made earlier label → meaning_of earlier label ≡ context (frames.seen meaning_of earlier w.frames.frames) → made joined need → meaning_of joined need ≡ union (meaning_of earlier label) (meaning_of earlier walk)
       → ((reading : T → Label) → IsReading made meaning_of store reading → heap_acts.write W1 1 name (reading need) (read_value reading v) (read_heap reading w.heap) ≡ Ok (read_heap reading heap)) → PutsAt made meaning_of store on_global name v w (with_heap heap w)
-  unfolding put_named put_by acted
+  unfolding put_named acted
   puts_globally w name v walk label need heap belongs e m is m_need means does = record {
     goes = λ reading told turns along read.
         let s = state_of reading w told turns in

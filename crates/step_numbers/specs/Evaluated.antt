@@ -11,6 +11,8 @@ use Rattle.js_ast.specs.declared.operators.BinaryOperator.TheVariants as binary_
 use Rattle.js_ast.specs.Trees.{Expr, name, number as number_expr, paren, binary}
 use Rattle.js_number.specs.declared.int.LeftNumbers.{LeftNumbers}
 use Rattle.js_number.specs.declared.primitive.Primitive.{Primitive}
+use Rattle.js_number.specs.declared.num.Num.{Num as Number}
+use Rattle.js_number.specs.declared.num.Num.TheVariants.{Nan, Int}
 use Rattle.js_number.specs.declared.primitive.Primitive.TheVariants.{Num}
 use Rattle.js_number.specs.declared.primitive.Primitive.TheVariants as prims
 use Rattle.js_number.specs.Number.{number, some_number}
@@ -55,8 +57,9 @@ combines _ = false
 -- ---- what it is that an expression is evaluated at once
 
 -- what arithmetic gives of two numbers, where that is a number of the profile
-abbrev pub in_numbers : Result ℤ LeftNumbers → Option ℤ
-in_numbers (Ok n) = Some n
+abbrev pub in_numbers : Result Number LeftNumbers → Option ℤ
+in_numbers (Ok (Int n)) = Some n
+in_numbers (Ok Nan) = None
 in_numbers (Err e) = None
 
 abbrev pub combined_of : BinaryOperator → ℤ → ℤ → Option ℤ
@@ -97,9 +100,13 @@ and_left None next = None
 abbrev pub left_with : {X : Type 0} → Option X → ℕ → Left X
 left_with x turns = option_map (λ y. (y, turns)) x
 
--- the number that a name has
+-- an integer as a primitive value
+abbrev pub integer : ℤ → Primitive
+integer n = Num (Int n)
+
+-- the integer that a name has
 abbrev pub number_in : Value → Option ℤ
-number_in (value.Primitive (Num n)) = Some n
+number_in (value.Primitive (Num (Int n))) = Some n
 number_in _ = None
 
 -- what a value is, if it is there, and what a property of the global object holds
@@ -188,8 +195,8 @@ module _ {T : Type 0} (records : List (Record (Labelled T))) (heap : List (Objec
 
   abbrev pub value_at : ℕ → Expr → ℕ → Left Value
   value_at d (name place text) turns = named_at text turns
-  value_at d (binary place l o r) turns = if compares o then as_value prims.Bool (truth_at d o l r turns) else as_value Num (number_at d (binary place l o r) turns)
-  value_at d e turns = as_value Num (number_at d e turns)
+  value_at d (binary place l o r) turns = if compares o then as_value prims.Bool (truth_at d o l r turns) else as_value integer (number_at d (binary place l o r) turns)
+  value_at d e turns = as_value integer (number_at d e turns)
 
 -- ---- what it comes to
 
@@ -203,4 +210,4 @@ pub record Evaluates {S T : Type 0} (made : S → T → Type 0) (meaning_of : S 
 
 -- a number with a label
 abbrev pub labelled_number : {T : Type 0} → ℤ → T → Labelled T
-labelled_number n label = record { value = value.Primitive (Num n); label = label }
+labelled_number n label = record { value = value.Primitive (Num (Int n)); label = label }

@@ -8,7 +8,6 @@ ghost use Rattle.js_ast.specs.declared.operators.AssignOperator.TheVariants as a
 ghost use Rattle.js_ast.specs.declared.operators.UnaryOperator.TheVariants as unary_operator;
 ghost use Rattle.js_ast.specs.Trees as trees;
 ghost use Rattle.js_ast.specs.Views.{view_expr, view_stmt};
-ghost use Rattle.js_number.specs.declared.primitive.Primitive.TheVariants as prims;
 ghost use Rattle.js_values.specs.declared.value.Value.TheVariants as value;
 ghost use Rattle.js_values.specs.Records.{bound_in};
 ghost use Rattle.native_protocol.specs.declared.request.Seen.TheVariants as seen;
@@ -21,7 +20,7 @@ ghost use Rattle.run_state.specs.Worlds.{Belongs};
 ghost use Rattle.continuations.specs.Shapes.{step_of};
 ghost use Rattle.step_numbers.specs.Assigned.{Finishes, Gives, Puts, PutsAt, Rebinds, array_in, assigned_at, changes, changes_binding, changes_global, context_of, counted_by, finished_at, given_by, if_changes, is_array, name_in, puts_at_once, slot_written, written_in};
 ghost use Rattle.es_meaning.specs.Plain.{in_record, on_global};
-ghost use Rattle.step_numbers.specs.Evaluated.{as_value, combined_of, global_in, labelled_number};
+ghost use Rattle.step_numbers.specs.Evaluated.{as_value, combined_of, global_in, integer, labelled_number};
 
 use crate::evaluating::{Counted, DEPTH, Evaluated, GLOBAL, as_value, joined, named, number};
 use crate::operators::{combined, combines};
@@ -29,7 +28,7 @@ use crate::values::value_of;
 use flow_frames::Rule;
 use flow_text::Text;
 use js_ast::{AssignOperator, BinaryOperator, Expr, ExprKind, PostfixOperator, Stmt, StmtKind};
-use js_number::{Int, Primitive};
+use js_number::{Int, Num, Primitive};
 use js_values::{Body, Class, EnvId, Labelled, Slot, Value};
 use origin_labels::Labels;
 use run_state::{Place, World};
@@ -53,7 +52,7 @@ pub fn assign<L: Labels>(
 ) -> Option<Evaluated<L::Label>>
     requires at { at.0 < length world.old.records }
     requires belongs { Belongs L.made L.meaning labels.old world.old }
-    ensures exact { L.firm labels.old ≡ true → option_map (λ x. (x.value.value, x.turns)) result ≡ as_value world.old.records world.old.heap at.0 prims.Num (assigned_at (L.meaning labels.old) world.old at.0 (view_expr e.now) turns) }
+    ensures exact { L.firm labels.old ≡ true → option_map (λ x. (x.value.value, x.turns)) result ≡ as_value world.old.records world.old.heap at.0 integer (assigned_at (L.meaning labels.old) world.old at.0 (view_expr e.now) turns) }
     ensures gives { IfSome result (λ x. Gives L.made L.meaning labels.new (view_expr e.now) at.0 world.old world.new turns x.value x.turns) }
     ensures unchanged { IfNone result (world.new ≡ world.old) }
     ensures rebinds { Rebinds L.made L.meaning labels.new world.old world.new }
@@ -166,8 +165,8 @@ fn step_of(operator: PostfixOperator) -> BinaryOperator
 #[tactic(auto, using(crate::proofs::NumberLaws::plus_number))]
 fn one_more(operator: BinaryOperator, number: Int) -> Option<Int>
     ensures exact { result ≡ combined_of operator number (pos 1) }
-    ensures counts { IfSome result (λ n. binary_of operator (value.Primitive (prims.Num number)) (value.Primitive (prims.Num (pos 1))) ≡ Ok (prims.Num n)) }
-    ensures plus { unary_of unary_operator.Plus (seen.Prim (prims.Num number)) ≡ Ok (prims.Num number) }
+    ensures counts { IfSome result (λ n. binary_of operator (value.Primitive (integer number)) (value.Primitive (integer (pos 1))) ≡ Ok (integer n)) }
+    ensures plus { unary_of unary_operator.Plus (seen.Prim (integer number)) ≡ Ok (integer number) }
 {
     combined(operator, number, one())
 }
@@ -316,7 +315,7 @@ fn put<L: Labels>(
     ensures kept { IsKept L.made L.meaning L.room L.firm labels.old labels.new }
 {
     let value = Labelled {
-        value: Value::Primitive(Primitive::Num(number)),
+        value: Value::Primitive(Primitive::Num(Num::Int(number))),
         label,
     };
     match world.records.lookup(at, name) {
@@ -378,7 +377,6 @@ fn put_bound<L: Labels>(
 }
 
 /// Gives the global object's own property with a name another value.
-#[inline(always)]
 fn put_global<L: Labels>(
     labels: &mut L,
     world: &mut World<L::Label>,

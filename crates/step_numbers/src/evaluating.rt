@@ -12,7 +12,7 @@ ghost use Rattle.origin_labels.specs.Label.{union};
 ghost use Rattle.js_values.specs.declared.value.Value.TheVariants as value;
 ghost use Rattle.es_meaning.specs.Operators.{binary_of};
 ghost use Rattle.continuations.specs.Shapes.{evaluates_both};
-ghost use Rattle.step_numbers.specs.Evaluated.{Evaluates, as_value, combined_of, global_in, labelled_number, left_with, name_number, number_at, number_held, number_of_body, number_of_value, truth_at, value_at};
+ghost use Rattle.step_numbers.specs.Evaluated.{Evaluates, as_value, combined_of, global_in, integer, labelled_number, left_with, name_number, number_at, number_held, number_of_body, number_of_value, truth_at, value_at};
 ghost use Rattle.object_heap.specs.Formed.{own_in};
 ghost use Rattle.step_numbers.specs.Named.{IsHeld, IsNamed};
 
@@ -20,7 +20,7 @@ use crate::operators::{combined, combines, compared, compares};
 use crate::values::evaluated_name;
 use flow_text::Text;
 use js_ast::{BinaryOperator, Expr, ExprKind};
-use js_number::{Int, Primitive};
+use js_number::{Int, Num, Primitive};
 use js_values::{Body, EnvId, Labelled, ObjId, Value};
 use origin_labels::Labels;
 use run_state::World;
@@ -87,7 +87,7 @@ pub(crate) fn as_value<T>(counted: Option<Counted<T>>) -> Option<Evaluated<T>>
     let counted = counted?;
     Some(Evaluated {
         value: Labelled {
-            value: Value::Primitive(Primitive::Num(counted.number)),
+            value: Value::Primitive(Primitive::Num(Num::Int(counted.number))),
             label: counted.label,
         },
         turns: counted.turns,
@@ -252,7 +252,7 @@ fn counted_value<T: Copy>(found: &Labelled<T>, turns: u64) -> Option<Counted<T>>
     ensures left { IfSome result (λ c. c.turns ≡ turns) }
 {
     match &found.value {
-        Value::Primitive(Primitive::Num(n)) => Some(Counted {
+        Value::Primitive(Primitive::Num(Num::Int(n))) => Some(Counted {
             number: *n,
             label: found.label,
             turns,
@@ -289,10 +289,10 @@ fn global_number<L: Labels>(
 #[inline(always)]
 fn held_number(body: &Body) -> Option<Int>
     ensures exact { result ≡ number_of_body body.now }
-    ensures holds { IfSome result (λ n. body.now ≡ Data (value.Primitive (prims.Num n))) }
+    ensures holds { IfSome result (λ n. body.now ≡ Data (value.Primitive (integer n))) }
 {
     match body {
-        Body::Data(Value::Primitive(Primitive::Num(n))) => Some(*n),
+        Body::Data(Value::Primitive(Primitive::Num(Num::Int(n)))) => Some(*n),
         _ => None,
     }
 }
@@ -308,7 +308,7 @@ pub(crate) fn joined<L: Labels>(
     requires first { L.made labels.old first.label }
     requires second { L.made labels.old second.label }
     ensures exact { L.firm labels.old ≡ true → option_map (λ c. (c.number, c.turns)) result ≡ left_with (combined_of operator first.number second.number) second.turns }
-    ensures gives { IfSome result (λ c. binary_of operator (value.Primitive (prims.Num first.number)) (value.Primitive (prims.Num second.number)) ≡ Ok (prims.Num c.number)) }
+    ensures gives { IfSome result (λ c. binary_of operator (value.Primitive (integer first.number)) (value.Primitive (integer second.number)) ≡ Ok (integer c.number)) }
     ensures both { IfSome result (λ _. evaluates_both operator ≡ true) }
     ensures made { IfSome result (λ c. L.made labels.new c.label) }
     ensures means { IfSome result (λ c. L.meaning labels.new c.label ≡ union (L.meaning labels.old first.label) (L.meaning labels.old second.label)) }

@@ -1,9 +1,9 @@
 -- How a property is deleted, in a reading of the labels.
-use Rattle.std.proofs.Common.{◌≡◌, ◌≤◌, ℕ, Bool, true, false, List, map, length, Some, None, Ok, Result, sym, ap, ap₂, ◌∙◌}
+use Rattle.std.proofs.Common.{◌≡◌, ◌≤◌, ℕ, Bool, true, false, List, map, length, true≢false, Option, Some, None, is_some, Ok, Result, refl, sym, ap, ap₂, ◌∙◌}
 use Rattle.std.specs.List.{slice_get}
 use Rattle.std.specs.Option.{option_map}
 use Rattle.std.proofs.lemmas.Option.{slice_get-map, slice_get_past}
-use Rattle.origin_labels.specs.Label.{Label, union}
+use Rattle.origin_labels.specs.Label.{Label, bottom, union}
 use Rattle.flow_frames.specs.declared.faults.FlowFault.{FlowFault}
 use Rattle.flow_frames.specs.Frames.{context}
 use Rattle.flow_frames.specs.Held.{seen_frame}
@@ -20,14 +20,14 @@ use Rattle.object_heap.specs.Formed.{own_in, IsShape}
 use Rattle.object_heap.proofs.ReadLaws.{read_own}
 use Rattle.prototype_walk.specs.Answers.{Means}
 use Rattle.es_meaning.specs.Outcomes.{Goes}
-use Rattle.es_meaning.specs.Plain.{key_text}
+use Rattle.es_meaning.specs.Plain.{Place, key_text}
+use Rattle.es_meaning.specs.Primitives.{own_value_of}
 use Rattle.native_protocol.specs.declared.request.ErrorKind.TheVariants as kinds
-use Rattle.flow_meaning.specs.Scopes.{Val}
+use Rattle.flow_meaning.specs.Scopes.{Val, State}
 use Rattle.flow_meaning.specs.Tracked as tracked
-use Rattle.flow_meaning.specs.Tracked.{remove, removed_in, removed_own, removed_if, acted, truth_of, throw_error}
+use Rattle.flow_meaning.specs.Tracked.{remove, removed_in, removed_own, removed_if, removed_of_primitive, acted, truth_of, throw_error}
 use Rattle.run_state.specs.declared.outcome.Outcome.{Outcome}
 use Rattle.run_state.specs.declared.outcome.Outcome.TheVariants as outcome
-use Rattle.run_state.specs.declared.outcome.Leaving.TheVariants as leaving
 use Rattle.run_state.specs.declared.world.World.{World}
 use Rattle.run_state.specs.Acts.{Acts}
 use Rattle.run_state.specs.Names.{property_of}
@@ -43,10 +43,6 @@ module _ {S T : Type 0} (made : S → T → Type 0) (meaning : S → T → Label
   -- ---- the property of a base that a key names
 
   module _ (base key : Labelled T) where
-    pub deleting_leaves : (p : Primitive) → base.value ≡ value.Primitive p → Acts made meaning store (λ reading. read_value reading) (λ reading. remove (property_of (read_value reading base) (read_value reading key))) w w (Ok (outcome.Leaves leaving.Unbuilt))
-    unfolding remove tracked.remove_property
-    deleting_leaves p is = record { says = λ reading read told turns. ap (λ b. tracked.remove_property (union (reading base.label) (reading key.label)) b (key_text key.value) (state_of reading w told turns)) is }
-
     module _ (o : ObjId) (is : base.value ≡ value.Object o) (name : List ℕ) (named : name ≡ key_text key.value) (label : T) (means : Means made meaning store label (λ reading. union (reading base.label) (reading key.label))) where
       pub deletes_member : (after : World T) (result : Result (Outcome (Labelled T) T) (FlowFault T)) → Acts made meaning store (λ reading. read_value reading) (λ reading. tracked.remove_property (reading label) (value.Object o) name) w after result
           → Acts made meaning store (λ reading. read_value reading) (λ reading. remove (property_of (read_value reading base) (read_value reading key))) w after result
@@ -58,6 +54,55 @@ module _ {S T : Type 0} (made : S → T → Type 0) (meaning : S → T → Label
           ap (λ b. tracked.remove_property (union (reading base.label) (reading key.label)) b (key_text key.value) s) is
           ∙ ap₂ (λ l k. tracked.remove_property l (value.Object o) k s) (sym (means.is reading read)) (sym named))
           acts
+
+    module _ (p : Primitive) (is : base.value ≡ value.Primitive p) (name : List ℕ) (named : name ≡ key_text key.value) (label : T) (means : Means made meaning store label (λ reading. union (reading base.label) (reading key.label))) where
+      pub deletes_of_primitive : (after : World T) (result : Result (Outcome (Labelled T) T) (FlowFault T)) → Acts made meaning store (λ reading. read_value reading) (λ reading. removed_of_primitive (own_value_of p name) (reading label)) w after result
+          → Acts made meaning store (λ reading. read_value reading) (λ reading. remove (property_of (read_value reading base) (read_value reading key))) w after result
+      unfolding remove tracked.remove_property
+      deletes_of_primitive after result acts =
+          Acts-as made meaning store (λ reading. read_value reading) (λ reading. removed_of_primitive (own_value_of p name) (reading label)) (λ reading. remove (property_of (read_value reading base) (read_value reading key))) w after result
+          (λ reading read told turns.
+          let s = state_of reading w told turns in
+          ap (λ b. tracked.remove_property (union (reading base.label) (reading key.label)) b (key_text key.value) s) is
+          ∙ ap₂ (λ l k. removed_of_primitive (own_value_of p k) l s) (sym (means.is reading read)) (sym named))
+          acts
+
+  -- ---- the property of a primitive value
+
+  module _ (own : Option Primitive) (label : T) where
+    abbrev deletes_own_of : World T → Result (Outcome (Labelled T) T) (FlowFault T) → Type 0
+    deletes_own_of after result = Acts made meaning store (λ reading. read_value reading) (λ reading. removed_of_primitive own (reading label)) w after result
+
+    by_own : (q : Option Primitive) → is_some q ≡ true → (l : Label) (s : State) → removed_of_primitive q l s ≡ throw_error {X = Val} kinds.TypeError l s
+    unfolding removed_of_primitive
+    by_own None there l s = absurd (true≢false (sym there))
+    by_own (Some v) there l s = refl
+
+    without : (q : Option Primitive) → is_some q ≡ false → (l : Label) (s : State) → removed_of_primitive q l s ≡ Goes (truth_of true l) s
+    unfolding removed_of_primitive
+    without None none l s = refl
+    without (Some v) none l s = absurd (true≢false none)
+
+    pub stays : (after : World T) (result : Result (Outcome (Labelled T) T) (FlowFault T)) → is_some own ≡ true → Acts made meaning store (λ reading. read_value reading) (λ reading. throw_error {X = Val} kinds.TypeError (reading label)) w after result → deletes_own_of after result
+    stays after result there acts =
+        Acts-as made meaning store (λ reading. read_value reading) (λ reading. throw_error {X = Val} kinds.TypeError (reading label)) (λ reading. removed_of_primitive own (reading label)) w after result
+        (λ reading read told turns. by_own own there (reading label) (state_of reading w told turns)) acts
+
+    pub none_deleted : (v : Labelled T) → v ≡ yes_of label → is_some own ≡ false → deletes_own_of w (Ok (outcome.Goes v))
+    none_deleted v is none = record {
+      says = λ reading read told turns.
+          let s = state_of reading w told turns in
+          without own none (reading label) s ∙ ap (λ (x : Labelled T). Goes (read_value reading x) s) (sym is);
+    }
+
+  -- ---- a name
+
+  pub deletes_name : (name : List ℕ) (place : Place) (walk none : T) → Means made meaning store none (λ reading. bottom) → (after : World T) (result : Result (Outcome (Labelled T) T) (FlowFault T))
+      → Acts made meaning store (λ reading. read_value reading) (λ reading. throw_error {X = Val} kinds.SyntaxError (reading none)) w after result → Acts made meaning store (λ reading. read_value reading) (λ reading. remove (tracked.of_name name place (reading walk))) w after result
+  unfolding remove
+  deletes_name name place walk none means after result acts =
+      Acts-as made meaning store (λ reading. read_value reading) (λ reading. throw_error {X = Val} kinds.SyntaxError (reading none)) (λ reading. remove (tracked.of_name name place (reading walk))) w after result
+      (λ reading read told turns. ap (λ l. throw_error {X = Val} kinds.SyntaxError l (state_of reading w told turns)) (sym (means.is reading read))) acts
 
   -- ---- the property of an object
 

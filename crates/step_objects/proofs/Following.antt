@@ -1,10 +1,9 @@
 -- An act that is made of one act and of another behind it, and the operators.
-use Rattle.std.proofs.Common.{◌≡◌, refl, sym, ap, subst, ℕ, Bool, true, false, [], ◌∷◌, Result, Ok, Err, List}
+use Rattle.std.proofs.Common.{◌≡◌, refl, sym, subst, ℕ, Bool, true, false, [], ◌∷◌, Result, Ok, Err, List}
 use Rattle.std.specs.Result.{IsErrAnd}
 use Rattle.std.proofs.lemmas.Bool.{true≢false}
 use Rattle.origin_labels.specs.Label.{Label, IsLabel}
 use Rattle.origin_labels.specs.Stores.{IsKept}
-use Rattle.origin_labels.proofs.LabelLaws.{union-same}
 use Rattle.flow_frames.specs.declared.faults.FlowFault.{FlowFault}
 use Rattle.flow_policy.specs.Policies.{Tables}
 use Rattle.flow_policy.specs.Inputs.{Given}

@@ -1,6 +1,7 @@
 -- Acts leave the frames as they are unless they throw, and a throw never adds frames.
-use Rattle.std.proofs.Common.{arith, ◌≡◌, refl, sym, ap, subst, ◌∙◌, ◌≤◌, ℕ, suc, Bool, true, false, List, [], ◌∷◌, map, take, length, slice_get, Option, Some, None, Result, Ok, Err}
+use Rattle.std.proofs.Common.{arith, ◌≡◌, refl, sym, ap, subst, ◌∙◌, ◌≤◌, ℕ, pos, zero, suc, ◌&&◌, Bool, true, false, List, [], ◌∷◌, map, take, length, slice_get, Option, Some, None, Result, Ok, Err}
 use Rattle.std.proofs.lemmas.List.{length-map, length-take}
+use Rattle.std.specs.Option.{option_map}
 use Rattle.origin_labels.specs.Label.{Label, bottom, union, within, label_of}
 use Rattle.flow_frames.specs.declared.faults.FlowFault.{FlowFault}
 use Rattle.flow_frames.specs.declared.faults.Rule.{Rule}
@@ -13,6 +14,9 @@ use Rattle.flow_policy.specs.Inputs.{Given}
 use Rattle.js_ast.specs.Functions.{FunctionCode}
 use Rattle.js_ast.specs.declared.operators.UnaryOperator.{UnaryOperator}
 use Rattle.js_ast.specs.declared.operators.BinaryOperator.{BinaryOperator}
+use Rattle.js_number.specs.declared.int.LeftNumbers.{LeftNumbers}
+use Rattle.js_number.specs.declared.num.Num.{Num as Number}
+use Rattle.js_number.specs.declared.num.Num.TheVariants.{Int}
 use Rattle.js_number.specs.declared.primitive.Primitive.{Primitive}
 use Rattle.js_number.specs.declared.primitive.Primitive.TheVariants.{Undefined, Null, Num, Str}
 use Rattle.js_number.specs.declared.primitive.Primitive.TheVariants as prims
@@ -25,10 +29,11 @@ use Rattle.js_values.specs.declared.property.Slot.{Slot}
 use Rattle.js_values.specs.declared.value.Labelled.{Labelled}
 use Rattle.js_values.specs.declared.value.Value.{Value}
 use Rattle.js_values.specs.declared.value.Value.TheVariants as value
+use Rattle.js_values.specs.Arrays.{length_key, length_body, element_key, is_length, highest}
 use Rattle.js_values.specs.Objects.{Object, Property, own}
 use Rattle.js_values.specs.Readings.{IsReading}
 use Rattle.js_values.specs.Records.{Binding}
-use Rattle.js_values.specs.Walks.{object_chain}
+use Rattle.js_values.specs.Walks.{Found, find, object_chain}
 use Rattle.native_protocol.specs.declared.request.ErrorKind.{ErrorKind}
 use Rattle.native_protocol.specs.declared.request.ErrorKind.TheVariants as kinds
 use Rattle.native_protocol.specs.declared.request.GivenMarks.{GivenMarks}
@@ -36,20 +41,22 @@ use Rattle.object_heap.specs.Acts as heap_acts
 use Rattle.object_heap.specs.Acts.{Acted}
 use Rattle.prototype_walk.specs.declared.plan.PutPlan.{PutPlan}
 use Rattle.prototype_walk.specs.declared.plan.PutPlan.TheVariants.{Write, Add, Setter, Refused}
-use Rattle.prototype_walk.specs.Plans.{can_put}
+use Rattle.prototype_walk.specs.KeyLists.{rows_in}
+use Rattle.prototype_walk.specs.Plans.{can_put, may_add}
 use Rattle.es_meaning.specs.BuiltIns.{BuiltIns}
-use Rattle.es_meaning.specs.Definitions.{GivenBody, Definition, setter_in, changes_body, keeps_a_half}
-use Rattle.es_meaning.specs.Objects.{made_by_script}
-use Rattle.es_meaning.specs.Operations.{Act, OwnPart, Shape, object_of, base_needed, object_needed, has_key, throws_error, own_property, define, own_keys, prototype_of_object, is_extensible, prevent_extensions, new_object, bind, read_line, print_line, join_label, raise_structure as raise_structure_by, raise_existence as raise_existence_by}
-use Rattle.es_meaning.specs.Operators.{is_object, not_built, unary_of, binary_of}
-use Rattle.es_meaning.specs.Outcomes.{left, Outcome, Goes, Jumps, Ends, and_then, ret, ◌>>=◌}
-use Rattle.es_meaning.specs.Plain.{undefined, binding_at, channel_of, choose, is_coercible, key_text, others, Place, in_record, on_global, nowhere}
-use Rattle.es_meaning.specs.Requested.{given_body, behind_definition, is_array, class_prototype, prototype_given, are_origins}
+use Rattle.es_meaning.specs.Definitions.{GivenBody, a_value, Definition, is_accessor, setter_in, changes_body, keeps_a_half}
+use Rattle.es_meaning.specs.Objects.{made_by_script, length_behind}
+use Rattle.es_meaning.specs.Operations.{Act, OwnPart, Shape, object_of, array_of, base_needed, object_needed, has_key, throws_error, own_property, own_keys, prototype_of_object, is_extensible, prevent_extensions, new_object, bind, read_line, print_line, join_label, raise_structure as raise_structure_by, raise_existence as raise_existence_by}
+use Rattle.es_meaning.specs.Operators.{is_object, unary_of, binary_of}
+use Rattle.es_meaning.specs.Outcomes.{Outcome, Goes, Jumps, Ends, and_then, ret, ◌>>=◌}
+use Rattle.es_meaning.specs.Plain.{undefined, binding_at, channel_of, is_coercible, key_text, others, Place, in_record, on_global, nowhere}
+use Rattle.es_meaning.specs.Primitives.{own_value_of}
+use Rattle.es_meaning.specs.Requested.{given_body, behind_definition, behind_length, class_prototype, prototype_given, are_origins}
 use Rattle.es_meaning.specs.Start.{global_object}
 use Rattle.flow_meaning.specs.Erased.{erased_slot, erased_heap}
-use Rattle.flow_meaning.specs.Requested.{property_in, own_test, own_walk, value_label, body_label, is_function_in, is_function_at}
+use Rattle.flow_meaning.specs.Requested.{property_in, definition_test, own_walk, value_label, body_label, is_function_in, is_function_at}
 use Rattle.flow_meaning.specs.Scopes.{Halt, State, Jump, Val, L, guard, joined, reached, jump, jump_to, cut_to}
-use Rattle.flow_meaning.specs.Tracked.{labelled, ends, is_instance, make_object, throw_error, with_error, error_jump, given, seen, bound, rebinds, assigned, assigned_to, Reference, of_name, of_property, Access, has_value, as_access, global_value, global_walk, found_globally, property_of, named, accessed, accessed_for_typeof, acted, own_in, Putting, is_put, setter_found, setter_at, put_by, put_on, is_element_of, put, put_property, put_named, put_value, truth_of, removed_if, removed_own, removed_in, remove_property, remove, needed, has, argument, on_object, on_object_in, own_property_in, set_marks, set_body_if, redefine, define_over, define_given, define_in, prototype_in, extensible_in, prevent, made_new, make_new, bind_object, bind_value, bind_to, if_origins, raise_structure, raise_existence, channel_label, reads, read_channel, prints, print_text, print_channel, with_origins, act}
+use Rattle.flow_meaning.specs.Tracked.{labelled, is_instance, make_object, make_array, throw_error, with_error, error_jump, given, seen, bound, rebinds, assigned, assigned_to, Reference, of_name, of_property, Access, has_value, as_access, global_value, global_walk, found_globally, property_of, named, accessed, accessed_for_typeof, acted, own_in, Putting, is_put, setter_found, setter_at, setter_if, put_beyond, put_on_primitive, primitive_chain, put_by, overwritten, is_length_in, put, put_property, put_named, put_value, truth_of, removed_if, removed_own, removed_in, removed_of_primitive, remove_property, remove, needed, has, has_of_primitive, argument, on_object, on_object_in, own_property_in, set_marks, set_body_if, Defining, is_defined, redefine, define_over, define_by, define_given, define_in, defining, Cut, delete_element, deleted_if, deleted_at, deleted_within, ended_at, cut_length, set_marks_if, set_length_to, set_length_in, set_length, numbered_by, prototype_in, extensible_in, prevent, make_new, make_new_by, standing, list_keys, bind_object, bind_value, bind_to, if_origins, raise_structure, raise_existence, channel_label, reads, read_channel, prints, print_text, print_channel, with_origins, act}
 use Rattle.step_values.specs.Converted.{is_keyed}
 use Rattle.run_state.specs.declared.outcome.Outcome as machine
 use Rattle.run_state.specs.declared.outcome.Outcome.TheVariants as outcome
@@ -170,25 +177,41 @@ unfolding setter_at
 setter_stands label base None s = error_stands Putting kinds.TypeError label s
 setter_stands label base (Some p) s = setter_found_stands (union label p.label) base (setter_in p.body) s
 
+overwritten_stands : (b : Bool) (rule : Rule) (o : ℕ) (key : List ℕ) (label : Label) (v : Val) (s : State) → FramesStand (overwritten b rule o key label v s) s
+unfolding overwritten
+overwritten_stands true rule o key label v s = refl
+overwritten_stands false rule o key label v s = acted_stands is_put (heap_acts.write rule o key (union (context s.frames) label) v s.heap) s
+
 put_by_stands : (plan : PutPlan Label) (rule : Rule) (o : ℕ) (key : List ℕ) (label : Label) (base v : Val) (s : State) → FramesStand (put_by plan rule o key label base v s) s
 unfolding put_by
-put_by_stands (Write walk) rule o key label base v s = acted_stands is_put (heap_acts.write rule o key (union (context s.frames) (union label walk)) v s.heap) s
+put_by_stands (Write walk) rule o key label base v s = overwritten_stands (is_length_in key (slice_get s.heap o)) rule o key (union label walk) v s
 put_by_stands (Add walk) rule o key label base v s = acted_stands is_put (heap_acts.add o key (union (context s.frames) (union label walk)) (Data v.value) v.label made_by_script s.heap) s
 put_by_stands (Refused walk) rule o key label base v s = error_stands Putting kinds.TypeError (union label walk) s
 put_by_stands (Setter at walk) rule o key label base v s = setter_stands (union label walk) base (own_in key (slice_get s.heap at.0)) s
 
-put_on_stands : (b : Bool) (rule : Rule) (o : ℕ) (key : List ℕ) (label : Label) (base v : Val) (s : State) → FramesStand (put_on b rule o key label base v s) s
-unfolding put_on
-put_on_stands true rule o key label base v s = refl
-put_on_stands false rule o key label base v s = put_by_stands (can_put key (object_chain s.heap o)) rule o key label base v s
-
 object_stands : (rule : Rule) (o : ℕ) (key : List ℕ) (label : Label) (base v : Val) (s : State) → FramesStand (put rule o key label base v s) s
 unfolding put
-object_stands rule o key label base v s = put_on_stands (is_element_of (slice_get s.heap o) key) rule o key label base v s
+object_stands rule o key label base v s = put_by_stands (can_put key (object_chain s.heap o)) rule o key label base v s
+
+-- on a primitive value
+setter_if_stands : (b : Bool) (label : Label) (base : Val) (p : Slot Label) (s : State) → FramesStand (setter_if b label base p s) s
+unfolding setter_if
+setter_if_stands true label base p s = setter_found_stands (union label p.label) base (setter_in p.body) s
+setter_if_stands false label base p s = error_stands Putting kinds.TypeError label s
+
+beyond_stands : (label : Label) (base : Val) (at : Option (ℕ × Slot Label)) (s : State) → FramesStand (put_beyond label base at s) s
+unfolding put_beyond
+beyond_stands label base None s = error_stands Putting kinds.TypeError label s
+beyond_stands label base (Some f) s = setter_if_stands (is_accessor f.1.body) label base f.1 s
+
+primitive_stands : (v : Option Primitive) (label : Label) (base : Val) (p : Primitive) (key : List ℕ) (s : State) → FramesStand (put_on_primitive v label base p key s) s
+unfolding put_on_primitive
+primitive_stands (Some v) label base p key s = error_stands Putting kinds.TypeError label s
+primitive_stands None label base p key s = let walk = find key (primitive_chain s.heap p) in beyond_stands (union label walk.walk) base walk.at s
 
 member_stands : (label : Label) (base : Val) (u : Value) (key : List ℕ) (v : Val) (s : State) → FramesStand (put_property label base u key v s) s
 unfolding put_property
-member_stands label base (value.Primitive p) key v s = refl
+member_stands label base (value.Primitive p) key v s = primitive_stands (own_value_of p key) label base p key s
 member_stands label base (value.Object o) key v s = object_stands W2 o.0 key label base v s
 
 name_stands : (place : Place) (walk : Label) (name : List ℕ) (v : Val) (s : State) → FramesStand (put_named place walk name v s) s
@@ -219,14 +242,19 @@ unfolding removed_in
 removed_in_stands None label o key s = refl
 removed_in_stands (Some p) label o key s = removed_own_stands (own key p.rows) label p.structure o key s
 
+removed_of_primitive_stands : (v : Option Primitive) (label : Label) (s : State) → FramesStand (removed_of_primitive v label s) s
+unfolding removed_of_primitive
+removed_of_primitive_stands None label s = refl
+removed_of_primitive_stands (Some v) label s = error_stands Val kinds.TypeError label s
+
 removed_stands : (label : Label) (base : Value) (key : List ℕ) (s : State) → FramesStand (remove_property label base key s) s
 unfolding remove_property
-removed_stands label (value.Primitive p) key s = refl
+removed_stands label (value.Primitive p) key s = removed_of_primitive_stands (own_value_of p key) label s
 removed_stands label (value.Object o) key s = removed_in_stands (slice_get s.heap o.0) label o.0 key s
 
 pub remove_stands : (n : Reference) (s : State) → FramesStand (remove n s) s
 unfolding remove
-remove_stands (of_name name place walk) s = refl
+remove_stands (of_name name place walk) s = error_stands Val kinds.SyntaxError bottom s
 remove_stands (of_property base key label) s = removed_stands (union base.label label) base.value key s
 
 -- ---- values that are needed, and keys
@@ -236,17 +264,22 @@ unfolding needed
 needed_stands true v s = refl
 needed_stands false v s = error_stands Val kinds.TypeError v.label s
 
+has_of_primitive_stands : (v : Option Primitive) (label : Label) (walk : Found) (s : State) → FramesStand (has_of_primitive v label walk s) s
+unfolding has_of_primitive
+has_of_primitive_stands None label walk s = refl
+has_of_primitive_stands (Some v) label walk s = refl
+
 has_stands : (label : Label) (key : List ℕ) (v : Value) (s : State) → FramesStand (has label key v s) s
 unfolding has
-has_stands label key (value.Primitive p) s = refl
+has_stands label key (value.Primitive p) s = has_of_primitive_stands (own_value_of p key) label (find key (primitive_chain s.heap p)) s
 has_stands label key (value.Object o) s = refl
 
 -- ---- what built-ins ask for besides
 
-on_object_stands : (label : Label) (v : Value) (next : ℕ → L Val) → ((o : ℕ) (s : State) → FramesStand (next o s) s) → (s : State) → FramesStand (on_object_in label v next s) s
+on_object_stands : (X : Type 0) (label : Label) (v : Value) (next : ℕ → L X) → ((o : ℕ) (s : State) → FramesStand (next o s) s) → (s : State) → FramesStand (on_object_in label v next s) s
 unfolding on_object_in
-on_object_stands label (value.Primitive p) next stand s = error_stands Val kinds.TypeError label s
-on_object_stands label (value.Object o) next stand s = stand o.0 s
+on_object_stands X label (value.Primitive p) next stand s = error_stands X kinds.TypeError label s
+on_object_stands X label (value.Object o) next stand s = stand o.0 s
 
 own_stands : (part : OwnPart) (key : List ℕ) (label : Label) (p : Option (Object Label)) (s : State) → FramesStand (own_property_in part key label p s) s
 unfolding own_property_in
@@ -266,34 +299,102 @@ redefine_stands : (p : Slot Label) (q : Property) (d : Definition) (place given 
 unfolding redefine
 redefine_stands p q d place given o key s =
     let body = set_body_if (changes_body (erased_slot p) d) place q.body (body_label (keeps_a_half (erased_slot p) d) given p.label) o key in
-    let gives : Unit {0} → L Val = λ w. ret (record { value = undefined; label = place }) in
+    let gives : Unit {0} → L Defining = λ w. ret (is_defined place) in
     then_stands (set_marks (union place given) q.marks o key s) (λ u. body >>= gives) s (marks_stands (union place given) q.marks o key s)
     (λ u t. then_stands (body t) gives t (body_stands (changes_body (erased_slot p) d) place q.body (body_label (keeps_a_half (erased_slot p) d) given p.label) o key t) (λ w r. refl))
 
 define_over_stands : (old : Option (Slot Label)) (d : Definition) (place given : Label) (o : ℕ) (key : List ℕ) (q : Option Property) (s : State) → FramesStand (define_over old d place given o key q s) s
 unfolding define_over
-define_over_stands None d place given o key None s = error_stands Val kinds.TypeError (union (union place given) (value_label None)) s
-define_over_stands (Some p) d place given o key None s = error_stands Val kinds.TypeError (union (union place given) (value_label (Some p))) s
-define_over_stands None d place given o key (Some q) s = acted_stands (record { value = undefined; label = place }) (heap_acts.add o key (union (context s.frames) (union place given)) q.body given q.marks s.heap) s
+define_over_stands None d place given o key None s = error_stands Defining kinds.TypeError (union (union place given) (value_label None)) s
+define_over_stands (Some p) d place given o key None s = error_stands Defining kinds.TypeError (union (union place given) (value_label (Some p))) s
+define_over_stands None d place given o key (Some q) s = acted_stands (is_defined place) (heap_acts.add o key (union (context s.frames) (union place given)) q.body given q.marks s.heap) s
 define_over_stands (Some p) d place given o key (Some q) s = redefine_stands p q d place given o key s
 
-define_given_stands : (extensible : Bool) (old : Option (Slot Label)) (marks : GivenMarks) (body : Option GivenBody) (place given : Label) (o : ℕ) (key : List ℕ) (s : State) → FramesStand (define_given extensible old marks body place given o key s) s
-unfolding define_given
-define_given_stands extensible old marks None place given o key s = error_stands Val kinds.TypeError (union (union place given) (value_label old)) s
-define_given_stands extensible old marks (Some body) place given o key s = let d : Definition = record { marks = marks; body = body } in define_over_stands old d place given o key (behind_definition extensible (property_in old) d) s
+define_by_stands : (b : Bool) (p : Object Label) (marks : GivenMarks) (body : GivenBody) (place given : Label) (o : ℕ) (key : List ℕ) (s : State) → FramesStand (define_by b p marks body place given o key s) s
+unfolding define_by
+define_by_stands true p marks body place given o key s = refl
+define_by_stands false p marks body place given o key s =
+    let d : Definition = record { marks = marks; body = body } in define_over_stands (own key p.rows) d place given o key (behind_definition (may_add key p) (property_in (own key p.rows)) d) s
 
-chosen_stands : (b : Bool) (m n : L Val) (s : State) → FramesStand (m s) s → FramesStand (n s) s → FramesStand (choose b m n s) s
-chosen_stands true m n s yes_stand no_stand = yes_stand
-chosen_stands false m n s yes_stand no_stand = no_stand
+define_given_stands : (valued : Bool) (p : Object Label) (marks : GivenMarks) (body : Option GivenBody) (place given : Label) (o : ℕ) (key : List ℕ) (s : State) → FramesStand (define_given valued p marks body place given o key s) s
+unfolding define_given
+define_given_stands valued p marks None place given o key s = error_stands Defining kinds.TypeError (union (union place given) (value_label (own key p.rows))) s
+define_given_stands valued p marks (Some body) place given o key s = define_by_stands (is_length p.class key && valued) p marks body place given o key s
 
 define_stands : (p : Option (Object Label)) (label : Label) (o : ℕ) (key : List ℕ) (marks : GivenMarks) (shape : Shape) (v g set : Val) (s : State) → FramesStand (define_in p label o key marks shape v g set s) s
 unfolding define_in
-define_stands None label o key marks shape v g set s = error_stands Val kinds.TypeError label s
+define_stands None label o key marks shape v g set s = error_stands Defining kinds.TypeError label s
 define_stands (Some p) label o key marks shape v g set s =
-    let body = given_body (erased_heap s.heap) marks shape v.value g.value set.value in
-    let place = union label (own_test (own key p.rows) p.structure) in
-    let given = union v.label (union g.label set.label) in
-    chosen_stands (is_array p.class) (ends (left not_built)) (define_given p.extensible (own key p.rows) marks body place given o key) s refl (define_given_stands p.extensible (own key p.rows) marks body place given o key s)
+    define_given_stands shape.has_value p marks (given_body (erased_heap s.heap) marks shape v.value g.value set.value) (union label (definition_test key (own key p.rows) p)) (union v.label (union g.label set.label)) o key s
+
+pub defining_stands : (key : List ℕ) (marks : GivenMarks) (shape : Shape) (base v g set : Val) (s : State) → FramesStand (defining key marks shape base v g set s) s
+unfolding defining
+defining_stands key marks shape base v g set s =
+    on_object_stands Defining base.label base.value (λ o t. define_in (slice_get t.heap o) base.label o key marks shape v g set t) (λ o t. define_stands (slice_get t.heap o) base.label o key marks shape v g set t) s
+
+-- ---- the `length` of an array is given a number
+
+delete_stands : (label : Label) (o i : ℕ) (s : State) → FramesStand (delete_element label o i s) s
+unfolding delete_element
+delete_stands label o i s = acted_stands tt (heap_acts.remove o (element_key i) (union (context s.frames) label) s.heap) s
+
+deleted_if_stands : (b : Bool) (next : Label → L Cut) → ((tested : Label) (s : State) → FramesStand (next tested s) s) → (label : Label) (o i : ℕ) (tested : Label) (s : State) → FramesStand (deleted_if b next label o i tested s) s
+unfolding deleted_if
+deleted_if_stands true next stand label o i tested s = then_stands (delete_element (union label tested) o i s) (λ u. next tested) s (delete_stands (union label tested) o i s) (λ u t. stand tested t)
+deleted_if_stands false next stand label o i tested s = refl
+
+deleted_at_stands : (e : Option (ℕ × Slot Label)) (next : Label → L Cut) → ((tested : Label) (s : State) → FramesStand (next tested s) s) → (label : Label) (o : ℕ) (tested : Label) (s : State) → FramesStand (deleted_at e next label o tested s) s
+unfolding deleted_at
+deleted_at_stands None next stand label o tested s = refl
+deleted_at_stands (Some e) next stand label o tested s = deleted_if_stands e.1.marks.configurable next stand label o e.0 (union tested e.1.existence) s
+
+deleted_stands : (more : ℕ) (label : Label) (o n : ℕ) (tested : Label) (s : State) → FramesStand (deleted_within more label o n tested s) s
+unfolding deleted_within
+deleted_stands zero label o n tested s = refl
+deleted_stands (suc more) label o n tested s = deleted_at_stands (highest n (rows_in (slice_get s.heap o))) (deleted_within more label o n) (deleted_stands more label o n) label o tested s
+
+ended_stands : (stays : Option ℕ) (place label : Label) (s : State) → FramesStand (ended_at stays place label s) s
+unfolding ended_at
+ended_stands None place label s = refl
+ended_stands (Some i) place label s = error_stands Val kinds.TypeError label s
+
+cut_stands : (place label : Label) (o n : ℕ) (cut : Cut) (s : State) → FramesStand (cut_length place label o n cut s) s
+unfolding cut_length
+cut_stands place label o n cut s =
+    let body = length_body (length_behind n cut.stays) in
+    then_stands (set_body_if true place body (union label cut.tested) o length_key s) (λ u. ended_at cut.stays place (union place (union label cut.tested))) s (body_stands true place body (union label cut.tested) o length_key s)
+    (λ u t. ended_stands cut.stays place (union place (union label cut.tested)) t)
+
+marks_if_stands : (b : Bool) (label : Label) (marks : Marks) (o : ℕ) (key : List ℕ) (s : State) → FramesStand (set_marks_if b label marks o key s) s
+marks_if_stands true label marks o key s = marks_stands label marks o key s
+marks_if_stands false label marks o key s = refl
+
+length_to_stands : (defines : Bool) (p : Object Label) (place given : Label) (o n : ℕ) (q : Option Property) (s : State) → FramesStand (set_length_to defines p place given o n q s) s
+unfolding set_length_to
+length_to_stands defines p place given o n None s = error_stands Val kinds.TypeError (union (union place given) (value_label (own length_key p.rows))) s
+length_to_stands defines p place given o n (Some q) s =
+    let label = union given p.structure in
+    let deletes = deleted_within (length p.rows) (union place label) o n bottom in
+    then_stands (set_marks_if defines (union place given) q.marks o length_key s) (λ u. deletes >>= cut_length place label o n) s (marks_if_stands defines (union place given) q.marks o length_key s)
+    (λ u t. then_stands (deletes t) (cut_length place label o n) t (deleted_stands (length p.rows) (union place label) o n bottom t) (cut_stands place label o n))
+
+length_in_stands : (defines : Bool) (p : Option (Object Label)) (place given : Label) (o : ℕ) (marks : GivenMarks) (n : ℕ) (s : State) → FramesStand (set_length_in defines p place given o marks n s) s
+unfolding set_length_in
+length_in_stands defines None place given o marks n s = error_stands Val kinds.TypeError (union place given) s
+length_in_stands defines (Some p) place given o marks n s =
+    let own_length = own length_key p.rows in
+    length_to_stands defines p (union place (definition_test length_key own_length p)) given o n (behind_length (property_in own_length) (record { marks = marks; body = a_value (value.Primitive (Num (Int (pos n)))) })) s
+
+pub length_stands : (defines : Bool) (place : Label) (o : ℕ) (marks : GivenMarks) (n : ℕ) (given : Label) (s : State) → FramesStand (set_length defines place o marks n given s) s
+unfolding set_length
+length_stands defines place o marks n given s = length_in_stands defines (slice_get s.heap o) place given o marks n s
+
+pub numbered_stands : (n : Result Number LeftNumbers) (s : State) → FramesStand (numbered_by n s) s
+unfolding numbered_by
+numbered_stands (Ok n) s = refl
+numbered_stands (Err e) s = refl
+
+-- ---- further parts of objects
 
 prototype_stands : (label : Label) (p : Option (Object Label)) (s : State) → FramesStand (prototype_in label p s) s
 unfolding prototype_in
@@ -310,8 +411,16 @@ unfolding prevent
 prevent_stands label o s = acted_stands (record { value = undefined; label = label }) (heap_acts.prevent_extensions o (union (context s.frames) label) s.heap) s
 
 new_stands : (c : Class) (proto : Option ObjId) (label : Label) (s : State) → FramesStand (make_new c proto label s) s
-unfolding make_new made_new
-new_stands c proto label s = chosen_stands (is_array c) (ends (left not_built)) (made_new c proto label) s refl refl
+unfolding make_new
+new_stands c proto label s = refl
+
+new_by_stands : (c : Class) (v : Val) (s : State) → FramesStand (make_new_by c v s) s
+unfolding make_new_by
+new_by_stands c v s = new_stands c (option_map (standing s.heap) (prototype_given v.value)) v.label s
+
+keys_stand : (all : Bool) (label : Label) (o : ℕ) (s : State) → FramesStand (list_keys all label o s) s
+unfolding list_keys
+keys_stand all label o s = refl
 
 bind_value_stands : (v : Value) (target this : Val) (args : List Val) (s : State) → FramesStand (bind_value v target this args s) s
 unfolding bind_value bind_object
@@ -365,28 +474,26 @@ module _ (tables : Tables) (inputs : Given) where
   declared_stands origins next s stand = origins_stands (are_origins (length tables.origins) origins) next s stand
 
   pub act_stands : (a : Act) (vs : List Val) (s : State) → FramesStand (act tables inputs a vs s) s
-  unfolding act make_object
+  unfolding act make_object make_array
   act_stands (object_of parts) vs s = refl
+  act_stands (array_of places n) vs s = refl
   act_stands base_needed vs s = needed_stands (is_coercible (argument 0 vs).value) (argument 0 vs) s
   act_stands object_needed vs s = needed_stands (is_object (argument 0 vs).value) (argument 0 vs) s
   act_stands has_key vs s = has_stands (union (argument 0 vs).label (argument 1 vs).label) (key_text (argument 0 vs).value) (argument 1 vs).value s
   act_stands (throws_error kind) vs s = error_stands Val kind bottom s
-  act_stands (own_property part key) vs s = let v = argument 0 vs in on_object_stands v.label v.value (λ o t. own_property_in part key v.label (slice_get t.heap o) t) (λ o t. own_stands part key v.label (slice_get t.heap o) t) s
-  act_stands (define key marks shape) vs s =
-      let v = argument 0 vs in
-      on_object_stands v.label v.value (λ o t. define_in (slice_get t.heap o) v.label o key marks shape (argument 1 vs) (argument 2 vs) (argument 3 vs) t) (λ o t. define_stands (slice_get t.heap o) v.label o key marks shape (argument 1 vs) (argument 2 vs) (argument 3 vs) t) s
-  act_stands (own_keys all) vs s = let v = argument 0 vs in on_object_stands v.label v.value (λ o. ends (left not_built)) (λ o t. refl) s
-  act_stands prototype_of_object vs s = let v = argument 0 vs in on_object_stands v.label v.value (λ o t. prototype_in v.label (slice_get t.heap o) t) (λ o t. prototype_stands v.label (slice_get t.heap o) t) s
-  act_stands is_extensible vs s = let v = argument 0 vs in on_object_stands v.label v.value (λ o t. extensible_in v.label (slice_get t.heap o) t) (λ o t. extensible_stands v.label (slice_get t.heap o) t) s
-  act_stands prevent_extensions vs s = let v = argument 0 vs in on_object_stands v.label v.value (prevent v.label) (prevent_stands v.label) s
+  act_stands (own_property part key) vs s = let v = argument 0 vs in on_object_stands Val v.label v.value (λ o t. own_property_in part key v.label (slice_get t.heap o) t) (λ o t. own_stands part key v.label (slice_get t.heap o) t) s
+  act_stands (own_keys all) vs s = let v = argument 0 vs in on_object_stands Val v.label v.value (list_keys all v.label) (keys_stand all v.label) s
+  act_stands prototype_of_object vs s = let v = argument 0 vs in on_object_stands Val v.label v.value (λ o t. prototype_in v.label (slice_get t.heap o) t) (λ o t. prototype_stands v.label (slice_get t.heap o) t) s
+  act_stands is_extensible vs s = let v = argument 0 vs in on_object_stands Val v.label v.value (λ o t. extensible_in v.label (slice_get t.heap o) t) (λ o t. extensible_stands v.label (slice_get t.heap o) t) s
+  act_stands prevent_extensions vs s = let v = argument 0 vs in on_object_stands Val v.label v.value (prevent v.label) (prevent_stands v.label) s
   act_stands (new_object c false) vs s = new_stands c (Some (class_prototype c)) bottom s
-  act_stands (new_object c true) vs s = new_stands c (prototype_given (argument 0 vs).value) (argument 0 vs).label s
+  act_stands (new_object c true) vs s = new_by_stands c (argument 0 vs) s
   act_stands bind vs s = bind_stands (is_function_at s.heap (argument 0 vs).value) (argument 0 vs) (argument 1 vs) (others (others vs)) s
   act_stands read_line vs s = read_stands (channel_of tables.inputs (argument 0 vs).value) (argument 0 vs).label s
   act_stands print_line vs s = channel_stands (channel_of tables.outputs (argument 0 vs).value) (argument 0 vs).label (argument 1 vs) s
   act_stands (join_label origins) vs s = declared_stands origins (ret (joined (label_of origins) (argument 0 vs))) s refl
-  act_stands (raise_structure_by origins) vs s = let v = argument 0 vs in declared_stands origins (on_object v (raise_structure origins v.label)) s (on_object_stands v.label v.value (raise_structure origins v.label) (structure_stands origins v.label) s)
-  act_stands (raise_existence_by key origins) vs s = let v = argument 0 vs in declared_stands origins (on_object v (raise_existence origins v.label key)) s (on_object_stands v.label v.value (raise_existence origins v.label key) (existence_stands origins v.label key) s)
+  act_stands (raise_structure_by origins) vs s = let v = argument 0 vs in declared_stands origins (on_object v (raise_structure origins v.label)) s (on_object_stands Val v.label v.value (raise_structure origins v.label) (structure_stands origins v.label) s)
+  act_stands (raise_existence_by key origins) vs s = let v = argument 0 vs in declared_stands origins (on_object v (raise_existence origins v.label key)) s (on_object_stands Val v.label v.value (raise_existence origins v.label key) (existence_stands origins v.label key) s)
 
 -- ---- `instanceof`: up to the read of the `prototype`, and behind it
 

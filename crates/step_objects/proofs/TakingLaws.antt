@@ -11,7 +11,6 @@ use Rattle.flow_frames.specs.Frames.{Frame}
 use Rattle.flow_frames.specs.Held.{Kept, Belong, CatchByTry, seen, seen_frame}
 use Rattle.js_number.specs.declared.primitive.Primitive.{Primitive}
 use Rattle.js_number.specs.declared.primitive.Primitive.TheVariants as prims
-use Rattle.js_values.specs.declared.ids.ObjId.{ObjId}
 use Rattle.js_values.specs.declared.value.Labelled.{Labelled}
 use Rattle.js_values.specs.declared.value.Value.{Value}
 use Rattle.js_values.specs.declared.value.Value.TheVariants as value

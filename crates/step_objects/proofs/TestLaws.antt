@@ -30,7 +30,7 @@ use Rattle.es_meaning.specs.Functions.{bound_behind}
 use Rattle.es_meaning.specs.Operations as operations
 use Rattle.es_meaning.specs.Outcomes.{Goes, Jumps}
 use Rattle.es_meaning.specs.Plain.{prototype_name}
-use Rattle.flow_meaning.specs.Planned.{Enters, Plan, as_plan, instance_by, instance_if, instance_value, with_outcome}
+use Rattle.flow_meaning.specs.Planned.{Enters, Plan, as_plan, instance_by, instance_of, instance_if, instance_value, with_outcome}
 use Rattle.flow_meaning.specs.Requested.{Aim, own_aim, aim_behind, aim_in, aim_within, aim_of, is_function_in, is_function_at}
 use Rattle.flow_meaning.specs.Scopes.{Val, State, Jump, LabelledLine, guard, jump, jump_to, reached, cut_to}
 use Rattle.flow_frames.specs.Held.{meant_at}
@@ -47,7 +47,7 @@ use Rattle.run_state.proofs.ActLaws.{Acts-as}
 use Rattle.step_objects.specs.declared.instances.Aimed.{Aimed}
 use Rattle.step_objects.specs.declared.instances.InstanceTest.{InstanceTest}
 use Rattle.step_objects.specs.declared.instances.InstanceTest.TheVariants as test
-use Rattle.step_objects.specs.Instances.{Test, is_answered, is_read, test_by, test_of, tested, tested_if, tests_on, AreTested, IsTest, read_test, bound_in, bound_at, IsAimed}
+use Rattle.step_objects.specs.Instances.{Test, is_answered, is_read, test_by, test_value, test_of, tested, tested_if, tests_on, AreTested, IsTest, read_test, bound_in, bound_at, IsAimed}
 use Rattle.step_objects.proofs.ShapeLaws.{object_has}
 use Rattle.step_objects.proofs.InstanceLaws.{there_at}
 
@@ -68,14 +68,18 @@ thrown_on kind cause next s =
     thrown_guard (within (jump_need made.frames depth cause) (meant_at made.frames depth)) W9 (jump_need made.frames depth cause) (meant_at made.frames depth) k (suc depth) next made
 
 module _ (functions : List FunctionCode) (E : Enters) (v : Val) (s : State) where
-  by_value : (w : Value) (label : Label) (f : ℕ) → instance_by functions v w label f E s ≡ tests_on functions E (test_by s.heap v w label f) s
+  by_object : (o : ObjId) (label : Label) (f : ℕ) → instance_by functions v o label f E s ≡ tests_on functions E (test_by s.heap v o label f) s
   unfolding instance_by property_of
+  by_object o label f = refl
+
+  by_value : (w : Value) (label : Label) (f : ℕ) → instance_of functions v w label (aim_of s.heap f) E s ≡ tests_on functions E (test_value s.heap v w label f) s
+  unfolding instance_of
   by_value (value.Primitive p) label f = refl
-  by_value (value.Object o) label f = refl
+  by_value (value.Object o) label f = let aim = aim_of s.heap f in by_object o (union label aim.label) aim.target.function
 
   by_test : (b : Bool) (label : Label) (f : ℕ) → instance_if functions b v label f E s ≡ with_outcome (tested_if b v label f s) (tests_on functions E)
   unfolding instance_if tested_if
-  by_test true label f = let aim = aim_of s.heap f in by_value v.value (union label aim.label) aim.target.function
+  by_test true label f = by_value v.value label f
   by_test false label f = thrown_on kinds.TypeError label (tests_on functions E) s
 
   by_function : (label : Label) (f : Value) → instance_value functions v label f E s ≡ with_outcome (tested v label f s) (tests_on functions E)
@@ -248,6 +252,16 @@ aimed_later made meaning room firm old new kept heap o a is = record {
   label = λ reading read. is.label reading (IsReading-earlier made meaning room firm old new reading kept read);
 }
 
+-- of a primitive value nothing is read
+pub test_answered : {S T : Type 0} (made : S → T → Type 0) (meaning : S → T → Label) (store : S) (heap : List (Object T)) (v : Labelled T) (label : T) (f : ℕ) (depends : T) → Means made meaning store depends (λ reading. union (reading v.label) (reading label))
+    → (p : Primitive) → v.value ≡ value.Primitive p → IsTest made meaning store (λ reading. test_of (read_heap reading heap) (read_value reading v) (reading label) f) (test.Answered (record { value = value.Primitive (prims.Bool false); label = depends }))
+test_answered made meaning store heap v label f depends means p is = record {
+  belongs = means.belongs;
+  is = λ reading read.
+      ap (λ l. is_answered (truth_of false l)) (means.is reading read)
+      ∙ sym (ap (λ w. test_value (read_heap reading heap) (read_value reading v) w (reading label) f) is);
+}
+
 module _ {S T : Type 0} (made : S → T → Type 0) (meaning : S → T → Label) (store : S) (heap : List (Object T)) (v : Labelled T) (label : T) (f : ℕ) (aimed : Aimed T) (of_function depends : T)
     (aims : IsAimed made meaning store heap f aimed) (of_means : Means made meaning store of_function (λ reading. union (reading label) (reading aimed.label))) (means : Means made meaning store depends (λ reading. union (reading v.label) (reading of_function))) where
   abbrev tests : InstanceTest T → Type 0
@@ -256,16 +270,6 @@ module _ {S T : Type 0} (made : S → T → Type 0) (meaning : S → T → Label
   -- the label of the function with those of its targets
   function_label : (reading : T → Label) → IsReading made meaning store reading → reading of_function ≡ union (reading label) (aim_of (read_heap reading heap) f).label
   function_label reading read = of_means.is reading read ∙ ap (union (reading label)) (aims.label reading read)
-
-  pub test_answered : (p : Primitive) → v.value ≡ value.Primitive p → tests (test.Answered (record { value = value.Primitive (prims.Bool false); label = depends }))
-  test_answered p is = record {
-    belongs = means.belongs;
-    is = λ reading read.
-        let heap_read = read_heap reading heap in
-        let aim = aim_of heap_read f in
-        ap (λ l. is_answered (truth_of false l)) (means.is reading read ∙ ap (union (reading v.label)) (function_label reading read))
-        ∙ sym (ap (λ w. test_by heap_read (read_value reading v) w (union (reading label) aim.label) aim.target.function) is);
-  }
 
   pub test_reads : (o : ObjId) → v.value ≡ value.Object o → (name : List ℕ) → name ≡ prototype_name → (a : Access T)
       → IsAccess made meaning store (λ reading. found_by (reading depends) (called_value (reading of_function) aimed.function.0) (find name (object_chain (read_heap reading heap) aimed.function.0))) a → tests (test.Reads o depends a)
@@ -276,8 +280,8 @@ module _ {S T : Type 0} (made : S → T → Type 0) (meaning : S → T → Label
         let aim = aim_of heap_read f in
         ap (λ x. is_read o.0 (reading depends) x) (gives.is reading read ∙ ap (λ k. found_by (reading depends) (called_value (reading of_function) aimed.function.0) (find k (object_chain heap_read aimed.function.0))) named)
         ∙ ap (λ d. is_read o.0 d (found_by d (called_value (reading of_function) aimed.function.0) (find prototype_name (object_chain heap_read aimed.function.0)))) (means.is reading read)
-        ∙ ap₂ (λ l g. test_by heap_read (read_value reading v) (value.Object o) l g) (function_label reading read) (aims.function reading read)
-        ∙ sym (ap (λ w. test_by heap_read (read_value reading v) w (union (reading label) aim.label) aim.target.function) is);
+        ∙ ap₂ (λ l g. test_by heap_read (read_value reading v) o l g) (function_label reading read) (aims.function reading read)
+        ∙ sym (ap (λ w. test_value heap_read (read_value reading v) w (reading label) f) is);
   }
 
 module _ {S T : Type 0} (made : S → T → Type 0) (meaning : S → T → Label) (store : S) (w : World T) (v f : Labelled T) where

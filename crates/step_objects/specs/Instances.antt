@@ -4,6 +4,7 @@ use Rattle.origin_labels.specs.Label.{Label, union}
 use Rattle.flow_policy.specs.Policies.{Tables}
 use Rattle.flow_policy.specs.Inputs.{Given}
 use Rattle.js_ast.specs.Functions.{FunctionCode}
+use Rattle.js_values.specs.declared.ids.ObjId.{ObjId}
 use Rattle.js_values.specs.declared.inner.Inner.{Inner}
 use Rattle.js_values.specs.declared.inner.Inner.TheVariants.{Plain, Script, Native, Bound}
 use Rattle.js_values.specs.declared.value.Value.{Value}
@@ -33,13 +34,17 @@ pub data Test : Type 0 where
   is_answered : Val → Test
   is_read : ℕ → Label → tracked.Access → Test
 
--- no primitive value is an instance. The `prototype` is that of the function that a bound one comes to
-abbrev pub test_by : List (Object Label) → Val → Value → Label → ℕ → Test
-test_by heap v (value.Primitive p) label f = is_answered (truth_of false (union v.label label))
-test_by heap v (value.Object o) label f = is_read o.0 (union v.label label) (found_by (union v.label label) (called_value label f) (find prototype_name (object_chain heap f)))
+-- the `prototype` is that of the function that a bound one comes to
+abbrev pub test_by : List (Object Label) → Val → ObjId → Label → ℕ → Test
+test_by heap v o label f = is_read o.0 (union v.label label) (found_by (union v.label label) (called_value label f) (find prototype_name (object_chain heap f)))
+
+-- no primitive value is an instance, and of one nothing is read
+abbrev pub test_value : List (Object Label) → Val → Value → Label → ℕ → Test
+test_value heap v (value.Primitive p) label f = is_answered (truth_of false (union v.label label))
+test_value heap v (value.Object o) label f = let aim = aim_of heap f in test_by heap v o (union label aim.label) aim.target.function
 
 abbrev pub test_of : List (Object Label) → Val → Label → ℕ → Test
-test_of heap v label f = let aim = aim_of heap f in test_by heap v v.value (union label aim.label) aim.target.function
+test_of heap v label f = test_value heap v v.value label f
 
 unfoldable pub tested_if : Bool → Val → Label → ℕ → L Test
 tested_if true v label f s = Goes (test_of s.heap v label f) s

@@ -1,3 +1,4 @@
+pub mod Asking
 pub mod Instances
 pub mod Literals
 pub mod Taking

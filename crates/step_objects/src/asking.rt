@@ -5,7 +5,11 @@ ghost use Rattle.origin_labels.specs.Stores.{IsKept};
 ghost use Rattle.flow_policy.specs.Policies.{Tables};
 ghost use Rattle.flow_policy.specs.Inputs.{Given};
 ghost use Rattle.js_values.specs.Readings.{HasValue, read_value};
-ghost use Rattle.prototype_walk.specs.Answers.{IsFound};
+ghost use Rattle.js_values.specs.Readings.{read_heap};
+ghost use Rattle.js_values.specs.Walks.{find, object_chain};
+ghost use Rattle.es_meaning.specs.Primitives.{own_value_of};
+ghost use Rattle.flow_meaning.specs.Tracked.{primitive_chain};
+ghost use Rattle.step_objects.specs.Asking.{IsAsked, asked_in, asked_of, asked_of_primitive};
 ghost use Rattle.es_meaning.specs.Operations as operations;
 ghost use Rattle.flow_meaning.specs.Tracked.{act};
 ghost use Rattle.run_state.specs.Acts.{Acts, HasAnswer};
@@ -17,12 +21,12 @@ use flow_text::OutOfMemory;
 use js_number::Primitive;
 use js_values::{Key, Labelled, ObjId, Value};
 use origin_labels::Labels;
-use prototype_walk::{Found, find};
-use run_state::{Leaving, Outcome, World};
+use property_access::{find_beyond, find_property, has_own};
+use run_state::{Outcome, World};
 use std::alloc::Global;
 
-/// Whether an object or a prototype of it has a key (ECMA-262 8.12.6). The answer depends on the key, the object and the walk. A primitive value leaves the
-/// language: whoever calls has asked for an object.
+/// Whether an object or a prototype of it has a key (ECMA-262 8.12.6). The answer depends on the key, the object and the walk. So is
+/// a primitive value asked, as the object that it would be wrapped in.
 pub fn has_key<T: Copy, L: Labels<Label = T>>(
     alloc: Global,
     labels: &mut L,
@@ -38,34 +42,76 @@ pub fn has_key<T: Copy, L: Labels<Label = T>>(
     ensures belongs { Belongs L.made L.meaning labels.new world.now }
     ensures kept { IsKept L.made L.meaning L.room L.firm labels.old labels.new }
 {
-    let Value::Object(o) = object.value else {
-        return Ok(Outcome::Leaves(Leaving::Unbuilt));
-    };
     let label = join(labels, key.label, object.label)?;
     let name = key_of(alloc, key.value)?;
-    let found = find_key(labels, world, o, &name)?;
-    let depends = join(labels, label, found.walk)?;
-    let has = found.at.is_some();
+    let asked = ask(labels, world, &object.value, &name)?;
+    let depends = join(labels, label, asked.walk)?;
     Ok(Outcome::Goes(Labelled {
-        value: Value::Primitive(Primitive::Bool(has)),
+        value: Value::Primitive(Primitive::Bool(asked.has)),
         label: depends,
     }))
 }
 
-/// Where a key is found from an object on. For an object that isn't there nothing is found.
+/// Whether there is a property, and the label of the walk on which that depends.
+#[derive(Clone, Copy)]
+pub(crate) struct Asked<T> {
+    pub(crate) has: bool,
+    pub(crate) walk: T,
+}
+
+/// Whether a value has a key.
+fn ask<T: Copy, L: Labels<Label = T>>(
+    labels: &mut L,
+    world: &World<T>,
+    value: &Value,
+    key: &Key,
+) -> Result<Asked<T>, OutOfMemory>
+    requires { Belongs L.made L.meaning labels.old world.now }
+    ensures asked { IfOk result (IsAsked L.made L.meaning labels.new (λ reading. asked_of (read_heap reading world.now.heap) key.now value.now)) }
+    ensures kept { IsKept L.made L.meaning L.room L.firm labels.old labels.new }
+{
+    match value {
+        Value::Object(o) => find_key(labels, world, *o, key),
+        Value::Primitive(p) => find_of_primitive(labels, world, p, key),
+    }
+}
+
+/// Whether a primitive value has a key itself, or from its prototype on. An own property has an empty walk.
+fn find_of_primitive<T: Copy, L: Labels<Label = T>>(
+    labels: &mut L,
+    world: &World<T>,
+    value: &Primitive,
+    key: &Key,
+) -> Result<Asked<T>, OutOfMemory>
+    requires { Belongs L.made L.meaning labels.old world.now }
+    ensures asked { IfOk result (IsAsked L.made L.meaning labels.new (λ reading. asked_of_primitive (own_value_of value.now key.now) (find key.now (primitive_chain (read_heap reading world.now.heap) value.now)))) }
+    ensures kept { IsKept L.made L.meaning L.room L.firm labels.old labels.new }
+{
+    if has_own(value, key.text()) {
+        let walk = labels.bottom();
+        return Ok(Asked { has: true, walk });
+    }
+    let (place, walk) = find_beyond(labels, world, value, key.text())?;
+    Ok(Asked {
+        has: place.is_some(),
+        walk,
+    })
+}
+
+/// Whether an object or a prototype of it has a key. An object that isn't there has none.
 fn find_key<T: Copy, L: Labels<Label = T>>(
     labels: &mut L,
     world: &World<T>,
     o: ObjId,
     key: &Key,
-) -> Result<Found<T>, OutOfMemory>
+) -> Result<Asked<T>, OutOfMemory>
     requires { Belongs L.made L.meaning labels.old world.now }
-    ensures found { IfOk result (IsFound L.made L.meaning labels.new world.now.heap o.0 key.now) }
+    ensures asked { IfOk result (IsAsked L.made L.meaning labels.new (λ reading. asked_in (find key.now (object_chain (read_heap reading world.now.heap) o.0)))) }
     ensures kept { IsKept L.made L.meaning L.room L.firm labels.old labels.new }
 {
-    if o.0 < world.heap.len() {
-        return find(&world.heap, labels, o, key);
-    }
-    let walk = labels.bottom();
-    Ok(Found { at: None, walk })
+    let (place, walk) = find_property(labels, world, o, key.text())?;
+    Ok(Asked {
+        has: place.is_some(),
+        walk,
+    })
 }

@@ -121,15 +121,16 @@ fn test_of<T: Copy, L: Labels<Label = T>>(
     ensures test { IfOk result (IsTest L.made L.meaning labels.new (λ reading. test_of (read_heap reading world.now.heap) (read_value reading value.now) (reading label) f.0)) }
     ensures kept { IsKept L.made L.meaning L.room L.firm labels.old labels.new }
 {
+    let Value::Object(object) = value.value else {
+        let label = join(labels, value.label, label)?;
+        return Ok(InstanceTest::Answered(Labelled {
+            value: Value::Primitive(Primitive::Bool(false)),
+            label,
+        }));
+    };
     let aimed = aim_of(&world.heap, labels, f)?;
     let of_function = join(labels, label, aimed.label)?;
     let depends = join(labels, value.label, of_function)?;
-    let Value::Object(object) = value.value else {
-        return Ok(InstanceTest::Answered(Labelled {
-            value: Value::Primitive(Primitive::Bool(false)),
-            label: depends,
-        }));
-    };
     let name = prototype_name(alloc)?;
     let function = aimed.function;
     let prototype = get_of(alloc, labels, world, function, of_function, &name, depends)?;

@@ -5,7 +5,8 @@ ghost use Rattle.origin_labels.specs.Stores.{IsKept};
 ghost use Rattle.flow_policy.specs.Policies.{Tables};
 ghost use Rattle.flow_policy.specs.Inputs.{Given};
 ghost use Rattle.js_ast.specs.Functions.{FunctionCode};
-ghost use Rattle.js_number.specs.declared.primitive.Primitive.TheVariants.{Num};
+ghost use Rattle.js_number.specs.declared.num.Num.TheVariants as nums;
+ghost use Rattle.js_number.specs.declared.primitive.Primitive.TheVariants as prims;
 ghost use Rattle.js_values.specs.Readings.{HasValue, read_value};
 ghost use Rattle.es_meaning.specs.BuiltIns.{BuiltIns};
 ghost use Rattle.flow_meaning.specs.Tracked.{labelled};
@@ -18,7 +19,7 @@ use crate::asking::has_key;
 use crate::needing::object_needed;
 use flow_frames::FlowFault;
 use js_ast::BinaryOperator;
-use js_number::{Int, Primitive};
+use js_number::{Int, Num, Primitive};
 use js_values::{Labelled, Value};
 use origin_labels::Labels;
 use run_state::{Outcome, World};
@@ -96,12 +97,12 @@ pub fn one_more<L: Labels>(
     number: &Labelled<L::Label>,
 ) -> Result<Outcome<Labelled<L::Label>, L::Label>, FlowFault<L::Label>>
     requires number { L.made labels.old number.now.label }
-    ensures acts { (tables : Tables) (inputs : Given) (set : BuiltIns) (functions : List FunctionCode) (world : World L.Label) → Acts L.made L.meaning labels.new (λ reading. read_value reading) (λ reading. (labelled tables inputs set functions).binary operator (read_value reading number.now) ((labelled tables inputs set functions).literal (Num (pos 1)))) world world result }
+    ensures acts { (tables : Tables) (inputs : Given) (set : BuiltIns) (functions : List FunctionCode) (world : World L.Label) → Acts L.made L.meaning labels.new (λ reading. read_value reading) (λ reading. (labelled tables inputs set functions).binary operator (read_value reading number.now) ((labelled tables inputs set functions).literal (prims.Num (nums.Int (pos 1))))) world world result }
     ensures made { HasAnswer (HasValue (L.made labels.new)) (L.made labels.new) result }
     ensures kept { IsKept L.made L.meaning L.room L.firm labels.old labels.new }
 {
     let other = Labelled {
-        value: Value::Primitive(Primitive::Num(one())),
+        value: Value::Primitive(Primitive::Num(Num::Int(one()))),
         label: labels.bottom(),
     };
     binary(alloc, labels, operator, number, &other)

@@ -12,9 +12,10 @@ ghost use Rattle.step_objects.specs.References.{refers, HasReference};
 use crate::deleting::remove_property;
 use flow_frames::FlowFault;
 use js_values::Labelled;
+use native_protocol::ErrorKind;
 use origin_labels::Labels;
-use property_access::{get_name, get_property, put_name, put_property, typeof_name};
-use run_state::{Access, Leaving, Named, Outcome, Putting, World};
+use property_access::{get_name, get_property, put_name, put_property, throw_error, typeof_name};
+use run_state::{Access, Named, Outcome, Putting, World};
 use std::alloc::Global;
 
 /// A name that is resolved, or a base and a key, of which the key is a primitive value.
@@ -100,7 +101,7 @@ pub fn put_value<L: Labels>(
     }
 }
 
-/// Deletes a property (ECMA-262 11.4.1), by rules W4 and W5. Strict code deletes no name.
+/// Deletes a property (ECMA-262 11.4.1), by rules W4 and W5. Strict code deletes no name: a script that says so is refused.
 pub fn remove<L: Labels>(
     alloc: Global,
     labels: &mut L,
@@ -116,7 +117,10 @@ pub fn remove<L: Labels>(
     ensures kept { IsKept L.made L.meaning L.room L.firm labels.old labels.new }
 {
     match reference {
-        Reference::Name(_) => Ok(Outcome::Leaves(Leaving::Unbuilt)),
+        Reference::Name(_) => {
+            let none = labels.bottom();
+            throw_error(labels, world, ErrorKind::SyntaxError, none)
+        }
         Reference::Property(base, key) => remove_property(alloc, labels, world, base, key),
     }
 }

@@ -1,1 +1,2 @@
 pub mod OperatorLaws
+mod LengthLaws

@@ -9,6 +9,7 @@ use Rattle.js_ast.specs.declared.operators.BinaryOperator.{BinaryOperator}
 use Rattle.js_ast.specs.declared.operators.BinaryOperator.TheVariants as binary_operator
 use Rattle.js_ast.specs.declared.operators.UnaryOperator.{UnaryOperator}
 use Rattle.js_ast.specs.declared.operators.UnaryOperator.TheVariants as unary_operator
+use Rattle.js_number.specs.declared.num.Num.TheVariants.{Int}
 use Rattle.js_number.specs.declared.primitive.Primitive.TheVariants.{Num}
 use Rattle.js_values.specs.declared.value.Labelled.{Labelled}
 use Rattle.js_values.specs.Readings.{IsReading, HasValue, read_value}
@@ -20,7 +21,7 @@ use Rattle.es_meaning.specs.Evaluation.{Conversion, unconverted, compared, primi
 use Rattle.es_meaning.specs.Operations.{Value, Ops, Rec, has_key, object_needed}
 use Rattle.es_meaning.specs.Outcomes.{Outcome}
 use Rattle.es_meaning.specs.Plain.{object_or_default}
-use Rattle.flow_meaning.specs.Planned.{gave, Give, Enters, and_plan, as_plan, asking, end_instance, planned, with_result}
+use Rattle.flow_meaning.specs.Planned.{gave, Give, Enters, and_plan, asking, end_instance, planned, with_result}
 use Rattle.flow_meaning.specs.Scopes.{Val, Halt, Jump, State}
 use Rattle.flow_meaning.specs.Tracked.{Reference, act, is_instance, labelled}
 use Rattle.step_objects.specs.Instances.{AreTested, read_test, tested, tests_on}
@@ -218,10 +219,10 @@ module _ (tables : Tables) (inputs : Given) (set : BuiltIns) (functions : List F
   number_as counting.Prefix o n v s = sym (followed Value (T.unary unary_operator.Plus v s) (prefix_by O E o n))
   number_as counting.Postfix o n v s = sym (followed Value (T.unary unary_operator.Plus v s) (postfix_by O E o n))
 
-  pub changed_as : (how : Counting) (o : BinaryOperator) (n : Reference) (old : Val) (s : State) → following ((labelled no_tables [] none_built []).binary o old (T.literal (Num (pos 1))) s) (given_by how tables inputs set functions n old) ≡ changed_by how tables inputs set functions o n old s
+  pub changed_as : (how : Counting) (o : BinaryOperator) (n : Reference) (old : Val) (s : State) → following ((labelled no_tables [] none_built []).binary o old (T.literal (Num (Int (pos 1)))) s) (given_by how tables inputs set functions n old) ≡ changed_by how tables inputs set functions o n old s
   unfolding prefix_by postfix_by
-  changed_as counting.Prefix o n old s = sym (followed Value (T.binary o old (T.literal (Num (pos 1))) s) (assign_to O E n))
-  changed_as counting.Postfix o n old s = sym (followed Value (T.binary o old (T.literal (Num (pos 1))) s) (assign_giving O E n old))
+  changed_as counting.Prefix o n old s = sym (followed Value (T.binary o old (T.literal (Num (Int (pos 1)))) s) (assign_to O E n))
+  changed_as counting.Postfix o n old s = sym (followed Value (T.binary o old (T.literal (Num (Int (pos 1)))) s) (assign_giving O E n old))
 
   -- ---- compound assignments
 

@@ -1,5 +1,5 @@
 -- `++` and `--` behind the old value as a number.
-use Rattle.std.specs.Prelude.{ℕ, List, pos}
+use Rattle.std.specs.Prelude.{List}
 use Rattle.flow_policy.specs.Policies.{Tables}
 use Rattle.flow_policy.specs.Inputs.{Given}
 use Rattle.js_ast.specs.Functions.{FunctionCode}

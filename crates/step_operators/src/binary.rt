@@ -43,7 +43,7 @@ pub fn binary_done<'p, L: Labels>(
     requires made { All (HasValue (L.made labels.old)) stack.old.loose }
     requires belongs { Belongs L.made L.meaning labels.old world.old }
     ensures goes_on { Resumed L.made L.meaning labels.new (continuation.BinaryDone operator) stack.old stack.new world.old world.new result }
-    ensures moved { IfOk result (Moved (L.made labels.new) 8 stack.old stack.new world.old world.new) }
+    ensures moved { IfOk result (Moved (L.made labels.new) 10 stack.old stack.new world.old world.new) }
     ensures stopped { IfErr result (IfStop (HasStop (L.made labels.new))) }
     ensures belongs { Belongs L.made L.meaning labels.new world.new }
     ensures grows { Grows world.old world.new }
@@ -70,7 +70,7 @@ pub(crate) fn operate<'p, L: Labels>(
     requires right { L.made labels.old right.label }
     requires belongs { Belongs L.made L.meaning labels.old world.old }
     ensures goes_on { Begun L.made L.meaning labels.new (λ tables inputs set functions reading e. binary_values (planned tables inputs set functions) (entrance tables inputs set functions) operator (read_value reading left) (read_value reading right)) stack.old stack.new world.old world.new result }
-    ensures moved { IfOk result (Moved (L.made labels.new) 8 stack.old stack.new world.old world.new) }
+    ensures moved { IfOk result (Moved (L.made labels.new) 10 stack.old stack.new world.old world.new) }
     ensures stopped { IfErr result (IfStop (HasStop (L.made labels.new))) }
     ensures belongs { Belongs L.made L.meaning labels.new world.new }
     ensures grows { Grows world.old world.new }
@@ -100,7 +100,7 @@ fn convert_operands<'p, L: Labels>(
     requires right { L.made labels.old right.label }
     requires belongs { Belongs L.made L.meaning labels.old world.old }
     ensures goes_on { Begun L.made L.meaning labels.new (λ tables inputs set functions reading e. binary_values (planned tables inputs set functions) (entrance tables inputs set functions) operator (read_value reading left) (read_value reading right)) stack.old stack.new world.old world.new result }
-    ensures moved { IfOk result (Moved (L.made labels.new) 8 stack.old stack.new world.old world.new) }
+    ensures moved { IfOk result (Moved (L.made labels.new) 10 stack.old stack.new world.old world.new) }
     ensures stopped { IfErr result (IfStop (HasStop (L.made labels.new))) }
     ensures belongs { Belongs L.made L.meaning labels.new world.new }
     ensures grows { Grows world.old world.new }
@@ -139,7 +139,7 @@ fn compare_left<'p, L: Labels>(
     requires left { L.made labels.now left.label }
     requires right { L.made labels.now right.label }
     ensures goes_on { IfOk result (λ next. Begun L.made L.meaning labels.now (λ tables inputs set functions reading e. (planned tables inputs set functions).bind Value Value ((planned tables inputs set functions).comparable (read_value reading left) (read_value reading right) (entrance tables inputs set functions)) (converted_left tables inputs set functions (conversion_of operator) operator (read_value reading right))) stack.old stack.new world.now world.now (Ok next)) }
-    ensures moved { IfOk result (Moved (L.made labels.now) 8 stack.old stack.new world.now world.now) }
+    ensures moved { IfOk result (Moved (L.made labels.now) 10 stack.old stack.new world.now world.now) }
 {
     let kept = right.copy(alloc)?;
     stack.lay(kept)?;
@@ -164,7 +164,7 @@ fn convert_left<'p, L: Labels>(
     requires left { L.made labels.now left.label }
     requires right { L.made labels.now right.label }
     ensures goes_on { IfOk result (λ next. Begun L.made L.meaning labels.now (λ tables inputs set functions reading e. (planned tables inputs set functions).bind Value Value ((planned tables inputs set functions).primitive hint (read_value reading left) (entrance tables inputs set functions)) (converted_left tables inputs set functions (conversion_of operator) operator (read_value reading right))) stack.old stack.new world.now world.now (Ok next)) }
-    ensures moved { IfOk result (Moved (L.made labels.now) 8 stack.old stack.new world.now world.now) }
+    ensures moved { IfOk result (Moved (L.made labels.now) 10 stack.old stack.new world.now world.now) }
 {
     stack.lay(right)?;
     stack.push(Continuation::ConvertedLeft(operator))?;
@@ -186,7 +186,7 @@ fn need_object<'p, L: Labels>(
     requires right { L.made labels.old right.label }
     requires belongs { Belongs L.made L.meaning labels.old world.old }
     ensures goes_on { Begun L.made L.meaning labels.new (λ tables inputs set functions reading e. binary_by (planned tables inputs set functions) (entrance tables inputs set functions) keyed operator.In (read_value reading left) (read_value reading right)) stack.old stack.new world.old world.new result }
-    ensures moved { IfOk result (Moved (L.made labels.new) 8 stack.old stack.new world.old world.new) }
+    ensures moved { IfOk result (Moved (L.made labels.new) 10 stack.old stack.new world.old world.new) }
     ensures stopped { IfErr result (IfStop (HasStop (L.made labels.new))) }
     ensures belongs { Belongs L.made L.meaning labels.new world.new }
     ensures grows { Grows world.old world.new }
@@ -216,7 +216,7 @@ fn convert_key<'p, L: Labels>(
     requires key { L.made labels.now key.label }
     requires object { L.made labels.now object.label }
     ensures goes_on { IfOk result (λ next. Begun L.made L.meaning labels.now (λ tables inputs set functions reading e. has_right (planned tables inputs set functions) (entrance tables inputs set functions) (read_value reading key) (read_value reading object)) stack.old stack.new world.now world.now (Ok next)) }
-    ensures moved { IfOk result (Moved (L.made labels.now) 6 stack.old stack.new world.now world.now) }
+    ensures moved { IfOk result (Moved (L.made labels.now) 8 stack.old stack.new world.now world.now) }
 {
     stack.lay(object)?;
     stack.push(Continuation::KeyHas)?;

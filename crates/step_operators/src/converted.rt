@@ -39,7 +39,7 @@ pub fn left_converted<'p, L: Labels>(
     requires made { All (HasValue (L.made labels.old)) stack.old.loose }
     requires belongs { Belongs L.made L.meaning labels.old world.old }
     ensures goes_on { Resumed L.made L.meaning labels.new (continuation.ConvertedLeft operator) stack.old stack.new world.old world.new result }
-    ensures moved { IfOk result (Moved (L.made labels.new) 6 stack.old stack.new world.old world.new) }
+    ensures moved { IfOk result (Moved (L.made labels.new) 8 stack.old stack.new world.old world.new) }
     ensures stopped { IfErr result (IfStop (HasStop (L.made labels.new))) }
     ensures belongs { Belongs L.made L.meaning labels.new world.new }
     ensures grows { Grows world.old world.new }
@@ -65,7 +65,7 @@ fn convert_next<'p, L: Labels>(
     requires right { L.made labels.old right.label }
     requires belongs { Belongs L.made L.meaning labels.old world.old }
     ensures goes_on { Begun L.made L.meaning labels.new (λ tables inputs set functions reading e. converted_left tables inputs set functions (conversion_of operator) operator (read_value reading right) (read_value reading left)) stack.old stack.new world.old world.new result }
-    ensures moved { IfOk result (Moved (L.made labels.new) 6 stack.old stack.new world.old world.new) }
+    ensures moved { IfOk result (Moved (L.made labels.new) 8 stack.old stack.new world.old world.new) }
     ensures stopped { IfErr result (IfStop (HasStop (L.made labels.new))) }
     ensures belongs { Belongs L.made L.meaning labels.new world.new }
     ensures grows { Grows world.old world.new }
@@ -100,7 +100,7 @@ fn compare_right<'p, L: Labels>(
     requires left { L.made labels.now left.label }
     requires right { L.made labels.now right.label }
     ensures goes_on { IfOk result (λ next. Begun L.made L.meaning labels.now (λ tables inputs set functions reading e. compared_left (planned tables inputs set functions) (entrance tables inputs set functions) operator (read_value reading right) (read_value reading left)) stack.old stack.new world.now world.now (Ok next)) }
-    ensures moved { IfOk result (Moved (L.made labels.now) 6 stack.old stack.new world.now world.now) }
+    ensures moved { IfOk result (Moved (L.made labels.now) 8 stack.old stack.new world.now world.now) }
 {
     let kept = left.copy(alloc)?;
     stack.lay(kept)?;
@@ -124,7 +124,7 @@ fn convert_right<'p, L: Labels>(
     requires left { L.made labels.now left.label }
     requires right { L.made labels.now right.label }
     ensures goes_on { IfOk result (λ next. Begun L.made L.meaning labels.now (λ tables inputs set functions reading e. primitive_left (planned tables inputs set functions) (entrance tables inputs set functions) hint operator (read_value reading right) (read_value reading left)) stack.old stack.new world.now world.now (Ok next)) }
-    ensures moved { IfOk result (Moved (L.made labels.now) 6 stack.old stack.new world.now world.now) }
+    ensures moved { IfOk result (Moved (L.made labels.now) 8 stack.old stack.new world.now world.now) }
 {
     stack.lay(left)?;
     stack.push(Continuation::Operate(operator))?;
@@ -146,7 +146,7 @@ fn make_number<'p, L: Labels>(
     requires left { L.made labels.now left.label }
     requires right { L.made labels.now right.label }
     ensures goes_on { Begun L.made L.meaning labels.now (λ tables inputs set functions reading e. number_left (planned tables inputs set functions) (entrance tables inputs set functions) operator (read_value reading right) (read_value reading left)) stack.old stack.new world.now world.now result }
-    ensures moved { IfOk result (Moved (L.made labels.now) 6 stack.old stack.new world.now world.now) }
+    ensures moved { IfOk result (Moved (L.made labels.now) 8 stack.old stack.new world.now world.now) }
     ensures stopped { IfErr result (IfStop (HasStop (L.made labels.now))) }
 {
     let answer = unary(alloc, world, UnaryOperator::Plus, &left);

@@ -40,7 +40,7 @@ pub fn compound_done<'p, L: Labels>(
     requires made { All (HasValue (L.made labels.old)) stack.old.loose }
     requires belongs { Belongs L.made L.meaning labels.old world.old }
     ensures goes_on { Resumed L.made L.meaning labels.new (continuation.CompoundDone operator target.entry) stack.old stack.new world.old world.new result }
-    ensures moved { IfOk result (Moved (L.made labels.new) 12 stack.old stack.new world.old world.new) }
+    ensures moved { IfOk result (Moved (L.made labels.new) 16 stack.old stack.new world.old world.new) }
     ensures stopped { IfErr result (IfStop (HasStop (L.made labels.new))) }
     ensures belongs { Belongs L.made L.meaning labels.new world.new }
     ensures grows { Grows world.old world.new }
@@ -64,7 +64,7 @@ pub fn counted<'p, L: Labels>(
     requires loose { length stack.old.loose ≡ owns_target target + 1 }
     requires made { All (HasValue (L.made labels.now)) stack.old.loose }
     ensures goes_on { IfOk result (λ next. Resumed L.made L.meaning labels.now (continuation.Counted counting operator target.entry) stack.old stack.new world.now world.now (Ok next)) }
-    ensures moved { IfOk result (Moved (L.made labels.now) 9 stack.old stack.new world.now world.now) }
+    ensures moved { IfOk result (Moved (L.made labels.now) 13 stack.old stack.new world.now world.now) }
 {
     let value = stack.pop();
     stack.push(Continuation::CountedNumber(counting, operator, target))?;
@@ -86,7 +86,7 @@ pub fn counted_number<'p, L: Labels>(
     requires made { All (HasValue (L.made labels.old)) stack.old.loose }
     requires belongs { Belongs L.made L.meaning labels.old world.old }
     ensures goes_on { Resumed L.made L.meaning labels.new (continuation.CountedNumber counting operator target.entry) stack.old stack.new world.old world.new result }
-    ensures moved { IfOk result (Moved (L.made labels.new) 7 stack.old stack.new world.old world.new) }
+    ensures moved { IfOk result (Moved (L.made labels.new) 11 stack.old stack.new world.old world.new) }
     ensures stopped { IfErr result (IfStop (HasStop (L.made labels.new))) }
     ensures belongs { Belongs L.made L.meaning labels.new world.new }
     ensures grows { Grows world.old world.new }
@@ -115,7 +115,7 @@ fn count<'p, L: Labels>(
     requires value { L.made labels.old value.label }
     requires belongs { Belongs L.made L.meaning labels.old world.old }
     ensures goes_on { Begun L.made L.meaning labels.new (λ tables inputs set functions reading e. numbered_by counting tables inputs set functions operator (refers reading reference.now) (read_value reading value)) stack.old stack.new world.old world.new result }
-    ensures moved { IfOk result (Moved (L.made labels.new) 7 stack.old stack.new world.old world.new) }
+    ensures moved { IfOk result (Moved (L.made labels.new) 11 stack.old stack.new world.old world.new) }
     ensures stopped { IfErr result (IfStop (HasStop (L.made labels.new))) }
     ensures belongs { Belongs L.made L.meaning labels.new world.new }
     ensures grows { Grows world.old world.new }
@@ -147,7 +147,7 @@ fn change<'p, L: Labels>(
     requires old { L.made labels.old old.label }
     requires belongs { Belongs L.made L.meaning labels.old world.old }
     ensures goes_on { Begun L.made L.meaning labels.new (λ tables inputs set functions reading e. changed_by counting tables inputs set functions operator (refers reading reference.now) (read_value reading old)) stack.old stack.new world.old world.new result }
-    ensures moved { IfOk result (Moved (L.made labels.new) 7 stack.old stack.new world.old world.new) }
+    ensures moved { IfOk result (Moved (L.made labels.new) 11 stack.old stack.new world.old world.new) }
     ensures stopped { IfErr result (IfStop (HasStop (L.made labels.new))) }
     ensures belongs { Belongs L.made L.meaning labels.new world.new }
     ensures grows { Grows world.old world.new }
@@ -178,7 +178,7 @@ fn give<'p, L: Labels>(
     requires new { L.made labels.old new.label }
     requires belongs { Belongs L.made L.meaning labels.old world.old }
     ensures goes_on { Begun L.made L.meaning labels.new (λ tables inputs set functions reading e. given_by counting tables inputs set functions (refers reading reference.now) (read_value reading old) (read_value reading new)) stack.old stack.new world.old world.new result }
-    ensures moved { IfOk result (Moved (L.made labels.new) 7 stack.old stack.new world.old world.new) }
+    ensures moved { IfOk result (Moved (L.made labels.new) 11 stack.old stack.new world.old world.new) }
     ensures stopped { IfErr result (IfStop (HasStop (L.made labels.new))) }
     ensures belongs { Belongs L.made L.meaning labels.new world.new }
     ensures grows { Grows world.old world.new }

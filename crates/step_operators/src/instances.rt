@@ -40,7 +40,7 @@ pub fn instance_done<'p, L: Labels>(
     requires made { All (HasValue (L.made labels.old)) stack.old.loose }
     requires belongs { Belongs L.made L.meaning labels.old world.old }
     ensures goes_on { Resumed L.made L.meaning labels.new (continuation.InstanceDone) stack.old stack.new world.old world.new result }
-    ensures moved { IfOk result (Moved (L.made labels.new) 7 stack.old stack.new world.old world.new) }
+    ensures moved { IfOk result (Moved (L.made labels.new) 9 stack.old stack.new world.old world.new) }
     ensures stopped { IfErr result (IfStop (HasStop (L.made labels.new))) }
     ensures belongs { Belongs L.made L.meaning labels.new world.new }
     ensures grows { Grows world.old world.new }
@@ -65,7 +65,7 @@ fn test<'p, L: Labels>(
     requires right { L.made labels.old right.label }
     requires belongs { Belongs L.made L.meaning labels.old world.old }
     ensures goes_on { Begun L.made L.meaning labels.new (λ tables inputs set functions reading e. instance_done (planned tables inputs set functions) (entrance tables inputs set functions) (asking tables inputs set functions) (read_value reading left) (read_value reading right)) stack.old stack.new world.old world.new result }
-    ensures moved { IfOk result (Moved (L.made labels.new) 7 stack.old stack.new world.old world.new) }
+    ensures moved { IfOk result (Moved (L.made labels.new) 9 stack.old stack.new world.old world.new) }
     ensures stopped { IfErr result (IfStop (HasStop (L.made labels.new))) }
     ensures belongs { Belongs L.made L.meaning labels.new world.new }
     ensures grows { Grows world.old world.new }
@@ -92,7 +92,7 @@ fn read_prototype<'p, L: Labels>(
     requires loose { length stack.old.loose ≡ 0 }
     requires made { HasTest (L.made labels.now) test }
     ensures goes_on { IfOk result (Comes (λ tables inputs set functions reading. tests_on functions (entrance tables inputs set functions) (read_test reading test)) stack.old stack.new) }
-    ensures moved { (world : World L.Label) → IfOk result (Moved (L.made labels.now) 7 stack.old stack.new world world) }
+    ensures moved { (world : World L.Label) → IfOk result (Moved (L.made labels.now) 9 stack.old stack.new world world) }
 {
     match test {
         InstanceTest::Answered(value) => {
@@ -125,7 +125,7 @@ pub fn instance_test<'p, L: Labels>(
     requires made { All (HasValue (L.made labels.old)) stack.old.loose }
     requires belongs { Belongs L.made L.meaning labels.old world.old }
     ensures goes_on { Resumed L.made L.meaning labels.new (continuation.InstanceTest) stack.old stack.new world.old world.new result }
-    ensures moved { IfOk result (Moved (L.made labels.new) 4 stack.old stack.new world.old world.new) }
+    ensures moved { IfOk result (Moved (L.made labels.new) 6 stack.old stack.new world.old world.new) }
     ensures stopped { IfErr result (IfStop (HasStop (L.made labels.new))) }
     ensures belongs { Belongs L.made L.meaning labels.new world.new }
     ensures grows { Grows world.old world.new }
@@ -149,7 +149,7 @@ fn look_up<'p, L: Labels>(
     requires proto { L.made labels.old proto.label }
     requires belongs { Belongs L.made L.meaning labels.old world.old }
     ensures goes_on { Begun L.made L.meaning labels.new (λ tables inputs set functions reading e s. end_instance (reading object.label) (object_or_default object.value).0 (gave (read_value reading proto)) s) stack.old stack.new world.old world.new result }
-    ensures moved { IfOk result (Moved (L.made labels.new) 4 stack.old stack.new world.old world.new) }
+    ensures moved { IfOk result (Moved (L.made labels.new) 6 stack.old stack.new world.old world.new) }
     ensures stopped { IfErr result (IfStop (HasStop (L.made labels.new))) }
     ensures belongs { Belongs L.made L.meaning labels.new world.new }
     ensures grows { Grows world.old world.new }
@@ -161,7 +161,7 @@ fn look_up<'p, L: Labels>(
 }
 
 /// The object that a value is. No other is kept.
-fn object_in(value: &Value) -> ObjId
+pub(crate) fn object_in(value: &Value) -> ObjId
     ensures { result ≡ object_or_default value.now }
 {
     match value {

@@ -35,7 +35,7 @@ pub fn unary_done<'p, L: Labels>(
     requires loose { length stack.old.loose ≡ 1 }
     requires made { All (HasValue (L.made labels.now)) stack.old.loose }
     ensures goes_on { Resumed L.made L.meaning labels.now (continuation.Unary operator) stack.old stack.new world.now world.now result }
-    ensures moved { IfOk result (Moved (L.made labels.now) 6 stack.old stack.new world.now world.now) }
+    ensures moved { IfOk result (Moved (L.made labels.now) 8 stack.old stack.new world.now world.now) }
     ensures stopped { IfErr result (IfStop (HasStop (L.made labels.now))) }
 {
     let value = stack.pop();
@@ -59,7 +59,7 @@ pub fn unary_converted<'p, L: Labels>(
     requires loose { length stack.old.loose ≡ 1 }
     requires made { All (HasValue (L.made labels.now)) stack.old.loose }
     ensures goes_on { Resumed L.made L.meaning labels.now (continuation.UnaryConverted operator) stack.old stack.new world.now world.now result }
-    ensures moved { IfOk result (Moved (L.made labels.now) 4 stack.old stack.new world.now world.now) }
+    ensures moved { IfOk result (Moved (L.made labels.now) 6 stack.old stack.new world.now world.now) }
     ensures stopped { IfErr result (IfStop (HasStop (L.made labels.now))) }
 {
     let value = stack.pop();
@@ -78,7 +78,7 @@ fn apply_unary<'p, L: Labels>(
     requires loose { length stack.old.loose ≡ 0 }
     requires value { L.made labels.now value.now.label }
     ensures goes_on { Begun L.made L.meaning labels.now (λ tables inputs set functions reading e. (planned tables inputs set functions).unary operator (read_value reading value.now)) stack.old stack.new world.now world.now result }
-    ensures moved { IfOk result (Moved (L.made labels.now) 4 stack.old stack.new world.now world.now) }
+    ensures moved { IfOk result (Moved (L.made labels.now) 6 stack.old stack.new world.now world.now) }
     ensures stopped { IfErr result (IfStop (HasStop (L.made labels.now))) }
 {
     let answer = unary(alloc, world, operator, value);
@@ -96,7 +96,7 @@ fn convert_operand<'p, L: Labels>(
     requires loose { length stack.old.loose ≡ 0 }
     requires value { L.made labels.now value.label }
     ensures goes_on { IfOk result (λ next. Begun L.made L.meaning labels.now (λ tables inputs set functions reading e. unary_by (planned tables inputs set functions) (entrance tables inputs set functions) Bool.true operator (read_value reading value)) stack.old stack.new world.now world.now (Ok next)) }
-    ensures moved { IfOk result (Moved (L.made labels.now) 6 stack.old stack.new world.now world.now) }
+    ensures moved { IfOk result (Moved (L.made labels.now) 8 stack.old stack.new world.now world.now) }
 {
     stack.push(Continuation::UnaryConverted(operator))?;
     stack.lay(value)?;

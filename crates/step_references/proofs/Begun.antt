@@ -16,21 +16,24 @@ use Rattle.es_meaning.specs.Operations.{Ty}
 use Rattle.es_meaning.specs.Outcomes.{Outcome}
 use Rattle.flow_meaning.specs.Scopes.{State, Val, Halt, Jump, L, LabelledLine, stopped}
 use Rattle.flow_meaning.specs.Tracked.{Reference, resolved}
-use Rattle.flow_meaning.specs.Planned.{gave, Plan, and_plan, planned}
+use Rattle.flow_meaning.specs.Planned.{gave, Plan, and_plan, enter_count, planned}
 use Rattle.run_state.specs.declared.outcome.Outcome as machine
 use Rattle.run_state.specs.declared.outcome.Outcome.TheVariants as outcomes
 use Rattle.run_state.specs.declared.outcome.Named.{Named}
+use Rattle.run_state.specs.declared.outcome.SetLength.{SetLength}
 use Rattle.run_state.specs.declared.world.World.{World}
 use Rattle.run_state.specs.Acts.{Acts, Says}
 use Rattle.run_state.specs.Names.{reference_of}
 use Rattle.run_state.specs.Worlds.{state_of}
-use Rattle.continuations.specs.Settings.{Setting}
+use Rattle.continuations.specs.Arrays.{counts_from}
+use Rattle.continuations.specs.Settings.{Setting, entrance}
 use Rattle.continuations.specs.declared.continuation.Continuation.{Continuation}
 use Rattle.continuations.specs.declared.continuation.Control.{Control}
 use Rattle.continuations.specs.Kept.{Kept}
 use Rattle.continuations.specs.Moving.{Moves, Planning, following}
-use Rattle.continuations.specs.Pending.{Task, after, behind, next_plan, setting_above, setting_inside}
+use Rattle.continuations.specs.Pending.{Task, after, behind, next_plan, sets_length, setting_above, setting_inside}
 use Rattle.continuations.specs.Resuming.{BeginsBehind, coming}
+use Rattle.continuations.proofs.ArrayLaws.{length_begins}
 use Rattle.continuations.proofs.Behind.{behind_more, setting_more}
 use Rattle.continuations.proofs.Handed.{behind_end}
 use Rattle.step_references.specs.declared.handing_on.Went.TheVariants as went
@@ -162,6 +165,20 @@ module _ {S T : Type 0} {made : S → T → Type 0} {meaning : S → T → Label
         let s = state_of reading world told turns in
         ap (λ (n : Kept T). coming tables inputs set functions reading n move e s) laid
         ∙ behind_one tables inputs set functions reading old.tasks (old.tasks ++ (w, vs) ∷ []) w vs e (λ f. next_plan tables inputs set functions move (map (read_value reading) loose) f s) refl
+        ∙ ap (behind tables inputs set functions reading old.tasks e) (same tables inputs set functions reading (setting_above old.tasks e) s is);
+  }
+
+  -- work was added, and above it a value for the `length` of an array is converted
+  pub begun_counted : {pushed new : Kept T} {world : World T} {move : Control} (how : SetLength) (array v : Labelled T) (w : Continuation) (vs : List (Labelled T)) → pushed ≡ record { tasks = old.tasks ++ (w, vs) ∷ []; loose = [] } → counts_from how array v pushed new move
+      → ((tables : Tables) (inputs : Given) (set : BuiltIns) (functions : List FunctionCode) (reading : T → Label) (f : Setting) (s : State) → IsReading made meaning store reading
+      → and_plan (enter_count (entrance tables inputs set functions) (reading array.label) (read_value reading v) (sets_length tables inputs set functions how (read_value reading array)) s) (after tables inputs set functions w (map (read_value reading) vs) f) ≡ plan tables inputs set functions reading f s)
+      → Begun made meaning store plan old new world world (Ok move)
+  begun_counted {pushed} {new} {world} {move} how array v w vs laid counts same = record {
+    begins = λ tables inputs set functions reading e told turns is.
+        let s = state_of reading world told turns in
+        let sets = enter_count (entrance tables inputs set functions) (reading array.label) (read_value reading v) (sets_length tables inputs set functions how (read_value reading array)) s in
+        length_begins how array v pushed new move counts tables inputs set functions reading e s
+        ∙ behind_one tables inputs set functions reading old.tasks pushed.tasks w vs e (λ f. sets) (ap (λ (k : Kept T). k.tasks) laid)
         ∙ ap (behind tables inputs set functions reading old.tasks e) (same tables inputs set functions reading (setting_above old.tasks e) s is);
   }
 

@@ -7,6 +7,7 @@ use Rattle.js_values.specs.declared.value.Labelled.{Labelled}
 use Rattle.js_values.specs.Readings.{HasValue}
 use Rattle.run_state.specs.declared.outcome.Outcome.{Outcome}
 use Rattle.run_state.specs.declared.outcome.Outcome.TheVariants as outcome
+use Rattle.run_state.specs.declared.outcome.SetLength.{SetLength}
 use Rattle.run_state.specs.declared.world.World.{World}
 use Rattle.origin_labels.specs.Label.{Label}
 use Rattle.flow_meaning.specs.Scopes.{State, L}
@@ -14,6 +15,7 @@ use Rattle.run_state.specs.Acts.{Acts, HasAnswer}
 use Rattle.run_state.proofs.ActLaws.{HasAnswer-weaker}
 use Rattle.step_objects.proofs.Frames.{stands_by}
 use Rattle.step_objects.specs.Standing.{FramesStand, StandsBy}
+use Rattle.continuations.specs.Arrays.{counts_from}
 use Rattle.continuations.specs.declared.continuation.Continuation.{Continuation}
 use Rattle.continuations.specs.declared.continuation.Control.{Control}
 use Rattle.continuations.specs.declared.continuation.Control.TheVariants as control
@@ -26,7 +28,7 @@ use Rattle.continuations.proofs.Keeping.{scopes_more, natives_more, kept_more}
 use Rattle.continuations.proofs.Loads.{load_more}
 use Rattle.step_references.specs.declared.handing_on.Went.TheVariants as went
 use Rattle.step_references.specs.Moving.{Moved, Parts}
-use Rattle.step_references.proofs.Loose.{only}
+use Rattle.step_references.proofs.Loose.{both, only}
 
 module _ {T : Type 0} where
   -- ---- frames
@@ -119,6 +121,29 @@ module _ {T : Type 0} where
       stands = stands_still world world refl move;
     }
 
+    -- a value for the `length` of an array is converted, and both wait
+    rests_counted : {old new : Kept T} {move : Control} (how : SetLength) (array v : Labelled T) → made array.label → made v.label → counts_from how array v old new move → Rests made old new move
+    rests_counted {old} {new} {move} how array v has_array has_value counts =
+        let two = both (HasValue made) array v has_array has_value in
+        record {
+          values = ap length counts.loose ∙ ap values_of (sym counts.moves);
+          scopes = counts.scopes;
+          natives = counts.natives;
+          operands = λ all. subst (All (HasValue made)) (sym counts.operands) (All-append (HasValue made) (kept_operands old.tasks ++ array ∷ v ∷ []) (array ∷ v ∷ []) (All-append (HasValue made) (kept_operands old.tasks) (array ∷ v ∷ []) all two) two);
+        }
+
+    -- the same above work that was added
+    pub moved_counted : {n : ℕ} {old pushed new : Kept T} {world : World T} {move : Control} (how : SetLength) (array v : Labelled T) (w : Continuation) (vs : List (Labelled T)) → pushed ≡ record { tasks = old.tasks ++ (w, vs) ∷ []; loose = [] } → scope_of w ≡ [] → waits w ≡ 0 → All (HasValue made) vs → made array.label → made v.label
+        → counts_from how array v pushed new move → Adds 10 pushed new move → weight w + 10 ≤ n → Moved made n old new world world move
+    moved_counted {n} {old} {pushed} {new} {world} {move} how array v w vs laid own alone has has_array has_value counts adds most = record {
+      rests = rests_behind {pushed = pushed} w vs own alone (ap (λ k. k.tasks) laid) has (rests_counted how array v has_array has_value counts);
+      adds =
+          let here : load pushed.tasks ≡ load (old.tasks ++ (w, vs) ∷ []) = ap (λ k. load k.tasks) laid in
+          let more = load_more old.tasks (w, vs) in
+          omega (arith, here, more, adds, most);
+      stands = stands_still world world refl move;
+    }
+
   -- ---- calls behind others
 
   -- behind acts that leave the frames, and values that were taken away
@@ -166,7 +191,7 @@ module _ {T : Type 0} where
     has_on made has old new (Err f) y answer parts = absurd parts
 
     -- it doesn't go on
-    pub moved_off : {made : T → Type 0} {n : ℕ} {world_old world_new : World T} (old new : Kept T) (answer : Result (Outcome X T) (FlowFault T)) (move : Control) → 4 ≤ n → HasAnswer (λ x. Unit {0}) made answer → StandsBy world_old world_new answer → Parts made old new answer (Ok (went.Off move)) → Moved made n old new world_old world_new move
+    pub moved_off : {made : T → Type 0} {n : ℕ} {world_old world_new : World T} (old new : Kept T) (answer : Result (Outcome X T) (FlowFault T)) (move : Control) → 6 ≤ n → HasAnswer (λ x. Unit {0}) made answer → StandsBy world_old world_new answer → Parts made old new answer (Ok (went.Off move)) → Moved made n old new world_old world_new move
     moved_off old new (Ok (outcome.Goes x)) move most has stands parts = absurd parts
     moved_off {made} {n} {world_old} {world_new} old new (Ok (outcome.Throws v)) move most has stands parts =
         subst (λ (k : Kept T). Moved made n old k world_old world_new move) (sym parts.1) (subst (λ m. Moved made n old (stack_of old.tasks (v ∷ [])) world_old world_new m) (sym parts.0) (record {

@@ -1,5 +1,6 @@
 -- What is done with references, as plans.
-use Rattle.std.proofs.Common.{refl, sym, ap, ap₂, ◌≡◌, ℕ, Bool, List, [], ◌∷◌, pos}
+use Rattle.std.proofs.Common.{refl, sym, ap, ap₂, ◌∙◌, ◌≡◌, ℕ, Bool, List, [], ◌∷◌, pos}
+use Rattle.js_number.specs.declared.num.Num.TheVariants.{Int}
 use Rattle.js_number.specs.declared.primitive.Primitive.TheVariants.{Num, Str}
 use Rattle.js_values.specs.declared.value.Value.TheVariants as value
 use Rattle.origin_labels.specs.Label.{Label, bottom}
@@ -10,16 +11,17 @@ use Rattle.js_ast.specs.declared.operators.BinaryOperator.{BinaryOperator}
 use Rattle.js_ast.specs.declared.operators.UnaryOperator.TheVariants as unary_operator
 use Rattle.js_ast.specs.Trees.{Expr, Exprs, Ident, MaybeExpr}
 use Rattle.native_protocol.specs.declared.hint.Hint.TheVariants as hint
+use Rattle.native_protocol.specs.declared.request.ErrorKind.TheVariants as error
 use Rattle.es_meaning.specs.BuiltIns.{BuiltIns}
-use Rattle.es_meaning.specs.Operations.{One, Value, Ops, Rec, Use, base_needed, assigned, updated_by, asked, valued, deleted, given_text, called}
+use Rattle.es_meaning.specs.Operations.{One, Value, Ops, Rec, Use, base_needed, assigned, updated_by, asked, valued, deleted, given_text, called, throws_error}
 use Rattle.es_meaning.specs.Operators.{is_object}
 use Rattle.es_meaning.specs.Evaluation.{give, assign_to, assign_giving, binary_values, compound_done, compound_right, more_variables, variables, used, read_value, prefix_by, prefix_number, prefix_value, postfix_by, postfix_number, postfix_value, unary_done, unary_value, call_reference, index_key, member_base, with_base, with_key}
 use Rattle.flow_meaning.specs.Scopes.{Val, State}
-use Rattle.flow_meaning.specs.Planned.{gave, Enters, Give, Ask, an_expr, and_plan, with_result, planned, asking, enter_access, enter_putting, convert_by, end_setter, with_outcome}
+use Rattle.flow_meaning.specs.Planned.{gave, Enters, Give, Ask, an_expr, and_plan, with_result, planned, asking, enter_access, enter_putting, convert_by, end_putting, with_outcome}
 use Rattle.std.specs.Borrow.{Bor}
 use Rattle.js_ast.specs.declared.trees.Declaration.{Declaration}
 use Rattle.js_ast.specs.Views.{view_other_declarations}
-use Rattle.flow_meaning.specs.Tracked.{is_put, Reference, accessed, accessed_for_typeof, act, base_of, of_property, put_value, remove}
+use Rattle.flow_meaning.specs.Tracked.{is_put, Reference, accessed, accessed_for_typeof, act, base_of, of_property, put_value, remove, throw_error}
 use Rattle.es_meaning.specs.Plain.{key_text}
 use Rattle.continuations.specs.declared.continuation.Counting.{Counting}
 use Rattle.continuations.specs.declared.continuation.Counting.TheVariants as counting
@@ -65,7 +67,7 @@ module _ (tables : Tables) (inputs : Given) (set : BuiltIns) (functions : List F
 
     prefixes_by : (o : BinaryOperator) → prefix_by O E o n ≡ prefix_by O E o m
     unfolding prefix_by
-    prefixes_by o = λ i v s. (O.bind Value Value (O.binary o v (O.literal (Num (pos 1)))) (assigns i)) s
+    prefixes_by o = λ i v s. (O.bind Value Value (O.binary o v (O.literal (Num (Int (pos 1))))) (assigns i)) s
 
     prefixes_number : (o : BinaryOperator) → prefix_number O E o n ≡ prefix_number O E o m
     unfolding prefix_number
@@ -77,7 +79,7 @@ module _ (tables : Tables) (inputs : Given) (set : BuiltIns) (functions : List F
 
     postfixes_by : (o : BinaryOperator) → postfix_by O E o n ≡ postfix_by O E o m
     unfolding postfix_by
-    postfixes_by o = λ i v s. (O.bind Value Value (O.binary o v (O.literal (Num (pos 1)))) (gives_alike v i)) s
+    postfixes_by o = λ i v s. (O.bind Value Value (O.binary o v (O.literal (Num (Int (pos 1))))) (gives_alike v i)) s
 
     postfixes_number : (o : BinaryOperator) → postfix_number O E o n ≡ postfix_number O E o m
     unfolding postfix_number
@@ -127,6 +129,11 @@ module _ (tables : Tables) (inputs : Given) (set : BuiltIns) (functions : List F
   pub used_deleted : (n : Reference) (i : ℕ) (s : State) → following (remove n s) (λ v t. Give (gave v) t) ≡ used O E R deleted i n s
   unfolding used
   used_deleted n i s = sym (given_follows (remove n s))
+
+  -- what is no reference can't be used as one
+  pub refused_as : (l : Label) (s : State) → l ≡ bottom → following (throw_error {X = Val} error.ReferenceError l s) (λ v t. Give (gave v) t) ≡ O.act (throws_error error.ReferenceError) [] s
+  unfolding act
+  refused_as l s none = ap (λ (m : Label). following (throw_error {X = Val} error.ReferenceError m s) (λ v t. Give (gave v) t)) none ∙ sym (given_follows (throw_error {X = Val} error.ReferenceError bottom s))
 
   pub read_as : (n : Reference) (s : State) → following (accessed n s) (enter_access functions E) ≡ O.get_value n E s
   read_as n s = sym (outcome_follows (accessed n s) (enter_access functions E))
@@ -189,5 +196,5 @@ module _ (tables : Tables) (inputs : Given) (set : BuiltIns) (functions : List F
   put_on ds i v s = refl
 
   pub behind_setter_on : (ds : Bor (List Declaration)) (f : Setting) (v : Val) (s : State) → variables O E R (view_other_declarations ds.now) f.env.place s ≡ after tables inputs set functions (continuation.VariablesBehind ds) [] f (gave v) s
-  unfolding end_setter
+  unfolding end_putting
   behind_setter_on ds f v s = refl

@@ -48,7 +48,7 @@ pub(crate) fn begin_update<'p, L: Labels>(
     requires reference { HasReference (L.made labels.old) reference }
     requires belongs { Belongs L.made L.meaning labels.old world.old }
     ensures goes_on { Begun L.made L.meaning labels.new (λ tables inputs set functions reading e. used (planned tables inputs set functions) (entrance tables inputs set functions) (asking tables inputs set functions) (updated_by operator (view_expr operand.entry.now)) e.env.place (refers reading reference.entry)) stack.old stack.new world.old world.new result }
-    ensures moved { IfOk result (Moved (L.made labels.new) 12 stack.old stack.new world.old world.new) }
+    ensures moved { IfOk result (Moved (L.made labels.new) 16 stack.old stack.new world.old world.new) }
     ensures stopped { IfErr result (IfStop (HasStop (L.made labels.new))) }
     ensures belongs { Belongs L.made L.meaning labels.new world.new }
     ensures grows { Grows world.old world.new }
@@ -74,7 +74,7 @@ pub(crate) fn begin_count<'p, L: Labels>(
     requires reference { HasReference (L.made labels.old) reference }
     requires belongs { Belongs L.made L.meaning labels.old world.old }
     ensures goes_on { Begun L.made L.meaning labels.new (λ tables inputs set functions reading e. used (planned tables inputs set functions) (entrance tables inputs set functions) (asking tables inputs set functions) (counted_by counting operator) e.env.place (refers reading reference.entry)) stack.old stack.new world.old world.new result }
-    ensures moved { IfOk result (Moved (L.made labels.new) 12 stack.old stack.new world.old world.new) }
+    ensures moved { IfOk result (Moved (L.made labels.new) 16 stack.old stack.new world.old world.new) }
     ensures stopped { IfErr result (IfStop (HasStop (L.made labels.new))) }
     ensures belongs { Belongs L.made L.meaning labels.new world.new }
     ensures grows { Grows world.old world.new }
@@ -98,7 +98,7 @@ pub(crate) fn begin_asking<'p, L: Labels>(
     requires reference { HasReference (L.made labels.old) reference.now }
     requires belongs { Belongs L.made L.meaning labels.old world.old }
     ensures goes_on { Begun L.made L.meaning labels.new (λ tables inputs set functions reading e. used (planned tables inputs set functions) (entrance tables inputs set functions) (asking tables inputs set functions) asked e.env.place (refers reading reference.now)) stack.old stack.new world.old world.new result }
-    ensures moved { IfOk result (Moved (L.made labels.new) 9 stack.old stack.new world.old world.new) }
+    ensures moved { IfOk result (Moved (L.made labels.new) 11 stack.old stack.new world.old world.new) }
     ensures stopped { IfErr result (IfStop (HasStop (L.made labels.new))) }
     ensures belongs { Belongs L.made L.meaning labels.new world.new }
     ensures grows { Grows world.old world.new }
@@ -123,7 +123,7 @@ pub(crate) fn begin_call<'p, L: Labels>(
     requires reference { HasReference (L.made labels.old) reference }
     requires belongs { Belongs L.made L.meaning labels.old world.old }
     ensures goes_on { Begun L.made L.meaning labels.new (λ tables inputs set functions reading e. used (planned tables inputs set functions) (entrance tables inputs set functions) (asking tables inputs set functions) (called (view_exprs list.entry.now)) e.env.place (refers reading reference.entry)) stack.old stack.new world.old world.new result }
-    ensures moved { IfOk result (Moved (L.made labels.new) 9 stack.old stack.new world.old world.new) }
+    ensures moved { IfOk result (Moved (L.made labels.new) 11 stack.old stack.new world.old world.new) }
     ensures stopped { IfErr result (IfStop (HasStop (L.made labels.new))) }
     ensures belongs { Belongs L.made L.meaning labels.new world.new }
     ensures grows { Grows world.old world.new }
@@ -149,7 +149,7 @@ pub(crate) fn call_named<'p, L: Labels>(
     requires loose { length stack.old.loose ≡ 0 }
     requires named { IsNamed L.made L.meaning labels.now _at.0 _name.now _world.now callee }
     ensures goes_on { BegunAt L.made L.meaning labels.now _at.0 (λ tables inputs set functions reading e. (planned tables inputs set functions).resolve operations.Value e.env.place _name.now (used (planned tables inputs set functions) (entrance tables inputs set functions) (asking tables inputs set functions) (called (view_exprs list.entry.now)) e.env.place)) stack.old stack.new _world.now _world.now result }
-    ensures moved { IfOk result (Moved (L.made labels.now) 9 stack.old stack.new _world.now _world.now) }
+    ensures moved { IfOk result (Moved (L.made labels.now) 11 stack.old stack.new _world.now _world.now) }
     ensures stopped { IfErr result (IfStop (HasStop (L.made labels.now))) }
 {
     let answer = Ok(Outcome::Goes(Access::Value(callee)));

@@ -8,11 +8,11 @@ ghost use Rattle.continuations.specs.declared.continuation.Control.TheVariants a
 ghost use Rattle.continuations.specs.Pending.{owns};
 ghost use Rattle.step_references.specs.Moving.{Comes, IfGiven, Moved, entering_access, entering_putting, given_or};
 
-use continuations::{Continuation, Control, Stack};
+use continuations::{Continuation, Control, Stack, begin_length};
 use flow_text::OutOfMemory;
 use js_values::{Labelled, ObjId, Value};
 use origin_labels::Labels;
-use run_state::{Access, Putting};
+use run_state::{Access, Putting, SetLength};
 use std::alloc::Global;
 
 /// What a read came to: its value, or its getter is called.
@@ -25,7 +25,7 @@ pub fn enter_access<'p, L: Labels>(
     requires loose { length stack.old.loose ≡ 0 }
     requires made { HasAccess (L.made _labels.now) access }
     ensures goes_on { IfOk result (Comes (λ tables inputs set functions reading. entering_access tables inputs set functions reading (read_access reading access)) stack.old stack.new) }
-    ensures moved { (world : World L.Label) → IfOk result (Moved (L.made _labels.now) 6 stack.old stack.new world world) }
+    ensures moved { (world : World L.Label) → IfOk result (Moved (L.made _labels.now) 8 stack.old stack.new world world) }
 {
     match access {
         Access::Value(value) => {
@@ -44,7 +44,7 @@ pub fn enter_access<'p, L: Labels>(
     }
 }
 
-/// What a put came to: the value that its assignment gives, or its setter is called, and then that.
+/// What a put came to: the value that its assignment gives; or its setter is called, or the `length` of an array is set, and then that.
 #[inline(always)]
 pub(crate) fn enter_putting<'p, L: Labels>(
     alloc: Global,
@@ -59,7 +59,7 @@ pub(crate) fn enter_putting<'p, L: Labels>(
     requires value { IfGiven (L.made _labels.now) value }
     requires gives { L.made _labels.now gives.label }
     ensures goes_on { IfOk result (Comes (λ tables inputs set functions reading. entering_putting value gives tables inputs set functions reading (read_putting reading putting)) stack.old stack.new) }
-    ensures moved { (world : World L.Label) → IfOk result (Moved (L.made _labels.now) 7 stack.old stack.new world world) }
+    ensures moved { (world : World L.Label) → IfOk result (Moved (L.made _labels.now) 11 stack.old stack.new world world) }
 {
     match putting {
         Putting::Put => {
@@ -82,10 +82,17 @@ pub(crate) fn enter_putting<'p, L: Labels>(
             )?;
             Ok(next)
         }
+        Putting::Length { label, array } => {
+            let given = given_or(alloc, value, &gives)?;
+            stack.lay(gives)?;
+            stack.push(Continuation::GiveBehind)?;
+            let next = begin_length(alloc, stack, SetLength::Put, called(array, label), given)?;
+            Ok(next)
+        }
     }
 }
 
-/// A function as a value.
+/// A function, or an array, as a value.
 #[inline(always)]
 pub(crate) fn called<T>(function: ObjId, label: T) -> Labelled<T>
     ensures { result ≡ record { value = kinds.Object function; label = label } }
@@ -112,7 +119,6 @@ fn given_or<T: Copy>(
 }
 
 /// A setter is called with a value, above work that keeps the values that lie loose.
-#[inline(always)]
 pub(crate) fn begin_setter<'p, T: Copy>(
     stack: &mut Stack<'p, T>,
     work: Continuation<'p>,

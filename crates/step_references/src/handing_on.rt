@@ -28,7 +28,7 @@ pub fn hand_on<'p, L: Labels>(
     requires loose { length stack.old.loose ≡ 0 }
     requires made { HasAnswer (HasValue (L.made labels.now)) (L.made labels.now) answer }
     ensures hands { Handed (λ reading. read_value reading) giving stack.old stack.new answer result }
-    ensures moved { (world_old : World L.Label) (world_new : World L.Label) → StandsBy world_old world_new answer → IfOk result (Moved (L.made labels.now) 4 stack.old stack.new world_old world_new) }
+    ensures moved { (world_old : World L.Label) (world_new : World L.Label) → StandsBy world_old world_new answer → IfOk result (Moved (L.made labels.now) 6 stack.old stack.new world_old world_new) }
     ensures stopped { IfErr result (IfStop (HasStop (L.made labels.now))) }
 {
     let came = go_on(labels, stack, 0, answer)?;
@@ -51,7 +51,7 @@ pub fn hand_on_access<'p, L: Labels>(
     requires loose { length stack.old.loose ≡ 0 }
     requires made { HasAnswer (HasAccess (L.made labels.now)) (L.made labels.now) answer }
     ensures hands { Handed (λ reading. read_access reading) entering_access stack.old stack.new answer result }
-    ensures moved { (world_old : World L.Label) (world_new : World L.Label) → StandsBy world_old world_new answer → IfOk result (Moved (L.made labels.now) 6 stack.old stack.new world_old world_new) }
+    ensures moved { (world_old : World L.Label) (world_new : World L.Label) → StandsBy world_old world_new answer → IfOk result (Moved (L.made labels.now) 8 stack.old stack.new world_old world_new) }
     ensures stopped { IfErr result (IfStop (HasStop (L.made labels.now))) }
 {
     let came = go_on(labels, stack, 0, answer)?;
@@ -79,7 +79,7 @@ pub(crate) fn hand_on_putting<'p, L: Labels>(
     requires value { IfGiven (L.made labels.now) value }
     requires gives { L.made labels.now gives.label }
     ensures hands { Handed (λ reading. read_putting reading) (entering_putting value gives) stack.old stack.new answer result }
-    ensures moved { (world_old : World L.Label) (world_new : World L.Label) → StandsBy world_old world_new answer → IfOk result (Moved (L.made labels.now) 7 stack.old stack.new world_old world_new) }
+    ensures moved { (world_old : World L.Label) (world_new : World L.Label) → StandsBy world_old world_new answer → IfOk result (Moved (L.made labels.now) 11 stack.old stack.new world_old world_new) }
     ensures stopped { IfErr result (IfStop (HasStop (L.made labels.now))) }
 {
     let came = go_on(labels, stack, 0, answer)?;

@@ -42,7 +42,7 @@ pub fn read_name<'p, L: Labels>(
     requires at { at.0 < length world.old.records }
     requires belongs { Belongs L.made L.meaning labels.old world.old }
     ensures goes_on { BegunAt L.made L.meaning labels.new at.0 (λ tables inputs set functions reading e. (planned tables inputs set functions).resolve Value e.env.place name.now (read_value (planned tables inputs set functions) (entrance tables inputs set functions) (asking tables inputs set functions))) stack.old stack.new world.old world.new result }
-    ensures moved { IfOk result (Moved (L.made labels.new) 6 stack.old stack.new world.old world.new) }
+    ensures moved { IfOk result (Moved (L.made labels.new) 8 stack.old stack.new world.old world.new) }
     ensures stopped { IfErr result (IfStop (HasStop (L.made labels.new))) }
     ensures belongs { Belongs L.made L.meaning labels.new world.new }
     ensures grows { Grows world.old world.new }
@@ -66,7 +66,7 @@ pub fn this<'p, L: Labels>(
     requires at { at.0 < length world.old.records }
     requires belongs { Belongs L.made L.meaning labels.old world.old }
     ensures goes_on { BegunAt L.made L.meaning labels.new at.0 (λ tables inputs set functions reading e. next_plan tables inputs set functions control.This [] e) stack.old stack.new world.old world.new result }
-    ensures moved { IfOk result (Moved (L.made labels.new) 6 stack.old stack.new world.old world.new) }
+    ensures moved { IfOk result (Moved (L.made labels.new) 8 stack.old stack.new world.old world.new) }
     ensures stopped { IfErr result (IfStop (HasStop (L.made labels.new))) }
     ensures belongs { Belongs L.made L.meaning labels.new world.new }
     ensures grows { Grows world.old world.new }
@@ -87,7 +87,7 @@ pub fn assigned<'p, L: Labels>(
     requires made { All (HasValue (L.made labels.old)) stack.old.loose }
     requires belongs { Belongs L.made L.meaning labels.old world.old }
     ensures goes_on { Resumed L.made L.meaning labels.new (continuation.AssignTo target.entry) stack.old stack.new world.old world.new result }
-    ensures moved { IfOk result (Moved (L.made labels.new) 7 stack.old stack.new world.old world.new) }
+    ensures moved { IfOk result (Moved (L.made labels.new) 11 stack.old stack.new world.old world.new) }
     ensures stopped { IfErr result (IfStop (HasStop (L.made labels.new))) }
     ensures belongs { Belongs L.made L.meaning labels.new world.new }
     ensures grows { Grows world.old world.new }

@@ -1,13 +1,14 @@
 //! References, and what is done with them (ECMA-262 11.3, 11.4, 11.13).
 
-ghost use Rattle.std.specs.Prelude.{◌≡◌, ◌<◌, ◌+◌, length, map, Ok, IfErr, IfOk};
+ghost use Rattle.std.specs.Prelude.{◌≡◌, ◌<◌, ◌+◌, [], length, map, Ok, IfErr, IfOk};
 ghost use Rattle.std.specs.List.{All};
 ghost use Rattle.origin_labels.specs.Stores.{IsKept};
 ghost use Rattle.flow_frames.specs.Stops.{IfStop};
 ghost use Rattle.js_ast.specs.Views.{view_expr, view_exprs};
 ghost use Rattle.js_values.specs.Readings.{HasValue, read_value};
+ghost use Rattle.native_protocol.specs.declared.request.ErrorKind.TheVariants as error;
 ghost use Rattle.es_meaning.specs.Operations as operations;
-ghost use Rattle.es_meaning.specs.Operations.{assigned, called, deleted};
+ghost use Rattle.es_meaning.specs.Operations.{assigned, called, deleted, throws_error};
 ghost use Rattle.es_meaning.specs.Evaluation.{use_step, used};
 ghost use Rattle.flow_meaning.specs.Planned.{planned, asking};
 ghost use Rattle.step_objects.specs.References.{refers, HasReference};
@@ -23,16 +24,15 @@ use crate::counting::{begin_asking, begin_call, begin_count, begin_update, call_
 use crate::handing_on::hand_on;
 use crate::keeping::lay_reference;
 use crate::reading::{assign, read};
-use continuations::{
-    Continuation, Control, Counting, Reason, Stack, Use, begin_index, begin_member,
-};
+use continuations::{Continuation, Control, Counting, Stack, Use, begin_index, begin_member};
 use flow_frames::FlowFault;
 use flow_text::{OutOfMemory, Text};
 use js_ast::{Expr, ExprKind};
 use js_number::Primitive;
 use js_values::{EnvId, Labelled, Value};
+use native_protocol::ErrorKind;
 use origin_labels::Labels;
-use property_access::resolve;
+use property_access::{resolve, throw_error};
 use run_state::World;
 use std::alloc::Global;
 use step_numbers::name_value;
@@ -54,7 +54,7 @@ pub fn begin_use<'p, L: Labels>(
     requires at { at.0 < length world.old.records }
     requires belongs { Belongs L.made L.meaning labels.old world.old }
     ensures goes_on { BegunAt L.made L.meaning labels.new at.0 (λ tables inputs set functions reading e. use_step (planned tables inputs set functions) (entrance tables inputs set functions) (asking tables inputs set functions) (use_of how.entry (map (read_value reading) stack.old.loose)) (view_expr target.entry.now) e.env.place) stack.old stack.new world.old world.new result }
-    ensures moved { IfOk result (Moved (L.made labels.new) 12 stack.old stack.new world.old world.new) }
+    ensures moved { IfOk result (Moved (L.made labels.new) 16 stack.old stack.new world.old world.new) }
     ensures stopped { IfErr result (IfStop (HasStop (L.made labels.new))) }
     ensures belongs { Belongs L.made L.meaning labels.new world.new }
     ensures grows { Grows world.old world.new }
@@ -71,11 +71,30 @@ pub fn begin_use<'p, L: Labels>(
             Ok(next)
         }
         ExprKind::Paren(inner) => Ok(Control::Use(how, inner)),
-        _ => {
-            stack.clear(how.owns());
-            Ok(Control::Leave(Reason::Unbuilt))
-        }
+        _ => refuse_use(labels, world, stack, how),
     }
+}
+
+/// What is no reference can't be used as one (ECMA-262 8.7.2, step 1). No script that is accepted comes here.
+fn refuse_use<'p, L: Labels>(
+    labels: &mut L,
+    world: &mut World<L::Label>,
+    stack: &mut Stack<'p, L::Label>,
+    how: Use<'p>,
+) -> Result<Control<'p>, FlowFault<L::Label>>
+    requires loose { length stack.old.loose ≡ owns_use how }
+    requires belongs { Belongs L.made L.meaning labels.old world.old }
+    ensures goes_on { Begun L.made L.meaning labels.new (λ tables inputs set functions reading e. (planned tables inputs set functions).act (throws_error error.ReferenceError) []) stack.old stack.new world.old world.new result }
+    ensures moved { IfOk result (Moved (L.made labels.new) 16 stack.old stack.new world.old world.new) }
+    ensures stopped { IfErr result (IfStop (HasStop (L.made labels.new))) }
+    ensures belongs { Belongs L.made L.meaning labels.new world.new }
+    ensures grows { Grows world.old world.new }
+    ensures kept { IsKept L.made L.meaning L.room L.firm labels.old labels.new }
+{
+    stack.clear(how.owns());
+    let none = labels.bottom();
+    let answer = throw_error(labels, world, ErrorKind::ReferenceError, none);
+    hand_on(labels, stack, answer)
 }
 
 /// A name for a use. A call reads the value of a name at once, where it can.
@@ -94,7 +113,7 @@ fn use_name<'p, L: Labels>(
     requires at { at.0 < length world.old.records }
     requires belongs { Belongs L.made L.meaning labels.old world.old }
     ensures goes_on { BegunAt L.made L.meaning labels.new at.0 (λ tables inputs set functions reading e. (planned tables inputs set functions).resolve operations.Value e.env.place name.entry.now (used (planned tables inputs set functions) (entrance tables inputs set functions) (asking tables inputs set functions) (use_of how.entry (map (read_value reading) stack.old.loose)) e.env.place)) stack.old stack.new world.old world.new result }
-    ensures moved { IfOk result (Moved (L.made labels.new) 12 stack.old stack.new world.old world.new) }
+    ensures moved { IfOk result (Moved (L.made labels.new) 16 stack.old stack.new world.old world.new) }
     ensures stopped { IfErr result (IfStop (HasStop (L.made labels.new))) }
     ensures belongs { Belongs L.made L.meaning labels.new world.new }
     ensures grows { Grows world.old world.new }
@@ -122,7 +141,7 @@ fn use_callee<'p, L: Labels>(
     requires at { at.0 < length world.old.records }
     requires belongs { Belongs L.made L.meaning labels.old world.old }
     ensures goes_on { BegunAt L.made L.meaning labels.new at.0 (λ tables inputs set functions reading e. (planned tables inputs set functions).resolve operations.Value e.env.place name.entry.now (used (planned tables inputs set functions) (entrance tables inputs set functions) (asking tables inputs set functions) (called (view_exprs list.entry.now)) e.env.place)) stack.old stack.new world.old world.new result }
-    ensures moved { IfOk result (Moved (L.made labels.new) 9 stack.old stack.new world.old world.new) }
+    ensures moved { IfOk result (Moved (L.made labels.new) 11 stack.old stack.new world.old world.new) }
     ensures stopped { IfErr result (IfStop (HasStop (L.made labels.new))) }
     ensures belongs { Belongs L.made L.meaning labels.new world.new }
     ensures grows { Grows world.old world.new }
@@ -150,7 +169,7 @@ fn use_named<'p, L: Labels>(
     requires reference { HasReference (L.made labels.old) reference }
     requires belongs { Belongs L.made L.meaning labels.old world.old }
     ensures goes_on { Begun L.made L.meaning labels.new (λ tables inputs set functions reading e. used (planned tables inputs set functions) (entrance tables inputs set functions) (asking tables inputs set functions) (use_of how.entry (map (read_value reading) stack.old.loose)) e.env.place (refers reading reference.entry)) stack.old stack.new world.old world.new result }
-    ensures moved { IfOk result (Moved (L.made labels.new) 12 stack.old stack.new world.old world.new) }
+    ensures moved { IfOk result (Moved (L.made labels.new) 16 stack.old stack.new world.old world.new) }
     ensures stopped { IfErr result (IfStop (HasStop (L.made labels.new))) }
     ensures belongs { Belongs L.made L.meaning labels.new world.new }
     ensures grows { Grows world.old world.new }
@@ -192,7 +211,7 @@ pub(crate) fn use_keyed<'p, L: Labels>(
     requires reference { HasReference (L.made labels.old) reference }
     requires belongs { Belongs L.made L.meaning labels.old world.old }
     ensures goes_on { Begun L.made L.meaning labels.new (λ tables inputs set functions reading e. used (planned tables inputs set functions) (entrance tables inputs set functions) (asking tables inputs set functions) (use_of how.entry (map (read_value reading) stack.old.loose)) e.env.place (refers reading reference.entry)) stack.old stack.new world.old world.new result }
-    ensures moved { IfOk result (Moved (L.made labels.new) 12 stack.old stack.new world.old world.new) }
+    ensures moved { IfOk result (Moved (L.made labels.new) 16 stack.old stack.new world.old world.new) }
     ensures stopped { IfErr result (IfStop (HasStop (L.made labels.new))) }
     ensures belongs { Belongs L.made L.meaning labels.new world.new }
     ensures grows { Grows world.old world.new }
@@ -219,7 +238,7 @@ pub(crate) fn use_reference<'p, L: Labels>(
     requires reference { HasReference (L.made labels.old) reference }
     requires belongs { Belongs L.made L.meaning labels.old world.old }
     ensures goes_on { Begun L.made L.meaning labels.new (λ tables inputs set functions reading e. used (planned tables inputs set functions) (entrance tables inputs set functions) (asking tables inputs set functions) (use_of how.entry (map (read_value reading) stack.old.loose)) e.env.place (refers reading reference.entry)) stack.old stack.new world.old world.new result }
-    ensures moved { IfOk result (Moved (L.made labels.new) 12 stack.old stack.new world.old world.new) }
+    ensures moved { IfOk result (Moved (L.made labels.new) 16 stack.old stack.new world.old world.new) }
     ensures stopped { IfErr result (IfStop (HasStop (L.made labels.new))) }
     ensures belongs { Belongs L.made L.meaning labels.new world.new }
     ensures grows { Grows world.old world.new }
@@ -261,7 +280,7 @@ fn begin_assign<'p, L: Labels>(
     requires loose { length stack.old.loose ≡ 0 }
     requires reference { HasReference (L.made labels.now) reference }
     ensures goes_on { IfOk result (λ next. Begun L.made L.meaning labels.now (λ tables inputs set functions reading e. used (planned tables inputs set functions) (entrance tables inputs set functions) (asking tables inputs set functions) (assigned (view_expr value.entry.now)) e.env.place (refers reading reference.entry)) stack.old stack.new world.now world.now (Ok next)) }
-    ensures moved { IfOk result (Moved (L.made labels.now) 4 stack.old stack.new world.now world.now) }
+    ensures moved { IfOk result (Moved (L.made labels.now) 6 stack.old stack.new world.now world.now) }
 {
     let target = lay_reference(stack, reference)?;
     stack.push(Continuation::AssignTo(target))?;
@@ -280,7 +299,7 @@ fn begin_deletion<'p, L: Labels>(
     requires reference { HasReference (L.made labels.old) reference.now }
     requires belongs { Belongs L.made L.meaning labels.old world.old }
     ensures goes_on { Begun L.made L.meaning labels.new (λ tables inputs set functions reading e. used (planned tables inputs set functions) (entrance tables inputs set functions) (asking tables inputs set functions) deleted e.env.place (refers reading reference.now)) stack.old stack.new world.old world.new result }
-    ensures moved { IfOk result (Moved (L.made labels.new) 4 stack.old stack.new world.old world.new) }
+    ensures moved { IfOk result (Moved (L.made labels.new) 6 stack.old stack.new world.old world.new) }
     ensures stopped { IfErr result (IfStop (HasStop (L.made labels.new))) }
     ensures belongs { Belongs L.made L.meaning labels.new world.new }
     ensures grows { Grows world.old world.new }
@@ -302,7 +321,7 @@ pub(crate) fn give_text<'p, L: Labels>(
     requires reference { HasReference (L.made labels.old) reference.now }
     requires belongs { Belongs L.made L.meaning labels.old world.old }
     ensures goes_on { Begun L.made L.meaning labels.new (λ tables inputs set functions reading e. used (planned tables inputs set functions) (entrance tables inputs set functions) (asking tables inputs set functions) (use_of use_as.GivenText (map (read_value reading) stack.old.loose)) e.env.place (refers reading reference.now)) stack.old stack.new world.old world.new result }
-    ensures moved { IfOk result (Moved (L.made labels.new) 7 stack.old stack.new world.old world.new) }
+    ensures moved { IfOk result (Moved (L.made labels.new) 11 stack.old stack.new world.old world.new) }
     ensures stopped { IfErr result (IfStop (HasStop (L.made labels.new))) }
     ensures belongs { Belongs L.made L.meaning labels.new world.new }
     ensures grows { Grows world.old world.new }

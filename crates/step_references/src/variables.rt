@@ -23,14 +23,14 @@ use crate::entering::{begin_setter, called};
 use crate::handing_on::{Went, go_on};
 use crate::keeping::{lay_reference, take_reference};
 use crate::uses::give_text;
-use continuations::{Continuation, Control, Stack, Target};
+use continuations::{Continuation, Control, Stack, Target, begin_length};
 use flow_frames::FlowFault;
 use flow_text::{OutOfMemory, Text};
 use js_ast::{Declaration, Declarations, Expr, Ident};
 use js_values::{EnvId, Labelled};
 use origin_labels::Labels;
 use property_access::resolve;
-use run_state::{Named, Putting, World};
+use run_state::{Named, Putting, SetLength, World};
 use std::alloc::Global;
 use step_objects::{Reference, put_value};
 
@@ -46,7 +46,7 @@ pub fn declare<'p, L: Labels>(
     requires at { at.0 < length world.now.records }
     requires belongs { Belongs L.made L.meaning labels.old world.now }
     ensures goes_on { BegunAt L.made L.meaning labels.new at.0 (λ tables inputs set functions reading e. declarations (planned tables inputs set functions) (entrance tables inputs set functions) (asking tables inputs set functions) (view_declarations list.entry.now) e.env.place) stack.old stack.new world.now world.now result }
-    ensures moved { IfOk result (Moved (L.made labels.new) 4 stack.old stack.new world.now world.now) }
+    ensures moved { IfOk result (Moved (L.made labels.new) 6 stack.old stack.new world.now world.now) }
     ensures stopped { IfErr result (IfStop (HasStop (L.made labels.new))) }
     ensures belongs { Belongs L.made L.meaning labels.new world.now }
     ensures kept { IsKept L.made L.meaning L.room L.firm labels.old labels.new }
@@ -72,7 +72,7 @@ fn declare_others<'p, L: Labels>(
     requires at { at.0 < length world.now.records }
     requires belongs { Belongs L.made L.meaning labels.old world.now }
     ensures goes_on { BegunAt L.made L.meaning labels.new at.0 (λ tables inputs set functions reading e. variables (planned tables inputs set functions) (entrance tables inputs set functions) (asking tables inputs set functions) (view_other_declarations list.entry.now) e.env.place) stack.old stack.new world.now world.now result }
-    ensures moved { IfOk result (Moved (L.made labels.new) 4 stack.old stack.new world.now world.now) }
+    ensures moved { IfOk result (Moved (L.made labels.new) 6 stack.old stack.new world.now world.now) }
     ensures stopped { IfErr result (IfStop (HasStop (L.made labels.new))) }
     ensures belongs { Belongs L.made L.meaning labels.new world.now }
     ensures kept { IsKept L.made L.meaning L.room L.firm labels.old labels.new }
@@ -111,7 +111,7 @@ fn initialise<'p, L: Labels>(
     requires at { at.0 < length world.now.records }
     requires belongs { Belongs L.made L.meaning labels.old world.now }
     ensures goes_on { BegunAt L.made L.meaning labels.new at.0 (λ tables inputs set functions reading e. initialised tables inputs set functions (name.entry.now, view_expr value.entry.now, view_other_declarations rest.entry.now) e.env.place) stack.old stack.new world.now world.now result }
-    ensures moved { IfOk result (Moved (L.made labels.new) 4 stack.old stack.new world.now world.now) }
+    ensures moved { IfOk result (Moved (L.made labels.new) 6 stack.old stack.new world.now world.now) }
     ensures stopped { IfErr result (IfStop (HasStop (L.made labels.new))) }
     ensures belongs { Belongs L.made L.meaning labels.new world.now }
     ensures kept { IsKept L.made L.meaning L.room L.firm labels.old labels.new }
@@ -137,7 +137,7 @@ pub fn more_variables<'p, L: Labels>(
     requires at { at.0 < length world.old.records }
     requires belongs { Belongs L.made L.meaning labels.old world.old }
     ensures goes_on { ResumedAt L.made L.meaning labels.new at.0 (continuation.Variable target.entry rest.entry) stack.old stack.new world.old world.new result }
-    ensures moved { IfOk result (Moved (L.made labels.new) 7 stack.old stack.new world.old world.new) }
+    ensures moved { IfOk result (Moved (L.made labels.new) 11 stack.old stack.new world.old world.new) }
     ensures stopped { IfErr result (IfStop (HasStop (L.made labels.new))) }
     ensures belongs { Belongs L.made L.meaning labels.new world.new }
     ensures grows { Grows world.old world.new }
@@ -165,7 +165,7 @@ fn give_first<'p, L: Labels>(
     requires at { at.0 < length world.old.records }
     requires belongs { Belongs L.made L.meaning labels.old world.old }
     ensures goes_on { BegunAt L.made L.meaning labels.new at.0 (λ tables inputs set functions reading e. more_variables (planned tables inputs set functions) (entrance tables inputs set functions) (asking tables inputs set functions) (refers reading reference.now) (view_other_declarations rest.entry.now) e.env.place (read_value reading value)) stack.old stack.new world.old world.new result }
-    ensures moved { IfOk result (Moved (L.made labels.new) 7 stack.old stack.new world.old world.new) }
+    ensures moved { IfOk result (Moved (L.made labels.new) 11 stack.old stack.new world.old world.new) }
     ensures stopped { IfErr result (IfStop (HasStop (L.made labels.new))) }
     ensures belongs { Belongs L.made L.meaning labels.new world.new }
     ensures grows { Grows world.old world.new }
@@ -175,13 +175,14 @@ fn give_first<'p, L: Labels>(
     let answer = put_value(alloc, labels, world, reference, given);
     let came = go_on(labels, stack, 0, answer)?;
     match came {
-        Went::On(putting) => behind_putting(labels, world, stack, at, putting, value, rest),
+        Went::On(putting) => behind_putting(alloc, labels, world, stack, at, putting, value, rest),
         Went::Off(next) => Ok(next),
     }
 }
 
-/// Behind a put those variables that follow, or its setter is called first.
+/// Behind a put those variables that follow, or its setter is called first, or the `length` of an array is set.
 fn behind_putting<'p, L: Labels>(
+    alloc: Global,
     labels: &mut L,
     world: &World<L::Label>,
     stack: &mut Stack<'p, L::Label>,
@@ -196,7 +197,7 @@ fn behind_putting<'p, L: Labels>(
     requires value { L.made labels.old value.label }
     requires belongs { Belongs L.made L.meaning labels.old world.now }
     ensures goes_on { BegunAt L.made L.meaning labels.new at.0 (λ tables inputs set functions reading e. behind_putting tables inputs set functions (view_other_declarations rest.entry.now) e.env.place (read_value reading value) (read_putting reading putting)) stack.old stack.new world.now world.now result }
-    ensures moved { IfOk result (Moved (L.made labels.new) 7 stack.old stack.new world.now world.now) }
+    ensures moved { IfOk result (Moved (L.made labels.new) 11 stack.old stack.new world.now world.now) }
     ensures stopped { IfErr result (IfStop (HasStop (L.made labels.new))) }
     ensures belongs { Belongs L.made L.meaning labels.new world.now }
     ensures kept { IsKept L.made L.meaning L.room L.firm labels.old labels.new }
@@ -210,6 +211,11 @@ fn behind_putting<'p, L: Labels>(
         } => {
             let work = Continuation::VariablesBehind(rest);
             let next = begin_setter(stack, work, called(function, label), this, value)?;
+            Ok(next)
+        }
+        Putting::Length { label, array } => {
+            stack.push(Continuation::VariablesBehind(rest))?;
+            let next = begin_length(alloc, stack, SetLength::Put, called(array, label), value)?;
             Ok(next)
         }
     }
@@ -227,7 +233,7 @@ pub fn variables_behind<'p, L: Labels>(
     requires at { at.0 < length world.now.records }
     requires belongs { Belongs L.made L.meaning labels.old world.now }
     ensures goes_on { ResumedAt L.made L.meaning labels.new at.0 (continuation.VariablesBehind rest.entry) stack.old stack.new world.now world.now result }
-    ensures moved { IfOk result (Moved (L.made labels.new) 4 stack.old stack.new world.now world.now) }
+    ensures moved { IfOk result (Moved (L.made labels.new) 6 stack.old stack.new world.now world.now) }
     ensures stopped { IfErr result (IfStop (HasStop (L.made labels.new))) }
     ensures belongs { Belongs L.made L.meaning labels.new world.now }
     ensures kept { IsKept L.made L.meaning L.room L.firm labels.old labels.new }
@@ -249,7 +255,7 @@ pub fn give_variable<'p, L: Labels>(
     requires at { at.0 < length world.old.records }
     requires belongs { Belongs L.made L.meaning labels.old world.old }
     ensures goes_on { BegunAt L.made L.meaning labels.new at.0 (λ tables inputs set functions reading e. next_plan tables inputs set functions (control.GiveVariable variable.entry) (map (read_value reading) stack.old.loose) e) stack.old stack.new world.old world.new result }
-    ensures moved { IfOk result (Moved (L.made labels.new) 7 stack.old stack.new world.old world.new) }
+    ensures moved { IfOk result (Moved (L.made labels.new) 11 stack.old stack.new world.old world.new) }
     ensures stopped { IfErr result (IfStop (HasStop (L.made labels.new))) }
     ensures belongs { Belongs L.made L.meaning labels.new world.new }
     ensures grows { Grows world.old world.new }

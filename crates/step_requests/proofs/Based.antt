@@ -14,24 +14,26 @@ use Rattle.js_values.specs.declared.value.Labelled.{Labelled}
 use Rattle.js_values.specs.declared.value.Value.TheVariants as value
 use Rattle.js_values.specs.Readings.{IsReading, read_value}
 use Rattle.native_protocol.specs.declared.registers.Reg.{Reg}
-use Rattle.native_protocol.specs.declared.request.GivenMarks.{GivenMarks}
 use Rattle.es_meaning.specs.Operations as operations
 use Rattle.es_meaning.specs.Outcomes.{Goes, ret}
 use Rattle.flow_meaning.specs.Scopes.{L, Val}
-use Rattle.flow_meaning.specs.Tracked.{act}
+use Rattle.flow_meaning.specs.Tracked.{act, defining}
 use Rattle.property_requests.specs.declared.descriptor.Descriptor.{Descriptor}
-use Rattle.property_requests.specs.Defining as defining
-use Rattle.property_requests.specs.Defining.{HasDescriptor, HasGiven, given_in}
+use Rattle.property_requests.specs.Defining as definitions
+use Rattle.property_requests.specs.Defining.{given_in}
 use Rattle.property_requests.specs.Making.{arguments_of}
+use Rattle.run_state.specs.declared.outcome.Defining.{Defining}
 use Rattle.run_state.specs.declared.outcome.Outcome.{Outcome}
 use Rattle.run_state.specs.declared.outcome.Outcome.TheVariants as outcome
 use Rattle.run_state.specs.declared.outcome.Leaving.{Leaving}
 use Rattle.run_state.specs.declared.world.World.{World}
+use Rattle.run_state.specs.Accesses.{read_defining}
 use Rattle.run_state.specs.Acts.{Acts}
 use Rattle.run_state.specs.Worlds.{state_of}
 use Rattle.run_state.proofs.ActLaws.{Acts-leaves, Acts-passes, Acts-then, Acts-throws}
 use Rattle.continuations.specs.Answering.{Reads, held_in}
-use Rattle.step_requests.specs.Asked.{held_if, key_value, made_by, shape_of, with_base}
+use Rattle.step_requests.specs.Asked.{defining_of, held_if, key_value, made_by, shape_of, with_base}
+use Rattle.step_requests.specs.declared.asked.GivenParts.{GivenParts}
 use Rattle.step_requests.specs.Doing.{Holds, ReadsIf}
 use Rattle.step_requests.proofs.Held.{acts_if, acts_one}
 
@@ -79,23 +81,27 @@ module _ {S T : Type 0} (made : S → T → Type 0) (meaning : S → T → Label
 
 -- ---- definitions and new objects
 
-module _ {S T : Type 0} (made : S → T → Type 0) (meaning : S → T → Label) (room : S → ℕ) (firm : S → Bool) (earlier later : S) (kept : IsKept made meaning room firm earlier later) (tables : Tables) (inputs : Given) (registers : List (Labelled T)) (old new : World T) (reply : Result (Outcome (Labelled T) T) (FlowFault T)) where
-  pub acts_define : (base : Reg) (b : Labelled T) (key : List ℕ) (marks : GivenMarks) (v g s : Option Reg) (d : Descriptor T) → d.marks ≡ marks
-      → Reads made meaning earlier base registers b → ReadsIf made meaning earlier v registers d.value → ReadsIf made meaning earlier g registers d.get → ReadsIf made meaning earlier s registers d.set
-      → Acts made meaning later (λ reading. read_value reading) (λ reading. act tables inputs (operations.define key d.marks (defining.shape_of d)) (read_value reading b ∷ given_in reading d.value ∷ given_in reading d.get ∷ given_in reading d.set ∷ [])) old new reply
-      → Acts made meaning later (λ reading. read_value reading) (λ reading. act tables inputs (operations.define key marks (shape_of v g s)) (held_in base (map (read_value reading) registers) ∷ held_if (map (read_value reading) registers) v ∷ held_if (map (read_value reading) registers) g ∷ held_if (map (read_value reading) registers) s ∷ [])) old new reply
-  acts_define base b key marks v g s d same rb rv rg rs acts =
+module _ {S T : Type 0} (made : S → T → Type 0) (meaning : S → T → Label) (room : S → ℕ) (firm : S → Bool) (earlier later : S) (kept : IsKept made meaning room firm earlier later) (registers : List (Labelled T)) (old new : World T) (reply : Result (Outcome (Defining T) T) (FlowFault T)) where
+  pub acts_define : (base : Reg) (b : Labelled T) (key : List ℕ) (given : GivenParts) (d : Descriptor T) → d.marks ≡ given.marks
+      → Reads made meaning earlier base registers b → ReadsIf made meaning earlier given.value registers d.value → ReadsIf made meaning earlier given.get registers d.get → ReadsIf made meaning earlier given.set registers d.set
+      → Acts made meaning later (λ reading. read_defining reading) (λ reading. defining key d.marks (definitions.shape_of d) (read_value reading b) (given_in reading d.value) (given_in reading d.get) (given_in reading d.set)) old new reply
+      → Acts made meaning later (λ reading. read_defining reading) (λ reading. defining_of base key given (map (read_value reading) registers)) old new reply
+  acts_define base b key given d same rb rv rg rs acts =
+      let v = given.value in
+      let g = given.get in
+      let s = given.set in
       let by = λ (reading : T → Label). map (read_value reading) registers in
-      let read = λ (reading : T → Label). read_value reading in
-      subst (λ m. Acts made meaning later read (λ reading. act tables inputs (operations.define key m (shape_of v g s)) (held_in base (by reading) ∷ held_if (by reading) v ∷ held_if (by reading) g ∷ held_if (by reading) s ∷ [])) old new reply) same
-      (subst (λ z. Acts made meaning later read (λ reading. act tables inputs (operations.define key d.marks (record { has_value = is_some v; has_getter = is_some g; has_setter = z })) (held_in base (by reading) ∷ held_if (by reading) v ∷ held_if (by reading) g ∷ held_if (by reading) s ∷ [])) old new reply) rs.given
-      (subst (λ y. Acts made meaning later read (λ reading. act tables inputs (operations.define key d.marks (record { has_value = is_some v; has_getter = y; has_setter = is_some d.set })) (held_in base (by reading) ∷ held_if (by reading) v ∷ held_if (by reading) g ∷ held_if (by reading) s ∷ [])) old new reply) rg.given
-      (subst (λ x. Acts made meaning later read (λ reading. act tables inputs (operations.define key d.marks (record { has_value = x; has_getter = is_some d.get; has_setter = is_some d.set })) (held_in base (by reading) ∷ held_if (by reading) v ∷ held_if (by reading) g ∷ held_if (by reading) s ∷ [])) old new reply) rv.given
-      (acts_if made meaning room firm earlier later kept read registers old new reply (λ reading u. act tables inputs (operations.define key d.marks (defining.shape_of d)) (held_in base (by reading) ∷ held_if (by reading) v ∷ held_if (by reading) g ∷ u ∷ [])) s d.set rs
-      (acts_if made meaning room firm earlier later kept read registers old new reply (λ reading u. act tables inputs (operations.define key d.marks (defining.shape_of d)) (held_in base (by reading) ∷ held_if (by reading) v ∷ u ∷ given_in reading d.set ∷ [])) g d.get rg
-      (acts_if made meaning room firm earlier later kept read registers old new reply (λ reading u. act tables inputs (operations.define key d.marks (defining.shape_of d)) (held_in base (by reading) ∷ u ∷ given_in reading d.get ∷ given_in reading d.set ∷ [])) v d.value rv
-      (acts_one made meaning room firm earlier later kept read registers old new reply (λ reading u. act tables inputs (operations.define key d.marks (defining.shape_of d)) (u ∷ given_in reading d.value ∷ given_in reading d.get ∷ given_in reading d.set ∷ [])) base b rb acts)))))))
+      let read = λ (reading : T → Label). read_defining reading in
+      subst (λ m. Acts made meaning later read (λ reading. defining key m (shape_of v g s) (held_in base (by reading)) (held_if (by reading) v) (held_if (by reading) g) (held_if (by reading) s)) old new reply) same
+      (subst (λ z. Acts made meaning later read (λ reading. defining key d.marks (record { has_value = is_some v; has_getter = is_some g; has_setter = z }) (held_in base (by reading)) (held_if (by reading) v) (held_if (by reading) g) (held_if (by reading) s)) old new reply) rs.given
+      (subst (λ y. Acts made meaning later read (λ reading. defining key d.marks (record { has_value = is_some v; has_getter = y; has_setter = is_some d.set }) (held_in base (by reading)) (held_if (by reading) v) (held_if (by reading) g) (held_if (by reading) s)) old new reply) rg.given
+      (subst (λ x. Acts made meaning later read (λ reading. defining key d.marks (record { has_value = x; has_getter = is_some d.get; has_setter = is_some d.set }) (held_in base (by reading)) (held_if (by reading) v) (held_if (by reading) g) (held_if (by reading) s)) old new reply) rv.given
+      (acts_if made meaning room firm earlier later kept read registers old new reply (λ reading u. defining key d.marks (definitions.shape_of d) (held_in base (by reading)) (held_if (by reading) v) (held_if (by reading) g) u) s d.set rs
+      (acts_if made meaning room firm earlier later kept read registers old new reply (λ reading u. defining key d.marks (definitions.shape_of d) (held_in base (by reading)) (held_if (by reading) v) u (given_in reading d.set)) g d.get rg
+      (acts_if made meaning room firm earlier later kept read registers old new reply (λ reading u. defining key d.marks (definitions.shape_of d) (held_in base (by reading)) u (given_in reading d.get) (given_in reading d.set)) v d.value rv
+      (acts_one made meaning room firm earlier later kept read registers old new reply (λ reading u. defining key d.marks (definitions.shape_of d) u (given_in reading d.value) (given_in reading d.get) (given_in reading d.set)) base b rb acts)))))))
 
+module _ {S T : Type 0} (made : S → T → Type 0) (meaning : S → T → Label) (room : S → ℕ) (firm : S → Bool) (earlier later : S) (kept : IsKept made meaning room firm earlier later) (tables : Tables) (inputs : Given) (registers : List (Labelled T)) (old new : World T) (reply : Result (Outcome (Labelled T) T) (FlowFault T)) where
   pub acts_new : (class : Class) (from : Option Reg) (proto : Option (Labelled T)) → ReadsIf made meaning earlier from registers proto
       → Acts made meaning later (λ reading. read_value reading) (λ reading. act tables inputs (operations.new_object class (is_some proto)) (arguments_of reading proto)) old new reply
       → Acts made meaning later (λ reading. read_value reading) (λ reading. made_by tables inputs from class (map (read_value reading) registers)) old new reply

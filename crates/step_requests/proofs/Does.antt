@@ -32,9 +32,10 @@ use Rattle.channel_requests.specs.Answers.{lines_behind, read_printed}
 use Rattle.run_state.specs.declared.outcome.Access.{Access}
 use Rattle.run_state.specs.declared.outcome.Outcome as machine
 use Rattle.run_state.specs.declared.outcome.Outcome.TheVariants as outcome
+use Rattle.run_state.specs.declared.outcome.Defining.{Defining}
 use Rattle.run_state.specs.declared.outcome.Putting.{Putting}
 use Rattle.run_state.specs.declared.world.World.{World}
-use Rattle.run_state.specs.Accesses.{read_access, read_putting}
+use Rattle.run_state.specs.Accesses.{read_access, read_defining, read_putting}
 use Rattle.run_state.specs.Acts.{Acts}
 use Rattle.run_state.specs.Worlds.{state_of}
 use Rattle.continuations.specs.Answering.{Reads, held_in, with_steps}
@@ -46,11 +47,12 @@ use Rattle.continuations.proofs.EndLaws.{read_raised}
 use Rattle.step_requests.specs.declared.asked.Asked.{Asked}
 use Rattle.step_requests.specs.declared.asked.Asked.TheVariants as asked
 use Rattle.step_requests.specs.declared.asked.Effect.{Effect}
+use Rattle.step_requests.specs.declared.asked.GivenParts.{GivenParts}
 use Rattle.step_requests.specs.declared.asked.OwnRegisters.{OwnRegisters}
 use Rattle.step_requests.specs.declared.moved.Moved.{Moved}
 use Rattle.step_requests.specs.declared.moved.Moved.TheVariants as moved
-use Rattle.step_requests.specs.Asked.{OwnParts, answered_to, asked_plan, asks, effect_on, entering_access, entering_putting, giving_parts, got, owned, owned_all, putting, thrown_on}
-use Rattle.step_requests.specs.Doing.{Does, Gives, Goes as Comes, Settles, SettlesPrinted, next_of, read_parts, setting_behind}
+use Rattle.step_requests.specs.Asked.{OwnParts, answered_to, asked_plan, asks, defining_of, effect_on, entering_access, entering_defining, entering_putting, giving_parts, got, owned, owned_all, putting, thrown_on, value_or_undefined}
+use Rattle.step_requests.specs.Doing.{Does, Gives, Goes as Comes, ReadsIf, Settles, SettlesPrinted, next_of, read_parts, setting_behind}
 use Rattle.step_requests.proofs.Going.{asks_on}
 use Rattle.step_requests.proofs.Settled.{did, quiet_lines}
 
@@ -114,6 +116,22 @@ module _ {S T : Type 0} (made : S → T → Type 0) (meaning : S → T → Label
             let s = state_of reading world_old told turns in
             subst (λ u. Comes tables inputs set functions reading new steps f world_new told turns (behind tables inputs set functions reading old.tasks (with_steps steps f) (following (putting tables inputs (held_in base vs) key u s) (entering_putting tables inputs set functions u steps vs))) result)
             (reads reading (IsReading-earlier made meaning room firm earlier store reading kept is)) (d.says set functions reading f steps told turns is size);
+      }
+
+  -- a definition gives what a register held, if one is named
+  pub does_define : (room : S → ℕ) (firm : S → Bool) (earlier : S) → IsKept made meaning room firm earlier store → (base : Reg) (key : List ℕ) (given : GivenParts) (value : Option (Labelled T)) (reply : Result (machine.Outcome (Defining T) T) (FlowFault T)) → ReadsIf made meaning earlier given.value old.loose value
+      → Acts made meaning store (λ reading. read_defining reading) (λ reading. defining_of base key given (map (read_value reading) old.loose)) world_old world_new reply
+      → Settles made meaning store (λ reading. read_defining reading) (λ ts gs set functions reading. entering_defining ts gs set functions (value_or_undefined reading value)) old new reply result
+      → Does made meaning store (asked.Define base key given) old new world_old world_new tables inputs result
+  unfolding asked_plan
+  does_define room firm earlier kept base key given value reply reads acts settles =
+      let d = did made meaning store (λ reading. read_defining reading) (λ ts gs set functions reading. entering_defining ts gs set functions (value_or_undefined reading value)) (λ reading vs. defining_of base key given vs) tables inputs old new world_old world_new reply result acts settles in
+      record {
+        says = λ set functions reading f steps told turns is size.
+            let vs = map (read_value reading) old.loose in
+            let s = state_of reading world_old told turns in
+            subst (λ u. Comes tables inputs set functions reading new steps f world_new told turns (behind tables inputs set functions reading old.tasks (with_steps steps f) (following (defining_of base key given vs s) (entering_defining tables inputs set functions u steps vs))) result)
+            (reads.is reading (IsReading-earlier made meaning room firm earlier store reading kept is)) (d.says set functions reading f steps told turns is size);
       }
 
   -- without the run's state

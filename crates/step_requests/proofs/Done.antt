@@ -1,26 +1,32 @@
 -- What comes behind requests: registers are written, functions are entered.
-use Rattle.std.proofs.Common.{refl, sym, ap, ap₂, subst, ◌∙◌, ◌≡◌, ◌≤◌, ◌+◌, ℕ, List, [], ◌∷◌, ◌++◌, map, length, Some, None, append-nil, arith}
+use Rattle.std.proofs.Common.{refl, sym, ap, ap₂, subst, ◌∙◌, ◌≡◌, ◌≤◌, ◌+◌, ℕ, List, [], ◌∷◌, ◌++◌, map, length, false, Option, Some, None, append-nil, arith}
 use Rattle.std.specs.List.{All}
 use Rattle.std.proofs.lemmas.List.Elements.{All-append}
 use Rattle.origin_labels.specs.Label.{Label}
 use Rattle.js_values.specs.declared.ids.ObjId.{ObjId}
 use Rattle.js_values.specs.declared.value.Labelled.{Labelled}
 use Rattle.js_values.specs.declared.value.Value.TheVariants as value
-use Rattle.js_values.specs.Readings.{HasValue, read_value}
+use Rattle.js_values.specs.Readings.{IsReading, HasValue, read_value}
 use Rattle.native_protocol.specs.declared.registers.Reg.{Reg}
 use Rattle.native_protocol.specs.declared.request.Answer.{Answer}
+use Rattle.native_protocol.specs.declared.request.GivenMarks.{GivenMarks}
 use Rattle.native_protocol.specs.declared.request.Answer.TheVariants as answer
 use Rattle.es_meaning.specs.BuiltIns.{steps_behind}
 use Rattle.es_meaning.specs.Evaluation.{call_with}
+use Rattle.es_meaning.specs.Operations.{Value}
 use Rattle.es_meaning.specs.Outcomes.{left}
-use Rattle.flow_meaning.specs.Planned.{End, Give, call_value, construct_value, enter_access, enter_putting, gave}
+use Rattle.es_meaning.specs.Requested.{no_marks}
+use Rattle.flow_meaning.specs.Planned.{End, Give, as_plan, call_value, construct_value, enter_access, enter_count, enter_defining, enter_putting, gave}
 use Rattle.flow_meaning.specs.Scopes.{Val, as_plain}
-use Rattle.flow_meaning.specs.Tracked.{has_getter, has_setter, has_value, is_put}
+use Rattle.flow_meaning.specs.Tracked.{has_getter, has_length, has_length_given, has_setter, has_value, is_defined, is_put, set_length}
 use Rattle.property_requests.specs.declared.owning.OwnProperty.{OwnProperty}
+use Rattle.run_state.specs.declared.outcome.SetLength.{SetLength}
+use Rattle.run_state.specs.declared.outcome.SetLength.TheVariants as put
 use Rattle.continuations.specs.declared.continuation.Control.{Control}
 use Rattle.continuations.specs.declared.continuation.Control.TheVariants as control
 use Rattle.continuations.specs.declared.continuation.Continuation.TheVariants as continuation
-use Rattle.continuations.specs.Answering.{Reads, Writes, held_in, written_in}
+use Rattle.continuations.specs.Answering.{Reads, Writes, held_in, with_steps, written_in}
+use Rattle.continuations.specs.Arrays.{counts_from}
 use Rattle.continuations.specs.Kept.{Kept, kept_operands, operands_of, scopes_of, waiting}
 use Rattle.continuations.specs.Loads.{Adds, lift, load}
 use Rattle.continuations.specs.Moving as Moving
@@ -33,9 +39,10 @@ use Rattle.step_requests.specs.declared.asked.Asked.TheVariants as asked
 use Rattle.step_requests.specs.declared.asked.OwnRegisters.{OwnRegisters}
 use Rattle.step_requests.specs.declared.moved.Moved.{Moved}
 use Rattle.step_requests.specs.declared.moved.Moved.TheVariants as moved
-use Rattle.step_requests.specs.Asked.{answered_to, asked_plan, entering_access, entering_putting, giving_parts, held_all}
+use Rattle.step_requests.specs.Asked.{answered_to, asked_plan, entering_access, entering_defining, entering_putting, giving_parts, held_all, length_entered, value_or_undefined}
 use Rattle.step_requests.specs.Doing.{Gives, HeldIn, Rests, read_parts}
-use Rattle.step_requests.proofs.Going.{asks_on, leaves_idle, over, waits_nothing, waits_value}
+use Rattle.step_requests.proofs.Going.{asks_on, leaves_idle, over, put_over, waits_length, waits_nothing, waits_value}
+use Rattle.step_requests.proofs.Settled.{all_two}
 
 -- ---- the built-in asks next
 
@@ -67,6 +74,15 @@ module _ {S T : Type 0} (made : S → T → Type 0) (meaning : S → T → Label
   pub gives_put : (v : Labelled T) (old : Kept T) (n : ℕ) → Gives made meaning store (λ tables inputs set functions reading steps vs. entering_putting tables inputs set functions (read_value reading v) steps vs is_put) old old (moved.Asks n answer.Done)
   unfolding enter_putting
   gives_put v old n = record {
+    quiet = tt;
+    says = λ tables inputs set functions reading e steps s is size. asks_on tables inputs set functions reading old old n e steps (steps_behind steps answer.Done) (map (read_value reading) old.loose) s refl refl size;
+  }
+
+  -- a definition that is done
+  pub gives_defined : (label : T) (given : Option (Labelled T)) (old : Kept T) (n : ℕ)
+      → Gives made meaning store (λ tables inputs set functions reading steps vs. entering_defining tables inputs set functions (value_or_undefined reading given) steps vs (is_defined (reading label))) old old (moved.Asks n answer.Done)
+  unfolding enter_defining
+  gives_defined label given old n = record {
     quiet = tt;
     says = λ tables inputs set functions reading e steps s is size. asks_on tables inputs set functions reading old old n e steps (steps_behind steps answer.Done) (map (read_value reading) old.loose) s refl refl size;
   }
@@ -113,6 +129,15 @@ module _ {S T : Type 0} (made : S → T → Type 0) (meaning : S → T → Label
         (λ f. ap (λ vs. next_plan tables inputs set functions (control.Call 1) (map (read_value reading) vs) f s) loose);
   }
 
+  -- the `length` of an array is set
+  pub gives_length : (how : SetLength) (label : T) (array : ObjId) (v : Labelled T) (middle : Kept T) (move : Control) → middle.tasks ≡ old.tasks ++ (continuation.Answered count None, old.loose) ∷ []
+      → counts_from how (record { value = value.Object array; label = label }) v middle new move
+      → Gives made meaning store (λ tables inputs set functions reading steps vs. length_entered tables inputs set functions how (reading label) array.0 (read_value reading v) steps vs) old new (moved.Waits move)
+  gives_length how label array v middle move tasks counted = record {
+    quiet = tt;
+    says = λ tables inputs set functions reading e steps s is size. waits_length tables inputs set functions reading old new count e steps s size how (record { value = value.Object array; label = label }) v middle move tasks counted;
+  }
+
   pub gives_call : (callee own to : Reg) (list : List Reg) (f this : Labelled T) (args : List (Labelled T)) (n : ℕ) → new.tasks ≡ old.tasks ++ (continuation.Answered count (Some to), old.loose) ∷ []
       → new.loose ≡ this ∷ f ∷ args → Reads made meaning store callee old.loose f → Reads made meaning store own old.loose this → HeldIn made meaning store list old.loose args
       → Gives made meaning store (λ tables inputs set functions reading. asked_plan tables inputs set functions (asked.Call callee own list to)) old new (moved.Waits (control.Call n))
@@ -140,10 +165,34 @@ module _ {S T : Type 0} (made : S → T → Type 0) (meaning : S → T → Label
         (λ g. ap (λ vs. next_plan tables inputs set functions (control.Construct n) (map (read_value reading) vs) g s) loose ∙ ap₂ plan (called reading is) (given reading is));
   }
 
+-- the `length` of an array is set by a put, and by a definition
+module _ {S T : Type 0} (made : S → T → Type 0) (meaning : S → T → Label) (store : S) (label : T) (array : ObjId) (old new : Kept T) (m : Moved T) where
+  pub gives_put_length : (v : Labelled T) → Gives made meaning store (λ tables inputs set functions reading steps vs. length_entered tables inputs set functions put.Put (reading label) array.0 (read_value reading v) steps vs) old new m
+      → Gives made meaning store (λ tables inputs set functions reading steps vs. entering_putting tables inputs set functions (read_value reading v) steps vs (has_length (reading label) array.0)) old new m
+  unfolding enter_putting
+  gives_put_length v gives = record {
+    quiet = gives.quiet;
+    says = λ tables inputs set functions reading e steps s is size.
+        let counted = enter_count (entrance tables inputs set functions) (reading label) (read_value reading v) (λ n given t. as_plan Value (set_length false (reading label) array.0 no_marks n given t)) s in
+        gives.says tables inputs set functions reading e steps s is size
+        ∙ ap (behind tables inputs set functions reading old.tasks (with_steps steps e)) (sym (put_over counted (answered_to None steps (map (read_value reading) old.loose) (read_value reading v))));
+  }
+
+  pub gives_defined_length : (marks : GivenMarks) (given : Option (Labelled T)) (v : Labelled T) → ((reading : T → Label) → IsReading made meaning store reading → read_value reading v ≡ value_or_undefined reading given)
+      → Gives made meaning store (λ tables inputs set functions reading steps vs. length_entered tables inputs set functions (put.Define marks) (reading label) array.0 (read_value reading v) steps vs) old new m
+      → Gives made meaning store (λ tables inputs set functions reading steps vs. entering_defining tables inputs set functions (value_or_undefined reading given) steps vs (has_length_given (reading label) array.0 marks)) old new m
+  unfolding enter_defining
+  gives_defined_length marks given v same gives = record {
+    quiet = gives.quiet;
+    says = λ tables inputs set functions reading e steps s is size.
+        gives.says tables inputs set functions reading e steps s is size
+        ∙ ap (λ u. behind tables inputs set functions reading old.tasks (with_steps steps e) (length_entered tables inputs set functions (put.Define marks) (reading label) array.0 u steps (map (read_value reading) old.loose) s)) (same reading is);
+  }
+
 -- what is left of the pending work where a built-in waits
 pub waits_rests : {T : Type 0} (made : T → Type 0) (old middle new : Kept T) (move : Control) → middle.loose ≡ [] → new.tasks ≡ middle.tasks
     → scopes_of middle.tasks ≡ scopes_of old.tasks ++ [] → waiting middle.tasks ≡ waiting old.tasks + 1 → operands_of middle ≡ operands_of old → load middle.tasks ≡ load old.tasks + 1
-    → All (HasValue made) old.loose → All (HasValue made) new.loose → length new.loose ≡ values_of move → lift move ≤ 6 → running move ≡ 0 → Rests made old new (moved.Waits move)
+    → All (HasValue made) old.loose → All (HasValue made) new.loose → length new.loose ≡ values_of move → lift move ≤ 8 → running move ≡ 0 → Rests made old new (moved.Waits move)
 waits_rests made old middle new move none tasks scopes natives operands loads all more values low idle = record {
   values = values;
   scopes = ap scopes_of tasks ∙ scopes ∙ append-nil (scopes_of old.tasks);
@@ -154,6 +203,23 @@ waits_rests made old middle new move none tasks scopes natives operands loads al
       All-append (HasValue made) (kept_operands new.tasks) new.loose (subst (All (HasValue made)) (sym (ap kept_operands tasks ∙ whole)) before) more;
   adds = let same = ap load tasks in omega (arith, same, loads, low);
   idle = idle;
+}
+
+-- and where the `length` of an array is set, behind both conversions
+pub length_rests : {T : Type 0} (made : T → Type 0) (how : SetLength) (array v : Labelled T) (old middle new : Kept T) (move : Control) → middle.loose ≡ []
+    → scopes_of middle.tasks ≡ scopes_of old.tasks ++ [] → waiting middle.tasks ≡ waiting old.tasks + 1 → operands_of middle ≡ operands_of old → load middle.tasks ≡ load old.tasks + 1
+    → All (HasValue made) old.loose → made array.label → made v.label → counts_from how array v middle new move → Adds 10 middle new move → Rests made old new (moved.Waits move)
+length_rests made how array v old middle new move none scopes natives operands loads all m n counted adds = record {
+  values = ap length counted.loose ∙ sym (ap values_of counted.moves);
+  scopes = counted.scopes ∙ scopes ∙ append-nil (scopes_of old.tasks);
+  natives = counted.natives ∙ natives;
+  operands = λ kept.
+      let whole : kept_operands middle.tasks ≡ kept_operands old.tasks ++ old.loose = sym (append-nil (kept_operands middle.tasks)) ∙ ap (λ vs. kept_operands middle.tasks ++ vs) (sym none) ∙ operands in
+      let before = subst (All (HasValue made)) (sym whole) (All-append (HasValue made) (kept_operands old.tasks) old.loose kept all) in
+      let both = all_two made (array ∷ v ∷ []) array v refl m n in
+      subst (All (HasValue made)) (sym counted.operands) (All-append (HasValue made) (kept_operands middle.tasks ++ array ∷ v ∷ []) (array ∷ v ∷ []) (All-append (HasValue made) (kept_operands middle.tasks) (array ∷ v ∷ []) before both) both);
+  adds = omega (arith, adds, loads);
+  idle = ap running counted.moves;
 }
 
 -- ---- the built-in is over

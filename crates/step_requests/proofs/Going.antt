@@ -8,22 +8,28 @@ use Rattle.js_ast.specs.Functions.{FunctionCode}
 use Rattle.js_values.specs.declared.value.Labelled.{Labelled}
 use Rattle.js_values.specs.Readings.{read_value}
 use Rattle.native_protocol.specs.declared.registers.Reg.{Reg}
+use Rattle.native_protocol.specs.declared.request.Answer.TheVariants as answer
 use Rattle.native_protocol.specs.Steps.{Steps, throws_type_error}
-use Rattle.es_meaning.specs.BuiltIns.{BuiltIns}
+use Rattle.es_meaning.specs.BuiltIns.{BuiltIns, steps_behind}
 use Rattle.es_meaning.specs.Evaluation.{answered_in, put_behind}
 use Rattle.es_meaning.specs.Operations.{One, Value}
-use Rattle.flow_meaning.specs.Planned.{Plan, Then, Give, Ask, End, a_request, and_plan, end_setter, with_result}
+use Rattle.es_meaning.specs.Plain.{undefined}
+use Rattle.flow_meaning.specs.Erased.{unlabelled}
+use Rattle.flow_meaning.specs.Planned.{Plan, Then, Give, Ask, End, a_request, and_plan, enter_count, end_putting, gave, jumped, with_result, Completion}
 use Rattle.flow_meaning.specs.Scopes.{Halt, State, Val}
+use Rattle.run_state.specs.declared.outcome.SetLength.{SetLength}
 use Rattle.continuations.specs.declared.continuation.Control.{Control}
 use Rattle.continuations.specs.declared.continuation.Control.TheVariants as control
 use Rattle.continuations.specs.declared.continuation.Continuation.TheVariants as continuation
 use Rattle.continuations.specs.Answering.{with_steps}
+use Rattle.continuations.specs.Arrays.{counts_from}
 use Rattle.continuations.specs.Going.{here}
 use Rattle.continuations.specs.Kept.{Kept, waiting}
-use Rattle.continuations.specs.Pending.{Task, after_task, behind, next_plan, setting_above}
+use Rattle.continuations.specs.Pending.{Task, after_task, behind, next_plan, sets_length, setting_above}
 use Rattle.continuations.specs.Resuming.{coming}
-use Rattle.continuations.specs.Settings.{Setting, outermost_steps, setting_of}
+use Rattle.continuations.specs.Settings.{Setting, entrance, outermost_steps, setting_of}
 use Rattle.continuations.specs.Invariant.{running}
+use Rattle.continuations.proofs.ArrayLaws.{length_begins}
 use Rattle.continuations.proofs.Behind.{behind_more}
 use Rattle.continuations.proofs.Handed.{behind_end}
 use Rattle.continuations.proofs.RegisterLaws.{above_enough, behind_enough}
@@ -34,6 +40,18 @@ pub then_plan : (p : Plan) (first second : Then) → and_plan (and_plan p first)
 then_plan (Give c s) first second = refl
 then_plan (Ask part s go_on) first second = ap (Ask part s) (fun_ext (λ c. fun_ext (λ t. then_plan (go_on c t) first second)))
 then_plan (End halt s) first second = refl
+
+-- what a setter gives goes nowhere, and neither does what a `length` gives
+nothing_over : (next : State → Plan) (c : Completion) (t : State) → and_plan (end_putting c t) (with_result One (λ u. next)) ≡ with_result Value (λ v. next) c t
+unfolding end_putting
+nothing_over next (gave v) t = refl
+nothing_over next (jumped j) t = refl
+
+over_nothing : (next : State → Plan) → with_result Value (λ v. next) ≡ (λ c t. and_plan (end_putting c t) (with_result One (λ u. next)))
+over_nothing next = fun_ext (λ c. fun_ext (λ t. sym (nothing_over next c t)))
+
+pub put_over : (p : Plan) (next : State → Plan) → and_plan (and_plan p end_putting) (with_result One (λ u. next)) ≡ and_plan p (with_result Value (λ v. next))
+put_over p next = then_plan p end_putting (with_result One (λ u. next)) ∙ ap (λ (k : Then). and_plan p k) (sym (over_nothing next))
 
 module _ {T : Type 0} (tables : Tables) (inputs : Given) (set : BuiltIns) (functions : List FunctionCode) (reading : T → Label) where
   -- the innermost built-in asks next, with these steps left
@@ -56,9 +74,12 @@ module _ {T : Type 0} (tables : Tables) (inputs : Given) (set : BuiltIns) (funct
   unfolding answered_in
   goes_in registers count to steps f is = ap (λ ns. with_result Value (answered_to (Some to) (outermost_steps ns) (map (read_value reading) registers))) is
 
-  goes_by : (registers : List (Labelled T)) (count : ℕ) (v : Val) (steps : Steps) (f : Setting) → f.natives ≡ steps ∷ [] → after_task tables inputs set functions reading (continuation.Answered count None, registers) f ≡ (λ c t. and_plan (end_setter c t) (with_result One (λ u. answered_to None steps (map (read_value reading) registers) v)))
+  goes_by : (registers : List (Labelled T)) (count : ℕ) (v : Val) (steps : Steps) (f : Setting) → f.natives ≡ steps ∷ [] → after_task tables inputs set functions reading (continuation.Answered count None, registers) f ≡ (λ c t. and_plan (end_putting c t) (with_result One (λ u. answered_to None steps (map (read_value reading) registers) v)))
   unfolding put_behind
-  goes_by registers count v steps f is = ap (λ ns. λ c t. and_plan (end_setter c t) (with_result One (λ u. answered_to None (outermost_steps ns) (map (read_value reading) registers) v))) is
+  goes_by registers count v steps f is = ap (λ ns. λ c t. and_plan (end_putting c t) (with_result One (λ u. answered_to None (outermost_steps ns) (map (read_value reading) registers) v))) is
+
+  goes_over : (registers : List (Labelled T)) (count : ℕ) (steps : Steps) (f : Setting) → f.natives ≡ steps ∷ [] → after_task tables inputs set functions reading (continuation.Answered count None, registers) f ≡ with_result Value (answered_to None steps (map (read_value reading) registers))
+  goes_over registers count steps f is = goes_by registers count (unlabelled undefined) steps f is ∙ sym (over_nothing (asks (steps_behind steps answer.Done) (map (read_value reading) registers)))
 
   -- it waits behind what was entered, whose plan doesn't depend on the setting
   module _ (old new : Kept T) (count : ℕ) (e : Setting) (steps : Steps) (s : State) (size : length e.natives ≡ waiting old.tasks) where
@@ -86,10 +107,23 @@ module _ {T : Type 0} (tables : Tables) (inputs : Given) (set : BuiltIns) (funct
     -- what a setter gives goes nowhere
     pub waits_nothing : (v : Val) (move : Control) (p : Plan) → new.tasks ≡ old.tasks ++ (continuation.Answered count None, old.loose) ∷ []
         → ((f : Setting) → next_plan tables inputs set functions move (map (read_value reading) new.loose) f s ≡ p)
-        → coming tables inputs set functions reading new move (with_steps steps e) s ≡ behind tables inputs set functions reading old.tasks (with_steps steps e) (and_plan (and_plan p end_setter) (with_result One (λ u. answered_to None steps (map (read_value reading) old.loose) v)))
+        → coming tables inputs set functions reading new move (with_steps steps e) s ≡ behind tables inputs set functions reading old.tasks (with_steps steps e) (and_plan (and_plan p end_putting) (with_result One (λ u. answered_to None steps (map (read_value reading) old.loose) v)))
     waits_nothing v move p tasks comes =
-        waits_on None move p (λ c t. and_plan (end_setter c t) (with_result One (λ u. answered_to None steps (map (read_value reading) old.loose) v))) tasks comes (goes_by old.loose count v steps)
-        ∙ ap (behind tables inputs set functions reading old.tasks (with_steps steps e)) (sym (then_plan p end_setter (with_result One (λ u. answered_to None steps (map (read_value reading) old.loose) v))))
+        waits_on None move p (λ c t. and_plan (end_putting c t) (with_result One (λ u. answered_to None steps (map (read_value reading) old.loose) v))) tasks comes (goes_by old.loose count v steps)
+        ∙ ap (behind tables inputs set functions reading old.tasks (with_steps steps e)) (sym (then_plan p end_putting (with_result One (λ u. answered_to None steps (map (read_value reading) old.loose) v))))
+
+    -- the `length` of an array is set behind both conversions of a value
+    pub waits_length : (how : SetLength) (array v : Labelled T) (middle : Kept T) (move : Control) → middle.tasks ≡ old.tasks ++ (continuation.Answered count None, old.loose) ∷ [] → counts_from how array v middle new move
+        → coming tables inputs set functions reading new move (with_steps steps e) s
+        ≡ behind tables inputs set functions reading old.tasks (with_steps steps e) (and_plan (enter_count (entrance tables inputs set functions) (reading array.label) (read_value reading v) (sets_length tables inputs set functions how (read_value reading array)) s) (with_result Value (answered_to None steps (map (read_value reading) old.loose))))
+    waits_length how array v middle move tasks counted =
+        let x = with_steps steps e in
+        let w : Task T = (continuation.Answered count None, old.loose) in
+        let p = enter_count (entrance tables inputs set functions) (reading array.label) (read_value reading v) (sets_length tables inputs set functions how (read_value reading array)) s in
+        length_begins how array v middle new move counted tables inputs set functions reading x s
+        ∙ ap (λ ts. behind tables inputs set functions reading ts x p) tasks
+        ∙ behind_more tables inputs set functions reading old.tasks w x p
+        ∙ ap (λ (then : Then). behind tables inputs set functions reading old.tasks x (and_plan p then)) (goes_over old.loose count steps (setting_above old.tasks x) (above_enough old.tasks e.natives (steps ∷ []) e.env size))
 
 -- ---- a run that leaves asks for nothing
 

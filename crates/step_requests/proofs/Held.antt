@@ -1,5 +1,5 @@
 -- What registers hold, in a later store, and acts on it.
-use Rattle.std.proofs.Common.{refl, sym, ap, ap₂, subst, ◌∙◌, ◌≡◌, ◌+◌, ◌<◌, ◌≤◌, ℕ, Bool, List, [], ◌∷◌, ◌++◌, map, take, length, get_or, Option, Some, Result}
+use Rattle.std.proofs.Common.{refl, sym, ap, ap₂, subst, ◌∙◌, ◌≡◌, ◌+◌, ◌<◌, ◌≤◌, ℕ, Bool, List, [], ◌∷◌, ◌++◌, map, take, length, get_or, IfSome, Option, Some, None, Result}
 use Rattle.std.specs.List.{All}
 use Rattle.std.proofs.lemmas.List.{map-append, take_more, take_all}
 use Rattle.std.proofs.lemmas.Option.{slice_get-get_or}
@@ -19,7 +19,7 @@ use Rattle.run_state.specs.Worlds.{state_of}
 use Rattle.run_state.proofs.ActLaws.{Acts-as, HasAnswer-weaker}
 use Rattle.continuations.specs.Answering.{Reads, held_in}
 use Rattle.step_requests.specs.Asked.{held_all, held_if}
-use Rattle.property_requests.specs.Defining.{given_in}
+use Rattle.property_requests.specs.Defining.{HasGiven, given_in}
 use Rattle.step_requests.specs.Doing.{HeldIn, Holds, ReadsIf}
 
 -- an answer is of labels of a store, whatever else it is
@@ -33,6 +33,10 @@ module _ {S T : Type 0} (made : S → T → Type 0) (meaning : S → T → Label
 
   pub label_later : (label : T) → made earlier label → made later label
   label_later label m = (kept.labels label m).0
+
+  pub given_later : (value : Option (Labelled T)) → HasGiven (made earlier) value → IfSome value (HasValue (made later))
+  given_later None has = tt
+  given_later (Some v) has = label_later v.label has
 
   -- an act on values that registers hold is one on registers
   module _ {X Y : Type 0} (read : (T → Label) → X → Y) (registers : List (Labelled T)) (old new : World T) (result : Result (Outcome X T) (FlowFault T)) where

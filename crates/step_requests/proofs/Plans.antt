@@ -13,7 +13,7 @@ use Rattle.es_meaning.specs.Evaluation.{request_step, native_step, answered, ans
 use Rattle.es_meaning.specs.Operations as operations
 use Rattle.es_meaning.specs.Operations.{Ty, One, Value, Res}
 use Rattle.es_meaning.specs.Outcomes.{Outcome, Goes, Jumps, Ends, and_then}
-use Rattle.flow_meaning.specs.Planned.{Plan, Give, a_request, and_plan, as_plan, gave, with_outcome, with_result, planned, asking, plan, enter_access, enter_putting}
+use Rattle.flow_meaning.specs.Planned.{Plan, Give, a_request, and_plan, as_plan, gave, with_outcome, with_result, planned, asking, plan, enter_access, enter_defining, enter_putting}
 use Rattle.flow_meaning.specs.Scopes.{Halt, Jump, L, State, Val, raise}
 use Rattle.flow_meaning.specs.Tracked.{act, accessed, of_property, put_value, remove, throw_error}
 use Rattle.continuations.specs.Answering.{held_in}
@@ -21,7 +21,7 @@ use Rattle.continuations.specs.Moving.{following}
 use Rattle.continuations.specs.Settings.{entrance}
 use Rattle.step_requests.specs.declared.asked.Effect.{Effect}
 use Rattle.step_requests.specs.declared.asked.Effect.TheVariants as effect
-use Rattle.step_requests.specs.Asked.{OwnParts, asked_of, asked_plan, effect_on, giving_parts, owned, owned_all, key_value, thrown_on, answered_to}
+use Rattle.step_requests.specs.Asked.{OwnParts, asked_of, asked_plan, defining_of, effect_on, held_if, giving_parts, owned, owned_all, key_value, thrown_on, answered_to}
 
 -- what goes on behind a completion goes on behind its outcome
 pub followed : (t : Ty) (o : Outcome Halt Jump (Res Val t) State) (k : Res Val t → State → Plan) → and_plan (as_plan t o) (with_result t k) ≡ following o k
@@ -38,15 +38,16 @@ followed_then (Goes x t) next k = followed Value (next x t) k
 followed_then (Jumps j t) next k = refl
 followed_then (Ends halt t) next k = refl
 
+-- one that may enter something
+entered_by : {X : Type 0} (o : Outcome Halt Jump X State) (enter : X → State → Plan) (t : Ty) (k : Res Val t → State → Plan) → and_plan (with_outcome o enter) (with_result t k) ≡ following o (λ x u. and_plan (enter x u) (with_result t k))
+entered_by (Goes x s) enter t k = refl
+entered_by (Jumps j s) enter t k = refl
+entered_by (Ends halt s) enter t k = refl
+
 -- an act, and then one that may enter something
 entered_then : {X : Type 0} (o : Outcome Halt Jump Val State) (next : Val → L X) (enter : X → State → Plan) (t : Ty) (k : Res Val t → State → Plan)
     → and_plan (as_plan Value o) (with_result Value (λ x u. and_plan (with_outcome (next x u) enter) (with_result t k))) ≡ following (and_then o next) (λ x u. and_plan (enter x u) (with_result t k))
 entered_then (Goes x u) next enter t k = entered_by (next x u) enter t k
-  where
-    entered_by : {X : Type 0} (o : Outcome Halt Jump X State) (enter : X → State → Plan) (t : Ty) (k : Res Val t → State → Plan) → and_plan (with_outcome o enter) (with_result t k) ≡ following o (λ x u. and_plan (enter x u) (with_result t k))
-    entered_by (Goes x s) enter t k = refl
-    entered_by (Jumps j s) enter t k = refl
-    entered_by (Ends halt s) enter t k = refl
 entered_then (Jumps j u) next enter t k = refl
 entered_then (Ends halt u) next enter t k = refl
 
@@ -99,7 +100,8 @@ module _ (tables : Tables) (inputs : Given) (set : BuiltIns) (functions : List F
       entered_then (base_of base vs s) (λ b. put_value (of_property b key bottom) (held_in from vs)) (enter_putting functions (entrance tables inputs set functions) (held_in from vs)) One (λ u. answered_to None steps vs (held_in from vs))
   asked_is (request.Delete base key to) steps vs s = followed_then (base_of base vs s) (λ b. remove (of_property b key bottom)) (answered_to (Some to) steps vs)
   asked_is (request.Own base key m v g h) steps vs s = owned_as (held_in base vs) key (giving_parts (record { marks = m; value = v; get = g; set = h }) steps vs) s
-  asked_is (request.Define base key marks v g h) steps vs s = by_effect (effect.Define base key marks v g h) None steps vs s
+  asked_is (request.Define base key marks v g h) steps vs s =
+      entered_by (defining_of base key (record { marks = marks; value = v; get = g; set = h }) vs s) (enter_defining (entrance tables inputs set functions) (held_if vs v)) Value (answered_to None steps vs)
   asked_is (request.Keys base all to) steps vs s = by_effect (effect.Keys base all) (Some to) steps vs s
   asked_is (request.Proto base to) steps vs s = by_effect (effect.Proto base) (Some to) steps vs s
   asked_is (request.Extensible base to) steps vs s = by_effect (effect.Extensible base) (Some to) steps vs s

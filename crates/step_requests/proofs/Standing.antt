@@ -25,7 +25,6 @@ module _ (tables : Tables) (inputs : Given) where
   effect_stands (effect.Same a b) vs s = binary_stands tables inputs any_set [] StrictEqual (held_in a vs) (held_in b vs) s
   effect_stands (effect.Has base key) vs s = based_stands (held_in base vs) (λ b. act tables inputs operations.has_key (key_value key ∷ b ∷ [])) s (λ b t. act_stands tables inputs operations.has_key (key_value key ∷ b ∷ []) t)
   effect_stands (effect.Delete base key) vs s = based_stands (held_in base vs) (λ b. remove (of_property b key bottom)) s (λ b t. remove_stands (of_property b key bottom) t)
-  effect_stands (effect.Define base key marks v g h) vs s = act_stands tables inputs _ _ s
   effect_stands (effect.Keys base all) vs s = act_stands tables inputs _ _ s
   effect_stands (effect.Proto base) vs s = act_stands tables inputs _ _ s
   effect_stands (effect.Extensible base) vs s = act_stands tables inputs _ _ s

@@ -107,7 +107,7 @@ module _ {T : Type 0} where
     pub scopes : scopes_of new.tasks ≡ scopes_of old.tasks
     pub natives : waiting new.tasks ≡ waiting old.tasks + waits_more m
     pub operands : All (HasValue made) (kept_operands old.tasks) → All (HasValue made) (operands_of new)
-    pub adds : Adds 7 old new (next_of m)
+    pub adds : Adds 11 old new (next_of m)
     pub idle : IsIdle m
 
   -- and of the frames

@@ -30,14 +30,6 @@ pub(crate) enum Effect {
         base: Reg,
         key: Key,
     },
-    Define {
-        base: Reg,
-        key: Key,
-        marks: GivenMarks,
-        value: Option<Reg>,
-        get: Option<Reg>,
-        set: Option<Reg>,
-    },
     Keys {
         base: Reg,
         all: bool,
@@ -87,6 +79,15 @@ pub(crate) struct OwnRegisters {
     pub set: Reg,
 }
 
+/// What a definition gives: attributes, and registers with a value, a getter and a setter.
+#[derive(Clone, Copy)]
+pub(crate) struct GivenParts {
+    pub marks: GivenMarks,
+    pub value: Option<Reg>,
+    pub get: Option<Reg>,
+    pub set: Option<Reg>,
+}
+
 /// What is asked for. The value of an effect goes into a register, if one is named.
 #[derive(Drop)]
 pub(crate) enum Asked {
@@ -108,6 +109,11 @@ pub(crate) enum Asked {
         base: Reg,
         key: Key,
         to: OwnRegisters,
+    },
+    Define {
+        base: Reg,
+        key: Key,
+        given: GivenParts,
     },
     PrintLine {
         name: Reg,
@@ -175,17 +181,16 @@ pub(crate) fn asked_of(request: Request) -> Asked
             value,
             get,
             set,
-        } => Asked::Does(
-            Effect::Define {
-                base,
-                key,
+        } => Asked::Define {
+            base,
+            key,
+            given: GivenParts {
                 marks,
                 value,
                 get,
                 set,
             },
-            None,
-        ),
+        },
         Request::Keys { base, all, to } => Asked::Does(Effect::Keys { base, all }, Some(to)),
         Request::Proto { base, to } => Asked::Does(Effect::Proto { base }, Some(to)),
         Request::Extensible { base, to } => Asked::Does(Effect::Extensible { base }, Some(to)),

@@ -15,10 +15,13 @@ ghost use Rattle.continuations.specs.Stops.{HasStop};
 ghost use Rattle.step_requests.specs.Doing.{Does, Leaves, IsQuiet, Prints};
 ghost use Rattle.step_requests.specs.declared.asked.Asked.TheVariants as asked;
 
-use crate::asked::{Effect, OwnRegisters};
+use crate::asked::{Effect, GivenParts, OwnRegisters};
 use crate::effects::perform;
-use crate::handing_on::{hand_on, hand_on_access, hand_on_own, hand_on_printed, hand_on_putting};
+use crate::handing_on::{
+    hand_on, hand_on_access, hand_on_defining, hand_on_own, hand_on_printed, hand_on_putting,
+};
 use crate::moved::Moved;
+use crate::objects::{defining, read_if};
 use crate::properties::{got, putting};
 use channel_requests::print_line;
 use continuations::{Stack, read_register};
@@ -115,7 +118,7 @@ pub(crate) fn put<'p, L: Labels>(
     let value = read_register(alloc, labels, stack, count, from)?;
     let given = value.copy(alloc)?;
     let came = putting(alloc, labels, world, stack, count, base, key, given);
-    hand_on_putting(labels, stack, count, value, came)
+    hand_on_putting(alloc, labels, stack, count, value, came)
 }
 
 /// What is known of an own property (ECMA-262 8.12.1).
@@ -143,6 +146,33 @@ pub(crate) fn own<'p, L: Labels>(
     let base = read_register(alloc, labels, stack, count, base)?;
     let came = own_property(alloc, labels, world, &base, key);
     hand_on_own(labels, stack, count, to, came)
+}
+
+/// A property is defined (ECMA-262 8.12.9).
+pub(crate) fn define<'p, L: Labels>(
+    alloc: Global,
+    labels: &mut L,
+    world: &mut World<L::Label>,
+    stack: &mut Stack<'p, L::Label>,
+    count: u32,
+    base: Reg,
+    key: Key,
+    given: GivenParts,
+) -> Result<Moved<'p, L::Label>, FlowFault<L::Label>>
+    requires loose { length stack.old.loose ≡ count }
+    requires made { All (HasValue (L.made labels.old)) stack.old.loose }
+    requires belongs { Belongs L.made L.meaning labels.old world.old }
+    ensures does { (tables : Tables) (inputs : Given) → Does L.made L.meaning labels.new (asked.Define base key given) stack.old stack.new world.old world.new tables inputs result }
+    ensures leaves { IfOk result (Leaves (L.made labels.new) stack.old stack.new world.old world.new) }
+    ensures quiet { IfOk result IsQuiet }
+    ensures stopped { IfErr result (IfStop (HasStop (L.made labels.new))) }
+    ensures belongs { Belongs L.made L.meaning labels.new world.new }
+    ensures grows { Grows world.old world.new }
+    ensures kept { IsKept L.made L.meaning L.room L.firm labels.old labels.new }
+{
+    let value = read_if(alloc, labels, stack, count, given.value)?;
+    let came = defining(alloc, labels, world, stack, count, base, key, given);
+    hand_on_defining(alloc, labels, stack, count, value, came)
 }
 
 /// A line on an output channel.

@@ -12,7 +12,7 @@ ghost use Rattle.step_requests.specs.Asked.{effect_on};
 use crate::asked::Effect;
 use crate::channels::{existence, label, read, structure};
 use crate::making::{copy, make, same};
-use crate::objects::{bound, define, extensible, keys, make_object, prevent, proto};
+use crate::objects::{bound, extensible, keys, make_object, prevent, proto};
 use crate::properties::{delete, has};
 use continuations::Stack;
 use flow_frames::FlowFault;
@@ -51,16 +51,6 @@ pub(crate) fn perform<'p, L: Labels>(
         Effect::Same { a, b } => same(alloc, labels, world, stack, count, a, b),
         Effect::Has { base, key } => has(alloc, labels, world, stack, count, base, &key),
         Effect::Delete { base, key } => delete(alloc, labels, world, stack, count, base, &key),
-        Effect::Define {
-            base,
-            key,
-            marks,
-            value,
-            get,
-            set,
-        } => define(
-            alloc, labels, world, stack, count, base, key, marks, value, get, set,
-        ),
         Effect::Keys { base, all } => keys(alloc, labels, world, stack, count, base, all),
         Effect::Proto { base } => proto(alloc, labels, world, stack, count, base),
         Effect::Extensible { base } => extensible(alloc, labels, world, stack, count, base),

@@ -1,4 +1,5 @@
-//! What is entered for a built-in, which waits: functions that it calls or constructs with, and the getters and setters that its reads and puts came to.
+//! What is entered for a built-in, which waits: functions that it calls or constructs with, the getters and setters that its reads and puts came to, and
+//! the conversions of a value for the `length` of an array.
 
 ghost use Rattle.std.specs.Prelude.{◌≡◌, [], ◌∷◌, ◌++◌, map, length, IfOk, OnOk, Some, None};
 ghost use Rattle.std.specs.List.{All};
@@ -7,19 +8,20 @@ ghost use Rattle.js_values.specs.Readings.{HasValue, read_value};
 ghost use Rattle.flow_meaning.specs.Tracked.{has_getter, has_setter};
 ghost use Rattle.continuations.specs.declared.continuation.Continuation.TheVariants as continuation;
 ghost use Rattle.continuations.specs.Answering.{Reads};
-ghost use Rattle.step_requests.specs.Asked.{asked_plan, entering_access, entering_putting};
+ghost use Rattle.step_requests.specs.Asked.{asked_plan, entering_access, entering_putting, length_entered};
 ghost use Rattle.step_requests.specs.Doing.{Gives, HeldIn, IsQuiet, Rests};
 ghost use Rattle.step_requests.specs.declared.asked.Asked.TheVariants as asked;
 
 use crate::moved::Moved;
-use continuations::{Continuation, Control, Stack, read_register};
+use continuations::{Continuation, Control, Stack, begin_length, read_register};
 use flow_text::OutOfMemory;
 use js_values::{Labelled, ObjId, Value};
 use native_protocol::{Reg, RegList};
 use origin_labels::Labels;
+use run_state::SetLength;
 use std::alloc::Global;
 
-/// A function as a value.
+/// A function, or an array, as a value.
 fn called<T>(function: ObjId, label: T) -> Labelled<T>
     ensures { result ≡ record { value = kinds.Object function; label = label } }
 {
@@ -77,6 +79,30 @@ pub(crate) fn enter_setter<'p, L: Labels>(
     stack.lay(called(function, label))?;
     stack.lay(value)?;
     Ok(Moved::Waits(Control::Call(1)))
+}
+
+/// The `length` of an array is set, by base, key and walk with this label.
+pub(crate) fn enter_length<'p, L: Labels>(
+    alloc: Global,
+    _labels: &L,
+    stack: &mut Stack<'p, L::Label>,
+    count: u32,
+    how: SetLength,
+    label: L::Label,
+    array: ObjId,
+    value: Labelled<L::Label>,
+) -> Result<Moved<'p, L::Label>, OutOfMemory>
+    requires loose { length stack.old.loose ≡ count }
+    requires made { All (HasValue (L.made _labels.now)) stack.old.loose }
+    requires label { L.made _labels.now label }
+    requires value { HasValue (L.made _labels.now) value }
+    ensures gives { IfOk result (Gives L.made L.meaning _labels.now (λ tables inputs set functions reading steps vs. length_entered tables inputs set functions how (reading label) array.0 (read_value reading value) steps vs) stack.old stack.new) }
+    ensures rests { IfOk result (Rests (L.made _labels.now) stack.old stack.new) }
+    ensures quiet { IfOk result IsQuiet }
+{
+    stack.push(Continuation::Answered(count, None))?;
+    let next = begin_length(alloc, stack, how, called(array, label), value)?;
+    Ok(Moved::Waits(next))
 }
 
 /// What registers hold.

@@ -1,31 +1,34 @@
 //! What acts came to, handed on to the built-in that asked for them.
 
-ghost use Rattle.std.specs.Prelude.{◌≡◌, ◌<◌, ℕ, length, IfErr, IfOk};
+ghost use Rattle.std.specs.Prelude.{◌≡◌, ◌<◌, ℕ, length, IfErr, IfOk, IfSome};
 ghost use Rattle.std.specs.List.{All};
 ghost use Rattle.flow_frames.specs.Stops.{IfStop};
-ghost use Rattle.js_values.specs.Readings.{HasValue, read_value};
+ghost use Rattle.origin_labels.specs.Label.{Label};
+ghost use Rattle.js_values.specs.Readings.{HasValue, IsReading, read_value};
 ghost use Rattle.property_requests.specs.Owning.{HasParts};
 ghost use Rattle.run_state.specs.declared.world.World.{World};
-ghost use Rattle.run_state.specs.Accesses.{HasAccess, HasPutting, read_access, read_putting};
+ghost use Rattle.run_state.specs.Accesses.{HasAccess, HasDefining, HasPutting, read_access, read_defining, read_putting};
 ghost use Rattle.run_state.specs.Acts.{HasAnswer};
 ghost use Rattle.continuations.specs.Stops.{HasStop};
 ghost use Rattle.step_objects.specs.Standing.{StandsBy};
-ghost use Rattle.step_requests.specs.Asked.{answered_to, entering_access, entering_putting, giving_parts};
+ghost use Rattle.step_requests.specs.Asked.{answered_to, entering_access, entering_defining, entering_putting, giving_parts, value_or_undefined};
 ghost use Rattle.step_requests.specs.Doing.{Gives, IsQuiet, Leaves, Parts, Prints, Rests, Settles, SettlesPrinted, read_parts};
 ghost use Rattle.channel_requests.specs.Answers.{HasPrinted, IfPrinted};
 
 use crate::asked::OwnRegisters;
-use crate::entering::{enter_getter, enter_setter};
+use crate::entering::{enter_getter, enter_length, enter_setter};
 use crate::moved::Moved;
 use channel_requests::Printed;
 use continuations::{Control, Jump, Stack, leave_by, write_register};
 use flow_frames::FlowFault;
 use flow_text::OutOfMemory;
-use js_values::Labelled;
+use js_number::Primitive;
+use js_values::{Labelled, Value};
 use native_protocol::{Answer, Reg};
 use origin_labels::Labels;
 use property_requests::OwnProperty;
-use run_state::{Access, Outcome, Putting};
+use run_state::{Access, Defining, Outcome, Putting, SetLength};
+use std::alloc::Global;
 
 /// What an act went on with, or the next move where it threw or left the language.
 #[derive(Drop)]
@@ -162,8 +165,9 @@ fn give_access<'p, L: Labels>(
     }
 }
 
-/// What comes behind a put: it is done, or its setter is called with the value, and the built-in waits.
+/// What comes behind a put: it is done; or its setter is called with the value, or the `length` of an array is set, and the built-in waits.
 pub(crate) fn hand_on_putting<'p, L: Labels>(
+    alloc: Global,
     labels: &L,
     stack: &mut Stack<'p, L::Label>,
     count: u32,
@@ -182,7 +186,7 @@ pub(crate) fn hand_on_putting<'p, L: Labels>(
     let went = go_on(labels, stack, count, came)?;
     match went {
         Went::On(putting) => {
-            let moved = give_putting(labels, stack, count, value, putting)?;
+            let moved = give_putting(alloc, labels, stack, count, value, putting)?;
             Ok(moved)
         }
         Went::Off(next) => Ok(Moved::Ends(next)),
@@ -190,6 +194,7 @@ pub(crate) fn hand_on_putting<'p, L: Labels>(
 }
 
 fn give_putting<'p, L: Labels>(
+    alloc: Global,
     labels: &L,
     stack: &mut Stack<'p, L::Label>,
     count: u32,
@@ -211,6 +216,94 @@ fn give_putting<'p, L: Labels>(
             function,
             this,
         } => enter_setter(labels, stack, count, label, function, this, value),
+        Putting::Length { label, array } => {
+            enter_length(
+                alloc,
+                labels,
+                stack,
+                count,
+                SetLength::Put,
+                label,
+                array,
+                value,
+            )
+        }
+    }
+}
+
+/// What comes behind a definition: it is done; or the `length` of an array is set, and the built-in waits.
+pub(crate) fn hand_on_defining<'p, L: Labels>(
+    alloc: Global,
+    labels: &L,
+    stack: &mut Stack<'p, L::Label>,
+    count: u32,
+    value: Option<Labelled<L::Label>>,
+    came: Result<Outcome<Defining<L::Label>, L::Label>, FlowFault<L::Label>>,
+) -> Result<Moved<'p, L::Label>, FlowFault<L::Label>>
+    requires loose { length stack.old.loose ≡ count }
+    requires made { All (HasValue (L.made labels.now)) stack.old.loose }
+    requires value { IfSome value (HasValue (L.made labels.now)) }
+    requires came { HasAnswer (HasDefining (L.made labels.now)) (L.made labels.now) came }
+    ensures settles { Settles L.made L.meaning labels.now (λ reading. read_defining reading) (λ tables inputs set functions reading. entering_defining tables inputs set functions (value_or_undefined reading value)) stack.old stack.new came result }
+    ensures leaves { (world_old : World L.Label) (world_new : World L.Label) → StandsBy world_old world_new came → IfOk result (Leaves (L.made labels.now) stack.old stack.new world_old world_new) }
+    ensures quiet { IfOk result IsQuiet }
+    ensures stopped { IfErr result (IfStop (HasStop (L.made labels.now))) }
+{
+    let went = go_on(labels, stack, count, came)?;
+    match went {
+        Went::On(defining) => {
+            let moved = give_defining(alloc, labels, stack, count, value, defining)?;
+            Ok(moved)
+        }
+        Went::Off(next) => Ok(Moved::Ends(next)),
+    }
+}
+
+fn give_defining<'p, L: Labels>(
+    alloc: Global,
+    labels: &L,
+    stack: &mut Stack<'p, L::Label>,
+    count: u32,
+    value: Option<Labelled<L::Label>>,
+    defining: Defining<L::Label>,
+) -> Result<Moved<'p, L::Label>, OutOfMemory>
+    requires loose { length stack.old.loose ≡ count }
+    requires made { All (HasValue (L.made labels.now)) stack.old.loose }
+    requires value { IfSome value (HasValue (L.made labels.now)) }
+    requires defining { HasDefining (L.made labels.now) defining }
+    ensures gives { IfOk result (Gives L.made L.meaning labels.now (λ tables inputs set functions reading steps vs. entering_defining tables inputs set functions (value_or_undefined reading value) steps vs (read_defining reading defining)) stack.old stack.new) }
+    ensures quiet { IfOk result IsQuiet }
+    ensures rests { IfOk result (Rests (L.made labels.now) stack.old stack.new) }
+{
+    match defining {
+        Defining::Defined { .. } => Ok(Moved::Asks(count, Answer::Done)),
+        Defining::Length {
+            label,
+            array,
+            marks,
+        } => {
+            let how = SetLength::Define(marks);
+            let value = given_or_undefined(labels, value);
+            enter_length(alloc, labels, stack, count, how, label, array, value)
+        }
+    }
+}
+
+/// A value that is given, or undefined.
+fn given_or_undefined<L: Labels>(
+    labels: &L,
+    value: Option<Labelled<L::Label>>,
+) -> Labelled<L::Label>
+    requires { IfSome value (HasValue (L.made labels.now)) }
+    ensures made { HasValue (L.made labels.now) result }
+    ensures is { (reading : L.Label → Label) → IsReading L.made L.meaning labels.now reading → read_value reading result ≡ value_or_undefined reading value }
+{
+    match value {
+        Some(value) => value,
+        None => Labelled {
+            value: Value::Primitive(Primitive::Undefined),
+            label: labels.bottom(),
+        },
     }
 }
 

@@ -6,24 +6,26 @@ ghost use Rattle.origin_labels.specs.Stores.{IsKept};
 ghost use Rattle.flow_policy.specs.Policies.{Tables};
 ghost use Rattle.flow_policy.specs.Inputs.{Given};
 ghost use Rattle.js_values.specs.Readings.{HasValue, read_value};
+ghost use Rattle.run_state.specs.Accesses.{HasDefining, read_defining};
 ghost use Rattle.run_state.specs.Acts.{Acts, HasAnswer};
 ghost use Rattle.run_state.specs.Worlds.{Belongs, Grows};
-ghost use Rattle.step_requests.specs.Asked.{effect_on};
+ghost use Rattle.step_requests.specs.Asked.{defining_of, effect_on};
 ghost use Rattle.step_requests.specs.Doing.{ReadsIf};
 ghost use Rattle.step_requests.specs.declared.asked.Effect.TheVariants as effect;
 
+use crate::asked::GivenParts;
 use crate::entering::read_registers;
 use continuations::{Stack, read_register};
 use flow_frames::FlowFault;
 use flow_text::OutOfMemory;
 use js_values::{Class, Key, Labelled};
-use native_protocol::{GivenMarks, Reg, RegList};
+use native_protocol::{Reg, RegList};
 use origin_labels::Labels;
 use property_requests::{
     Descriptor, bind, define_property, is_extensible, new_object, own_keys, prevent_extensions,
     prototype_of_object,
 };
-use run_state::{Outcome, World};
+use run_state::{Defining, Outcome, World};
 use std::alloc::Global;
 
 /// The own keys, as a new array.
@@ -45,9 +47,8 @@ pub(crate) fn keys<'p, L: Labels>(
     ensures grows { Grows world.old world.new }
     ensures kept { IsKept L.made L.meaning L.room L.firm labels.old labels.new }
 {
-    let _which = all;
     let base = read_register(alloc, labels, stack, count, base)?;
-    own_keys(labels, world, &base)
+    own_keys(alloc, labels, world, &base, all)
 }
 
 /// The prototype.
@@ -117,7 +118,7 @@ pub(crate) fn prevent<'p, L: Labels>(
 }
 
 /// What a register holds, if one is named.
-fn read_if<'p, L: Labels>(
+pub(crate) fn read_if<'p, L: Labels>(
     alloc: Global,
     labels: &L,
     stack: &Stack<'p, L::Label>,
@@ -137,8 +138,8 @@ fn read_if<'p, L: Labels>(
     }
 }
 
-/// A property is defined (ECMA-262 8.12.9).
-pub(crate) fn define<'p, L: Labels>(
+/// What the definition of a property comes to (ECMA-262 8.12.9).
+pub(crate) fn defining<'p, L: Labels>(
     alloc: Global,
     labels: &mut L,
     world: &mut World<L::Label>,
@@ -146,26 +147,23 @@ pub(crate) fn define<'p, L: Labels>(
     count: u32,
     base: Reg,
     key: Key,
-    marks: GivenMarks,
-    value: Option<Reg>,
-    get: Option<Reg>,
-    set: Option<Reg>,
-) -> Result<Outcome<Labelled<L::Label>, L::Label>, FlowFault<L::Label>>
+    given: GivenParts,
+) -> Result<Outcome<Defining<L::Label>, L::Label>, FlowFault<L::Label>>
     requires loose { length stack.now.loose ≡ count }
     requires made { All (HasValue (L.made labels.old)) stack.now.loose }
     requires belongs { Belongs L.made L.meaning labels.old world.old }
-    ensures acts { (tables : Tables) (inputs : Given) → Acts L.made L.meaning labels.new (λ reading. read_value reading) (λ reading. effect_on tables inputs (effect.Define base key marks value get set) (map (read_value reading) stack.now.loose)) world.old world.new result }
-    ensures made { HasAnswer (HasValue (L.made labels.new)) (L.made labels.new) result }
+    ensures acts { Acts L.made L.meaning labels.new (λ reading. read_defining reading) (λ reading. defining_of base key given (map (read_value reading) stack.now.loose)) world.old world.new result }
+    ensures made { HasAnswer (HasDefining (L.made labels.new)) (L.made labels.new) result }
     ensures belongs { Belongs L.made L.meaning labels.new world.new }
     ensures grows { Grows world.old world.new }
     ensures kept { IsKept L.made L.meaning L.room L.firm labels.old labels.new }
 {
     let base = read_register(alloc, labels, stack, count, base)?;
-    let value = read_if(alloc, labels, stack, count, value)?;
-    let get = read_if(alloc, labels, stack, count, get)?;
-    let set = read_if(alloc, labels, stack, count, set)?;
+    let value = read_if(alloc, labels, stack, count, given.value)?;
+    let get = read_if(alloc, labels, stack, count, given.get)?;
+    let set = read_if(alloc, labels, stack, count, given.set)?;
     let descriptor = Descriptor {
-        marks,
+        marks: given.marks,
         value,
         get,
         set,
@@ -193,7 +191,7 @@ pub(crate) fn make_object<'p, L: Labels>(
     ensures kept { IsKept L.made L.meaning L.room L.firm labels.old labels.new }
 {
     let proto = read_if(alloc, labels, stack, count, proto)?;
-    new_object(labels, world, class, proto)
+    new_object(alloc, labels, world, class, proto)
 }
 
 /// A bound function.

@@ -19,7 +19,7 @@ ghost use Rattle.continuations.specs.Moving.{Stands};
 ghost use Rattle.step_requests.specs.declared.asked.Asked.TheVariants as asked;
 
 use crate::asked::{Asked, asked_of};
-use crate::doing::{do_effect, get, look, own, print, put};
+use crate::doing::{define, do_effect, get, look, own, print, put};
 use crate::ends::{give_back, leave, throw, throw_new};
 use crate::entering::{call, construct};
 use crate::moved::Moved;
@@ -54,7 +54,7 @@ pub fn request<'p, L: Labels, N: Natives>(
     requires runs { length states.old.states ≡ waiting stack.old.tasks + 1 }
     ensures goes_on { Requests L.made L.meaning labels.new policy.now inputs.now (N.after natives.now) (N.asks natives.now) states.old states.new stack.old stack.new world.old world.new result }
     ensures rests { IfOk result (λ moved. Rests (L.made labels.new) stack.old stack.new (length states.new.states) moved.0) }
-    ensures adds { IfOk result (λ moved. Adds 7 stack.old stack.new moved.0) }
+    ensures adds { IfOk result (λ moved. Adds 11 stack.old stack.new moved.0) }
     ensures printed { IfOk result (λ moved. IfSome moved.1 (IsPrinted (L.made labels.new) (length policy.now.outputs))) }
     ensures stands { IfOk result (λ moved. Stands world.old world.new moved.0) }
     ensures stopped { IfErr result (IfStop (HasStop (L.made labels.new))) }
@@ -131,6 +131,9 @@ fn do_asked<'p, L: Labels>(
         Asked::Get { base, key, to } => get(alloc, labels, world, stack, count, base, &key, to),
         Asked::Put { base, key, from } => put(alloc, labels, world, stack, count, base, &key, from),
         Asked::Own { base, key, to } => own(alloc, labels, world, stack, count, base, &key, to),
+        Asked::Define { base, key, given } => {
+            define(alloc, labels, world, stack, count, base, key, given)
+        }
         Asked::PrintLine { name, from } => print(
             alloc, labels, world, policy, stack, count, name, from,
         ),

@@ -15,6 +15,8 @@ use Rattle.flow_frames.specs.declared.kind.Kind.{Kind}
 use Rattle.flow_frames.specs.declared.kind.Kind.TheVariants as kind
 use Rattle.flow_frames.specs.declared.faults.Rule.{Rule}
 use Rattle.flow_frames.specs.declared.faults.Rule.TheVariants.{W1, W9, W10, W11, W12}
+use Rattle.js_number.specs.declared.int.LeftNumbers.{LeftNumbers}
+use Rattle.js_number.specs.declared.num.Num.{Num as Number}
 use Rattle.js_number.specs.declared.primitive.Primitive.{Primitive}
 use Rattle.js_number.specs.declared.primitive.Primitive.TheVariants as prims
 use Rattle.js_values.specs.declared.ids.ObjId.{ObjId}
@@ -25,7 +27,9 @@ use Rattle.js_values.specs.declared.property.Marks.{Marks}
 use Rattle.js_values.specs.declared.property.Slot.{Slot}
 use Rattle.js_values.specs.declared.inner.Class.{Class}
 use Rattle.js_values.specs.Objects.{Property, Object, own}
+use Rattle.js_values.specs.Arrays.{length_key}
 use Rattle.js_values.specs.Records.{Binding}
+use Rattle.js_values.specs.Walks.{Found}
 use Rattle.object_heap.specs.Acts.{Acted}
 use Rattle.prototype_walk.specs.declared.plan.PutPlan.{PutPlan}
 use Rattle.prototype_walk.specs.declared.plan.PutPlan.TheVariants.{Write, Add, Setter, Refused}
@@ -43,19 +47,19 @@ use Rattle.es_meaning.specs.Outcomes as es
 use Rattle.es_meaning.specs.Outcomes.{Exit, left, out_of_turns, Outcome, Goes, Jumps, Ends, ret, and_then, ◌>>=◌}
 use Rattle.es_meaning.specs.Environments.{Env, with_around, with_place, called_env, Leaving, aimed}
 use Rattle.es_meaning.specs.Functions.{Callee, not_callable, empty_callee, of_script, of_built_in, this_or}
-use Rattle.es_meaning.specs.Operations.{Ty, One, Res, OwnPart, Shape, Act, object_of, base_needed, object_needed, has_key, throws_error, own_property, define, own_keys, prototype_of_object, is_extensible, prevent_extensions, new_object, bind, read_line, print_line, join_label, raise_structure as raise_structure_by, raise_existence as raise_existence_by}
+use Rattle.es_meaning.specs.Operations.{Ty, One, Res, OwnPart, Shape, Act, object_of, array_of, base_needed, object_needed, has_key, throws_error, own_property, own_keys, prototype_of_object, is_extensible, prevent_extensions, new_object, bind, read_line, print_line, join_label, raise_structure as raise_structure_by, raise_existence as raise_existence_by}
 use Rattle.es_meaning.specs.Operations.{Value as a_value}
-use Rattle.es_meaning.specs.Operators.{is_object, truth, converts_beside, unary_of, binary_of, not_built}
+use Rattle.es_meaning.specs.Operators.{is_object, truth, converts_beside, unary_of, binary_of}
 use Rattle.es_meaning.specs.Evaluation.{program_step}
 use Rattle.es_meaning.specs.Start.{id}
-use Rattle.es_meaning.specs.Plain.{leaves_wrappers, choose, is_throw, prototype_name, may_declare, binding_at, outermost_env, channel_of, channel_name, name_at, number_of_channel, others, Place, in_record, on_global, nowhere}
-use Rattle.es_meaning.specs.Requested.{behind_definition, is_array, are_origins}
+use Rattle.es_meaning.specs.Plain.{leaves_wrappers, choose, is_throw, prototype_name, may_declare, binding_at, outermost_env, channel_of, channel_name, name_at, number_of_channel, others, Place, in_record, on_global, nowhere, number_in, is_count, count_of}
+use Rattle.es_meaning.specs.Requested.{behind_definition, no_marks, are_origins}
 use Rattle.es_meaning.proofs.Link.{Rel, Rels, nils, conses, EnteringLinked, Link}
 use Rattle.es_meaning.proofs.RequestLinks.{program_linked}
 use Rattle.flow_meaning.specs.Erased.{unlabelled, erased_slot}
 use Rattle.flow_meaning.specs.Requested.{Aim, aim_of, property_in, is_function_in, is_function_at}
 use Rattle.flow_meaning.specs.Scopes.{Val, joined, LabelledLine, Halt, State, Jump, L, guard, raise, jump_to, jump, cut_to, pushed_on, Left, Came, ended, caught, popped, stay, scope, settled, settled_value, fork, round_kind, round, again, answer, construction, raise_frame, quiet, react, resume, finish, tried, attempt}
-use Rattle.flow_meaning.specs.Tracked.{ends, with_error, throw_error, given, seen, Reference, of_name, of_property, resolved, Access, has_value, has_getter, bound, found_globally, property_of, named as value_named, accessed, accessed_for_typeof, Putting, is_put, has_setter, assigned, assigned_to, acted, own_in, setter_found, setter_at, put_by, put_on, put, put_property, put_named, put_value, removed_if, removed_own, removed_in, remove_property, remove, make_object, needed, has, key_list, with_list, spend, argument, on_object_in, own_property_in, set_marks, set_body_if, redefine, define_over, define_given, define_in, prototype_in, extensible_in, prevent, made_new, make_new, bind_object, bind_value, bind_to, if_origins, raise_structure, raise_existence, make_function, with_call, callee_at, Enters, entered, called_value, call_by, call_aimed, call_value, prototype_of, with_fresh, constructed, construct_built_in, construct_by, construct_aimed, construct_value, entered_access, entered_putting, convert, converted_by, is_instance, instance_by, instance_of, instance_if, instance_value, jumps_to, raises, read_channel, print_text, print_channel, with_origins, act, named_origins, raised_by, with_name, labelled, timed, start, run_of, tracked_run}
+use Rattle.flow_meaning.specs.Tracked.{ends, with_error, throw_error, given, seen, Reference, of_name, of_property, resolved, Access, has_value, has_getter, bound, found_globally, property_of, named as value_named, accessed, accessed_for_typeof, Putting, is_put, has_setter, has_length, assigned, assigned_to, acted, own_in, setter_found, setter_at, overwritten, put_by, put, setter_if, put_beyond, put_on_primitive, put_property, put_named, put_value, removed_if, removed_own, removed_in, removed_of_primitive, remove_property, remove, make_object, make_array, needed, has_of_primitive, has, key_list, with_list, spend, argument, on_object_in, own_property_in, set_marks, set_body_if, redefine, Defining, is_defined, has_length_given, define_over, define_by, define_given, define_in, defining, Cut, delete_element, deleted_if, deleted_at, deleted_within, ended_at, cut_length, set_marks_if, set_length_to, set_length_in, set_length, numbered_by, numbered, prototype_in, extensible_in, prevent, make_new, make_new_by, list_keys, bind_object, bind_value, bind_to, if_origins, raise_structure, raise_existence, make_function, with_call, callee_at, Enters, entered, called_value, call_by, call_aimed, call_value, prototype_of, with_fresh, constructed, construct_built_in, construct_by, construct_aimed, construct_value, entered_access, entered_defining, entered_putting, convert, converted_by, converted_for_length, given_count, with_count, is_instance, instance_by, instance_of, instance_if, instance_value, jumps_to, raises, read_channel, print_text, print_channel, with_origins, act, named_origins, raised_by, with_name, labelled, timed, start, run_of, tracked_run}
 use Rattle.low_equal.specs.Runs.{state_of}
 
 -- ---- names of output channels
@@ -276,26 +280,43 @@ module _ (tables : Tables) (inputs : Given) where
   setter_at_keeps label base None s h = throw_keeps _ _ _ s h
   setter_at_keeps label base (Some p) s h = setter_keeps _ base _ s h
 
+  -- a property has another value, or the `length` of an array is set
+  overwritten_keeps : (b : Bool) (rule : Rule) (o : ℕ) (key : List ℕ) (label : Label) (v : Val) (s : State) → AreNamed tables s.lines → Keeps (overwritten b rule o key label v s)
+  unfolding overwritten
+  overwritten_keeps true rule o key label v s h = h
+  overwritten_keeps false rule o key label v s h = acted_keeps is_put _ s h
+
   -- a put
   put_by_keeps : (plan : PutPlan Label) (rule : Rule) (o : ℕ) (key : List ℕ) (label : Label) (base v : Val) (s : State) → AreNamed tables s.lines → Keeps (put_by plan rule o key label base v s)
   unfolding put_by
-  put_by_keeps (Write walk) rule o key label base v s h = acted_keeps is_put _ s h
+  put_by_keeps (Write walk) rule o key label base v s h = overwritten_keeps _ rule o key _ v s h
   put_by_keeps (Add walk) rule o key label base v s h = acted_keeps is_put _ s h
   put_by_keeps (Refused walk) rule o key label base v s h = throw_keeps _ _ _ s h
   put_by_keeps (Setter at walk) rule o key label base v s h = setter_at_keeps _ base (own_in key (slice_get s.heap at.0)) s h
 
-  put_on_keeps : (b : Bool) (rule : Rule) (o : ℕ) (key : List ℕ) (label : Label) (base v : Val) (s : State) → AreNamed tables s.lines → Keeps (put_on b rule o key label base v s)
-  unfolding put_on
-  put_on_keeps true rule o key label base v s h = h
-  put_on_keeps false rule o key label base v s h = put_by_keeps _ rule o key label base v s h
-
   put_keeps : (rule : Rule) (o : ℕ) (key : List ℕ) (label : Label) (base v : Val) (s : State) → AreNamed tables s.lines → Keeps (put rule o key label base v s)
   unfolding put
-  put_keeps rule o key label base v s h = put_on_keeps _ rule o key label base v s h
+  put_keeps rule o key label base v s h = put_by_keeps _ rule o key label base v s h
+
+  -- on a primitive value
+  setter_if_keeps : (b : Bool) (label : Label) (base : Val) (p : Slot Label) (s : State) → AreNamed tables s.lines → Keeps (setter_if b label base p s)
+  unfolding setter_if
+  setter_if_keeps true label base p s h = setter_keeps _ base _ s h
+  setter_if_keeps false label base p s h = throw_keeps _ _ _ s h
+
+  put_beyond_keeps : (label : Label) (base : Val) (found : Option (ℕ × Slot Label)) (s : State) → AreNamed tables s.lines → Keeps (put_beyond label base found s)
+  unfolding put_beyond
+  put_beyond_keeps label base None s h = throw_keeps _ _ _ s h
+  put_beyond_keeps label base (Some f) s h = setter_if_keeps _ label base f.1 s h
+
+  put_on_primitive_keeps : (own : Option Primitive) (label : Label) (base : Val) (p : Primitive) (key : List ℕ) (s : State) → AreNamed tables s.lines → Keeps (put_on_primitive own label base p key s)
+  unfolding put_on_primitive
+  put_on_primitive_keeps (Some v) label base p key s h = throw_keeps _ _ _ s h
+  put_on_primitive_keeps None label base p key s h = put_beyond_keeps _ base _ s h
 
   put_property_keeps : (label : Label) (base : Val) (x : Value) (key : List ℕ) (v : Val) (s : State) → AreNamed tables s.lines → Keeps (put_property label base x key v s)
   unfolding put_property
-  put_property_keeps label base (value.Primitive p) key v s h = h
+  put_property_keeps label base (value.Primitive p) key v s h = put_on_primitive_keeps _ label base p key s h
   put_property_keeps label base (value.Object o) key v s h = put_keeps _ o.0 key label base v s h
 
   put_named_keeps : (place : Place) (walk : Label) (name : List ℕ) (v : Val) (s : State) → AreNamed tables s.lines → Keeps (put_named place walk name v s)
@@ -325,14 +346,19 @@ module _ (tables : Tables) (inputs : Given) where
   removed_in_keeps None label o key s h = h
   removed_in_keeps (Some p) label o key s h = removed_own_keeps _ label p.structure o key s h
 
+  removed_of_primitive_keeps : (own : Option Primitive) (label : Label) (s : State) → AreNamed tables s.lines → Keeps (removed_of_primitive own label s)
+  unfolding removed_of_primitive
+  removed_of_primitive_keeps None label s h = h
+  removed_of_primitive_keeps (Some v) label s h = throw_keeps _ _ _ s h
+
   remove_property_keeps : (label : Label) (base : Value) (key : List ℕ) (s : State) → AreNamed tables s.lines → Keeps (remove_property label base key s)
   unfolding remove_property
-  remove_property_keeps label (value.Primitive p) key s h = h
+  remove_property_keeps label (value.Primitive p) key s h = removed_of_primitive_keeps _ label s h
   remove_property_keeps label (value.Object o) key s h = removed_in_keeps _ label o.0 key s h
 
   remove_keeping : (n : Reference) → Keeping (remove n)
   unfolding remove
-  remove_keeping (of_name name place walk) = record { keeps = λ s h. h }
+  remove_keeping (of_name name place walk) = record { keeps = λ s h. throw_keeps _ _ _ s h }
   remove_keeping (of_property base key label) = record { keeps = λ s h. remove_property_keeps _ base.value key s h }
 
   -- the keys of a value
@@ -359,17 +385,26 @@ module _ (tables : Tables) (inputs : Given) where
   needed_keeps true v s h = h
   needed_keeps false v s h = throw_keeps _ _ _ s h
 
+  has_of_primitive_keeps : (own : Option Primitive) (label : Label) (walk : Found) (s : State) → AreNamed tables s.lines → Keeps (has_of_primitive own label walk s)
+  unfolding has_of_primitive
+  has_of_primitive_keeps None label walk s h = h
+  has_of_primitive_keeps (Some v) label walk s h = h
+
   has_keeps : (label : Label) (key : List ℕ) (v : Value) (s : State) → AreNamed tables s.lines → Keeps (has label key v s)
   unfolding has
-  has_keeps label key (value.Primitive p) s h = h
+  has_keeps label key (value.Primitive p) s h = has_of_primitive_keeps _ label _ s h
   has_keeps label key (value.Object o) s h = h
 
   make_keeps : (parts : _) (vs : List Val) (s : State) → AreNamed tables s.lines → Keeps (make_object parts vs s)
   unfolding make_object
   make_keeps parts vs s h = h
 
+  make_array_keeps : (places : List ℕ) (n : ℕ) (vs : List Val) (s : State) → AreNamed tables s.lines → Keeps (make_array places n vs s)
+  unfolding make_array
+  make_array_keeps places n vs s h = h
+
   -- on an object that a value is
-  on_object_keeping : (label : Label) (v : Value) (next : ℕ → L Val) → ((o : ℕ) → Keeping (next o)) → Keeping (on_object_in label v next)
+  on_object_keeping : {X : Type 0} (label : Label) (v : Value) (next : ℕ → L X) → ((o : ℕ) → Keeping (next o)) → Keeping (on_object_in label v next)
   unfolding on_object_in
   on_object_keeping label (value.Primitive p) next k = record { keeps = λ s h. throw_keeps _ _ _ s h }
   on_object_keeping label (value.Object o) next k = record { keeps = (k o.0).keeps }
@@ -400,15 +435,82 @@ module _ (tables : Tables) (inputs : Given) where
   over_keeps None d place given o key (Some q) s h = acted_keeps _ _ s h
   over_keeps (Some p) d place given o key (Some q) s h = (redefine_keeping p q d place given o key).keeps s h
 
-  given_body_keeps : (extensible : Bool) (old : Option (Slot Label)) (marks : GivenMarks) (body : Option GivenBody) (place given : Label) (o : ℕ) (key : List ℕ) (s : State) → AreNamed tables s.lines → Keeps (define_given extensible old marks body place given o key s)
+  define_by_keeps : (b : Bool) (p : Object Label) (marks : GivenMarks) (body : GivenBody) (place given : Label) (o : ℕ) (key : List ℕ) (s : State) → AreNamed tables s.lines → Keeps (define_by b p marks body place given o key s)
+  unfolding define_by
+  define_by_keeps true p marks body place given o key s h = h
+  define_by_keeps false p marks body place given o key s h = over_keeps (own key p.rows) _ place given o key _ s h
+
+  given_body_keeps : (valued : Bool) (p : Object Label) (marks : GivenMarks) (body : Option GivenBody) (place given : Label) (o : ℕ) (key : List ℕ) (s : State) → AreNamed tables s.lines → Keeps (define_given valued p marks body place given o key s)
   unfolding define_given
-  given_body_keeps extensible old marks None place given o key s h = throw_keeps _ _ _ s h
-  given_body_keeps extensible old marks (Some body) place given o key s h = over_keeps old _ place given o key (behind_definition extensible (property_in old) (record { marks = marks; body = body })) s h
+  given_body_keeps valued p marks None place given o key s h = throw_keeps _ _ _ s h
+  given_body_keeps valued p marks (Some body) place given o key s h = define_by_keeps _ p marks body place given o key s h
 
   define_keeps : (p : Option (Object Label)) (label : Label) (o : ℕ) (key : List ℕ) (marks : GivenMarks) (shape : Shape) (v g set : Val) (s : State) → AreNamed tables s.lines → Keeps (define_in p label o key marks shape v g set s)
   unfolding define_in
   define_keeps None label o key marks shape v g set s h = throw_keeps _ _ _ s h
-  define_keeps (Some p) label o key marks shape v g set s h = (choose_keeping (is_array p.class) (halts_keeping (left not_built)) (record { keeps = λ t k. given_body_keeps p.extensible (own key p.rows) marks _ _ _ o key t k })).keeps s h
+  define_keeps (Some p) label o key marks shape v g set s h = given_body_keeps shape.has_value p marks _ _ _ o key s h
+
+  defining_keeping : (key : List ℕ) (marks : GivenMarks) (shape : Shape) (base v g set : Val) → Keeping (defining key marks shape base v g set)
+  unfolding defining
+  defining_keeping key marks shape base v g set = on_object_keeping _ _ _ (λ o. record { keeps = λ s h. define_keeps (slice_get s.heap o) _ o key marks shape v g set s h })
+
+  -- the `length` of an array is given a number
+  element_keeping : (label : Label) (o i : ℕ) → Keeping (delete_element label o i)
+  unfolding delete_element
+  element_keeping label o i = record { keeps = λ s h. acted_keeps _ _ s h }
+
+  deleted_if_keeps : (b : Bool) (next : Label → L Cut) → ((l : Label) → Keeping (next l)) → (label : Label) (o i : ℕ) (tested : Label) (s : State) → AreNamed tables s.lines → Keeps (deleted_if b next label o i tested s)
+  unfolding deleted_if
+  deleted_if_keeps true next k label o i tested s h = (bind_keeping (λ u. next tested) (element_keeping (union label tested) o i) (λ u. k tested)).keeps s h
+  deleted_if_keeps false next k label o i tested s h = h
+
+  deleted_at_keeps : (e : Option (ℕ × Slot Label)) (next : Label → L Cut) → ((l : Label) → Keeping (next l)) → (label : Label) (o : ℕ) (tested : Label) (s : State) → AreNamed tables s.lines → Keeps (deleted_at e next label o tested s)
+  unfolding deleted_at
+  deleted_at_keeps None next k label o tested s h = h
+  deleted_at_keeps (Some e) next k label o tested s h = deleted_if_keeps _ next k label o e.0 _ s h
+
+  deleted_keeping : (k : ℕ) (label : Label) (o n : ℕ) (tested : Label) → Keeping (deleted_within k label o n tested)
+  unfolding deleted_within
+  deleted_keeping zero label o n tested = record { keeps = λ s h. h }
+  deleted_keeping (suc more) label o n tested = record { keeps = λ s h. deleted_at_keeps _ (deleted_within more label o n) (λ l. deleted_keeping more label o n l) label o tested s h }
+
+  ended_at_keeping : (stays : Option ℕ) (place label : Label) → Keeping (ended_at stays place label)
+  unfolding ended_at
+  ended_at_keeping None place label = record { keeps = λ s h. h }
+  ended_at_keeping (Some i) place label = record { keeps = λ s h. throw_keeps _ _ _ s h }
+
+  cut_keeping : (place label : Label) (o n : ℕ) (cut : Cut) → Keeping (cut_length place label o n cut)
+  unfolding cut_length
+  cut_keeping place label o n cut = bind_keeping _ (body_keeping true place _ _ o length_key) (λ u. ended_at_keeping cut.stays place _)
+
+  marks_if_keeping : (b : Bool) (label : Label) (marks : Marks) (o : ℕ) (key : List ℕ) → Keeping (set_marks_if b label marks o key)
+  marks_if_keeping true label marks o key = marks_keeping label marks o key
+  marks_if_keeping false label marks o key = ret_keeping tt
+
+  length_to_keeping : (b : Bool) (p : Object Label) (place given : Label) (o n : ℕ) (q : Option Property) → Keeping (set_length_to b p place given o n q)
+  unfolding set_length_to
+  length_to_keeping b p place given o n None = record { keeps = λ s h. throw_keeps _ _ _ s h }
+  length_to_keeping b p place given o n (Some q) =
+      bind_keeping _ (marks_if_keeping b (union place given) q.marks o length_key)
+      (λ u. bind_keeping _ (deleted_keeping (length p.rows) (union place (union given p.structure)) o n bottom) (λ cut. cut_keeping place (union given p.structure) o n cut))
+
+  length_in_keeping : (b : Bool) (p : Option (Object Label)) (place given : Label) (o : ℕ) (marks : GivenMarks) (n : ℕ) → Keeping (set_length_in b p place given o marks n)
+  unfolding set_length_in
+  length_in_keeping b None place given o marks n = record { keeps = λ s h. throw_keeps _ _ _ s h }
+  length_in_keeping b (Some p) place given o marks n = length_to_keeping b p _ given o n _
+
+  set_length_keeping : (b : Bool) (place : Label) (o : ℕ) (marks : GivenMarks) (n : ℕ) (given : Label) → Keeping (set_length b place o marks n given)
+  unfolding set_length
+  set_length_keeping b place o marks n given = record { keeps = λ s h. (length_in_keeping b (slice_get s.heap o) place given o marks n).keeps s h }
+
+  numbered_by_keeping : (r : Result Number LeftNumbers) → Keeping (numbered_by r)
+  unfolding numbered_by
+  numbered_by_keeping (Ok n) = record { keeps = λ s h. h }
+  numbered_by_keeping (Err e) = record { keeps = λ s h. h }
+
+  numbered_keeping : (v : Val) → Keeping (numbered v)
+  unfolding numbered
+  numbered_keeping v = numbered_by_keeping (number_in v.value)
 
   -- a prototype, and further properties
   prototype_keeps : (label : Label) (p : Option (Object Label)) (s : State) → AreNamed tables s.lines → Keeps (prototype_in label p s)
@@ -435,13 +537,17 @@ module _ (tables : Tables) (inputs : Given) where
   existence_keeping origins label key o = record { keeps = λ s h. acted_keeps _ _ s h }
 
   -- new objects and bound functions
-  made_new_keeping : (c : Class) (proto : Option ObjId) (label : Label) → Keeping (made_new c proto label)
-  unfolding made_new
-  made_new_keeping c proto label = record { keeps = λ s h. h }
-
   new_keeping : (c : Class) (proto : Option ObjId) (label : Label) → Keeping (make_new c proto label)
   unfolding make_new
-  new_keeping c proto label = choose_keeping (is_array c) (halts_keeping (left not_built)) (made_new_keeping c proto label)
+  new_keeping c proto label = record { keeps = λ s h. h }
+
+  new_by_keeping : (c : Class) (v : Val) → Keeping (make_new_by c v)
+  unfolding make_new_by
+  new_by_keeping c v = record { keeps = λ s h. (new_keeping c _ v.label).keeps s h }
+
+  list_keys_keeping : (all : Bool) (label : Label) (o : ℕ) → Keeping (list_keys all label o)
+  unfolding list_keys
+  list_keys_keeping all label o = record { keeps = λ s h. h }
 
   bind_value_keeps : (v : Value) (target this : Val) (args : List Val) (s : State) → AreNamed tables s.lines → Keeps (bind_value v target this args s)
   unfolding bind_value bind_object
@@ -488,18 +594,18 @@ module _ (tables : Tables) (inputs : Given) where
   act_keeping : (a : Act) (vs : List Val) → Keeping (act tables inputs a vs)
   unfolding act
   act_keeping (object_of parts) vs = record { keeps = λ s h. make_keeps parts vs s h }
+  act_keeping (array_of places n) vs = record { keeps = λ s h. make_array_keeps places n vs s h }
   act_keeping base_needed vs = record { keeps = λ s h. needed_keeps _ (argument 0 vs) s h }
   act_keeping object_needed vs = record { keeps = λ s h. needed_keeps _ (argument 0 vs) s h }
   act_keeping has_key vs = record { keeps = λ s h. has_keeps _ _ (argument 1 vs).value s h }
   act_keeping (throws_error kind) vs = record { keeps = λ s h. throw_keeps _ _ _ s h }
   act_keeping (own_property part key) vs = on_object_keeping _ _ _ (λ o. record { keeps = λ s h. part_keeps part key _ (slice_get s.heap o) s h })
-  act_keeping (define key marks shape) vs = on_object_keeping _ _ _ (λ o. record { keeps = λ s h. define_keeps (slice_get s.heap o) _ o key marks shape (argument 1 vs) (argument 2 vs) (argument 3 vs) s h })
-  act_keeping (own_keys all) vs = on_object_keeping _ _ _ (λ o. halts_keeping _)
+  act_keeping (own_keys all) vs = on_object_keeping _ _ _ (λ o. list_keys_keeping all _ o)
   act_keeping prototype_of_object vs = on_object_keeping _ _ _ (λ o. record { keeps = λ s h. prototype_keeps _ (slice_get s.heap o) s h })
   act_keeping is_extensible vs = on_object_keeping _ _ _ (λ o. record { keeps = λ s h. extensible_keeps _ (slice_get s.heap o) s h })
   act_keeping prevent_extensions vs = on_object_keeping _ _ _ (λ o. prevent_keeping _ o)
   act_keeping (new_object c false) vs = new_keeping c _ bottom
-  act_keeping (new_object c true) vs = new_keeping c _ _
+  act_keeping (new_object c true) vs = new_by_keeping c (argument 0 vs)
   act_keeping bind vs = record { keeps = λ s h. bind_keeps (is_function_at s.heap (argument 0 vs).value) (argument 0 vs) (argument 1 vs) (others (others vs)) s h }
   act_keeping read_line vs = read_keeping _ _
   act_keeping print_line vs = print_keeping _ _ _ (channel_there tables (argument 0 vs).value)
@@ -636,16 +742,38 @@ module _ (tables : Tables) (inputs : Given) where
     access_entered (has_value v) = ret_keeping v
     access_entered (has_getter label f this) = call_keeping label (value.Object f) this []
 
-    putting_entered : (v : Val) (p : Putting) → Keeping (entered_putting functions E v p)
-    unfolding entered_putting
-    putting_entered v is_put = ret_keeping tt
-    putting_entered v (has_setter label f this) = bind_keeping _ (call_keeping label (value.Object f) this (v ∷ [])) (λ u. ret_keeping tt)
-
     -- the conversion of an object
     converted_keeping : (b : Bool) (h : Hint) (label : Label) (v given : Val) → Keeping (converted_by b E h label v given)
     unfolding converted_by convert
     converted_keeping true h label v given = framed_keeping kind.Native label _ (λ depth. c.conversion h v)
     converted_keeping false h label v given = ret_keeping given
+
+    -- both conversions of a value for a `length`
+    length_converted : (label : Label) (v : Val) → Keeping (converted_for_length E label v)
+    unfolding converted_for_length
+    length_converted label v = converted_keeping (is_object v.value) hint.Number _ v v
+
+    count_keeping : (b : Bool) (n : ℕ) (given label : Label) (next : ℕ → Label → L Val) → ((k : ℕ) (l : Label) → Keeping (next k l)) → Keeping (given_count b n given label next)
+    unfolding given_count
+    count_keeping true n given label next k = k n given
+    count_keeping false n given label next k = record { keeps = λ s h. throw_keeps _ _ _ s h }
+
+    with_count_keeping : (label : Label) (v : Val) (next : ℕ → Label → L Val) → ((k : ℕ) (l : Label) → Keeping (next k l)) → Keeping (with_count E label v next)
+    unfolding with_count
+    with_count_keeping label v next k =
+        bind_keeping _ (length_converted label v) (λ first. bind_keeping _ (numbered_keeping first) (λ m. bind_keeping _ (length_converted label v) (λ second. bind_keeping _ (numbered_keeping second)
+        (λ n. count_keeping (is_count m n) (count_of m) (union first.label second.label) label next k))))
+
+    defining_entered : (v : Val) (d : Defining) → Keeping (entered_defining E v d)
+    unfolding entered_defining
+    defining_entered v (is_defined label) = ret_keeping _
+    defining_entered v (has_length_given label o marks) = with_count_keeping label v (set_length true label o marks) (λ n given. set_length_keeping true label o marks n given)
+
+    putting_entered : (v : Val) (p : Putting) → Keeping (entered_putting functions E v p)
+    unfolding entered_putting
+    putting_entered v is_put = ret_keeping tt
+    putting_entered v (has_setter label f this) = bind_keeping _ (call_keeping label (value.Object f) this (v ∷ [])) (λ u. ret_keeping tt)
+    putting_entered v (has_length label o) = bind_keeping _ (with_count_keeping label v (set_length false label o no_marks) (λ n given. set_length_keeping false label o no_marks n given)) (λ u. ret_keeping tt)
 
     -- `instanceof`
     is_instance_keeps : (label : Label) (o : ℕ) (v : Value) (s : State) → AreNamed tables s.lines → Keeps (is_instance label o v s)
@@ -653,17 +781,21 @@ module _ (tables : Tables) (inputs : Given) where
     is_instance_keeps label o (value.Primitive p) s h = throw_keeps _ _ _ s h
     is_instance_keeps label o (value.Object proto) s h = h
 
-    instance_by_keeps : (v : Val) (x : Value) (label : Label) (f : ℕ) (s : State) → AreNamed tables s.lines → Keeps (instance_by functions v x label f E s)
+    instance_by_keeps : (v : Val) (o : ObjId) (label : Label) (f : ℕ) (s : State) → AreNamed tables s.lines → Keeps (instance_by functions v o label f E s)
     unfolding instance_by
-    instance_by_keeps v (value.Primitive p) label f s h = h
-    instance_by_keeps v (value.Object o) label f s h = (bind_keeping {Y = Val} (λ proto. is_instance (union (union v.label label) proto.label) o.0 proto.value)
+    instance_by_keeps v o label f s h = (bind_keeping {Y = Val} (λ proto. is_instance (union (union v.label label) proto.label) o.0 proto.value)
         (bind_keeping {m = property_of (union v.label label) (called_value label f) (value.Object (id f)) prototype_name} (entered_access functions E)
         (record { keeps = λ t k. property_keeps (union v.label label) (called_value label f) (value.Object (id f)) prototype_name t k }) access_entered)
         (λ proto. record { keeps = λ t k. is_instance_keeps (union (union v.label label) proto.label) o.0 proto.value t k })).keeps s h
 
+    instance_of_keeps : (v : Val) (x : Value) (label : Label) (aim : Aim) (s : State) → AreNamed tables s.lines → Keeps (instance_of functions v x label aim E s)
+    unfolding instance_of
+    instance_of_keeps v (value.Primitive p) label aim s h = h
+    instance_of_keeps v (value.Object o) label aim s h = instance_by_keeps v o _ aim.target.function s h
+
     instance_if_keeps : (b : Bool) (v : Val) (label : Label) (f : ℕ) (s : State) → AreNamed tables s.lines → Keeps (instance_if functions b v label f E s)
-    unfolding instance_if instance_of
-    instance_if_keeps true v label f s h = instance_by_keeps v v.value _ (aim_of s.heap f).target.function s h
+    unfolding instance_if
+    instance_if_keeps true v label f s h = instance_of_keeps v v.value label (aim_of s.heap f) s h
     instance_if_keeps false v label f s h = throw_keeps _ _ _ s h
 
     instance_keeping : (v : Val) (label : Label) (f : Value) → Keeping (instance_value functions v label f E)
@@ -727,6 +859,7 @@ module _ (tables : Tables) (inputs : Given) where
       put_value = λ {n = n} {v = v} r q h. bind_keeping _ (put_keeping n v) (putting_entered functions (entering h) v);
       property = λ r q. tt;
       remove = λ {n = n} r. remove_keeping n;
+      define = λ key marks shape {base = base} {v = v} {g = g} {set = x} r q t u h. bind_keeping _ (defining_keeping key marks shape base v g x) (defining_entered functions (entering h) v);
       this_of = λ r. tt;
       instance = λ {v = v} {f = f} r q h. instance_keeping functions (entering h) v f.label f.value;
       fork = λ t {v = v} r h k. fork_keeping t v (h tt tt) (k tt tt);

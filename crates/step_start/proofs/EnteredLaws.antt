@@ -1,5 +1,5 @@
 -- A function that is declared on the global object.
-use Rattle.std.proofs.Common.{refl, sym, ap, ◌∙◌, ◌≡◌, ℕ, Bool, true, false, ◌&&◌, ◌||◌, List, [], ◌∷◌, subst, Option, Some, None, if◌then◌else◌}
+use Rattle.std.proofs.Common.{refl, sym, ap, ◌∙◌, ◌≡◌, ℕ, Bool, true, false, not, ◌&&◌, ◌||◌, List, [], ◌∷◌, subst, Option, Some, None, if◌then◌else◌}
 use Rattle.std.proofs.lemmas.Bool.{false≢true}
 use Rattle.std.proofs.lemmas.Option.{same_Some}
 use Rattle.origin_labels.specs.Names.{same_name}
@@ -10,7 +10,6 @@ use Rattle.js_values.specs.declared.value.Value.{Value}
 use Rattle.js_values.specs.Chains.{onwards, chain_within}
 use Rattle.js_values.specs.Objects.{number_of, Rows, Property, PlainObject, own, changed}
 use Rattle.js_values.specs.Walks.{plain_chain, plain_find}
-use Rattle.es_meaning.specs.Definitions.{is_accessor}
 use Rattle.es_meaning.specs.Functions.{property_with}
 use Rattle.es_meaning.specs.Holders.{with_property_of}
 use Rattle.es_meaning.specs.Objects as objects
@@ -50,6 +49,10 @@ second_true : (a b : Bool) → (a && b) ≡ true → b ≡ true
 second_true true b is = is
 second_true false b is = absurd (false≢true is)
 
+not_true : (a : Bool) → not a ≡ true → a ≡ false
+not_true true is = absurd (false≢true is)
+not_true false is = refl
+
 -- ---- the declaration
 
 module _ (name : List ℕ) (v : Value) where
@@ -66,16 +69,15 @@ module _ (name : List ℕ) (v : Value) where
     here = root ∷ global ∷ others
 
     module _ (p : Property) where
-      -- over a property of the prototype, which is an accessor where it can't be replaced
-      inherited : (c : Bool) (b : Body) → p.body ≡ b → (c || is_accessor b) ≡ true → declared_anew c p name v here ≡ answer here (c || may_hold p p.body)
-      inherited true b is can = refl
-      inherited false (Data w) is can = absurd (false≢true can)
-      inherited false (Accessor get set) is can = ap (λ b. declared_in_place (may_hold p b) name v here) is ∙ sym (ap (λ b. answer here (may_hold p b)) is)
+      -- over a property of the prototype, into which no function is put where it can't be replaced
+      inherited : (c : Bool) → (c || not (may_hold p p.body)) ≡ true → declared_anew c p name v here ≡ answer here (c || may_hold p p.body)
+      inherited true can = refl
+      inherited false can = let none = not_true (may_hold p p.body) can in ap (λ m. declared_in_place m name v here) none ∙ sym (ap (answer here) none)
 
       module _ (its : own name global.rows ≡ Some p) where
         can_write : (w : Value) → p.body ≡ Data w → p.marks.writable ≡ true → can_put name (plain_chain here global_object.0) ≡ writes
         can_write w is writable =
-            ap (λ q. plan_at global q (plain_find name (onwards (number_of global.proto) (chain_within (λ o. number_of o.proto) here 1)))) its
+            ap (λ q. plan_at name global q (plain_find name (onwards (number_of global.proto) (chain_within (λ o. number_of o.proto) here 1)))) its
             ∙ ap (own_plan p) is ∙ ap (λ b. if_allowed b writes) writable
 
         written : p.marks.writable ≡ true → p.marks.enumerable ≡ true → p.marks.configurable ≡ false → objects.write global_object.0 name v here ≡ with_property_of global_object.0 name held here
@@ -99,7 +101,7 @@ module _ (name : List ℕ) (v : Value) where
 
     bound_by : (on_global on_root : Option Property) → own name global.rows ≡ on_global → own name root.rows ≡ on_root → declared_over (along name on_global on_root) name v here ≡ answer here (may_take_any on_global on_root)
     bound_by None None absent missing = ap Some (sym (given_global name root global others started absent held))
-    bound_by None (Some p) absent there = inherited p p.marks.configurable p.body refl (own_replaceable name root.rows p started.root.1 there)
+    bound_by None (Some p) absent there = inherited p p.marks.configurable (own_replaceable name root.rows p started.root.1 there)
     bound_by (Some p) on_root there other = over_own p there p.marks.configurable refl
 
     bound_on : declared_over (plain_find name (plain_chain here global_object.0)) name v here ≡ answer here (may_take name here)

@@ -1,4 +1,5 @@
 mod EntryLaws
+mod AccessorLaws
 mod FirstObjectLaws
 mod HolderLaws
 mod NameLaws

@@ -22,6 +22,7 @@ use Rattle.js_values.specs.Records.{Binding, Record}
 use Rattle.js_values.specs.Readings.{IsReading, HasValue, HasRecord, HasRecords, HasHeap, read_heap, read_records}
 use Rattle.es_meaning.specs.BuiltIns.{BuiltIns}
 use Rattle.es_meaning.specs.Plain.{first_heap, outermost}
+use Rattle.es_meaning.specs.Start.{start_heap}
 use Rattle.flow_meaning.specs.Erased.{labelled_by, labelled_values, made_inner, made_rows, made_objects, unlabelled_heap}
 use Rattle.flow_meaning.specs.Tracked.{start}
 use Rattle.run_state.specs.declared.world.World.{World}
@@ -113,5 +114,5 @@ module _ {S T : Type 0} (made : S → T → Type 0) (meaning : S → T → Label
     catch = root_alone (meaning store) w.frames.frames root;
     heap = subst (λ (h : List (Object T)). HasHeap (made store) h) (sym objects) (has_objects (made store) label m (first_heap set program));
     records = subst (λ (rs : List (Record (Labelled T))). HasRecords (made store) rs) (sym records) (outermost_made (made store) label m);
-    started = subst (λ (h : List (Object T)). 16 ≤ length h) (sym objects) (subst (λ n. 16 ≤ n) (sym (length_with label (first_heap set program))) (subst (λ (h : PlainObjects T). 16 ≤ length h.objects) is started.many));
+    started = subst (λ (h : List (Object T)). length start_heap ≤ length h) (sym objects) (subst (λ n. length start_heap ≤ n) (sym (length_with label (first_heap set program))) (subst (λ (h : PlainObjects T). length start_heap ≤ length h.objects) is started.many));
   }

@@ -3,11 +3,12 @@ use Rattle.std.proofs.Common.{refl, sym, ap, ◌∙◌, ◌≡◌, ℕ, true, fa
 use Rattle.std.proofs.lemmas.Bool.{true≢false, false≢true}
 use Rattle.js_values.specs.declared.property.Body.TheVariants.{Data}
 use Rattle.js_values.specs.declared.ids.ObjId.{ObjId}
+use Rattle.js_values.specs.Arrays.{element_of, length_key}
 use Rattle.js_values.specs.Chains.{onwards, chain_within}
 use Rattle.js_values.specs.Objects.{Property, PlainObject, number_of, own, with_row}
 use Rattle.js_values.specs.Walks.{plain_chain, plain_found_at, plain_find}
 use Rattle.es_meaning.specs.Objects as objects
-use Rattle.es_meaning.specs.Objects.{declared_by_script, defined_over, with_object, with_rows}
+use Rattle.es_meaning.specs.Objects.{declared_by_script, defined_over, stretched, with_added, with_object, with_rows}
 use Rattle.es_meaning.specs.Holders.{with_property_of}
 use Rattle.es_meaning.specs.Start.{global_object}
 use Rattle.es_meaning.specs.Plain.{undefined, unless_found, with_variable, with_variables}
@@ -32,12 +33,14 @@ module _ (name : List ℕ) where
 
     pub found_along : plain_find name (plain_chain all global_object.0) ≡ along (own name global.rows) (own name root.rows)
     found_along =
-        ap (λ (o : Option ObjId). plain_found_at 1 (own name global.rows) (plain_find name (onwards (number_of o) (chain_within (λ p. number_of p.proto) all 1)))) started.global
+        ap (λ (o : Option ObjId). plain_found_at 1 (own name global.rows) (plain_find name (onwards (number_of o) (chain_within (λ p. number_of p.proto) all 1)))) started.global.0
         ∙ ap (λ (o : Option ObjId). plain_found_at 1 (own name global.rows) (plain_found_at 0 (own name root.rows) (plain_find name (onwards (number_of o) (chain_within (λ p. number_of p.proto) all 0))))) started.root.0
 
     -- to give a new property is to add it
-    pub given_global : own name global.rows ≡ None → (p : Property) → with_property_of global_object.0 name p all ≡ with_object global_object.0 (λ q. with_rows q (with_row name p q.rows)) all
-    given_global absent p = ap (λ q. root ∷ with_rows global (defined_over q name p global.rows) ∷ others) absent
+    pub given_global : own name global.rows ≡ None → (p : Property) → with_property_of global_object.0 name p all ≡ with_object global_object.0 (with_added name p) all
+    given_global absent p =
+        ap (λ q. root ∷ with_rows global (defined_over q name p global.rows) ∷ others) absent
+        ∙ sym (ap (λ c. root ∷ with_rows global (stretched (element_of c name) (own length_key global.rows) (with_row name p global.rows)) ∷ others) started.global.1)
 
     found_either : (on_global on_root : Option Property) → (is_some on_global || is_some on_root) ≡ true → unless_found (along on_global on_root) name all ≡ all
     found_either (Some p) on_root there = refl

@@ -3,7 +3,7 @@ use Rattle.std.specs.Prelude.{List, [], ◌∷◌, Some, None}
 use Rattle.js_values.specs.declared.inner.Class.TheVariants as class
 use Rattle.js_values.specs.Objects.{PlainObject, plain, fresh_plain}
 use Rattle.native_protocol.specs.declared.request.ErrorKind.TheVariants as kinds
-use Rattle.es_meaning.specs.Start.{object_prototype, error_prototype, global, prototype_of_errors, native_function}
+use Rattle.es_meaning.specs.Start.{object_prototype, error_prototype, global, prototype_of_arrays, prototype_of_errors, prototype_of_strings, native_function}
 
 -- the prototype of all objects, and the global object behind it
 abbrev pub first_two : List PlainObject
@@ -18,9 +18,13 @@ prototypes_of_errors = prototype_of_errors kinds.Error object_prototype
     ∷ prototype_of_errors kinds.TypeError (error_prototype kinds.Error)
     ∷ prototype_of_errors kinds.UriError (error_prototype kinds.Error) ∷ []
 
--- the prototypes of booleans and numbers, and `Math`
+-- the prototypes of booleans and numbers, `Math` and `JSON`, and the prototypes of arrays and strings
 abbrev pub holders : List PlainObject
-holders = fresh_plain class.Boolean plain (Some object_prototype) ∷ fresh_plain class.Number plain (Some object_prototype) ∷ fresh_plain class.Math plain (Some object_prototype) ∷ []
+holders = fresh_plain class.Boolean plain (Some object_prototype)
+    ∷ fresh_plain class.Number plain (Some object_prototype)
+    ∷ fresh_plain class.Math plain (Some object_prototype)
+    ∷ fresh_plain class.Json plain (Some object_prototype)
+    ∷ prototype_of_arrays ∷ prototype_of_strings ∷ []
 
 -- the accessors `caller`, `arguments` and `callee`
 abbrev pub accessors : List PlainObject

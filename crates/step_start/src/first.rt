@@ -2,7 +2,7 @@
 
 ghost use Rattle.std.specs.Prelude.{◌≡◌, ◌<◌, ◌≤◌, ◌+◌, [], ◌∷◌, IfOk, OnOk, length};
 ghost use Rattle.es_meaning.specs.Holders.{with_property_of};
-ghost use Rattle.es_meaning.specs.Start.{error_name, prototype_of_errors, prototype_of_functions, start_heap, text_property};
+ghost use Rattle.es_meaning.specs.Start.{error_name, prototype_of_arrays, prototype_of_errors, prototype_of_functions, prototype_of_strings, start_heap, text_property};
 ghost use Rattle.plain_heap.specs.PlainObjects.{changed, with_more};
 ghost use Rattle.step_start.specs.FirstObjects.{first_two, prototypes_of_errors, holders, accessors};
 
@@ -22,7 +22,7 @@ pub(crate) fn first_objects<T: Copy>(alloc: Global, label: T) -> Result<PlainHea
     make_global(alloc, &mut heap)?;
     make_errors(alloc, &mut heap)?;
     make_function_prototype(alloc, &mut heap)?;
-    make_holders(&mut heap)?;
+    make_holders(alloc, &mut heap)?;
     make_accessors(alloc, &mut heap)?;
     Ok(heap)
 }
@@ -112,20 +112,41 @@ fn make_function_prototype<T: Copy>(
     ensures length { OnOk result (length heap.new.objects ≡ length heap.old.objects + 1) }
 {
     let f = heap.new_object(Class::Function, Some(OBJECT_PROTOTYPE), Inner::Plain)?;
-    heap.give_length(alloc, f, 0)?;
-    heap.give_function_rows(alloc, f)
+    heap.give_length(alloc, f, 0)
 }
 
-// Makes the prototypes of booleans and numbers (ECMA-262 15.6.4, 15.7.4), and `Math` (15.8).
-fn make_holders<T: Copy>(heap: &mut PlainHeap<T>) -> Result<(), OutOfMemory>
+// Makes the prototypes of booleans and numbers (ECMA-262 15.6.4, 15.7.4), `Math` (15.8), `JSON` (15.12), and the prototypes of arrays and strings.
+fn make_holders<T: Copy>(alloc: Global, heap: &mut PlainHeap<T>) -> Result<(), OutOfMemory>
     requires started { 1 ≤ length heap.old.objects }
     ensures ok { OnOk result (heap.new ≡ with_more holders heap.old) }
-    ensures length { OnOk result (length heap.new.objects ≡ length heap.old.objects + 3) }
+    ensures length { OnOk result (length heap.new.objects ≡ length heap.old.objects + 6) }
 {
     heap.new_object(Class::Boolean, Some(OBJECT_PROTOTYPE), Inner::Plain)?;
     heap.new_object(Class::Number, Some(OBJECT_PROTOTYPE), Inner::Plain)?;
     heap.new_object(Class::Math, Some(OBJECT_PROTOTYPE), Inner::Plain)?;
-    Ok(())
+    heap.new_object(Class::Json, Some(OBJECT_PROTOTYPE), Inner::Plain)?;
+    make_array_prototype(alloc, heap)?;
+    make_string_prototype(alloc, heap)
+}
+
+// Makes the prototype of arrays, which is an array itself (ECMA-262 15.4.4).
+fn make_array_prototype<T: Copy>(alloc: Global, heap: &mut PlainHeap<T>) -> Result<(), OutOfMemory>
+    requires started { 1 ≤ length heap.old.objects }
+    ensures ok { OnOk result (heap.new ≡ with_more (prototype_of_arrays ∷ []) heap.old) }
+    ensures length { OnOk result (length heap.new.objects ≡ length heap.old.objects + 1) }
+{
+    let o = heap.new_object(Class::Array, Some(OBJECT_PROTOTYPE), Inner::Plain)?;
+    heap.give_array_length(alloc, o, 0)
+}
+
+// Makes the prototype of strings, which is the object of the empty text (ECMA-262 15.5.4).
+fn make_string_prototype<T: Copy>(alloc: Global, heap: &mut PlainHeap<T>) -> Result<(), OutOfMemory>
+    requires started { 1 ≤ length heap.old.objects }
+    ensures ok { OnOk result (heap.new ≡ with_more (prototype_of_strings ∷ []) heap.old) }
+    ensures length { OnOk result (length heap.new.objects ≡ length heap.old.objects + 1) }
+{
+    let o = heap.new_object(Class::String, Some(OBJECT_PROTOTYPE), Inner::Plain)?;
+    heap.give_length(alloc, o, 0)
 }
 
 // Makes the accessors of `caller`, `arguments` and `callee` (ECMA-262 13.2.3).

@@ -11,7 +11,8 @@ use js_values::{Body, Class, Inner, ObjId, Value};
 use plain_heap::{FIXED, FUNCTION_PROTOTYPE, PlainHeap};
 use std::alloc::Global;
 
-/// Makes a built-in function with a number and a `length`, and the prototype of what it constructs, where it has one.
+/// Makes a built-in function with a number and a `length`, and the prototype of what it constructs, where it has one. It gets the accessors of `caller` and
+/// `arguments` when all built-ins are made, so that they stand last.
 pub(crate) fn make_native<T: Copy>(
     alloc: Global,
     heap: &mut PlainHeap<T>,
@@ -31,7 +32,6 @@ pub(crate) fn make_native<T: Copy>(
     )?;
     heap.give_length(alloc, f, size)?;
     give_prototype(alloc, heap, f, prototype)?;
-    heap.give_function_rows(alloc, f)?;
     Ok(f)
 }
 

@@ -75,8 +75,8 @@ level_itself world (Ok (outcome.Throws v)) = omega arith
 level_itself world (Ok (outcome.Leaves why)) = refl
 level_itself world (Err f) = tt
 
-pub off_moved : {T X : Type 0} (has : T → Type 0) (world : World T) (old new : Kept T) (answer : Result (machine.Outcome X T) (FlowFault T)) (move : Control) → HasAnswer (λ x. Unit {0}) has answer → Parts has old new answer (Ok (went.Off move)) → Moved has 4 old new world world move
-off_moved has world old new answer move thrown parts = moved_off {made = has} {n = 4} {world_old = world} {world_new = world} old new answer move (omega arith) thrown (level_itself world answer) parts
+pub off_moved : {T X : Type 0} (has : T → Type 0) (world : World T) (old new : Kept T) (answer : Result (machine.Outcome X T) (FlowFault T)) (move : Control) → HasAnswer (λ x. Unit {0}) has answer → Parts has old new answer (Ok (went.Off move)) → Moved has 6 old new world world move
+off_moved has world old new answer move thrown parts = moved_off {made = has} {n = 6} {world_old = world} {world_new = world} old new answer move (omega arith) thrown (level_itself world answer) parts
 
 -- what is left where the uppermost key is gone
 module _ {T : Type 0} (left : ℕ) (now new : Kept T) (gone : new ≡ record { tasks = now.tasks; loose = take left now.loose }) where
@@ -103,11 +103,11 @@ module _ {T : Type 0} (x : Enumeration) (left : ℕ) (old between new : Kept T) 
       let both = turn x left between new there move sees in
       subst (λ k. Rests has old k move) (sym (stays both.1)) (subst (λ m. Rests has old old m) (sym both.0) (rests_lying {made = has} {old = old} {new = old} (control.Visit x (left - 1)) old.loose refl refl all (omega (arith, some, size))))
 
-  pub seen_adds : (seen : Look) → Sees x left between new there seen → IfGoes (Adds 4 old new) seen
+  pub seen_adds : (seen : Look) → Sees x left between new there seen → IfGoes (Adds 6 old new) seen
   seen_adds look.Gone sees = tt
   seen_adds (look.Goes move) sees =
       let both = turn x left between new there move sees in
-      subst (λ k. Adds 4 old k move) (sym (stays both.1)) (subst (λ m. Adds 4 old old m) (sym both.0) (omega arith))
+      subst (λ k. Adds 6 old k move) (sym (stays both.1)) (subst (λ m. Adds 6 old old m) (sym both.0) (omega arith))
 
 module _ {S T : Type 0} (made : S → T → Type 0) (meaning : S → T → Label) (x : Enumeration) where
   -- ---- the keys are taken

@@ -21,7 +21,7 @@ pub(crate) fn fall<'p, T: Copy>(
     ensures goes_on { IfOk result (Begins (λ tables inputs set functions e. falling tables inputs set functions number clauses.entry.now e.env) stack.old stack.new) }
     ensures keeps { IfOk result (Keeps stack.old stack.new) }
     ensures still { IfOk result (λ move. running move ≡ 0) }
-    ensures adds { IfOk result (Adds 4 stack.old stack.new) }
+    ensures adds { IfOk result (Adds 6 stack.old stack.new) }
 {
     let Some(found) = next_statement(clauses, number) else {
         return Ok(Control::Done);

@@ -37,7 +37,7 @@ pub fn take_keys<'p, L: Labels>(
     requires belongs { Belongs L.made L.meaning labels.old world.old }
     ensures goes_on { BeginsWith L.made L.meaning labels.new (λ tables inputs set functions reading e. next_plan tables inputs set functions (control.Keys enumeration.entry) (map (read_value reading) stack.old.loose) e) stack.old stack.new world.old world.new result }
     ensures rests { IfOk result (Rests (L.made labels.new) stack.old stack.new) }
-    ensures adds { IfOk result (Adds 5 stack.old stack.new) }
+    ensures adds { IfOk result (Adds 7 stack.old stack.new) }
     ensures stopped { IfErr result (IfStop (HasStop (L.made labels.new))) }
     ensures stands { IfOk result (Stands world.old world.new) }
     ensures belongs { Belongs L.made L.meaning labels.new world.new }

@@ -94,7 +94,7 @@ pub(crate) fn switched_in<'p, L: Labels>(
     ensures goes_on { IfOk result (ResumesIn L.made L.meaning labels.new (continuation.Switched of.entry clauses.entry) stack.old stack.new frames.old.frames frames.new.frames) }
     ensures opened { IfOk result (Opened stack.old stack.new frames.old.frames frames.new.frames) }
     ensures still { IfOk result (λ move. running move ≡ 0) }
-    ensures adds { IfOk result (Adds 5 stack.old stack.new) }
+    ensures adds { IfOk result (Adds 7 stack.old stack.new) }
     ensures catch { IfOk result (λ _. CatchByTry frames.new.frames) }
     ensures belongs { Belong L.made L.meaning labels.new frames.new.frames }
     ensures kept { IsKept L.made L.meaning L.room L.firm labels.old labels.new }
@@ -147,7 +147,7 @@ pub(crate) fn compared_in<'p, L: Labels>(
     requires belongs { Belong L.made L.meaning labels.old frames.old.frames }
     ensures goes_on { IfOk result (ResumesBesideIn L.made L.meaning labels.new (continuation.Compared clauses.entry number) stack.old stack.new frames.old.frames frames.new.frames) }
     ensures fronts { IfOk result (Fronts stack.old stack.new) }
-    ensures adds { IfOk result (Adds 4 stack.old stack.new) }
+    ensures adds { IfOk result (Adds 6 stack.old stack.new) }
     ensures length { length frames.new.frames ≡ length frames.old.frames }
     ensures catch { IfOk result (λ _. CatchByTry frames.new.frames) }
     ensures belongs { Belong L.made L.meaning labels.new frames.new.frames }

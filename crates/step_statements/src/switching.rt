@@ -38,7 +38,7 @@ pub fn falls<'p, L: Labels>(
     requires standing { Invariant L.made L.meaning labels.old stack.old world.old (owns (continuation.Falls clauses number) + awaits (continuation.Falls clauses number)) (scopes_of stack.old.tasks ++ scope_of (continuation.Falls clauses number)) (waiting stack.old.tasks) control.Value }
     ensures resumes { (tables : Tables) (inputs : Given) (set : BuiltIns) (functions : List FunctionCode) (natives : List Steps) → Resumes L.made L.meaning labels.new tables inputs set functions (continuation.Falls clauses.entry number) natives natives stack.old stack.new world.old world.new result }
     ensures standing { IfOk result (λ move. Invariant L.made L.meaning labels.new stack.new world.new (values_of move) (scopes_of stack.new.tasks) (waiting stack.old.tasks) move) }
-    ensures adds { IfOk result (Adds (weight (continuation.Falls clauses.entry number) + 3) stack.old stack.new) }
+    ensures adds { IfOk result (Adds (weight (continuation.Falls clauses.entry number) + 5) stack.old stack.new) }
     ensures stopped { IfErr result (IfStop (HasStop (L.made labels.new))) }
     ensures grows { Grows world.old world.new }
     ensures kept { IsKept L.made L.meaning L.room L.firm labels.old labels.new }
@@ -60,7 +60,7 @@ pub fn switched<'p, L: Labels>(
     requires standing { Invariant L.made L.meaning labels.old stack.old world.old (owns (continuation.Switched of clauses) + awaits (continuation.Switched of clauses)) (scopes_of stack.old.tasks ++ scope_of (continuation.Switched of clauses)) (waiting stack.old.tasks) control.Value }
     ensures resumes { (tables : Tables) (inputs : Given) (set : BuiltIns) (functions : List FunctionCode) (natives : List Steps) → Resumes L.made L.meaning labels.new tables inputs set functions (continuation.Switched of.entry clauses.entry) natives natives stack.old stack.new world.old world.new result }
     ensures standing { IfOk result (λ move. Invariant L.made L.meaning labels.new stack.new world.new (values_of move) (scopes_of stack.new.tasks) (waiting stack.old.tasks) move) }
-    ensures adds { IfOk result (Adds (weight (continuation.Switched of.entry clauses.entry) + 3) stack.old stack.new) }
+    ensures adds { IfOk result (Adds (weight (continuation.Switched of.entry clauses.entry) + 5) stack.old stack.new) }
     ensures stopped { IfErr result (IfStop (HasStop (L.made labels.new))) }
     ensures grows { Grows world.old world.new }
     ensures kept { IsKept L.made L.meaning L.room L.firm labels.old labels.new }
@@ -80,7 +80,7 @@ pub fn compared<'p, L: Labels>(
     requires standing { Invariant L.made L.meaning labels.old stack.old world.old (owns (continuation.Compared clauses number) + awaits (continuation.Compared clauses number)) (scopes_of stack.old.tasks ++ scope_of (continuation.Compared clauses number)) (waiting stack.old.tasks) control.Value }
     ensures resumes { (tables : Tables) (inputs : Given) (set : BuiltIns) (functions : List FunctionCode) (natives : List Steps) → Resumes L.made L.meaning labels.new tables inputs set functions (continuation.Compared clauses.entry number) natives natives stack.old stack.new world.old world.new result }
     ensures standing { IfOk result (λ move. Invariant L.made L.meaning labels.new stack.new world.new (values_of move) (scopes_of stack.new.tasks) (waiting stack.old.tasks) move) }
-    ensures adds { IfOk result (Adds (weight (continuation.Compared clauses.entry number) + 3) stack.old stack.new) }
+    ensures adds { IfOk result (Adds (weight (continuation.Compared clauses.entry number) + 5) stack.old stack.new) }
     ensures stopped { IfErr result (IfStop (HasStop (L.made labels.new))) }
     ensures grows { Grows world.old world.new }
     ensures kept { IsKept L.made L.meaning L.room L.firm labels.old labels.new }

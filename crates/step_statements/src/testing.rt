@@ -24,7 +24,7 @@ pub(crate) fn test_from<'p, T: Copy>(
     requires loose { length stack.old.loose ≡ 1 }
     ensures goes_on { IfOk result (BeginsBehind (λ tables inputs set functions vs e. testing tables inputs set functions (nodes_of all.entry.now) from (first_or_undefined vs) e.env) stack.old stack.new) }
     ensures fronts { IfOk result (Fronts stack.old stack.new) }
-    ensures adds { IfOk result (Adds 4 stack.old stack.new) }
+    ensures adds { IfOk result (Adds 6 stack.old stack.new) }
 {
     let Some(test) = next_test(all.items(), from)? else {
         stack.clear(1);
@@ -44,7 +44,7 @@ pub(crate) fn do_default<'p, T: Copy>(
     ensures goes_on { IfOk result (Begins (λ tables inputs set functions e. by_default tables inputs set functions clauses.entry.now e.env) stack.old stack.new) }
     ensures keeps { IfOk result (Keeps stack.old stack.new) }
     ensures still { IfOk result (λ move. running move ≡ 0) }
-    ensures adds { IfOk result (Adds 4 stack.old stack.new) }
+    ensures adds { IfOk result (Adds 6 stack.old stack.new) }
 {
     let Some(left) = default_clause(clauses) else {
         return Ok(Control::Done);
@@ -64,7 +64,7 @@ pub(crate) fn choose<'p, T: Copy>(
     requires loose { length stack.old.loose ≡ 1 }
     ensures goes_on { IfOk result (BeginsBehind (λ tables inputs set functions vs e. chosen tables inputs set functions (nodes_of all.entry.now) number left.entry.now equal (first_or_undefined vs) e.env) stack.old stack.new) }
     ensures fronts { IfOk result (Fronts stack.old stack.new) }
-    ensures adds { IfOk result (Adds 4 stack.old stack.new) }
+    ensures adds { IfOk result (Adds 6 stack.old stack.new) }
 {
     if equal {
         stack.clear(1);

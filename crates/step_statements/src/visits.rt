@@ -43,7 +43,7 @@ pub fn next_visit<'p, L: Labels>(
     requires belongs { Belongs L.made L.meaning labels.old world.old }
     ensures goes_on { BeginsWith L.made L.meaning labels.new (visits_of enumeration.entry count stack.old.loose) stack.old stack.new world.old world.new result }
     ensures rests { IfOk result (Rests (L.made labels.new) stack.old stack.new) }
-    ensures adds { IfOk result (Adds 4 stack.old stack.new) }
+    ensures adds { IfOk result (Adds 6 stack.old stack.new) }
     ensures stopped { IfErr result (IfStop (HasStop (L.made labels.new))) }
     ensures stands { IfOk result (Stands world.old world.new) }
     ensures belongs { Belongs L.made L.meaning labels.new world.new }
@@ -78,7 +78,7 @@ fn look_at<'p, L: Labels>(
     ensures looked { IfOk result (Looked L.made L.meaning labels.new enumeration.entry left stack.old stack.new world.old world.new) }
     ensures fails { IfErr result (Fails L.made L.meaning labels.new enumeration.entry left stack.old stack.new world.old world.new) }
     ensures rests { IfOk result (IfGoes (Rests (L.made labels.new) stack.old stack.new)) }
-    ensures adds { IfOk result (IfGoes (Adds 4 stack.old stack.new)) }
+    ensures adds { IfOk result (IfGoes (Adds 6 stack.old stack.new)) }
     ensures stopped { IfErr result (IfStop (HasStop (L.made labels.new))) }
     ensures stands { length world.new.frames.frames ≡ length world.old.frames.frames }
     ensures belongs { Belongs L.made L.meaning labels.new world.new }

@@ -1,5 +1,5 @@
 -- An operator that has no operand converted takes both as they are: the labels are joined to the same, and a number as a number is itself.
-use Rattle.std.proofs.Common.{◌≡◌, refl, sym, ap, ap₂, ◌∙◌, ℤ, ◌*ℤ◌, ◌-ℤ◌, Bool, true, false, ◌&&◌, List, Option, Some, None, Result, Ok, Err}
+use Rattle.std.proofs.Common.{◌≡◌, refl, sym, ap, ◌∙◌, ℤ, Bool, true, false, ◌&&◌, List, Option, Some, None, Result, Ok, Err}
 use Rattle.std.specs.List.{slice_get}
 use Rattle.std.specs.Option.{option_map}
 use Rattle.std.proofs.lemmas.Bool.{true≢false, or_parts}
@@ -16,10 +16,11 @@ use Rattle.js_number.specs.declared.int.LeftNumbers.{LeftNumbers}
 use Rattle.js_number.specs.declared.primitive.Primitive.{Primitive}
 use Rattle.js_number.specs.declared.primitive.Primitive.TheVariants.{Num}
 use Rattle.js_number.specs.Conversions.{number_of}
-use Rattle.js_number.specs.Number.{number, some_number}
-use Rattle.js_number.specs.Arithmetic.{quotient, remainder}
+use Rattle.js_number.specs.declared.num.Num.{Num as Number}
+use Rattle.js_number.specs.declared.num.Num.TheVariants.{Int}
+use Rattle.js_number.specs.Number.{integer_of}
+use Rattle.js_number.specs.Arithmetic.{subtracted, multiplied, divided, remainder_of}
 use Rattle.js_number.specs.Bits.{shifted_left, shifted_right, shifted_with_zeros, and_of, xor_of, or_of}
-use Rattle.js_number.proofs.Answered.{answered, answers}
 use Rattle.js_values.specs.declared.value.Value.{Value}
 use Rattle.js_values.specs.declared.value.Value.TheVariants as value
 use Rattle.js_values.specs.Objects.{Object}
@@ -29,7 +30,7 @@ use Rattle.native_protocol.specs.declared.hint.Hint.TheVariants as hint
 use Rattle.native_protocol.specs.declared.request.Seen.TheVariants as seen_as
 use Rattle.es_meaning.specs.BuiltIns.{BuiltIns}
 use Rattle.es_meaning.specs.Operations as operations
-use Rattle.es_meaning.specs.Operators.{as_number, both, of_numbers, unary_of, binary_of, binary_of_primitives, converts_beside, is_object, leaves_numbers, to_number}
+use Rattle.es_meaning.specs.Operators.{as_number, both, of_numbers, unary_of, binary_of, binary_of_primitives, converts_beside, is_object, leaves_numbers}
 use Rattle.es_meaning.specs.Evaluation as es
 use Rattle.es_meaning.specs.Evaluation.{binary_by, binary_done, binary_values, compared_left, conversion_of, number_left, primitive_left, takes_number, unary_by, unary_done, unary_value}
 use Rattle.es_meaning.specs.Plain.{seen_of}
@@ -60,21 +61,21 @@ other_once a b is_a is_b =
 
 -- ---- a number as a number
 
-again : (v : Primitive) (n : ℤ) → to_number v ≡ Ok n → to_number (Num n) ≡ Ok n
-again v n is = answers (Some n) n (answered (number_of v) n is).0 refl
+abbrev act_on_bits : (ℤ → ℤ → ℤ) → (Number → Number → Result Number LeftNumbers)
+act_on_bits f = λ m n. Ok (Int (f (integer_of m) (integer_of n)))
 
 -- what the operators do with two numbers
-abbrev number_act : BinaryOperator → (ℤ → ℤ → Result ℤ LeftNumbers)
-number_act binary_operator.Multiply = λ m n. number (m *ℤ n)
-number_act binary_operator.Divide = λ m n. some_number (quotient m n)
-number_act binary_operator.Remainder = λ m n. some_number (remainder m n)
-number_act binary_operator.Subtract = λ m n. number (m -ℤ n)
-number_act binary_operator.ShiftLeft = λ m n. Ok (shifted_left m n)
-number_act binary_operator.ShiftRight = λ m n. Ok (shifted_right m n)
-number_act binary_operator.ShiftRightZero = λ m n. Ok (shifted_with_zeros m n)
-number_act binary_operator.BitAnd = λ m n. Ok (and_of m n)
-number_act binary_operator.BitXor = λ m n. Ok (xor_of m n)
-number_act binary_operator.BitOr = λ m n. Ok (or_of m n)
+abbrev number_act : BinaryOperator → (Number → Number → Result Number LeftNumbers)
+number_act binary_operator.Multiply = multiplied
+number_act binary_operator.Divide = divided
+number_act binary_operator.Remainder = remainder_of
+number_act binary_operator.Subtract = subtracted
+number_act binary_operator.ShiftLeft = act_on_bits shifted_left
+number_act binary_operator.ShiftRight = act_on_bits shifted_right
+number_act binary_operator.ShiftRightZero = act_on_bits shifted_with_zeros
+number_act binary_operator.BitAnd = act_on_bits and_of
+number_act binary_operator.BitXor = act_on_bits xor_of
+number_act binary_operator.BitOr = act_on_bits or_of
 number_act _ = λ m n. Err (record {})
 
 by_numbers : (o : BinaryOperator) (v u : Primitive) → conversion_of o ≡ es.numbers → binary_of_primitives o v u ≡ of_numbers (number_act o) v u
@@ -92,11 +93,11 @@ by_numbers _ v u k = absurd cc k
 
 -- behind the left operand as a number
 module _ (o : BinaryOperator) (v u : Primitive) (numbers : conversion_of o ≡ es.numbers) where
-  left_again : (n : ℤ) → to_number v ≡ Ok n → binary_of_primitives o (Num n) u ≡ binary_of_primitives o v u
-  left_again n is = by_numbers o (Num n) u numbers ∙ ap (λ m. both (number_act o) m (to_number u)) (again v n is ∙ sym is) ∙ sym (by_numbers o v u numbers)
+  left_again : (n : Number) → number_of v ≡ Ok n → binary_of_primitives o (Num n) u ≡ binary_of_primitives o v u
+  left_again n is = by_numbers o (Num n) u numbers ∙ ap (λ m. both (number_act o) m (number_of u)) (sym is) ∙ sym (by_numbers o v u numbers)
 
-  left_leaves : (e : LeftNumbers) → to_number v ≡ Err e → binary_of_primitives o v u ≡ Err leaves_numbers
-  left_leaves e is = by_numbers o v u numbers ∙ ap (λ m. both (number_act o) m (to_number u)) is
+  left_leaves : (e : LeftNumbers) → number_of v ≡ Err e → binary_of_primitives o v u ≡ Err leaves_numbers
+  left_leaves e is = by_numbers o v u numbers ∙ ap (λ m. both (number_act o) m (number_of u)) is
 
 -- ---- the plans
 
@@ -123,7 +124,7 @@ module _ (tables : Tables) (inputs : inputs.Given) (set : BuiltIns) (functions :
   -- ---- an operator between two values
 
   -- behind the left operand as a number
-  behind_number : (o : BinaryOperator) (p q : Primitive) (a b : Label) (s : State) (r : Result ℤ LeftNumbers) → to_number p ≡ r → conversion_of o ≡ es.numbers
+  behind_number : (o : BinaryOperator) (p q : Primitive) (a b : Label) (s : State) (r : Result Number LeftNumbers) → number_of p ≡ r → conversion_of o ≡ es.numbers
       → and_plan (as_plan operations.Value (given a (as_number r) s)) (with_result operations.Value (primitive_left P E hint.Number o (record { value = value.Primitive q; label = b })))
       ≡ as_plan operations.Value (given (union a b) (binary_of o (value.Primitive p) (value.Primitive q)) s)
   unfolding given primitive_left binary_done binary_of
@@ -137,7 +138,7 @@ module _ (tables : Tables) (inputs : inputs.Given) (set : BuiltIns) (functions :
   unfolding number_left seen unary_of
   numbers_as o (value.Object i) w a b s k left right = absurd (true≢false left)
   numbers_as o (value.Primitive p) (value.Object i) a b s k left right = absurd (true≢false right)
-  numbers_as o (value.Primitive p) (value.Primitive q) a b s k left right = behind_number o p q a b s (to_number p) refl k
+  numbers_as o (value.Primitive p) (value.Primitive q) a b s k left right = behind_number o p q a b s (number_of p) refl k
 
   binary_by_as : (k : es.Conversion) (o : BinaryOperator) (v u : Val) (s : State) → conversion_of o ≡ k → IsLabel v.label → IsLabel u.label → takes_key k ≡ false → converts_by k v.value u.value ≡ false
       → binary_by P E k o v u s ≡ as_plan operations.Value (T.binary o v u s)

@@ -5,10 +5,11 @@ use Rattle.object_natives.specs.Table.{entries}
 use Rattle.primitive_natives.specs.Maths.{best_with}
 use Rattle.descriptor_pieces.specs.Defining.{define_in_turn}
 use Rattle.descriptor_pieces.specs.Descriptors.{read_in_turn, told_in_turn}
+use Rattle.descriptor_pieces.specs.Loops.{last_keys}
 use Rattle.meaning_examples.proofs.LabelledComputing.{labelled_computed}
 use Rattle.builtin_examples.proofs.rows.documents.Goals as goal
 
 -- each is computed
 pub returns : goal.returns
-unfolding labelled_computed all_entries entries define_in_turn read_in_turn told_in_turn times repeats best_with
-returns c = record { defined_value_stops = refl; assigned = refl; raised = refl; fixed_by_hand = refl; freezes = refl; prevention_stops = refl; prevented = refl }
+unfolding labelled_computed all_entries entries define_in_turn read_in_turn told_in_turn last_keys times repeats best_with
+returns c = record { defined_value_stops = refl; assigned = refl; raised = refl; fixed_by_hand = refl; freeze_stops = refl; frozen = refl; prevention_stops = refl; prevented = refl }

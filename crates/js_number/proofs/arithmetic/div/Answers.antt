@@ -1,7 +1,7 @@
-use Rattle.std.proofs.Common.{ap, ◌∙◌}
-use Rattle.js_number.specs.Number.{some_number}
-use Rattle.js_number.proofs.Quotients.{division_exact}
+use Rattle.std.proofs.Common.{sym, ap₂, ◌∙◌}
+use Rattle.js_number.specs.Arithmetic.{divided}
+use Rattle.js_number.proofs.Quotients.{division_of}
 use Rattle.js_number.proofs.arithmetic.div.Goals as goal
 
-pub returns-clause-exact : goal.returns-clause-exact
-returns-clause-exact c = λ n. division_exact c.args.a c.args.b c.some_number.result n (c.some_number.ensures ∙ ap some_number c.exact_quotient.ensures)
+pub returns-in-Int-b-clause-exact : goal.returns-in-Int-b-clause-exact
+returns-in-Int-b-clause-exact c = λ m k n e f. division_of c.args.a c.args.b c.integer_quotient.result m k n (c.integer_quotient.ensures ∙ sym (ap₂ divided c.in-Int.is c.in-Int-b.is)) e f

@@ -13,7 +13,7 @@ returns-clause-printed c = record { steps_print = refl; greatest_leaves = refl; 
 
 pub returns-clause-thrown : goal.returns-clause-thrown
 unfolding computed
-returns-clause-thrown c = record { no_channel = refl; no_origin = refl; immutable = refl; unbound = refl; unbound_behind_its_value = refl; unbound_before_its_change = refl; undefined_behind_its_operand = refl }
+returns-clause-thrown c = record { no_channel = refl; no_origin = refl; immutable = refl; unbound = refl; unbound_behind_its_value = refl; unbound_before_its_change = refl; fraction_behind_its_operand = refl }
 
 pub returns-clause-shown : goal.returns-clause-shown
 unfolding computed

@@ -1,5 +1,4 @@
-use Rattle.std.proofs.Common.{sym, subst, ◌∙◌}
-use Rattle.std.specs.List.{slice_get}
+use Rattle.std.proofs.Common.{subst}
 use Rattle.js_values.specs.declared.value.Labelled.{Labelled}
 use Rattle.js_values.specs.Readings.{read_heap, read_value}
 use Rattle.js_values.specs.Walks.{object_chain}
@@ -11,15 +10,9 @@ use Rattle.run_state.specs.Acts.{Acts}
 use Rattle.property_access.specs.Accessors.{object_with}
 use Rattle.run_state.proofs.ActLaws.{Belongs-later}
 use Rattle.property_access.proofs.MeansLaws.{plan_later}
-use Rattle.property_access.proofs.PlanLaws.{written_has, added_hasnt, no_element}
-use Rattle.property_access.proofs.ObjectLaws.{put_planned, put_element}
+use Rattle.property_access.proofs.PlanLaws.{written_has, added_hasnt}
+use Rattle.property_access.proofs.ObjectLaws.{put_planned}
 use Rattle.property_access.proofs.putting.put_on_object.Goals as goal
-
-pub returns-then-element-clause-acts : goal.returns-then-element-clause-acts
-returns-then-element-clause-acts g c = put_element g.L.Labels.made g.L.Labels.meaning c.args.labels.now c.args.world.now c.args.rule c.args.key.now c.args.o c.args.label (object_with c.args.o c.args.this_label) c.args.value (sym c.in_ok-element.ensures ∙ c.if-element.true)
-
-pub plan_of-requires-clause-other : goal.plan_of-requires-clause-other
-plan_of-requires-clause-other g c = no_element c.args.key.now (slice_get c.args.world.now.heap c.args.o.0) (sym c.in_ok-element.ensures ∙ c.if-element.false)
 
 pub returns-in_err-plan-clause-belongs : goal.returns-in_err-plan-clause-belongs
 returns-in_err-plan-clause-belongs g c = Belongs-later g.L.Labels.made g.L.Labels.meaning g.L.Labels.room g.L.Labels.firm c.args.labels.now c.plan_of.new.labels c.plan_of.ensures.kept g.met.L.Labels.rising c.args.world.now c.requires.belongs
@@ -44,13 +37,13 @@ refuse-requires-clause-belongs g c = Belongs-later g.L.Labels.made g.L.Labels.me
 
 pub returns-in-Write-clause-acts : goal.returns-in-Write-clause-acts
 returns-in-Write-clause-acts g c =
-    put_planned g.L.Labels.made g.L.Labels.meaning c.write.new.labels c.args.world.now c.write.new.world c.args.o c.args.key.now c.args.label c.in-Write.walk c.args.label (object_with c.args.o c.args.this_label) c.args.value c.write.result c.args.rule c.in_ok-plan.plan (Write c.in-Write.walk) c.in-Write.is (sym c.in_ok-element.ensures ∙ c.if-element.false)
+    put_planned g.L.Labels.made g.L.Labels.meaning c.write.new.labels c.args.world.now c.write.new.world c.args.o c.args.key.now c.args.label c.in-Write.walk c.args.label (object_with c.args.o c.args.this_label) c.args.value c.write.result c.args.rule c.in_ok-plan.plan (Write c.in-Write.walk) c.in-Write.is
     (plan_later g.L.Labels.made g.L.Labels.meaning g.L.Labels.room g.L.Labels.firm c.plan_of.new.labels c.write.new.labels c.write.ensures.kept (λ reading. can_put c.args.key.now (object_chain (read_heap reading c.args.world.now.heap) c.args.o.0)) c.in_ok-plan.plan c.in_ok-plan.ensures.plan)
     (c.write.ensures.acts (object_with c.args.o c.args.this_label))
 
 pub returns-in-Add-clause-acts : goal.returns-in-Add-clause-acts
 returns-in-Add-clause-acts g c =
-    put_planned g.L.Labels.made g.L.Labels.meaning c.add.new.labels c.args.world.now c.add.new.world c.args.o c.args.key.now c.args.label c.in-Add.walk c.args.label (object_with c.args.o c.args.this_label) c.args.value c.add.result c.args.rule c.in_ok-plan.plan (Add c.in-Add.walk) c.in-Add.is (sym c.in_ok-element.ensures ∙ c.if-element.false)
+    put_planned g.L.Labels.made g.L.Labels.meaning c.add.new.labels c.args.world.now c.add.new.world c.args.o c.args.key.now c.args.label c.in-Add.walk c.args.label (object_with c.args.o c.args.this_label) c.args.value c.add.result c.args.rule c.in_ok-plan.plan (Add c.in-Add.walk) c.in-Add.is
     (plan_later g.L.Labels.made g.L.Labels.meaning g.L.Labels.room g.L.Labels.firm c.plan_of.new.labels c.add.new.labels c.add.ensures.kept (λ reading. can_put c.args.key.now (object_chain (read_heap reading c.args.world.now.heap) c.args.o.0)) c.in_ok-plan.plan c.in_ok-plan.ensures.plan)
     (c.add.ensures.acts c.args.rule (object_with c.args.o c.args.this_label))
 
@@ -62,12 +55,12 @@ setter-requires-clause-belongs g c = Belongs-later g.L.Labels.made g.L.Labels.me
 
 pub returns-in-Setter-clause-acts : goal.returns-in-Setter-clause-acts
 returns-in-Setter-clause-acts g c =
-    put_planned g.L.Labels.made g.L.Labels.meaning c.setter.new.labels c.args.world.now c.setter.new.world c.args.o c.args.key.now c.args.label c.in-Setter.walk c.args.label (object_with c.args.o c.args.this_label) c.args.value c.setter.result c.args.rule c.in_ok-plan.plan (Setter c.in-Setter.at c.in-Setter.walk) c.in-Setter.is (sym c.in_ok-element.ensures ∙ c.if-element.false)
+    put_planned g.L.Labels.made g.L.Labels.meaning c.setter.new.labels c.args.world.now c.setter.new.world c.args.o c.args.key.now c.args.label c.in-Setter.walk c.args.label (object_with c.args.o c.args.this_label) c.args.value c.setter.result c.args.rule c.in_ok-plan.plan (Setter c.in-Setter.at c.in-Setter.walk) c.in-Setter.is
     (plan_later g.L.Labels.made g.L.Labels.meaning g.L.Labels.room g.L.Labels.firm c.plan_of.new.labels c.setter.new.labels c.setter.ensures.kept (λ reading. can_put c.args.key.now (object_chain (read_heap reading c.args.world.now.heap) c.args.o.0)) c.in_ok-plan.plan c.in_ok-plan.ensures.plan)
     (subst (λ (b : Labelled g.row.T.Denot). Acts g.L.Labels.made g.L.Labels.meaning c.setter.new.labels (λ reading. read_putting reading) (λ reading. put_by (Setter c.in-Setter.at (reading c.in-Setter.walk)) c.args.rule c.args.o.0 c.args.key.now (reading c.args.label) (read_value reading b) (read_value reading c.args.value)) c.args.world.now c.setter.new.world c.setter.result) c.object.ensures (c.setter.ensures.acts c.args.rule c.args.o.0 c.args.value))
 
 pub returns-in-Refused-clause-acts : goal.returns-in-Refused-clause-acts
 returns-in-Refused-clause-acts g c =
-    put_planned g.L.Labels.made g.L.Labels.meaning c.refuse.new.labels c.args.world.now c.refuse.new.world c.args.o c.args.key.now c.args.label c.in-Refused.walk c.args.label (object_with c.args.o c.args.this_label) c.args.value c.refuse.result c.args.rule c.in_ok-plan.plan (Refused c.in-Refused.walk) c.in-Refused.is (sym c.in_ok-element.ensures ∙ c.if-element.false)
+    put_planned g.L.Labels.made g.L.Labels.meaning c.refuse.new.labels c.args.world.now c.refuse.new.world c.args.o c.args.key.now c.args.label c.in-Refused.walk c.args.label (object_with c.args.o c.args.this_label) c.args.value c.refuse.result c.args.rule c.in_ok-plan.plan (Refused c.in-Refused.walk) c.in-Refused.is
     (plan_later g.L.Labels.made g.L.Labels.meaning g.L.Labels.room g.L.Labels.firm c.plan_of.new.labels c.refuse.new.labels c.refuse.ensures.kept (λ reading. can_put c.args.key.now (object_chain (read_heap reading c.args.world.now.heap) c.args.o.0)) c.in_ok-plan.plan c.in_ok-plan.ensures.plan)
     (c.refuse.ensures.acts c.args.rule c.args.o.0 c.args.key.now (object_with c.args.o c.args.this_label) c.args.value)

@@ -17,7 +17,7 @@ add_row-requires-clause-absent g c =
     ∙ built_lacks g.L.Labels.made g.L.Labels.meaning c.args.heap.now c.args.context c.args.inner c.in_ok-f.f.0 c.in_ok-f.ensures.number c.args.labels.now c.new_object.new.self (λ reading. []) (built_new g.L.Labels.made g.L.Labels.meaning c.args.heap.now c.args.context c.args.inner c.args.labels.now c.new_object.new.self c.in_ok-f.ensures.ok) length_name refl
 
 pub add_row-requires-clause-opened : goal.add_row-requires-clause-opened
-add_row-requires-clause-opened g c = built_open g.L.Labels.made g.L.Labels.meaning c.args.heap.now c.args.context c.args.inner c.in_ok-f.f.0 c.in_ok-f.ensures.number c.args.labels.now c.new_object.new.self (λ reading. []) (built_new g.L.Labels.made g.L.Labels.meaning c.args.heap.now c.args.context c.args.inner c.args.labels.now c.new_object.new.self c.in_ok-f.ensures.ok)
+add_row-requires-clause-opened g c = built_open g.L.Labels.made g.L.Labels.meaning c.args.heap.now c.args.context c.args.inner c.in_ok-f.f.0 c.in_ok-f.ensures.number c.args.labels.now c.new_object.new.self (λ reading. []) (built_new g.L.Labels.made g.L.Labels.meaning c.args.heap.now c.args.context c.args.inner c.args.labels.now c.new_object.new.self c.in_ok-f.ensures.ok) c.args.key
 
 pub add_row-requires-clause-belongs : goal.add_row-requires-clause-belongs
 add_row-requires-clause-belongs g c = has_new (g.L.Labels.made c.args.labels.now) c.args.heap.now c.new_object.new.self class.Function (Some function_prototype) c.args.context c.args.context c.args.inner c.in_ok-f.ensures.ok c.requires.context c.requires.context c.requires.inner c.requires.belongs
@@ -34,7 +34,7 @@ add_accessor-requires-clause-opened g c =
     built_open g.L.Labels.made g.L.Labels.meaning c.args.heap.now c.args.context c.args.inner c.in_ok-f.f.0 c.in_ok-f.ensures.number c.add_row.new.labels c.add_row.new.heap (one g.L.Labels.made g.L.Labels.meaning g.L.Labels.room g.L.Labels.firm c.args.heap.now c.args.context c.args.depends c.args.inner c.args.count c.in_ok-f.f.0 c.in_ok-f.ensures.number)
     (with_length g.L.Labels.made g.L.Labels.meaning g.L.Labels.room g.L.Labels.firm c.args.heap.now c.args.context c.args.depends c.args.inner c.args.count c.in_ok-f.f.0 c.in_ok-f.ensures.number c.args.labels.now c.add_row.new.labels c.in_ok-add_row.ensures.kept c.new_object.new.self c.add_row.new.heap (built_new g.L.Labels.made g.L.Labels.meaning c.args.heap.now c.args.context c.args.inner c.args.labels.now c.new_object.new.self c.in_ok-f.ensures.ok)
     (subst (λ b. Adds g.L.Labels.made g.L.Labels.meaning c.add_row.new.labels c.args.context c.in_ok-f.f.0 length_name b c.args.depends fixed c.new_object.new.self c.add_row.new.heap) c.count_body.ensures
-    (subst (λ k. Adds g.L.Labels.made g.L.Labels.meaning c.add_row.new.labels c.args.context c.in_ok-f.f.0 k c.count_body.result c.args.depends fixed c.new_object.new.self c.add_row.new.heap) c.requires.key c.in_ok-add_row.ensures.adds)))
+    (subst (λ k. Adds g.L.Labels.made g.L.Labels.meaning c.add_row.new.labels c.args.context c.in_ok-f.f.0 k c.count_body.result c.args.depends fixed c.new_object.new.self c.add_row.new.heap) c.requires.key c.in_ok-add_row.ensures.adds))) (codes "caller")
 
 pub add_accessor-requires-2-clause-absent : goal.add_accessor-requires-2-clause-absent
 add_accessor-requires-2-clause-absent g c =
@@ -50,7 +50,7 @@ add_accessor-requires-2-clause-opened g c =
     (with_caller g.L.Labels.made g.L.Labels.meaning g.L.Labels.room g.L.Labels.firm c.args.heap.now c.args.context c.args.depends c.args.inner c.args.count c.in_ok-f.f.0 c.in_ok-f.ensures.number c.add_row.new.labels c.add_accessor.new.labels c.in_ok-add_accessor.ensures.kept c.add_row.new.heap c.add_accessor.new.heap
     (with_length g.L.Labels.made g.L.Labels.meaning g.L.Labels.room g.L.Labels.firm c.args.heap.now c.args.context c.args.depends c.args.inner c.args.count c.in_ok-f.f.0 c.in_ok-f.ensures.number c.args.labels.now c.add_row.new.labels c.in_ok-add_row.ensures.kept c.new_object.new.self c.add_row.new.heap (built_new g.L.Labels.made g.L.Labels.meaning c.args.heap.now c.args.context c.args.inner c.args.labels.now c.new_object.new.self c.in_ok-f.ensures.ok)
     (subst (λ b. Adds g.L.Labels.made g.L.Labels.meaning c.add_row.new.labels c.args.context c.in_ok-f.f.0 length_name b c.args.depends fixed c.new_object.new.self c.add_row.new.heap) c.count_body.ensures
-    (subst (λ k. Adds g.L.Labels.made g.L.Labels.meaning c.add_row.new.labels c.args.context c.in_ok-f.f.0 k c.count_body.result c.args.depends fixed c.new_object.new.self c.add_row.new.heap) c.requires.key c.in_ok-add_row.ensures.adds))) c.in_ok-add_accessor.ensures.adds)
+    (subst (λ k. Adds g.L.Labels.made g.L.Labels.meaning c.add_row.new.labels c.args.context c.in_ok-f.f.0 k c.count_body.result c.args.depends fixed c.new_object.new.self c.add_row.new.heap) c.requires.key c.in_ok-add_row.ensures.adds))) c.in_ok-add_accessor.ensures.adds) (codes "arguments")
 
 pub returns-clause-makes : goal.returns-clause-makes
 returns-clause-makes g c =

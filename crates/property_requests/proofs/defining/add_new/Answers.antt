@@ -1,16 +1,16 @@
-use Rattle.std.proofs.Common.{refl, map, Ok}
+use Rattle.std.proofs.Common.{map, Ok}
 use Rattle.origin_labels.specs.Label.{union}
 use Rattle.origin_labels.proofs.StoreLaws.{IsKept-trans}
 use Rattle.flow_frames.specs.Frames.{context}
 use Rattle.flow_frames.specs.Held.{seen_frame}
 use Rattle.flow_frames.proofs.StandingLaws.{Belong-kept}
-use Rattle.js_values.specs.Readings.{read_value}
 use Rattle.object_heap.specs.Acts as heap_acts
 use Rattle.run_state.specs.declared.outcome.Outcome.TheVariants as outcome
 use Rattle.run_state.proofs.ActLaws.{Belongs-later}
 use Rattle.property_access.proofs.MeansLaws.{means_later}
 use Rattle.property_access.proofs.ObjectLaws.{with_heap, Belongs-heap, heap_done, heap_refused}
-use Rattle.property_requests.specs.Finding.{nothing}
+use Rattle.run_state.specs.declared.outcome.Defining.TheVariants as defined_as
+use Rattle.run_state.specs.Accesses.{read_defining}
 use Rattle.property_requests.proofs.DefiningLaws.{new_added}
 use Rattle.property_requests.proofs.defining.add_new.Goals as goal
 
@@ -29,10 +29,10 @@ returns-in_err-body-clause-belongs g c = Belongs-later g.L.Labels.made g.L.Label
 pub returns-in_err-add-clause-acts : goal.returns-in_err-add-clause-acts
 returns-in_err-add-clause-acts g c =
     new_added g.L.Labels.made g.L.Labels.meaning c.add.new.labels c.args.world.now (with_heap c.add.new.self c.args.world.now) c.from_residual-in_err-add.result c.args.site.object.0 c.args.site.key c.args.site.place c.args.site.given c.args.definition
-    c.in_ok-decided.decided c.in_ok-need.need c.becomes_accessor-accessor.result c.in_ok-body.body c.marks_of_kind-marks.result (nothing c.args.site.place) refl c.becomes_accessor-accessor.ensures c.marks_of_kind-marks.ensures c.in_ok-body.ensures
+    c.in_ok-decided.decided c.in_ok-need.need c.becomes_accessor-accessor.result c.in_ok-body.body c.marks_of_kind-marks.result c.becomes_accessor-accessor.ensures c.marks_of_kind-marks.ensures c.in_ok-body.ensures
     (means_later g.L.Labels.made g.L.Labels.meaning g.L.Labels.room g.L.Labels.firm c.join.new.labels c.add.new.labels (IsKept-trans _ _ _ _ _ _ _ c.in_ok-need.ensures.kept c.add.ensures.kept) c.in_ok-decided.decided (λ reading. union (reading c.args.site.place) (reading c.args.site.given)) c.in_ok-decided.ensures.means)
     (means_later g.L.Labels.made g.L.Labels.meaning g.L.Labels.room g.L.Labels.firm c.need_of.new.labels c.add.new.labels c.add.ensures.kept c.in_ok-need.need (λ reading. union (context (map (seen_frame reading) c.args.world.now.frames.frames)) (reading c.in_ok-decided.decided)) c.in_ok-need.ensures.means)
-    (heap_refused g.L.Labels.made g.L.Labels.meaning c.add.new.labels c.args.world.now (λ reading. read_value reading) (nothing c.args.site.place) (λ reading. heap_acts.add c.args.site.object.0 c.args.site.key (reading c.in_ok-need.need) c.in_ok-body.body (reading c.args.site.given) c.marks_of_kind-marks.result) c.add.new.self
+    (heap_refused g.L.Labels.made g.L.Labels.meaning c.add.new.labels c.args.world.now (λ reading. read_defining reading) (defined_as.Defined c.args.site.place) (λ reading. heap_acts.add c.args.site.object.0 c.args.site.key (reading c.in_ok-need.need) c.in_ok-body.body (reading c.args.site.given) c.marks_of_kind-marks.result) c.add.new.self
     c.add.result c.in_err-add.field-0.0 c.from_residual-in_err-add.result c.in_err-add.was c.from_residual-in_err-add.ensures.1 c.add.ensures.acts)
 
 pub returns-in_err-add-clause-belongs : goal.returns-in_err-add-clause-belongs
@@ -40,11 +40,11 @@ returns-in_err-add-clause-belongs g c = Belongs-heap g.L.Labels.made g.L.Labels.
 
 pub returns-clause-acts : goal.returns-clause-acts
 returns-clause-acts g c =
-    new_added g.L.Labels.made g.L.Labels.meaning c.add.new.labels c.args.world.now (with_heap c.add.new.self c.args.world.now) (Ok (outcome.Goes c.undefined.result)) c.args.site.object.0 c.args.site.key c.args.site.place c.args.site.given c.args.definition
-    c.in_ok-decided.decided c.in_ok-need.need c.becomes_accessor-accessor.result c.in_ok-body.body c.marks_of_kind-marks.result c.undefined.result c.undefined.ensures c.becomes_accessor-accessor.ensures c.marks_of_kind-marks.ensures c.in_ok-body.ensures
+    new_added g.L.Labels.made g.L.Labels.meaning c.add.new.labels c.args.world.now (with_heap c.add.new.self c.args.world.now) (Ok (outcome.Goes (defined_as.Defined c.args.site.place))) c.args.site.object.0 c.args.site.key c.args.site.place c.args.site.given c.args.definition
+    c.in_ok-decided.decided c.in_ok-need.need c.becomes_accessor-accessor.result c.in_ok-body.body c.marks_of_kind-marks.result c.becomes_accessor-accessor.ensures c.marks_of_kind-marks.ensures c.in_ok-body.ensures
     (means_later g.L.Labels.made g.L.Labels.meaning g.L.Labels.room g.L.Labels.firm c.join.new.labels c.add.new.labels (IsKept-trans _ _ _ _ _ _ _ c.in_ok-need.ensures.kept c.add.ensures.kept) c.in_ok-decided.decided (λ reading. union (reading c.args.site.place) (reading c.args.site.given)) c.in_ok-decided.ensures.means)
     (means_later g.L.Labels.made g.L.Labels.meaning g.L.Labels.room g.L.Labels.firm c.need_of.new.labels c.add.new.labels c.add.ensures.kept c.in_ok-need.need (λ reading. union (context (map (seen_frame reading) c.args.world.now.frames.frames)) (reading c.in_ok-decided.decided)) c.in_ok-need.ensures.means)
-    (heap_done g.L.Labels.made g.L.Labels.meaning c.add.new.labels c.args.world.now (λ reading. read_value reading) c.undefined.result (λ reading. heap_acts.add c.args.site.object.0 c.args.site.key (reading c.in_ok-need.need) c.in_ok-body.body (reading c.args.site.given) c.marks_of_kind-marks.result) c.add.new.self
+    (heap_done g.L.Labels.made g.L.Labels.meaning c.add.new.labels c.args.world.now (λ reading. read_defining reading) (defined_as.Defined c.args.site.place) (λ reading. heap_acts.add c.args.site.object.0 c.args.site.key (reading c.in_ok-need.need) c.in_ok-body.body (reading c.args.site.given) c.marks_of_kind-marks.result) c.add.new.self
     c.add.result c.in_ok-add.was c.add.ensures.acts)
 
 pub returns-clause-belongs : goal.returns-clause-belongs

@@ -1,3 +1,8 @@
+use Rattle.es_meaning.specs.Operations.{One}
+use Rattle.flow_meaning.specs.Tracked as tracked
+use Rattle.native_protocol.specs.declared.request.ErrorKind.TheVariants as kinds
+use Rattle.run_state.specs.Accesses.{read_defining}
+use Rattle.property_access.proofs.ThrowLaws.{error_recast}
 use Rattle.std.proofs.Common.{sym, ◌∙◌}
 use Rattle.std.specs.List.{slice_get}
 use Rattle.object_heap.specs.Formed.{own_in}
@@ -12,7 +17,7 @@ pub returns-then-not-may_define_over-clause-acts : goal.returns-then-not-may_def
 returns-then-not-may_define_over-clause-acts g c =
     let there = unwrapped (λ s. s.now) c.own.result _ c.unwrap-slot.result c.own.ensures c.unwrap-slot.ensures in
     present_refused g.L.Labels.made g.L.Labels.meaning c.refuse.new.labels c.args.world.now c.refuse.new.world c.refuse.result c.args.site.now.object.0 c.args.site.now.key c.args.site.now.place c.args.site.now.given c.args.definition c.unwrap-slot.result.now (own_in c.args.site.now.key (slice_get c.args.world.now.heap c.args.site.now.object.0)) there
-    (sym c.may_define_over.ensures ∙ c.if-not-may_define_over.true) c.refuse.ensures.acts
+    (sym c.may_define_over.ensures ∙ c.if-not-may_define_over.true) (error_recast {Z = tracked.Defining} g.L.Labels.made g.L.Labels.meaning c.refuse.new.labels (λ reading x. tt) (λ reading. read_defining reading) kinds.TypeError _ c.args.world.now c.refuse.new.world c.refuse.result c.refuse.ensures.made (c.refuse.ensures.acts One (λ reading x. tt)))
 
 pub change_of-requires-clause-slot : goal.change_of-requires-clause-slot
 change_of-requires-clause-slot g c = own_has c.args.world.now.heap c.args.site.now.object.0 (g.L.Labels.made c.args.labels.now) c.args.site.now.key c.unwrap-slot.result.now c.requires.belongs.heap (unwrapped (λ s. s.now) c.own.result _ c.unwrap-slot.result c.own.ensures c.unwrap-slot.ensures)

@@ -10,6 +10,7 @@ use Rattle.property_access.proofs.MeansLaws.{means_later}
 use Rattle.property_access.proofs.ObjectLaws.{with_heap, Belongs-heap, heap_done, heap_refused}
 use Rattle.property_requests.specs.Finding.{went}
 use Rattle.property_requests.proofs.ChangingLaws.{marks_set, present_still, went_refused}
+use Rattle.property_requests.proofs.KeptLaws.{outline_stays}
 use Rattle.property_requests.proofs.defining.set_marks.Goals as goal
 
 pub returns-in_err-decided-clause-belongs : goal.returns-in_err-decided-clause-belongs
@@ -45,3 +46,6 @@ returns-clause-present g c = present_still g.L.Labels.made g.L.Labels.meaning c.
 
 pub returns-clause-belongs : goal.returns-clause-belongs
 returns-clause-belongs g c = Belongs-heap g.L.Labels.made g.L.Labels.meaning g.L.Labels.room g.L.Labels.firm c.args.labels.now c.set_attributes.new.labels (IsKept-trans _ _ _ _ _ _ _ c.in_ok-decided.ensures.kept (IsKept-trans _ _ _ _ _ _ _ c.in_ok-need.ensures.kept c.set_attributes.ensures.kept)) g.met.L.Labels.rising c.args.world.now c.requires.belongs c.set_attributes.new.self c.set_attributes.ensures.belongs c.set_attributes.ensures.length
+
+pub returns-clause-outline : goal.returns-clause-outline
+returns-clause-outline g c = outline_stays g.L.Labels.made g.L.Labels.meaning c.set_attributes.new.labels c.args.site.now.object.0 c.args.site.now.key c.in_ok-need.need c.args.marks c.args.world.now.heap c.set_attributes.new.self c.set_attributes.result c.in_ok-set_attributes.was c.set_attributes.ensures.acts

@@ -1,11 +1,12 @@
 use Rattle.std.proofs.Common.{rules, sym, ap, ◌∙◌, ◌≡◌, drop}
 use Rattle.js_ast.specs.Nodes.{nodes_of}
-use Rattle.js_ast.specs.Trees.{new_with, object, call, conditional, comma, member, index}
-use Rattle.js_ast.specs.Views.{view_expr, view_exprs, view_properties}
-use Rattle.js_ast.proofs.ViewLaws.{held_exprs, held_properties}
+use Rattle.js_ast.specs.Trees.{array, new_with, object, call, conditional, comma, member, index}
+use Rattle.js_ast.specs.Views.{view_expr, view_exprs, view_items, view_properties}
+use Rattle.js_ast.proofs.ViewLaws.{held_exprs, held_items, held_properties}
 use Rattle.js_ast.specs.declared.trees.ExprKind.TheViews.{the_lemmas}
 use Rattle.es_meaning.specs.Operations.{Value, object_of}
-use Rattle.es_meaning.specs.Evaluation.{expr_step, index_base, parts_of, member_base, properties}
+use Rattle.es_meaning.specs.Evaluation.{expr_step, index_base, items_of, parts_of, member_base, properties}
+use Rattle.continuations.specs.Pending.{array_act}
 use Rattle.continuations.specs.Shapes.{use_of}
 use Rattle.continuations.specs.declared.continuation.Use.TheVariants.{Valued}
 use Rattle.flow_meaning.specs.Planned.{planned, asking}
@@ -56,3 +57,9 @@ returns-in-Some-clause-goes_on g c =
     let is : view_expr c.args.e.now ≡ new_with c.args.e.now.at (view_expr c.in-New.callee) (view_exprs (nodes_of c.in-Some.args)) = search (rules, held_exprs, the_lemmas, c.in-New.is, c.in-Some.is) in
     let whole = is ∙ ap (λ es. new_with c.args.e.now.at (view_expr c.in-New.callee) (view_exprs es)) (sym c.items-in-Some.ensures) in
     begins_as _ _ _ _ _ (λ tables inputs set functions e s. sym (ap (λ x. expr_step (planned tables inputs set functions) (entrance tables inputs set functions) (asking tables inputs set functions) x e.env.place s) whole)) c.begin_new-in-Some.ensures.goes_on
+
+pub returns-in-Array-clause-goes_on : goal.returns-in-Array-clause-goes_on
+unfolding expr_step
+returns-in-Array-clause-goes_on g c =
+    let is : view_expr c.args.e.now ≡ array c.args.e.now.at (view_items (nodes_of c.in-Array.items)) c.in-Array.comma = search (rules, held_items, the_lemmas, c.in-Array.is) in
+    begins_as _ _ _ _ _ (λ tables inputs set functions e s. sym (ap (λ x. expr_step (planned tables inputs set functions) (entrance tables inputs set functions) (asking tables inputs set functions) x e.env.place s) is)) (begins_alone (λ tables inputs set functions vs e. items_of (planned tables inputs set functions) (entrance tables inputs set functions) (asking tables inputs set functions) (array_act tables inputs set functions (view_items (nodes_of c.in-Array.items))) vs (view_items (drop 0 (nodes_of c.in-Array.items))) e.env.place) _ _ _ c.begin_items.ensures.goes_on)

@@ -19,3 +19,9 @@ returns-in-Compare-clause-begins g c tables inputs =
     let N = g.N.Natives in
     let natives = c.args.natives.now in
     rw c.in-Compare.is (c.compare.ensures.begins tables inputs (built_ins_of (N.entries natives) (N.begin natives) (N.after natives) (N.asks natives)) (table c.args.functions.now) (N.after natives) (N.asks natives))
+
+pub returns-in-ConvertBeside-clause-begins : goal.returns-in-ConvertBeside-clause-begins
+returns-in-ConvertBeside-clause-begins g c tables inputs =
+    let N = g.N.Natives in
+    let natives = c.args.natives.now in
+    rw c.in-ConvertBeside.is (c.convert_beside.ensures.begins tables inputs (built_ins_of (N.entries natives) (N.begin natives) (N.after natives) (N.asks natives)) (table c.args.functions.now) (N.after natives) (N.asks natives))

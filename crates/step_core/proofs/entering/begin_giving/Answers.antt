@@ -13,8 +13,8 @@ returns-clause-begins g c tables inputs set functions natives reading told turns
 
 pub returns-clause-standing : goal.returns-clause-standing
 returns-clause-standing g c =
-    standing_moved g.L.Labels.made g.L.Labels.meaning g.L.Labels.room g.L.Labels.firm c.args.labels.now c.give_variable.new.labels c.give_variable.ensures.kept 7 c.args.stack.now c.give_variable.new.stack c.args.world.now c.give_variable.new.world c.give_variable.result
+    standing_moved g.L.Labels.made g.L.Labels.meaning g.L.Labels.room g.L.Labels.firm c.args.labels.now c.give_variable.new.labels c.give_variable.ensures.kept 11 c.args.stack.now c.give_variable.new.stack c.args.world.now c.give_variable.new.world c.give_variable.result
     (standing_whole g.L.Labels.made g.L.Labels.meaning c.args.labels.now c.args.stack.now c.args.world.now (scopes_of c.args.stack.now.tasks) (control.GiveVariable c.args.variable) (λ frames scopes whole. whole) refl c.requires.standing) c.give_variable.ensures.moved c.give_variable.ensures.belongs c.give_variable.ensures.grows
 
 pub returns-clause-lowers : goal.returns-clause-lowers
-returns-clause-lowers g c = lowers_moved (g.L.Labels.made c.give_variable.new.labels) 7 c.args.stack.now c.give_variable.new.stack c.args.world.now c.give_variable.new.world (control.GiveVariable c.args.variable) c.give_variable.result (omega arith) c.give_variable.ensures.moved
+returns-clause-lowers g c = lowers_moved (g.L.Labels.made c.give_variable.new.labels) 11 c.args.stack.now c.give_variable.new.stack c.args.world.now c.give_variable.new.world (control.GiveVariable c.args.variable) c.give_variable.result (omega arith) c.give_variable.ensures.moved

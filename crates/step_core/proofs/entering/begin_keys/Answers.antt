@@ -21,4 +21,4 @@ returns-clause-standing g c =
     (standing_whole g.L.Labels.made g.L.Labels.meaning c.args.labels.now c.args.stack.now c.args.world.now (scopes_of c.args.stack.now.tasks) (control.Keys c.args.enumeration) (λ frames scopes whole. whole) refl c.requires.standing) c.take_keys.ensures.rests c.take_keys.ensures.stands c.take_keys.ensures.belongs c.take_keys.ensures.grows
 
 pub returns-clause-lowers : goal.returns-clause-lowers
-returns-clause-lowers g c = lowers c.args.stack.now c.take_keys.new.stack (control.Keys c.args.enumeration) 5 c.take_keys.result (omega arith) c.take_keys.ensures.adds
+returns-clause-lowers g c = lowers c.args.stack.now c.take_keys.new.stack (control.Keys c.args.enumeration) 7 c.take_keys.result (omega arith) c.take_keys.ensures.adds

@@ -13,8 +13,8 @@ returns-clause-begins g c tables inputs set functions natives reading told turns
 
 pub returns-clause-standing : goal.returns-clause-standing
 returns-clause-standing g c =
-    standing_moved g.L.Labels.made g.L.Labels.meaning g.L.Labels.room g.L.Labels.firm c.args.labels.now c.read_name.new.labels c.read_name.ensures.kept 6 c.args.stack.now c.read_name.new.stack c.args.world.now c.read_name.new.world c.read_name.result
+    standing_moved g.L.Labels.made g.L.Labels.meaning g.L.Labels.room g.L.Labels.firm c.args.labels.now c.read_name.new.labels c.read_name.ensures.kept 8 c.args.stack.now c.read_name.new.stack c.args.world.now c.read_name.new.world c.read_name.result
     (standing_whole g.L.Labels.made g.L.Labels.meaning c.args.labels.now c.args.stack.now c.args.world.now (scopes_of c.args.stack.now.tasks) (control.Name c.args.name) (λ frames scopes whole. whole) refl c.requires.standing) c.read_name.ensures.moved c.read_name.ensures.belongs c.read_name.ensures.grows
 
 pub returns-clause-lowers : goal.returns-clause-lowers
-returns-clause-lowers g c = lowers_moved (g.L.Labels.made c.read_name.new.labels) 6 c.args.stack.now c.read_name.new.stack c.args.world.now c.read_name.new.world (control.Name c.args.name) c.read_name.result (omega arith) c.read_name.ensures.moved
+returns-clause-lowers g c = lowers_moved (g.L.Labels.made c.read_name.new.labels) 8 c.args.stack.now c.read_name.new.stack c.args.world.now c.read_name.new.world (control.Name c.args.name) c.read_name.result (omega arith) c.read_name.ensures.moved

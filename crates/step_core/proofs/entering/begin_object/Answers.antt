@@ -18,8 +18,8 @@ returns-clause-begins g c tables inputs set natives reading told turns read = c.
 
 pub returns-clause-standing : goal.returns-clause-standing
 returns-clause-standing g c =
-    standing_moved g.L.Labels.made g.L.Labels.meaning g.L.Labels.room g.L.Labels.firm c.args.labels.now c.object.new.labels c.object.ensures.kept 4 c.args.stack.now c.object.new.stack c.args.world.now c.object.new.world c.object.result
+    standing_moved g.L.Labels.made g.L.Labels.meaning g.L.Labels.room g.L.Labels.firm c.args.labels.now c.object.new.labels c.object.ensures.kept 6 c.args.stack.now c.object.new.stack c.args.world.now c.object.new.world c.object.result
     (standing_whole g.L.Labels.made g.L.Labels.meaning c.args.labels.now c.args.stack.now c.args.world.now (scopes_of c.args.stack.now.tasks) (control.Object c.args.list c.args.count) (λ frames scopes whole. whole) refl c.requires.standing) c.object.ensures.moved c.object.ensures.belongs c.object.ensures.grows
 
 pub returns-clause-lowers : goal.returns-clause-lowers
-returns-clause-lowers g c = lowers_moved (g.L.Labels.made c.object.new.labels) 4 c.args.stack.now c.object.new.stack c.args.world.now c.object.new.world (control.Object c.args.list c.args.count) c.object.result (omega arith) c.object.ensures.moved
+returns-clause-lowers g c = lowers_moved (g.L.Labels.made c.object.new.labels) 6 c.args.stack.now c.object.new.stack c.args.world.now c.object.new.world (control.Object c.args.list c.args.count) c.object.result (omega arith) c.object.ensures.moved

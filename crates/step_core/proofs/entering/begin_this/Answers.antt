@@ -13,8 +13,8 @@ returns-clause-begins g c tables inputs set functions natives reading told turns
 
 pub returns-clause-standing : goal.returns-clause-standing
 returns-clause-standing g c =
-    standing_moved g.L.Labels.made g.L.Labels.meaning g.L.Labels.room g.L.Labels.firm c.args.labels.now c.this.new.labels c.this.ensures.kept 6 c.args.stack.now c.this.new.stack c.args.world.now c.this.new.world c.this.result
+    standing_moved g.L.Labels.made g.L.Labels.meaning g.L.Labels.room g.L.Labels.firm c.args.labels.now c.this.new.labels c.this.ensures.kept 8 c.args.stack.now c.this.new.stack c.args.world.now c.this.new.world c.this.result
     (standing_whole g.L.Labels.made g.L.Labels.meaning c.args.labels.now c.args.stack.now c.args.world.now (scopes_of c.args.stack.now.tasks) control.This (λ frames scopes whole. whole) refl c.requires.standing) c.this.ensures.moved c.this.ensures.belongs c.this.ensures.grows
 
 pub returns-clause-lowers : goal.returns-clause-lowers
-returns-clause-lowers g c = lowers_moved (g.L.Labels.made c.this.new.labels) 6 c.args.stack.now c.this.new.stack c.args.world.now c.this.new.world control.This c.this.result (omega arith) c.this.ensures.moved
+returns-clause-lowers g c = lowers_moved (g.L.Labels.made c.this.new.labels) 8 c.args.stack.now c.this.new.stack c.args.world.now c.this.new.world control.This c.this.result (omega arith) c.this.ensures.moved

@@ -14,8 +14,8 @@ returns-clause-begins g c tables inputs set functions natives reading told turns
 
 pub returns-clause-standing : goal.returns-clause-standing
 returns-clause-standing g c =
-    standing_moved g.L.Labels.made g.L.Labels.meaning g.L.Labels.room g.L.Labels.firm c.args.labels.now c.declare.new.labels c.declare.ensures.kept 4 c.args.stack.now c.declare.new.stack c.args.world.now c.args.world.now c.declare.result
+    standing_moved g.L.Labels.made g.L.Labels.meaning g.L.Labels.room g.L.Labels.firm c.args.labels.now c.declare.new.labels c.declare.ensures.kept 6 c.args.stack.now c.declare.new.stack c.args.world.now c.args.world.now c.declare.result
     (standing_whole g.L.Labels.made g.L.Labels.meaning c.args.labels.now c.args.stack.now c.args.world.now (scopes_of c.args.stack.now.tasks) (control.Variables c.args.list) (λ frames scopes whole. whole) refl c.requires.standing) c.declare.ensures.moved c.declare.ensures.belongs (Grows-refl c.args.world.now)
 
 pub returns-clause-lowers : goal.returns-clause-lowers
-returns-clause-lowers g c = lowers_moved (g.L.Labels.made c.declare.new.labels) 4 c.args.stack.now c.declare.new.stack c.args.world.now c.args.world.now (control.Variables c.args.list) c.declare.result (omega arith) c.declare.ensures.moved
+returns-clause-lowers g c = lowers_moved (g.L.Labels.made c.declare.new.labels) 6 c.args.stack.now c.declare.new.stack c.args.world.now c.args.world.now (control.Variables c.args.list) c.declare.result (omega arith) c.declare.ensures.moved

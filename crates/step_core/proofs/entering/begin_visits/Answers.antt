@@ -21,4 +21,4 @@ returns-clause-standing g c =
     (standing_whole g.L.Labels.made g.L.Labels.meaning c.args.labels.now c.args.stack.now c.args.world.now (scopes_of c.args.stack.now.tasks) (control.Visits c.args.enumeration c.args.count) (λ frames scopes whole. whole) refl c.requires.standing) c.next_visit.ensures.rests c.next_visit.ensures.stands c.next_visit.ensures.belongs c.next_visit.ensures.grows
 
 pub returns-clause-lowers : goal.returns-clause-lowers
-returns-clause-lowers g c = lowers c.args.stack.now c.next_visit.new.stack (control.Visits c.args.enumeration c.args.count) 4 c.next_visit.result (omega arith) c.next_visit.ensures.adds
+returns-clause-lowers g c = lowers c.args.stack.now c.next_visit.new.stack (control.Visits c.args.enumeration c.args.count) 6 c.next_visit.result (omega arith) c.next_visit.ensures.adds

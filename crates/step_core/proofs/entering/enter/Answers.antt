@@ -26,6 +26,12 @@ returns-in-Stmt-clause-enters g c tables inputs set functions natives =
     → Enters g.L.Labels.made g.L.Labels.meaning c.args.labels.now tables inputs set functions natives c.args.stack.now c.enter_statement_apart.new.stack c.args.world.now c.args.world.now part c.enter_statement_apart.result)
     (sym c.in-Stmt.is) (c.enter_statement_apart.ensures.enters tables inputs set functions natives)
 
+pub returns-in-Block-clause-enters : goal.returns-in-Block-clause-enters
+returns-in-Block-clause-enters g c tables inputs set functions natives =
+    subst (λ m. (part : (g.row.L-Label.Denot → Label) → Part) → ((reading : g.row.L-Label.Denot → Label) → part_in (map (read_value reading) c.args.stack.now.loose) (setting_above c.args.stack.now.tasks (setting_of natives here)) m ≡ Some (part reading))
+    → Enters g.L.Labels.made g.L.Labels.meaning c.args.labels.now tables inputs set functions natives c.args.stack.now c.enter_block.new.stack c.args.world.now c.args.world.now part c.enter_block.result)
+    (sym c.in-Block.is) (c.enter_block.ensures.enters tables inputs set functions natives)
+
 pub returns-in-Named-clause-enters : goal.returns-in-Named-clause-enters
 returns-in-Named-clause-enters g c tables inputs set functions natives =
     subst (λ m. (part : (g.row.L-Label.Denot → Label) → Part) → ((reading : g.row.L-Label.Denot → Label) → part_in (map (read_value reading) c.args.stack.now.loose) (setting_above c.args.stack.now.tasks (setting_of natives here)) m ≡ Some (part reading))

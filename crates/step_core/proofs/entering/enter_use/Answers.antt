@@ -28,8 +28,8 @@ returns-clause-enters g c tables inputs set functions natives part is =
 
 pub returns-clause-standing : goal.returns-clause-standing
 returns-clause-standing g c =
-    standing_moved g.L.Labels.made g.L.Labels.meaning g.L.Labels.room g.L.Labels.firm c.args.labels.now c.begin_use.new.labels c.begin_use.ensures.kept 12 c.args.stack.now c.begin_use.new.stack c.args.world.now c.begin_use.new.world c.begin_use.result
+    standing_moved g.L.Labels.made g.L.Labels.meaning g.L.Labels.room g.L.Labels.firm c.args.labels.now c.begin_use.new.labels c.begin_use.ensures.kept 16 c.args.stack.now c.begin_use.new.stack c.args.world.now c.begin_use.new.world c.begin_use.result
     (standing_whole g.L.Labels.made g.L.Labels.meaning c.args.labels.now c.args.stack.now c.args.world.now (scopes_of c.args.stack.now.tasks) (control.Use c.args.how c.args.target) (λ frames scopes whole. whole) refl c.requires.standing) c.begin_use.ensures.moved c.begin_use.ensures.belongs c.begin_use.ensures.grows
 
 pub returns-clause-adds : goal.returns-clause-adds
-returns-clause-adds g c = adds_moved (g.L.Labels.made c.begin_use.new.labels) 12 c.args.stack.now c.begin_use.new.stack c.args.world.now c.begin_use.new.world 15 c.begin_use.result (omega arith) c.begin_use.ensures.moved
+returns-clause-adds g c = adds_moved (g.L.Labels.made c.begin_use.new.labels) 16 c.args.stack.now c.begin_use.new.stack c.args.world.now c.begin_use.new.world 17 c.begin_use.result (omega arith) c.begin_use.ensures.moved

@@ -20,7 +20,7 @@ returns-clause-resumes g c tables inputs set functions natives reading told turn
 pub returns-clause-standing : goal.returns-clause-standing
 returns-clause-standing g c =
     stands_acting g.L.Labels.made g.L.Labels.meaning g.L.Labels.room g.L.Labels.firm c.args.labels.now c.act.new.labels c.act.ensures.kept c.args.work c.args.stack.now c.act.new.stack c.args.world.now c.act.new.world (owns c.args.work + awaits c.args.work) (waiting c.args.stack.now.tasks) c.act.result
-    c.requires.acts c.requires.standing c.act.ensures.belongs c.act.ensures.grows.records (rests_of (g.L.Labels.made c.act.new.labels) (weight c.args.work + 3) c.args.stack.now c.act.new.stack c.args.world.now c.act.new.world c.act.result c.act.ensures.moved) (stands_of (g.L.Labels.made c.act.new.labels) (weight c.args.work + 3) c.args.stack.now c.act.new.stack c.args.world.now c.act.new.world c.act.result c.act.ensures.moved)
+    c.requires.acts c.requires.standing c.act.ensures.belongs c.act.ensures.grows.records (rests_of (g.L.Labels.made c.act.new.labels) (weight c.args.work + 5) c.args.stack.now c.act.new.stack c.args.world.now c.act.new.world c.act.result c.act.ensures.moved) (stands_of (g.L.Labels.made c.act.new.labels) (weight c.args.work + 5) c.args.stack.now c.act.new.stack c.args.world.now c.act.new.world c.act.result c.act.ensures.moved)
 
 pub returns-clause-adds : goal.returns-clause-adds
-returns-clause-adds g c = adds_moved (g.L.Labels.made c.act.new.labels) (weight c.args.work + 3) c.args.stack.now c.act.new.stack c.args.world.now c.act.new.world (weight c.args.work + 3) c.act.result (omega arith) c.act.ensures.moved
+returns-clause-adds g c = adds_moved (g.L.Labels.made c.act.new.labels) (weight c.args.work + 5) c.args.stack.now c.act.new.stack c.args.world.now c.act.new.world (weight c.args.work + 5) c.act.result (omega arith) c.act.ensures.moved

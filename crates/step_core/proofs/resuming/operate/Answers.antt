@@ -20,3 +20,6 @@ returns-in-CompoundDone-clause-goes_on g c = rw c.in-CompoundDone.is c.compound_
 
 pub returns-in-CountedNumber-clause-goes_on : goal.returns-in-CountedNumber-clause-goes_on
 returns-in-CountedNumber-clause-goes_on g c = rw c.in-CountedNumber.is c.counted_number.ensures.goes_on
+
+pub returns-in-LengthTwice-clause-goes_on : goal.returns-in-LengthTwice-clause-goes_on
+returns-in-LengthTwice-clause-goes_on g c = rw c.in-LengthTwice.is c.length_twice.ensures.goes_on

@@ -1,3 +1,5 @@
+use Rattle.std.proofs.Common.{arith, ◌+◌}
+use Rattle.step_core.proofs.Continued.{no_answer, no_directive, none_waits}
 use Rattle.step_core.proofs.stepping.proceed.Goals as goal
 
 pub returns-in-Raise-clause-stepped : goal.returns-in-Raise-clause-stepped
@@ -11,4 +13,12 @@ returns-in_default g c = record {
   stepped = λ inputs set functions tells asks. c.resumed.ensures.stepped c.args.policy.now inputs set functions tells asks;
   grows = c.resumed.ensures.grows;
   kept = c.resumed.ensures.kept;
+}
+
+pub resumed-requires : goal.resumed-requires
+resumed-requires g c = record {
+  obeys = no_directive c.args.work c.in_default.not-Raise;
+  asks = no_answer c.args.work c.in_default.not-Answered;
+  standing = c.requires.standing;
+  natives = let all = c.requires.natives in let none = none_waits c.args.work c.in_default.not-Answered in omega (arith, all, none);
 }

@@ -1,4 +1,4 @@
-use Rattle.std.proofs.Common.{refl, sym, ap, ap₂, subst, ◌∙◌, [], ◌∷◌, ◌++◌, ◌+◌, ◌≡◌, map, length, arith, Ok}
+use Rattle.std.proofs.Common.{refl, sym, [], map, arith}
 use Rattle.continuations.specs.declared.continuation.Control.TheVariants as control
 use Rattle.continuations.specs.declared.continuation.Continuation.TheVariants as continuation
 use Rattle.js_values.specs.Readings.{HasValue, read_value}

@@ -1,6 +1,5 @@
-use Rattle.std.proofs.Common.{refl, sym, ap, ap₂, subst, ◌∙◌, [], ◌∷◌, ◌++◌, ◌+◌, ◌≡◌, map, length, arith, Ok}
+use Rattle.std.proofs.Common.{sym, ap, [], length}
 use Rattle.flow_policy.specs.Policies.{no_tables}
-use Rattle.js_ast.specs.Nodes.{nodes_of}
 use Rattle.es_meaning.specs.Operations.{object_of}
 use Rattle.step_objects.specs.Literals.{keys_in, values_in}
 use Rattle.step_objects.proofs.Frames.{act_stands}

@@ -1,4 +1,4 @@
-use Rattle.std.proofs.Common.{refl, sym, ap, ap₂, subst, ◌∙◌, [], ◌∷◌, ◌++◌, ◌+◌, ◌≡◌, map, length, arith, Ok}
+use Rattle.std.proofs.Common.{sym, ap, ◌∙◌, length}
 use Rattle.es_meaning.specs.Outcomes.{Goes}
 use Rattle.run_state.specs.Worlds.{state_of}
 use Rattle.js_values.specs.declared.value.Value.TheVariants.{Object}

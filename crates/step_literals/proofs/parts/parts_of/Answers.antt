@@ -1,4 +1,4 @@
-use Rattle.std.proofs.Common.{rules, ◌≡◌, arith, length, min}
+use Rattle.std.proofs.Common.{rules, ◌≡◌, length, min}
 use Rattle.std.proofs.lemmas.Slice.Zip.{zip_end, zip_turn}
 use Rattle.step_literals.proofs.LiteralLaws.{front_more, front_parts}
 use Rattle.step_literals.proofs.parts.parts_of.Goals as goal

@@ -1,4 +1,4 @@
-use Rattle.std.proofs.Common.{refl, sym, ap, ap₂, subst, ◌∙◌, [], ◌∷◌, ◌++◌, ◌+◌, ◌≡◌, map, length, arith, Ok}
+use Rattle.std.proofs.Common.{refl, [], ◌∷◌}
 use Rattle.js_values.specs.Readings.{HasValue}
 use Rattle.js_values.specs.declared.value.Value.TheVariants as value
 use Rattle.continuations.specs.declared.continuation.Control.TheVariants as control

@@ -2,9 +2,8 @@ use Rattle.std.proofs.Common.{sym, ap, ◌∙◌, ◌≡◌, ◌-◌, false, Som
 use Rattle.std.specs.Option.{option_map}
 use Rattle.origin_labels.proofs.StoreLaws.{IsKept-trans}
 use Rattle.js_ast.specs.Views.{view_expr}
-use Rattle.js_number.specs.declared.primitive.Primitive.TheVariants.{Num}
 use Rattle.run_state.proofs.ActLaws.{Belongs-later}
-use Rattle.step_numbers.specs.Evaluated.{labelled_number}
+use Rattle.step_numbers.specs.Evaluated.{integer, labelled_number}
 use Rattle.step_numbers.proofs.AssignLaws.{rebinds_none, updated_gives}
 use Rattle.step_numbers.specs.Assigned.{given_by, name_in}
 use Rattle.step_numbers.specs.Evaluated.{combines}
@@ -19,7 +18,7 @@ returns-clause-gives g c place operator by =
     let operand = c.in_ok-operand.operand in
     let given = c.in_ok-given.given in
     updated_gives g.L.Labels.made g.L.Labels.meaning g.met.L.Labels.rising g.L.Labels.room g.L.Labels.firm c.named.new.labels c.number.new.labels c.joined.new.labels c.put.new.labels c.number.ensures.kept c.joined.ensures.kept c.put.ensures.kept
-    place c.args.target.now.at c.args.at.0 c.args.world.now c.put.new.world c.args.turns (view_expr c.args.target.now) (view_expr c.args.value.now) operator c.args.by c.in_ok-name.name.now (labelled_number old.number old.label) (labelled_number operand.number operand.label) (Num given.number) given.label
+    place c.args.target.now.at c.args.at.0 c.args.world.now c.put.new.world c.args.turns (view_expr c.args.target.now) (view_expr c.args.value.now) operator c.args.by c.in_ok-name.name.now (labelled_number old.number old.label) (labelled_number operand.number operand.label) (integer given.number) given.label
     operand.turns given.turns c.in_ok-name.ensures.name c.requires.turns by (none_converts c.args.by old.number operand.number) c.in_ok-old.ensures.named c.in_ok-operand.ensures.evaluates c.in_ok-given.ensures.gives c.in_ok-given.ensures.left c.in_ok-given.ensures.made c.in_ok-given.ensures.means
     c.in_ok-put.ensures.puts
 

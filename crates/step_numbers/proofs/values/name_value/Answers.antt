@@ -1,6 +1,6 @@
 use Rattle.std.proofs.Common.{ap, sym, ◌∙◌}
 use Rattle.step_numbers.specs.Evaluated.{value_at_place, value_of}
-use Rattle.step_numbers.proofs.GlobalLaws.{value_beyond, value_bound, value_found, value_inside}
+use Rattle.step_numbers.proofs.GlobalLaws.{made_found, named_beyond, named_inside, value_bound}
 use Rattle.step_numbers.proofs.values.name_value.Goals as goal
 
 pub returns-in-Some-clause-exact : goal.returns-in-Some-clause-exact
@@ -11,8 +11,8 @@ returns-in-Some-clause-exact g c firm =
 
 pub returns-in-Some-clause-named : goal.returns-in-Some-clause-named
 returns-in-Some-clause-named g c =
-    value_inside g.L.Labels.made g.L.Labels.meaning c.args.labels.now c.args.at.0 c.args.name.now c.args.world.now c.in-Some.place.record.0 c.value_of.result c.in-Some.ensures.innermost c.requires.belongs.records
-    (value_found c.value_of.result c.read_at.result.now _ (value_bound c.in-Some.ensures.found c.read_at.ensures) c.value_of.ensures.found)
+    named_inside g.L.Labels.made g.L.Labels.meaning c.args.labels.now c.args.at.0 c.args.name.now c.args.world.now (λ v. v) c.in-Some.place.record.0 c.value_of.result c.in-Some.ensures.innermost c.requires.belongs.records
+    (made_found (λ v. v) c.value_of.result c.read_at.result.now _ (value_bound c.in-Some.ensures.found c.read_at.ensures) c.value_of.ensures.found)
 
 pub returns-in-None-clause-exact : goal.returns-in-None-clause-exact
 returns-in-None-clause-exact g c firm =
@@ -20,4 +20,4 @@ returns-in-None-clause-exact g c firm =
 
 pub returns-in-None-clause-named : goal.returns-in-None-clause-named
 returns-in-None-clause-named g c =
-    value_beyond g.L.Labels.made g.L.Labels.meaning c.global_value.new.labels c.args.at.0 c.args.name.now c.args.world.now c.global_value.result c.in-None.ensures.innermost c.global_value.ensures.held
+    named_beyond g.L.Labels.made g.L.Labels.meaning c.global_value.new.labels c.args.at.0 c.args.name.now c.args.world.now (λ v. v) c.global_value.result c.in-None.ensures.innermost c.global_value.ensures.held

@@ -30,6 +30,7 @@ use Rattle.continuations.specs.Shapes.{target_of}
 use Rattle.step_references.proofs.Kept.{reference_later, target_below, value_above}
 use Rattle.step_operators.specs.Counting.{changed_by, given_by, numbered_by}
 use Rattle.std.proofs.Common.{pos}
+use Rattle.js_number.specs.declared.num.Num.TheVariants.{Int}
 use Rattle.js_number.specs.declared.primitive.Primitive.TheVariants.{Num}
 use Rattle.step_operators.proofs.OperatorLaws.{changed_as}
 use Rattle.step_operators.proofs.counting.change.Goals as goal
@@ -44,13 +45,13 @@ pub returns-in-On-clause-goes_on : goal.returns-in-On-clause-goes_on
 returns-in-On-clause-goes_on g c = begun_on (λ tables inputs set functions reading f. given_by c.args.counting tables inputs set functions (refers reading c.args.reference.now) (read_value reading c.args.old)) (c.one_more-answer.ensures.acts no_tables [] none_built [] c.args.world.now) (λ tables inputs set functions reading f s is. changed_as tables inputs set functions c.args.counting c.args.operator (refers reading c.args.reference.now) (read_value reading c.args.old) s) _ _ _ c.in-On.new c.give.ensures.kept (rw c.in-On.is at c.in_ok-came.ensures.parts) refl c.give.ensures.goes_on
 
 pub returns-in-On-clause-moved : goal.returns-in-On-clause-moved
-returns-in-On-clause-moved g c = moved_on _ _ _ _ _ _ _ _ _ (c.give.result) (omega arith) (ap (λ m. m.tasks) (on_is _ c.args.stack.now c.go_on.new.stack c.one_more-answer.result c.in-On.new (rw c.in-On.is at c.in_ok-came.ensures.parts)).1) (level_on _ c.args.world.now c.args.world.now c.args.stack.now c.go_on.new.stack c.one_more-answer.result c.in-On.new (stood (c.one_more-answer.ensures.acts no_tables [] none_built [] c.args.world.now) (λ s. binary_stands no_tables [] none_built [] c.args.operator (read_value (g.L.Labels.meaning c.one_more-answer.new.labels) c.args.old) ((labelled no_tables [] none_built []).literal (Num (pos 1))) s)) (rw c.in-On.is at c.in_ok-came.ensures.parts)) c.give.ensures.moved
+returns-in-On-clause-moved g c = moved_on _ _ _ _ _ _ _ _ _ (c.give.result) (omega arith) (ap (λ m. m.tasks) (on_is _ c.args.stack.now c.go_on.new.stack c.one_more-answer.result c.in-On.new (rw c.in-On.is at c.in_ok-came.ensures.parts)).1) (level_on _ c.args.world.now c.args.world.now c.args.stack.now c.go_on.new.stack c.one_more-answer.result c.in-On.new (stood (c.one_more-answer.ensures.acts no_tables [] none_built [] c.args.world.now) (λ s. binary_stands no_tables [] none_built [] c.args.operator (read_value (g.L.Labels.meaning c.one_more-answer.new.labels) c.args.old) ((labelled no_tables [] none_built []).literal (Num (Int (pos 1)))) s)) (rw c.in-On.is at c.in_ok-came.ensures.parts)) c.give.ensures.moved
 
 pub returns-clause-goes_on : goal.returns-clause-goes_on
 returns-clause-goes_on g c = begun_off (λ tables inputs set functions reading f. given_by c.args.counting tables inputs set functions (refers reading c.args.reference.now) (read_value reading c.args.old)) (c.one_more-answer.ensures.acts no_tables [] none_built [] c.args.world.now) (λ tables inputs set functions reading f s is. changed_as tables inputs set functions c.args.counting c.args.operator (refers reading c.args.reference.now) (read_value reading c.args.old) s) _ _ (rw c.in-Off.is at c.in_ok-came.ensures.parts) refl
 
 pub returns-clause-moved : goal.returns-clause-moved
-returns-clause-moved g c = moved_off c.args.stack.now c.go_on.new.stack c.one_more-answer.result c.in-Off.next (omega arith) (has_whatever (HasValue (g.L.Labels.made c.one_more-answer.new.labels)) (g.L.Labels.made c.one_more-answer.new.labels) c.one_more-answer.result c.one_more-answer.ensures.made) (stood (c.one_more-answer.ensures.acts no_tables [] none_built [] c.args.world.now) (λ s. binary_stands no_tables [] none_built [] c.args.operator (read_value (g.L.Labels.meaning c.one_more-answer.new.labels) c.args.old) ((labelled no_tables [] none_built []).literal (Num (pos 1))) s)) (rw c.in-Off.is at c.in_ok-came.ensures.parts)
+returns-clause-moved g c = moved_off c.args.stack.now c.go_on.new.stack c.one_more-answer.result c.in-Off.next (omega arith) (has_whatever (HasValue (g.L.Labels.made c.one_more-answer.new.labels)) (g.L.Labels.made c.one_more-answer.new.labels) c.one_more-answer.result c.one_more-answer.ensures.made) (stood (c.one_more-answer.ensures.acts no_tables [] none_built [] c.args.world.now) (λ s. binary_stands no_tables [] none_built [] c.args.operator (read_value (g.L.Labels.meaning c.one_more-answer.new.labels) c.args.old) ((labelled no_tables [] none_built []).literal (Num (Int (pos 1)))) s)) (rw c.in-Off.is at c.in_ok-came.ensures.parts)
 
 pub returns-in_err-came-clause-goes_on : goal.returns-in_err-came-clause-goes_on
 returns-in_err-came-clause-goes_on g c = begun_err (λ tables inputs set functions reading f. given_by c.args.counting tables inputs set functions (refers reading c.args.reference.now) (read_value reading c.args.old)) (c.one_more-answer.ensures.acts no_tables [] none_built [] c.args.world.now) (λ tables inputs set functions reading f s is. changed_as tables inputs set functions c.args.counting c.args.operator (refers reading c.args.reference.now) (read_value reading c.args.old) s) _ _ _ c.in_err-came.field-0.0 c.in_err-came.ensures.parts refl c.from_residual.ensures.1

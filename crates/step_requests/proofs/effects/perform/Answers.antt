@@ -16,9 +16,6 @@ returns-in-Has-clause-acts g c = rw c.in-Has.is (c.has.ensures.acts c.args.polic
 pub returns-in-Delete-clause-acts : goal.returns-in-Delete-clause-acts
 returns-in-Delete-clause-acts g c = rw c.in-Delete.is (c.delete.ensures.acts c.args.policy.now c.args.inputs.now)
 
-pub returns-in-Define-clause-acts : goal.returns-in-Define-clause-acts
-returns-in-Define-clause-acts g c = rw c.in-Define.is (c.define.ensures.acts c.args.policy.now c.args.inputs.now)
-
 pub returns-in-Keys-clause-acts : goal.returns-in-Keys-clause-acts
 returns-in-Keys-clause-acts g c = rw c.in-Keys.is (c.keys.ensures.acts c.args.policy.now c.args.inputs.now)
 

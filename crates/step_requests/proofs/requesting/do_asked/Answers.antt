@@ -35,6 +35,12 @@ returns-in-Own-clause-does g c = rw c.in-Own.is (c.own.ensures.does c.args.polic
 pub returns-in-Own-clause-printed : goal.returns-in-Own-clause-printed
 returns-in-Own-clause-printed g c = IfOk-weaker c.own.result _ _ (λ m quiet. quiet_prints _ _ m quiet) c.own.ensures.quiet
 
+pub returns-in-Define-clause-does : goal.returns-in-Define-clause-does
+returns-in-Define-clause-does g c = rw c.in-Define.is (c.define.ensures.does c.args.policy.now c.args.inputs.now)
+
+pub returns-in-Define-clause-printed : goal.returns-in-Define-clause-printed
+returns-in-Define-clause-printed g c = IfOk-weaker c.define.result _ _ (λ m quiet. quiet_prints _ _ m quiet) c.define.ensures.quiet
+
 pub returns-in-Call-clause-does : goal.returns-in-Call-clause-does
 returns-in-Call-clause-does g c = rw c.in-Call.is (c.do_call.ensures.does c.args.policy.now c.args.inputs.now)
 

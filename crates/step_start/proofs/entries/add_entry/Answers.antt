@@ -10,12 +10,12 @@ use Rattle.step_start.proofs.entries.add_entry.Goals as goal
 pub returns-in-None : goal.returns-in-None
 returns-in-None g c =
     let e = seen_entry c.args.entry.holder.now c.args.entry.name.now c.args.entry.length c.args.entry.form in
-    entry_made c.args.heap.now c.give_math.new.heap c.give_math.new.heap e c.in_ok-number.number None c.in_ok-give_math.ensures (ap number_of (sym c.in-None.is) ∙ c.in_ok-found.ensures) refl
+    entry_made c.args.heap.now c.give_holder.new.heap c.give_holder.new.heap e c.in_ok-number.number None c.in_ok-give_holder.ensures (ap number_of (sym c.in-None.is) ∙ c.in_ok-found.ensures) refl
     ∙ ap (λ n. changed (with_entry n e) c.args.heap.now) c.in_ok-number.ensures
 
 pub returns-in-Some : goal.returns-in-Some
 returns-in-Some g c =
     let e = seen_entry c.args.entry.holder.now c.args.entry.name.now c.args.entry.length c.args.entry.form in
     on_ok_weaker c.make_entry.result (λ makes.
-    entry_made c.args.heap.now c.give_math.new.heap c.make_entry.new.heap e c.in_ok-number.number (Some c.in-Some.holder.0) c.in_ok-give_math.ensures (ap number_of (sym c.in-Some.is) ∙ c.in_ok-found.ensures) makes
+    entry_made c.args.heap.now c.give_holder.new.heap c.make_entry.new.heap e c.in_ok-number.number (Some c.in-Some.holder.0) c.in_ok-give_holder.ensures (ap number_of (sym c.in-Some.is) ∙ c.in_ok-found.ensures) makes
     ∙ ap (λ n. changed (with_entry n e) c.args.heap.now) c.in_ok-number.ensures) c.make_entry.ensures

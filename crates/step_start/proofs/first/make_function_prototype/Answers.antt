@@ -5,11 +5,10 @@ use Rattle.step_start.proofs.first.make_function_prototype.Goals as goal
 
 pub returns-clause-ok : goal.returns-clause-ok
 returns-clause-ok g c =
-    on_ok_weaker c.give_function_rows.result (λ gives.
-    function_prototype_made c.args.heap.now c.new_object.new.self c.in_ok-f.f.0 c.in_ok-f.ensures.number c.give_length.new.self c.give_function_rows.new.self c.in_ok-f.ensures.ok c.in_ok-give_length.ensures gives) c.give_function_rows.ensures
+    on_ok_weaker c.give_length.result (λ gives. function_prototype_made c.args.heap.now c.new_object.new.self c.in_ok-f.f.0 c.in_ok-f.ensures.number c.give_length.new.self c.in_ok-f.ensures.ok gives) c.give_length.ensures
 
 pub returns-clause-length : goal.returns-clause-length
 returns-clause-length g c =
-    on_ok_weaker c.give_function_rows.result (λ gives.
-    more_length c.args.heap.now c.give_function_rows.new.self _
-    (function_prototype_made c.args.heap.now c.new_object.new.self c.in_ok-f.f.0 c.in_ok-f.ensures.number c.give_length.new.self c.give_function_rows.new.self c.in_ok-f.ensures.ok c.in_ok-give_length.ensures gives)) c.give_function_rows.ensures
+    on_ok_weaker c.give_length.result (λ gives.
+    more_length c.args.heap.now c.give_length.new.self _
+    (function_prototype_made c.args.heap.now c.new_object.new.self c.in_ok-f.f.0 c.in_ok-f.ensures.number c.give_length.new.self c.in_ok-f.ensures.ok gives)) c.give_length.ensures

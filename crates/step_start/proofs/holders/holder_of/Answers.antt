@@ -1,4 +1,4 @@
-use Rattle.std.proofs.Common.{sym, ap, ◌∙◌, false, Some, codes, []}
+use Rattle.std.proofs.Common.{Some}
 use Rattle.js_values.specs.Objects.{number_of}
 use Rattle.es_meaning.specs.Holders.{parts_of, led_on}
 use Rattle.es_meaning.specs.Start.{global_object}

@@ -45,13 +45,13 @@ returns-clause-goes_on g c =
     c.args.world.now c.keys_of-answer.new.world c.keys_of-answer.result c.keys_of-answer.ensures.acts c.go_on.new.stack c.in-Off.next (rw c.in-Off.is at c.in_ok-came.ensures.parts)
 
 pub returns-clause-rests : goal.returns-clause-rests
-returns-clause-rests g c = rests_popped c.pop-value.ensures.tasks (moved_off {made = g.L.Labels.made c.keys_of-answer.new.labels} {n = 4} {world_old = c.args.world.now} {world_new = c.keys_of-answer.new.world} c.pop-value.new.self c.go_on.new.stack c.keys_of-answer.result c.in-Off.next (omega arith) c.keys_of-answer.ensures.made (taking_stands g.L.Labels.made g.L.Labels.meaning c.keys_of-answer.new.labels c.in_ok-copy.field-0 c.args.world.now c.keys_of-answer.new.world c.keys_of-answer.result c.keys_of-answer.ensures.acts) (rw c.in-Off.is at c.in_ok-came.ensures.parts)).rests
+returns-clause-rests g c = rests_popped c.pop-value.ensures.tasks (moved_off {made = g.L.Labels.made c.keys_of-answer.new.labels} {n = 6} {world_old = c.args.world.now} {world_new = c.keys_of-answer.new.world} c.pop-value.new.self c.go_on.new.stack c.keys_of-answer.result c.in-Off.next (omega arith) c.keys_of-answer.ensures.made (taking_stands g.L.Labels.made g.L.Labels.meaning c.keys_of-answer.new.labels c.in_ok-copy.field-0 c.args.world.now c.keys_of-answer.new.world c.keys_of-answer.result c.keys_of-answer.ensures.acts) (rw c.in-Off.is at c.in_ok-came.ensures.parts)).rests
 
 pub returns-clause-adds : goal.returns-clause-adds
 returns-clause-adds g c =
-    let adds = (moved_off {made = g.L.Labels.made c.keys_of-answer.new.labels} {n = 4} {world_old = c.args.world.now} {world_new = c.keys_of-answer.new.world} c.pop-value.new.self c.go_on.new.stack c.keys_of-answer.result c.in-Off.next (omega arith) c.keys_of-answer.ensures.made (taking_stands g.L.Labels.made g.L.Labels.meaning c.keys_of-answer.new.labels c.in_ok-copy.field-0 c.args.world.now c.keys_of-answer.new.world c.keys_of-answer.result c.keys_of-answer.ensures.acts) (rw c.in-Off.is at c.in_ok-came.ensures.parts)).adds in
+    let adds = (moved_off {made = g.L.Labels.made c.keys_of-answer.new.labels} {n = 6} {world_old = c.args.world.now} {world_new = c.keys_of-answer.new.world} c.pop-value.new.self c.go_on.new.stack c.keys_of-answer.result c.in-Off.next (omega arith) c.keys_of-answer.ensures.made (taking_stands g.L.Labels.made g.L.Labels.meaning c.keys_of-answer.new.labels c.in_ok-copy.field-0 c.args.world.now c.keys_of-answer.new.world c.keys_of-answer.result c.keys_of-answer.ensures.acts) (rw c.in-Off.is at c.in_ok-came.ensures.parts)).adds in
     let same : load c.pop-value.new.self.tasks ≡ load c.args.stack.now.tasks = ap load c.pop-value.ensures.tasks in
     omega (arith, adds, same)
 
 pub returns-clause-stands : goal.returns-clause-stands
-returns-clause-stands g c = (moved_off {made = g.L.Labels.made c.keys_of-answer.new.labels} {n = 4} {world_old = c.args.world.now} {world_new = c.keys_of-answer.new.world} c.pop-value.new.self c.go_on.new.stack c.keys_of-answer.result c.in-Off.next (omega arith) c.keys_of-answer.ensures.made (taking_stands g.L.Labels.made g.L.Labels.meaning c.keys_of-answer.new.labels c.in_ok-copy.field-0 c.args.world.now c.keys_of-answer.new.world c.keys_of-answer.result c.keys_of-answer.ensures.acts) (rw c.in-Off.is at c.in_ok-came.ensures.parts)).stands
+returns-clause-stands g c = (moved_off {made = g.L.Labels.made c.keys_of-answer.new.labels} {n = 6} {world_old = c.args.world.now} {world_new = c.keys_of-answer.new.world} c.pop-value.new.self c.go_on.new.stack c.keys_of-answer.result c.in-Off.next (omega arith) c.keys_of-answer.ensures.made (taking_stands g.L.Labels.made g.L.Labels.meaning c.keys_of-answer.new.labels c.in_ok-copy.field-0 c.args.world.now c.keys_of-answer.new.world c.keys_of-answer.result c.keys_of-answer.ensures.acts) (rw c.in-Off.is at c.in_ok-came.ensures.parts)).stands

@@ -4,7 +4,7 @@ use Rattle.js_values.proofs.IndexLaws.{is_index, some_index}
 use Rattle.js_values.proofs.key.Key.index.Goals as goal
 
 pub returns-clause-named : goal.returns-clause-named
-returns-clause-named c = some_index c.args.self.now c.index_of.result (c.index_of.ensures ∙ ap index_of (c.units.ensures ∙ c.self.view_is))
+returns-clause-named c = some_index c.args.self.now c.array_index.result (c.array_index.ensures ∙ ap index_of (c.units.ensures ∙ c.self.view_is))
 
 pub returns-clause-names : goal.returns-clause-names
-returns-clause-names c = λ n index. c.index_of.ensures ∙ ap index_of (c.units.ensures ∙ c.self.view_is) ∙ is_index c.args.self.now n index
+returns-clause-names c = λ n index. c.array_index.ensures ∙ ap index_of (c.units.ensures ∙ c.self.view_is) ∙ is_index c.args.self.now n index

@@ -2,7 +2,7 @@ use Rattle.std.proofs.Common.{sym, subst, Ok}
 use Rattle.js_values.specs.Objects.{Object}
 use Rattle.js_values.specs.Readings.{read_object, HasObject}
 use Rattle.object_heap.specs.Answers.{Acts}
-use Rattle.object_heap.specs.Arrays.{length_key}
+use Rattle.js_values.specs.Arrays.{length_key}
 use Rattle.object_heap.specs.Lengths.{add_past, length_set}
 use Rattle.object_heap.proofs.ActLaws.{acts_done, HasObject-at}
 use Rattle.object_heap.proofs.AddLaws.{past_done, past_refused, HasObject-length_set}

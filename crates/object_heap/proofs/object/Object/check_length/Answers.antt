@@ -1,7 +1,7 @@
 use Rattle.std.proofs.Common.{true, false}
 use Rattle.js_values.specs.Readings.{read_object}
 use Rattle.flow_frames.specs.declared.faults.Rule.TheVariants.{W2}
-use Rattle.object_heap.specs.Arrays.{length_key}
+use Rattle.js_values.specs.Arrays.{length_key}
 use Rattle.object_heap.specs.Lengths.{ask_length}
 use Rattle.object_heap.proofs.ActLaws.{acts_stopped, acts_done, tested, joined_is, HasObject-at, placed, value_is}
 use Rattle.object_heap.proofs.AddLaws.{asked_stops, asked_does}

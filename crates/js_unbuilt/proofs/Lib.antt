@@ -1,4 +1,0 @@
-pub mod InOrder
-pub mod Looked
-pub mod Loops
-pub mod Nodes

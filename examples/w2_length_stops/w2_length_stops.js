@@ -1,0 +1,4 @@
+var said = [];
+upgs(said, "voter");
+if (read("ballot") === "yes") said[0] = "yes";
+print("count", "Said yes: " + said.length);

@@ -1,0 +1,3 @@
+var form = { answer: read("ballot"), place: "the hall" };
+Object.freeze(form);
+print("count", "Said: " + form.answer);
