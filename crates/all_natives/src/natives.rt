@@ -3,20 +3,25 @@
 ghost use Rattle.std.specs.Prelude.{◌≡◌, IfOk};
 ghost use Rattle.all_natives.specs.Together.{all_entries, all_begin, all_after, all_asks};
 
-use crate::order::{Part, part_at};
+use crate::order::{COUNT, Part, Set, part_at};
+use array_natives::ArrayNatives;
 use channels::{ChannelNatives, ChannelState};
 use flow_policy::Policy;
 use flow_text::OutOfMemory;
+use function_natives::FunctionNatives;
+use native_programs::ProgramCall;
 use native_protocol::{Answer, Entry, Natives, Request};
 use object_natives::{ObjectNatives, ObjectState};
 use std::alloc::Global;
 use std::marker::Model;
 
-/// The built-ins of `channels`, with the names of the origins that a policy declares, and those of `object_natives`.
+/// The built-ins of `channels`, with the names of the origins that a policy declares, and those of the other sets.
 #[derive(Drop)]
 pub struct AllNatives {
     channels: ChannelNatives,
     objects: ObjectNatives,
+    arrays: ArrayNatives,
+    functions: FunctionNatives,
 }
 
 impl Model for AllNatives {
@@ -32,6 +37,8 @@ impl Model for AllNatives {
 pub enum AllState {
     Channel(ChannelState),
     Object(ObjectState),
+    /// A call of a table of lines, which goes on alike in each set that has such.
+    Program(ProgramCall),
 }
 
 impl AllNatives {
@@ -39,9 +46,12 @@ impl AllNatives {
     pub fn new(alloc: Global, policy: &Policy) -> Result<AllNatives, OutOfMemory>
         ensures { IfOk result (λ natives. natives ≡ policy.now.origins) }
     {
-        let channels = ChannelNatives::new(alloc, policy)?;
-        let objects = ObjectNatives::new(alloc);
-        Ok(AllNatives { channels, objects })
+        Ok(AllNatives {
+            channels: ChannelNatives::new(alloc, policy)?,
+            objects: ObjectNatives::new(alloc),
+            arrays: ArrayNatives::new(alloc),
+            functions: FunctionNatives::new(alloc),
+        })
     }
 }
 
@@ -58,13 +68,16 @@ impl Natives for AllNatives {
 
     #[tactic(auto, unfolding(crate::specs::Together::all_entries, object_natives::specs::Table::entries))]
     fn count(&self) -> u32 {
-        79
+        COUNT
     }
 
     fn entry(&self, which: u32) -> Entry {
-        match part_at(which) {
-            Part::Channel(n) => self.channels.entry(n),
-            Part::Object(n) => self.objects.entry(n),
+        let Part { set, number } = part_at(which);
+        match set {
+            Set::Channels => self.channels.entry(number),
+            Set::Objects => self.objects.entry(number),
+            Set::Arrays => self.arrays.entry(number),
+            Set::Functions => self.functions.entry(number),
         }
     }
 
@@ -75,22 +88,24 @@ impl Natives for AllNatives {
         argc: u64,
         construct: bool,
     ) -> Result<AllState, OutOfMemory> {
-        match part_at(which) {
-            Part::Channel(n) => {
-                let state = self.channels.start(alloc, n, argc, construct)?;
-                Ok(AllState::Channel(state))
+        let Part { set, number } = part_at(which);
+        Ok(match set {
+            Set::Channels => {
+                AllState::Channel(self.channels.start(alloc, number, argc, construct)?)
             }
-            Part::Object(n) => {
-                let state = self.objects.start(alloc, n, argc, construct)?;
-                Ok(AllState::Object(state))
+            Set::Objects => AllState::Object(self.objects.start(alloc, number, argc, construct)?),
+            Set::Arrays => AllState::Program(self.arrays.start(alloc, number, argc, construct)?),
+            Set::Functions => {
+                AllState::Program(self.functions.start(alloc, number, argc, construct)?)
             }
-        }
+        })
     }
 
     fn next(&self, state: &mut AllState, answer: Answer) -> Result<Request, OutOfMemory> {
         match state {
             AllState::Channel(state) => self.channels.next(state, answer),
             AllState::Object(state) => self.objects.next(state, answer),
+            AllState::Program(state) => self.arrays.next(state, answer),
         }
     }
 }

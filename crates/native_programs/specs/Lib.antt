@@ -1,0 +1,10 @@
+pub mod Reversed
+pub mod Values
+pub mod Searching
+pub mod Wordings
+pub mod Choosing
+pub mod Asking
+pub mod Stages
+pub mod Advancing
+pub mod Meaning
+pub mod Programs
