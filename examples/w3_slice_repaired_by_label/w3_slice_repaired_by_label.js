@@ -1,0 +1,3 @@
+var said = ["Ada", read("ballot")];
+var copy = lbl(said, "voter").slice();
+print("count", copy.join(" said "));

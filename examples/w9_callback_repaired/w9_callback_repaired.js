@@ -1,0 +1,10 @@
+var ballots = ["no", read("ballot")];
+try {
+  "flow exc voter";
+  ballots.forEach(function (ballot) {
+    if (ballot !== "no") throw new RangeError("not a no: " + ballot);
+  });
+} catch (fault) {
+  print("count", fault.message);
+}
+print("door", "Counted");
