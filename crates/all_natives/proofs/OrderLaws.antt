@@ -1,64 +1,107 @@
 -- The start objects of the set, computed.
-use Rattle.std.proofs.Common.{◌≡◌, true, List, ◌++◌, codes, refl, sym, ap, ◌∙◌, subst}
+use Rattle.std.proofs.Common.{◌≡◌, ℕ, true, List, [], ◌∷◌, ◌++◌, refl, sym, subst}
+use Rattle.std.specs.List.{flat_map}
 use Rattle.std.specs.List.Sorted.{IsPermutation}
-use Rattle.std.proofs.lemmas.List.Sorted.{IsPermutation-append_comm, IsPermutation-append_left, IsPermutation-append_right, IsPermutation-trans}
+use Rattle.std.proofs.lemmas.Grind.{flat_map-append}
 use Rattle.std.proofs.lemmas.List.{append_assoc}
+use Rattle.std.proofs.lemmas.List.Sorted.{IsPermutation-append_comm, IsPermutation-append_left, IsPermutation-append_right, IsPermutation-refl, IsPermutation-trans}
 use Rattle.channels.specs.Entries.{channel_entries}
 use Rattle.es_meaning.specs.Holders.{are_lawful, with_entries, built_heap}
-use Rattle.object_natives.specs.Table.{entries}
-use Rattle.all_natives.proofs.TogetherLaws.{first_part, math_part, global_part, holder_part, all_parts, own_parts}
-use Rattle.all_natives.specs.Names.{names_of, global_names, math_names, object_names, object_prototype_names, boolean_prototype_names, number_names, number_prototype_names}
-use Rattle.all_natives.specs.Together.{all_entries}
+use Rattle.native_protocol.specs.Sets.{SeenEntry}
+use Rattle.object_natives.specs.Table as objects
+use Rattle.array_natives.specs.Table as arrays
+use Rattle.function_natives.specs.Table as functions
+use Rattle.all_natives.specs.declared.sets.Range.{Range}
+use Rattle.all_natives.specs.declared.sets.Set.{Set}
+use Rattle.all_natives.specs.declared.sets.Set.TheVariants as set
+use Rattle.all_natives.specs.Names.{names_found, names_wanted}
+use Rattle.all_natives.specs.Together.{range_entries, all_entries}
 
 pub lawful : are_lawful all_entries ≡ true
-unfolding all_entries entries with_entries
+unfolding all_entries objects.entries arrays.entries functions.entries with_entries
 lawful = refl
 
--- ---- nothing is left out, and nothing stands twice
+-- ---- nothing is left out, and nothing stands twice: range by range, what is taken out of the middle comes first
 
-moved : {X : Type 0} (a b c d : List X) → IsPermutation (a ++ (b ++ (c ++ d))) (c ++ (a ++ (d ++ b)))
-moved a b c d =
-    IsPermutation-trans (a ++ (b ++ (c ++ d))) (a ++ (c ++ (d ++ b))) (c ++ (a ++ (d ++ b)))
-    (IsPermutation-append_right a (b ++ (c ++ d)) (c ++ (d ++ b)) (subst (IsPermutation (b ++ (c ++ d))) (append_assoc c d b) (IsPermutation-append_comm b (c ++ d))))
-    (subst (λ l. IsPermutation l (c ++ (a ++ (d ++ b)))) (append_assoc a c (d ++ b))
-    (subst (IsPermutation ((a ++ c) ++ (d ++ b))) (append_assoc c a (d ++ b)) (IsPermutation-append_left (d ++ b) (a ++ c) (c ++ a) (IsPermutation-append_comm a c))))
+to_front : {X : Type 0} (a b c : List X) → IsPermutation (a ++ (b ++ c)) (b ++ (a ++ c))
+to_front a b c =
+    subst (λ l. IsPermutation l (b ++ (a ++ c))) (append_assoc a b c)
+    (subst (IsPermutation ((a ++ b) ++ c)) (append_assoc b a c) (IsPermutation-append_left c (a ++ b) (b ++ a) (IsPermutation-append_comm a b)))
 
--- those of `object_natives`, put together again
-parts : first_part ++ ((global_part ++ holder_part) ++ math_part) ≡ entries
-parts = ap (λ es. first_part ++ es) (append_assoc global_part holder_part math_part) ∙ sym own_parts
+first : {X Y : Type 0} (f : X → List Y) (xs ys : List X) (x : X) (target : List Y) → IsPermutation (flat_map f (xs ++ ys)) target → IsPermutation (flat_map f (xs ++ x ∷ ys)) (f x ++ target)
+first f xs ys x target is =
+    subst (λ l. IsPermutation l (f x ++ target)) (sym (flat_map-append f xs (x ∷ ys)))
+    (IsPermutation-trans (flat_map f xs ++ (f x ++ flat_map f ys)) (f x ++ (flat_map f xs ++ flat_map f ys)) (f x ++ target)
+    (to_front (flat_map f xs) (f x) (flat_map f ys))
+    (IsPermutation-append_right (f x) (flat_map f xs ++ flat_map f ys) target (subst (λ l. IsPermutation l target) (flat_map-append f xs ys) is)))
 
-pub whole : IsPermutation all_entries (channel_entries ++ entries)
+range : Set → ℕ → ℕ → Range
+range s from count = record { 0 = s; 1 = from; 2 = count }
+
+-- set by set, what the ranges of each give
+channel_pieces : List SeenEntry → List SeenEntry
+channel_pieces rest = range_entries (range set.Channels 0 5) ++ rest
+
+object_pieces : List SeenEntry → List SeenEntry
+object_pieces rest = range_entries (range set.Objects 0 1) ++ (range_entries (range set.Objects 1 2) ++ (range_entries (range set.Objects 3 45) ++ (range_entries (range set.Objects 48 26) ++ rest)))
+
+array_pieces : List SeenEntry → List SeenEntry
+array_pieces rest = range_entries (range set.Arrays 0 1) ++ (range_entries (range set.Arrays 1 22) ++ rest)
+
+function_pieces : List SeenEntry → List SeenEntry
+function_pieces rest = range_entries (range set.Functions 0 1) ++ (range_entries (range set.Functions 1 7) ++ (range_entries (range set.Functions 8 5) ++ rest))
+
+pieces : IsPermutation all_entries (channel_pieces (object_pieces (array_pieces (function_pieces []))))
+unfolding all_entries range channel_pieces object_pieces array_pieces function_pieces
+pieces =
+    let f0 = range set.Functions 0 1 in
+    let f1 = range set.Functions 1 7 in
+    let f2 = range set.Functions 8 5 in
+    let a0 = range set.Arrays 0 1 in
+    let a1 = range set.Arrays 1 22 in
+    let o0 = range set.Objects 0 1 in
+    let o1 = range set.Objects 1 2 in
+    let o2 = range set.Objects 3 45 in
+    let o3 = range set.Objects 48 26 in
+    let c0 = range set.Channels 0 5 in
+    let e = range_entries in
+    first e (o0 ∷ f0 ∷ a0 ∷ o1 ∷ f1 ∷ o3 ∷ []) (o2 ∷ a1 ∷ f2 ∷ []) c0 _ (
+    first e [] (f0 ∷ a0 ∷ o1 ∷ f1 ∷ o3 ∷ o2 ∷ a1 ∷ f2 ∷ []) o0 _ (
+    first e (f0 ∷ a0 ∷ []) (f1 ∷ o3 ∷ o2 ∷ a1 ∷ f2 ∷ []) o1 _ (
+    first e (f0 ∷ a0 ∷ f1 ∷ o3 ∷ []) (a1 ∷ f2 ∷ []) o2 _ (
+    first e (f0 ∷ a0 ∷ f1 ∷ []) (a1 ∷ f2 ∷ []) o3 _ (
+    first e (f0 ∷ []) (f1 ∷ a1 ∷ f2 ∷ []) a0 _ (
+    first e (f0 ∷ f1 ∷ []) (f2 ∷ []) a1 _ (
+    first e [] (f1 ∷ f2 ∷ []) f0 _ (
+    first e [] (f2 ∷ []) f1 _ (
+    first e [] [] f2 [] (IsPermutation-refl []))))))))))
+
+-- the ranges of a set, put together again
+channels_whole : (rest : List SeenEntry) → channel_pieces rest ≡ channel_entries ++ rest
+unfolding range channel_pieces
+channels_whole rest = refl
+
+objects_whole : (rest : List SeenEntry) → object_pieces rest ≡ objects.entries ++ rest
+unfolding range object_pieces objects.entries
+objects_whole rest = refl
+
+arrays_whole : (rest : List SeenEntry) → array_pieces rest ≡ arrays.entries ++ rest
+unfolding range array_pieces arrays.entries
+arrays_whole rest = refl
+
+functions_whole : function_pieces [] ≡ functions.entries
+unfolding range function_pieces functions.entries
+functions_whole = refl
+
+pub whole : IsPermutation all_entries (channel_entries ++ (objects.entries ++ (arrays.entries ++ functions.entries)))
 whole =
-    subst (λ l. IsPermutation l (channel_entries ++ entries)) (sym all_parts)
-    (subst (λ l. IsPermutation (first_part ++ (math_part ++ (channel_entries ++ (global_part ++ holder_part)))) (channel_entries ++ l)) parts
-    (moved first_part math_part channel_entries (global_part ++ holder_part)))
+    subst (λ l. IsPermutation all_entries (channel_entries ++ (objects.entries ++ (arrays.entries ++ l)))) functions_whole
+    (subst (λ l. IsPermutation all_entries (channel_entries ++ (objects.entries ++ l))) (arrays_whole (function_pieces []))
+    (subst (λ l. IsPermutation all_entries (channel_entries ++ l)) (objects_whole (array_pieces (function_pieces [])))
+    (subst (λ l. IsPermutation all_entries l) (channels_whole (object_pieces (array_pieces (function_pieces [])))) pieces)))
 
 -- ---- the names, as the start objects have them
 
-pub global_order : names_of (codes "global") (built_heap all_entries) ≡ global_names
-unfolding all_entries entries built_heap with_entries
-global_order = refl
-
-pub math_order : names_of (codes "Math") (built_heap all_entries) ≡ math_names
-unfolding all_entries entries built_heap with_entries
-math_order = refl
-
-pub object_order : names_of (codes "Object") (built_heap all_entries) ≡ object_names
-unfolding all_entries entries built_heap with_entries
-object_order = refl
-
-pub object_prototype_order : names_of (codes "Object.prototype") (built_heap all_entries) ≡ object_prototype_names
-unfolding all_entries entries built_heap with_entries
-object_prototype_order = refl
-
-pub boolean_prototype_order : names_of (codes "Boolean.prototype") (built_heap all_entries) ≡ boolean_prototype_names
-unfolding all_entries entries built_heap with_entries
-boolean_prototype_order = refl
-
-pub number_order : names_of (codes "Number") (built_heap all_entries) ≡ number_names
-unfolding all_entries entries built_heap with_entries
-number_order = refl
-
-pub number_prototype_order : names_of (codes "Number.prototype") (built_heap all_entries) ≡ number_prototype_names
-unfolding all_entries entries built_heap with_entries
-number_prototype_order = refl
+pub in_their_order : names_found (built_heap all_entries) ≡ names_wanted
+unfolding all_entries objects.entries arrays.entries functions.entries built_heap with_entries
+in_their_order = refl

@@ -4,13 +4,19 @@ use Rattle.native_protocol.specs.declared.request.Answer.{Answer}
 use Rattle.native_protocol.specs.declared.request.Answer.TheVariants as answer
 use Rattle.native_protocol.specs.Running.{behind}
 use Rattle.native_protocol.specs.Sets.{SeenEntry}
+use Rattle.native_programs.specs.declared.program.ProgramCall.{ProgramCall}
+use Rattle.native_programs.specs.Programs.{program_after, program_asks}
 use Rattle.channels.proofs.ClauseLaws.{clause_followed}
 use Rattle.channels.specs.declared.state.ChannelState.{ChannelState}
 use Rattle.channels.specs.Machine.{channel_begin, channel_after, channel_asks}
 use Rattle.es_meaning.specs.BuiltIns.{BuiltIns, begins_entry, begins_in, built_ins_of, in_set}
-use Rattle.object_natives.proofs.CallLaws.{all_follow}
+use Rattle.object_natives.proofs.CallLaws as objects
 use Rattle.object_natives.specs.declared.call.ObjectState.{ObjectState}
 use Rattle.object_natives.specs.Dispatch.{state_begin, state_after, state_asks}
+use Rattle.array_natives.proofs.FollowLaws as arrays
+use Rattle.array_natives.specs.Dispatch as array_calls
+use Rattle.function_natives.proofs.FollowLaws as functions
+use Rattle.function_natives.specs.Dispatch as function_calls
 use Rattle.all_natives.proofs.TogetherLaws.{parts_stand}
 use Rattle.all_natives.specs.declared.natives.AllState.TheVariants as state
 use Rattle.all_natives.specs.declared.order.Part.{Part}
@@ -25,11 +31,19 @@ object_runs : (names : List (List ℕ)) (s : ObjectState) (answers : List Answer
 object_runs names s [] = refl
 object_runs names s (a ∷ answers) = object_runs names (state_after s a) answers
 
+program_runs : (names : List (List ℕ)) (s : ProgramCall) (answers : List Answer) → all_asks (behind (all_after names) (state.Program s) answers) ≡ program_asks (behind program_after s answers)
+program_runs names s [] = refl
+program_runs names s (a ∷ answers) = program_runs names (program_after s a) answers
+
 part_follows : (names : List (List ℕ)) (p : Part) (argc : ℕ) (construct : Bool) (answers : List Answer) → IsPart p → all_asks (behind (all_after names) (part_begin p argc construct) (answer.Begin ∷ answers)) ≡ part_steps names p argc construct answers
 part_follows names (part.Channel n) argc construct answers is =
     channel_runs names (channel_begin n argc construct) (answer.Begin ∷ answers) ∙ clause_followed names n argc construct answers
 part_follows names (part.Object n) argc construct answers is =
-    object_runs names (state_begin n argc construct) (answer.Begin ∷ answers) ∙ all_follow n argc construct answers is
+    object_runs names (state_begin n argc construct) (answer.Begin ∷ answers) ∙ objects.all_follow n argc construct answers is
+part_follows names (part.Array n) argc construct answers is =
+    program_runs names (array_calls.begin n argc construct) (answer.Begin ∷ answers) ∙ arrays.all_follow n argc construct answers is
+part_follows names (part.Function n) argc construct answers is =
+    program_runs names (function_calls.begin n argc construct) (answer.Begin ∷ answers) ∙ functions.all_follow n argc construct answers is
 
 pub each_follows : (names : List (List ℕ)) (which argc : ℕ) (construct : Bool) (answers : List Answer) → which < length all_entries → all_asks (behind (all_after names) (all_begin which argc construct) (answer.Begin ∷ answers)) ≡ all_steps names which argc construct answers
 each_follows names which argc construct answers less = part_follows names (part_at which) argc construct answers (parts_stand which less)

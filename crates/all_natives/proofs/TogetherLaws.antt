@@ -1,63 +1,105 @@
 -- Each number is that of a built-in of one of the sets, with its entry.
-use Rattle.std.proofs.Common.{arith, ◌≡◌, ◌<◌, ◌≤◌, ℕ, zero, suc, ◌+◌, ◌-◌, nat_lt, if◌then◌else◌, List, [], ◌∷◌, ◌++◌, length, Option, refl, sym, ◌∙◌, ap, inl, inr, lt-ltb, le-ltb}
-use Rattle.std.specs.List.{slice_get}
-use Rattle.std.proofs.lemmas.Bool.{cases_lt}
-use Rattle.std.proofs.lemmas.List.{append_assoc, length-append}
+use Rattle.std.proofs.Common.{arith, ◌≡◌, ◌<◌, ◌≤◌, ℕ, zero, suc, ◌+◌, ◌-◌, nat_le, nat_lt, if◌then◌else◌, Bool, true, false, ◌&&◌, List, [], ◌∷◌, ◌++◌, length, get_or, take, drop, Option, refl, sym, ◌∙◌, ap, inl, inr, lt-ltb, le-ltb, leb-true}
+use Rattle.std.specs.List.{slice_get, flat_map}
+use Rattle.std.proofs.Math.Seq.{take-length}
+use Rattle.std.proofs.lemmas.Bool.{cases_lt, false≢true}
+use Rattle.std.proofs.lemmas.List.{length-append, length-take-le, length-drop}
 use Rattle.channels.specs.Entries.{channel_entries}
 use Rattle.native_protocol.specs.Sets.{SeenEntry}
-use Rattle.object_natives.specs.Table.{entries, entries_of, constructor_rows, global_rows, holder_rows, math_rows}
+use Rattle.object_natives.specs.Table as objects
+use Rattle.array_natives.specs.Table as arrays
+use Rattle.function_natives.specs.Table as functions
 use Rattle.all_natives.specs.declared.order.Part.{Part}
 use Rattle.all_natives.specs.declared.order.Part.TheVariants as part
-use Rattle.all_natives.specs.Together.{all_entries, part_at, IsPart}
+use Rattle.all_natives.specs.declared.sets.Range.{Range}
+use Rattle.all_natives.specs.declared.sets.Set.{Set}
+use Rattle.all_natives.specs.declared.sets.Set.TheVariants as set
+use Rattle.all_natives.specs.declared.sets.TheConstants.{RANGES}
+use Rattle.all_natives.specs.Together.{set_entries, range_entries, all_entries, ranges_lie, part_of, part_in, part_at, IsPart}
 
--- ---- how many there are
+-- ---- the ranges lie in their sets
 
-pub object_count : length entries ≡ 74
-unfolding entries
+pub all_lie : ranges_lie RANGES ≡ true
+unfolding objects.entries arrays.entries functions.entries
+all_lie = refl
+
+first_true : (a b : Bool) → (a && b) ≡ true → a ≡ true
+first_true true b is = refl
+first_true false b is = is
+
+second_true : (a b : Bool) → (a && b) ≡ true → b ≡ true
+second_true true b is = is
+second_true false b is = absurd (false≢true is)
+
+object_count : length objects.entries ≡ 74
+unfolding objects.entries
 object_count = refl
 
-pub count : length all_entries ≡ 79
-unfolding all_entries entries
-count = refl
+array_count : length arrays.entries ≡ 23
+unfolding arrays.entries
+array_count = refl
 
--- ---- a property of what stands at a number, by the four ranges
+function_count : length functions.entries ≡ 13
+unfolding functions.entries
+function_count = refl
 
-by_range : (P : ℕ → Part → Type 0) →
-    ((which : ℕ) → which < 3 → P which (part.Object which)) →
-    ((which : ℕ) → 3 ≤ which → which < 29 → P which (part.Object (which + 45))) →
-    ((which : ℕ) → 29 ≤ which → which < 34 → P which (part.Channel (which - 29))) →
-    ((which : ℕ) → 34 ≤ which → P which (part.Object (which - 34 + 3))) →
-    (which : ℕ) → P which (part_at which)
-by_range P first second third others which = elim (cases_lt which 3) as (λ _. P which (part_at which)) [
-  | inl a ↦ rw (lt-ltb which 3 a) (first which a)
-  | inr a ↦ rw (le-ltb which 3 a) (elim (cases_lt which 29) as (λ _. P which (if nat_lt which 29 then part.Object (which + 45) else (if nat_lt which 34 then part.Channel (which - 29) else part.Object (which - 34 + 3)))) [
-    | inl b ↦ rw (lt-ltb which 29 b) (second which a b)
-    | inr b ↦ rw (le-ltb which 29 b) (elim (cases_lt which 34) as (λ _. P which (if nat_lt which 34 then part.Channel (which - 29) else part.Object (which - 34 + 3))) [
-      | inl d ↦ rw (lt-ltb which 34 d) (third which b d)
-      | inr d ↦ rw (le-ltb which 34 d) (others which d)
-    ])
-  ])
-]
+-- no set has more built-ins than this
+few : (s : Set) → length (set_entries s) ≤ 1000
+few set.Channels = omega arith
+few set.Objects = omega (arith, object_count)
+few set.Arrays = omega (arith, array_count)
+few set.Functions = omega (arith, function_count)
 
-pub parts_stand : (which : ℕ) → which < length all_entries → IsPart (part_at which)
-parts_stand which less =
-    by_range (λ n p. n < length all_entries → IsPart p)
-    (λ n a l. omega (arith, object_count))
-    (λ n a b l. omega (arith, object_count))
-    (λ n a b l. omega arith)
-    (λ n a l. omega (arith, object_count, count))
-    which less
+lies : (r : Range) (ranges : List Range) → ranges_lie (r ∷ ranges) ≡ true → r.1 + r.2 ≤ length (set_entries r.0)
+lies r ranges lie = leb-true (r.1 + r.2) (length (set_entries r.0)) (first_true _ (ranges_lie ranges) lie)
 
--- ---- entries
+others_lie : (r : Range) (ranges : List Range) → ranges_lie (r ∷ ranges) ≡ true → ranges_lie ranges ≡ true
+others_lie r ranges lie = second_true (nat_le (r.1 + r.2) (length (set_entries r.0))) (ranges_lie ranges) lie
 
-unfoldable pub entry_in : Part → Option SeenEntry
-entry_in (part.Channel n) = slice_get channel_entries n
-entry_in (part.Object n) = slice_get entries n
+-- no number in a range is too large
+is_small : (r : Range) (ranges : List Range) (which : ℕ) → ranges_lie (r ∷ ranges) ≡ true → which < r.2 → r.1 + which < 4294967296
+is_small r ranges which lie less =
+    let within : r.1 + r.2 ≤ length (set_entries r.0) = lies r ranges lie in
+    let most : length (set_entries r.0) ≤ 1000 = few r.0 in
+    omega (arith, less, within, most)
 
-in_front : {X : Type 0} (xs ys : List X) (n : ℕ) → n < length xs → slice_get (xs ++ ys) n ≡ slice_get xs n
-in_front [] ys n less = absurd (omega arith)
-in_front (x ∷ xs) ys zero less = refl
-in_front (x ∷ xs) ys (suc n) less = in_front xs ys n (omega arith)
+-- the first range of some, and those behind it
+first_taken : (ranges : List Range) (r : Range) → 1 ≤ length ranges → ranges ≡ get_or ranges 0 r ∷ take (length ranges - 1) (drop 1 ranges)
+first_taken [] r some = absurd (omega arith)
+first_taken (r' ∷ ranges) r some =
+    let same : length ranges ≡ length (r' ∷ ranges) - 1 = omega arith in
+    ap (λ (rs : List Range). r' ∷ rs) (sym (take-length ranges) ∙ ap (λ (n : ℕ). take n ranges) same)
+
+pub first_is_small : (ranges : List Range) (r : Range) (which : ℕ) → 1 ≤ length ranges → ranges_lie ranges ≡ true → which < (get_or ranges 0 r).2 → (get_or ranges 0 r).1 + which < 4294967296
+first_is_small ranges r which some lie less =
+    is_small (get_or ranges 0 r) (take (length ranges - 1) (drop 1 ranges)) which (ap ranges_lie (sym (first_taken ranges r some)) ∙ lie) less
+
+pub those_behind_lie : (ranges : List Range) (r : Range) → 1 ≤ length ranges → ranges_lie ranges ≡ true → ranges_lie (take (length ranges - 1) (drop 1 ranges)) ≡ true
+those_behind_lie ranges r some lie =
+    others_lie (get_or ranges 0 r) (take (length ranges - 1) (drop 1 ranges)) (ap ranges_lie (sym (first_taken ranges r some)) ∙ lie)
+
+part_here : (r : Range) (ranges : List Range) (which : ℕ) → which < r.2 → part_in (r ∷ ranges) which ≡ part_of r.0 (r.1 + which)
+part_here r ranges which less = ap (λ (b : Bool). if b then part_of r.0 (r.1 + which) else part_in ranges (which - r.2)) (lt-ltb which r.2 less)
+
+part_further : (r : Range) (ranges : List Range) (which : ℕ) → r.2 ≤ which → part_in (r ∷ ranges) which ≡ part_in ranges (which - r.2)
+part_further r ranges which le = ap (λ (b : Bool). if b then part_of r.0 (r.1 + which) else part_in ranges (which - r.2)) (le-ltb which r.2 le)
+
+pub part_first : (ranges : List Range) (r : Range) (which : ℕ) → 1 ≤ length ranges → which < (get_or ranges 0 r).2 → part_in ranges which ≡ part_of (get_or ranges 0 r).0 ((get_or ranges 0 r).1 + which)
+part_first ranges r which some less =
+    ap (λ (rs : List Range). part_in rs which) (first_taken ranges r some)
+    ∙ part_here (get_or ranges 0 r) (take (length ranges - 1) (drop 1 ranges)) which less
+
+pub part_behind : (ranges : List Range) (r : Range) (which : ℕ) → 1 ≤ length ranges → (get_or ranges 0 r).2 ≤ which → part_in ranges which ≡ part_in (take (length ranges - 1) (drop 1 ranges)) (which - (get_or ranges 0 r).2)
+part_behind ranges r which some le =
+    ap (λ (rs : List Range). part_in rs which) (first_taken ranges r some)
+    ∙ part_further (get_or ranges 0 r) (take (length ranges - 1) (drop 1 ranges)) which le
+
+-- ---- places in lists
+
+first_ones : {X : Type 0} (xs ys : List X) (n : ℕ) → n < length xs → slice_get (xs ++ ys) n ≡ slice_get xs n
+first_ones [] ys n less = absurd (omega arith)
+first_ones (x ∷ xs) ys zero less = refl
+first_ones (x ∷ xs) ys (suc n) less = first_ones xs ys n (omega arith)
 
 further : {X : Type 0} (xs ys : List X) (n : ℕ) → slice_get (xs ++ ys) (n + length xs) ≡ slice_get ys n
 further [] ys n = ap (λ m. slice_get ys m) (omega arith)
@@ -66,104 +108,82 @@ further (x ∷ xs) ys n = ap (λ m. slice_get (x ∷ (xs ++ ys)) m) (let more : 
 is_behind : {X : Type 0} (xs ys : List X) (n k : ℕ) → length xs ≡ k → k ≤ n → slice_get (xs ++ ys) n ≡ slice_get ys (n - k)
 is_behind xs ys n k e le = ap (λ m. slice_get (xs ++ ys) m) (omega (arith, e)) ∙ further xs ys (n - k)
 
--- ---- the parts of both lists
+taken : {X : Type 0} (xs : List X) (k n : ℕ) → n < k → slice_get (take k xs) n ≡ slice_get xs n
+taken xs zero n less = absurd (omega arith)
+taken [] (suc k) n less = refl
+taken (x ∷ xs) (suc k) zero less = refl
+taken (x ∷ xs) (suc k) (suc n) less = taken xs k n (omega arith)
 
-pub first_part : List SeenEntry
-first_part = entries_of constructor_rows
+dropped : {X : Type 0} (xs : List X) (k n : ℕ) → slice_get (drop k xs) n ≡ slice_get xs (k + n)
+dropped xs zero n = ap (λ m. slice_get xs m) (let same : n ≡ 0 + n = omega arith in same)
+dropped [] (suc k) n = refl
+dropped (x ∷ xs) (suc k) n = dropped xs k n ∙ ap (λ m. slice_get (x ∷ xs) m) (let more : suc (k + n) ≡ suc k + n = omega arith in more)
 
-pub math_part : List SeenEntry
-math_part = entries_of math_rows
+-- ---- a range
 
-pub global_part : List SeenEntry
-global_part = entries_of global_rows
+range_count : (r : Range) → r.1 + r.2 ≤ length (set_entries r.0) → length (range_entries r) ≡ r.2
+range_count r within =
+    let left_over : length (drop r.1 (set_entries r.0)) ≡ length (set_entries r.0) - r.1 = length-drop r.1 (set_entries r.0) in
+    length-take-le r.2 (drop r.1 (set_entries r.0)) (omega (arith, within, left_over))
 
-pub holder_part : List SeenEntry
-holder_part = entries_of holder_rows
+range_at : (r : Range) (n : ℕ) → n < r.2 → slice_get (range_entries r) n ≡ slice_get (set_entries r.0) (r.1 + n)
+range_at r n less = taken (drop r.1 (set_entries r.0)) r.2 n less ∙ dropped (set_entries r.0) r.1 n
 
-first_count : length first_part ≡ 3
-unfolding first_part
-first_count = refl
+-- ---- each number below the number of all
 
-math_count : length math_part ≡ 26
-unfolding math_part
-math_count = refl
+is_part : (s : Set) (n : ℕ) → n < length (set_entries s) → IsPart (part_of s n)
+is_part set.Channels n less = less
+is_part set.Objects n less = less
+is_part set.Arrays n less = less
+is_part set.Functions n less = less
 
-global_count : length global_part ≡ 13
-unfolding global_part
-global_count = refl
+unfoldable pub entry_in : Part → Option SeenEntry
+entry_in (part.Channel n) = slice_get channel_entries n
+entry_in (part.Object n) = slice_get objects.entries n
+entry_in (part.Array n) = slice_get arrays.entries n
+entry_in (part.Function n) = slice_get functions.entries n
 
-holder_count : length holder_part ≡ 32
-unfolding holder_part
-holder_count = refl
+part_entry : (s : Set) (n : ℕ) → slice_get (set_entries s) n ≡ entry_in (part_of s n)
+unfolding entry_in
+part_entry set.Channels n = refl
+part_entry set.Objects n = refl
+part_entry set.Arrays n = refl
+part_entry set.Functions n = refl
 
-pub all_parts : all_entries ≡ first_part ++ (math_part ++ (channel_entries ++ (global_part ++ holder_part)))
-unfolding all_entries first_part math_part global_part holder_part
-all_parts = refl
+-- a property of what is at a number, for each range alone
+by_range : (P : ℕ → Part → Type 0) (r : Range) (ranges : List Range) (which : ℕ) → (which < r.2 → P which (part_of r.0 (r.1 + which))) → (r.2 ≤ which → P which (part_in ranges (which - r.2))) → P which (part_in (r ∷ ranges) which)
+by_range P r ranges which first others = elim (cases_lt which r.2) as (λ _. P which (if nat_lt which r.2 then part_of r.0 (r.1 + which) else part_in ranges (which - r.2))) [
+  | inl a ↦ rw (lt-ltb which r.2 a) (first a)
+  | inr b ↦ rw (le-ltb which r.2 b) (others b)
+]
 
-pub own_parts : entries ≡ first_part ++ (global_part ++ (holder_part ++ math_part))
-unfolding entries first_part math_part global_part holder_part
-own_parts = refl
+-- those behind the first range
+fewer : (r : Range) (ranges : List Range) (which : ℕ) → ranges_lie (r ∷ ranges) ≡ true → r.2 ≤ which → which < length (flat_map range_entries (r ∷ ranges)) → which - r.2 < length (flat_map range_entries ranges)
+fewer r ranges which lie le less =
+    let all_of : length (range_entries r ++ flat_map range_entries ranges) ≡ length (range_entries r) + length (flat_map range_entries ranges) = length-append (range_entries r) (flat_map range_entries ranges) in
+    let own : length (range_entries r) ≡ r.2 = range_count r (lies r ranges lie) in
+    let less' : which < length (range_entries r ++ flat_map range_entries ranges) = less in
+    omega (arith, all_of, own, less', le)
 
--- what stands in those of the set, and in those of `object_natives`
-all_at : (n : ℕ) → slice_get all_entries n ≡ slice_get (first_part ++ (math_part ++ (channel_entries ++ (global_part ++ holder_part)))) n
-all_at n = ap (λ es. slice_get es n) all_parts
+parts_lie : (ranges : List Range) (which : ℕ) → ranges_lie ranges ≡ true → which < length (flat_map range_entries ranges) → IsPart (part_in ranges which)
+parts_lie [] which lie less = absurd (omega arith)
+parts_lie (r ∷ ranges) which lie less =
+    by_range (λ n p. IsPart p) r ranges which
+    (λ a. is_part r.0 (r.1 + which) (let within : r.1 + r.2 ≤ length (set_entries r.0) = lies r ranges lie in omega (arith, a, within)))
+    (λ b. parts_lie ranges (which - r.2) (others_lie r ranges lie) (fewer r ranges which lie b less))
 
-own_at : (n : ℕ) → slice_get entries n ≡ slice_get (first_part ++ (global_part ++ (holder_part ++ math_part))) n
-own_at n = ap (λ es. slice_get es n) own_parts
+entries_lie : (ranges : List Range) (which : ℕ) → ranges_lie ranges ≡ true → which < length (flat_map range_entries ranges) → slice_get (flat_map range_entries ranges) which ≡ entry_in (part_in ranges which)
+entries_lie [] which lie less = absurd (omega arith)
+entries_lie (r ∷ ranges) which lie less =
+    let own : length (range_entries r) ≡ r.2 = range_count r (lies r ranges lie) in
+    by_range (λ n p. slice_get (range_entries r ++ flat_map range_entries ranges) n ≡ entry_in p) r ranges which
+    (λ a. first_ones (range_entries r) (flat_map range_entries ranges) which (omega (arith, a, own)) ∙ range_at r which a ∙ part_entry r.0 (r.1 + which))
+    (λ b. is_behind (range_entries r) (flat_map range_entries ranges) which r.2 own b ∙ entries_lie ranges (which - r.2) (others_lie r ranges lie) (fewer r ranges which lie b less))
 
-entry_first : (n : ℕ) → n < 3 → slice_get all_entries n ≡ slice_get entries n
-entry_first n less =
-    all_at n
-    ∙ in_front first_part _ n (omega (arith, first_count))
-    ∙ sym (own_at n ∙ in_front first_part _ n (omega (arith, first_count)))
-
-behind_first : (n : ℕ) → 3 ≤ n → slice_get all_entries n ≡ slice_get (math_part ++ (channel_entries ++ (global_part ++ holder_part))) (n - 3)
-behind_first n le = all_at n ∙ is_behind first_part _ n 3 first_count le
-
-own_behind : (n : ℕ) → 3 ≤ n → slice_get entries n ≡ slice_get (global_part ++ (holder_part ++ math_part)) (n - 3)
-own_behind n le = own_at n ∙ is_behind first_part _ n 3 first_count le
-
-own_math : (n : ℕ) → 48 ≤ n → slice_get entries n ≡ slice_get math_part (n - 48)
-own_math n le =
-    own_behind n (omega arith)
-    ∙ is_behind global_part _ (n - 3) 13 global_count (omega arith)
-    ∙ is_behind holder_part math_part (n - 3 - 13) 32 holder_count (omega arith)
-    ∙ ap (λ m. slice_get math_part m) (omega arith)
-
-entry_second : (n : ℕ) → 3 ≤ n → n < 29 → slice_get all_entries n ≡ slice_get entries (n + 45)
-entry_second n le less =
-    behind_first n le
-    ∙ in_front math_part _ (n - 3) (omega (arith, math_count))
-    ∙ sym (own_math (n + 45) (omega arith) ∙ ap (λ m. slice_get math_part m) (omega arith))
-
-behind_second : (n : ℕ) → 29 ≤ n → slice_get all_entries n ≡ slice_get (channel_entries ++ (global_part ++ holder_part)) (n - 29)
-behind_second n le =
-    behind_first n (omega arith)
-    ∙ is_behind math_part _ (n - 3) 26 math_count (omega arith)
-    ∙ ap (λ m. slice_get (channel_entries ++ (global_part ++ holder_part)) m) (omega arith)
-
-entry_third : (n : ℕ) → 29 ≤ n → n < 34 → slice_get all_entries n ≡ slice_get channel_entries (n - 29)
-entry_third n le less = behind_second n le ∙ in_front channel_entries _ (n - 29) (omega arith)
-
--- the others stand together in both
-own_others : (n : ℕ) → 3 ≤ n → n < 48 → slice_get entries n ≡ slice_get (global_part ++ holder_part) (n - 3)
-own_others n le less =
-    own_behind n le
-    ∙ ap (λ es. slice_get es (n - 3)) (sym (append_assoc global_part holder_part math_part))
-    ∙ in_front (global_part ++ holder_part) math_part (n - 3) (omega (arith, length-append global_part holder_part, global_count, holder_count))
-
-entry_last : (n : ℕ) → 34 ≤ n → n < 79 → slice_get all_entries n ≡ slice_get entries (n - 34 + 3)
-entry_last n le less =
-    behind_second n (omega arith)
-    ∙ is_behind channel_entries _ (n - 29) 5 refl (omega arith)
-    ∙ sym (own_others (n - 34 + 3) (omega arith) (omega arith) ∙ ap (λ m. slice_get (global_part ++ holder_part) m) (omega arith))
+pub parts_stand : (which : ℕ) → which < length all_entries → IsPart (part_at which)
+unfolding all_entries
+parts_stand which less = parts_lie RANGES which all_lie less
 
 pub entries_stand : (which : ℕ) → which < length all_entries → slice_get all_entries which ≡ entry_in (part_at which)
-unfolding entry_in
-entries_stand which less =
-    by_range (λ n p. n < length all_entries → slice_get all_entries n ≡ entry_in p)
-    (λ n a l. entry_first n a)
-    (λ n a b l. entry_second n a b)
-    (λ n a b l. entry_third n a b)
-    (λ n a l. entry_last n a (omega (arith, count)))
-    which less
+unfolding all_entries
+entries_stand which less = entries_lie RANGES which all_lie less

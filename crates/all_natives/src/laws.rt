@@ -1,6 +1,6 @@
 //! The laws of the set, as functions that do nothing.
 
-ghost use Rattle.std.specs.Prelude.{◌≡◌, ◌<◌, ℕ, Bool, true, List, ◌∷◌, ◌++◌, codes, length};
+ghost use Rattle.std.specs.Prelude.{◌≡◌, ◌<◌, ℕ, Bool, true, List, ◌∷◌, ◌++◌, length};
 ghost use Rattle.std.specs.List.Sorted.{IsPermutation};
 ghost use Rattle.native_protocol.specs.declared.request.Answer.{Answer};
 ghost use Rattle.native_protocol.specs.declared.request.Answer.TheVariants as answer;
@@ -8,8 +8,10 @@ ghost use Rattle.native_protocol.specs.Running.{behind};
 ghost use Rattle.es_meaning.specs.BuiltIns.{begins_in, built_ins_of, in_set};
 ghost use Rattle.es_meaning.specs.Holders.{are_lawful, built_heap};
 ghost use Rattle.channels.specs.Entries.{channel_entries};
-ghost use Rattle.object_natives.specs.Table.{entries};
-ghost use Rattle.all_natives.specs.Names.{names_of, global_names, math_names, object_names, object_prototype_names, boolean_prototype_names, number_names, number_prototype_names};
+ghost use Rattle.object_natives.specs.Table as objects;
+ghost use Rattle.array_natives.specs.Table as arrays;
+ghost use Rattle.function_natives.specs.Table as functions;
+ghost use Rattle.all_natives.specs.Names.{names_found, names_wanted};
 ghost use Rattle.all_natives.specs.Together.{all_entries, all_begin, all_after, all_asks, all_steps};
 
 use crate::natives::AllNatives;
@@ -21,15 +23,10 @@ pub fn follows()
     ensures set { (names : List (List ℕ)) (which argc : ℕ) (construct : Bool) (answers : List Answer) → which < length all_entries → begins_in (built_ins_of all_entries all_begin (all_after names) all_asks) (in_set which) argc construct answers ≡ all_steps names which argc construct answers }
 {}
 
-/// Each has its holder when it is made, and no name twice; and the names of each holder stand in the order in which the standard's built-ins are listed.
+/// Each has its holder when it is made, and no name twice; none is missing; and the names of each holder stand in the order in which the
+/// standard's built-ins are listed.
 pub fn in_order()
     ensures lawful { are_lawful all_entries ≡ true }
-    ensures whole { IsPermutation all_entries (channel_entries ++ entries) }
-    ensures global { names_of (codes "global") (built_heap all_entries) ≡ global_names }
-    ensures math { names_of (codes "Math") (built_heap all_entries) ≡ math_names }
-    ensures objects { names_of (codes "Object") (built_heap all_entries) ≡ object_names }
-    ensures object_prototype { names_of (codes "Object.prototype") (built_heap all_entries) ≡ object_prototype_names }
-    ensures boolean_prototype { names_of (codes "Boolean.prototype") (built_heap all_entries) ≡ boolean_prototype_names }
-    ensures number { names_of (codes "Number") (built_heap all_entries) ≡ number_names }
-    ensures number_prototype { names_of (codes "Number.prototype") (built_heap all_entries) ≡ number_prototype_names }
+    ensures whole { IsPermutation all_entries (channel_entries ++ (objects.entries ++ (arrays.entries ++ functions.entries))) }
+    ensures names { names_found (built_heap all_entries) ≡ names_wanted }
 {}

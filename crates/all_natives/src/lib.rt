@@ -1,9 +1,10 @@
-//! All built-ins of the product as one set: those of `channels` and those of `object_natives`.
+//! All built-ins of the product as one set: those of `channels`, `object_natives`, `array_natives` and `function_natives`.
 #![tactic(auto)]
 
 mod laws;
 mod natives;
 mod order;
+mod sets;
 
 pub use laws::{follows, in_order};
 pub use natives::{AllNatives, AllState};

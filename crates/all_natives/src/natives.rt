@@ -3,7 +3,7 @@
 ghost use Rattle.std.specs.Prelude.{◌≡◌, IfOk};
 ghost use Rattle.all_natives.specs.Together.{all_entries, all_begin, all_after, all_asks};
 
-use crate::order::{COUNT, Part, Set, part_at};
+use crate::order::{COUNT, Part, part_at};
 use array_natives::ArrayNatives;
 use channels::{ChannelNatives, ChannelState};
 use flow_policy::Policy;
@@ -66,18 +66,17 @@ impl Natives for AllNatives {
 
     ghost asks = { λ _ state. all_asks state };
 
-    #[tactic(auto, unfolding(crate::specs::Together::all_entries, object_natives::specs::Table::entries))]
+    #[tactic(auto, unfolding(crate::specs::Together::all_entries, object_natives::specs::Table::entries, array_natives::specs::Table::entries, function_natives::specs::Table::entries))]
     fn count(&self) -> u32 {
         COUNT
     }
 
     fn entry(&self, which: u32) -> Entry {
-        let Part { set, number } = part_at(which);
-        match set {
-            Set::Channels => self.channels.entry(number),
-            Set::Objects => self.objects.entry(number),
-            Set::Arrays => self.arrays.entry(number),
-            Set::Functions => self.functions.entry(number),
+        match part_at(which) {
+            Part::Channel(n) => self.channels.entry(n),
+            Part::Object(n) => self.objects.entry(n),
+            Part::Array(n) => self.arrays.entry(n),
+            Part::Function(n) => self.functions.entry(n),
         }
     }
 
@@ -88,17 +87,24 @@ impl Natives for AllNatives {
         argc: u64,
         construct: bool,
     ) -> Result<AllState, OutOfMemory> {
-        let Part { set, number } = part_at(which);
-        Ok(match set {
-            Set::Channels => {
-                AllState::Channel(self.channels.start(alloc, number, argc, construct)?)
+        match part_at(which) {
+            Part::Channel(n) => {
+                let state = self.channels.start(alloc, n, argc, construct)?;
+                Ok(AllState::Channel(state))
             }
-            Set::Objects => AllState::Object(self.objects.start(alloc, number, argc, construct)?),
-            Set::Arrays => AllState::Program(self.arrays.start(alloc, number, argc, construct)?),
-            Set::Functions => {
-                AllState::Program(self.functions.start(alloc, number, argc, construct)?)
+            Part::Object(n) => {
+                let state = self.objects.start(alloc, n, argc, construct)?;
+                Ok(AllState::Object(state))
             }
-        })
+            Part::Array(n) => {
+                let state = self.arrays.start(alloc, n, argc, construct)?;
+                Ok(AllState::Program(state))
+            }
+            Part::Function(n) => {
+                let state = self.functions.start(alloc, n, argc, construct)?;
+                Ok(AllState::Program(state))
+            }
+        }
     }
 
     fn next(&self, state: &mut AllState, answer: Answer) -> Result<Request, OutOfMemory> {

@@ -3,12 +3,12 @@
 use crate::shared::{DELETED, ELEMENT, MADE, NOTHING, OTHER, PRESENT};
 use native_programs::Amount::{Of, Passed, Plus, Prior, Whole};
 use native_programs::Ask::{Delete, Ends, Get, Has, Look, Make, Number, Put, ToObject};
-use native_programs::Condition::{Is, Sees, SeesNot};
+use native_programs::Condition::{Is, Sees};
 use native_programs::Count::{Down, Up};
 use native_programs::Counter::{Index, Items, Last, Length};
 use native_programs::End::Return;
-use native_programs::Exit::Stay;
-use native_programs::Line::{Ask, AskIf, EndIf, EndLoop, If, Let, Loop};
+use native_programs::Exit::{NextTurn, Stay};
+use native_programs::Line::{Ask, EndIf, EndLoop, Go, If, Let, Loop};
 use native_programs::Name::{At, Before, BeforeSum, Sum};
 use native_programs::Place::{ArgumentAt, This};
 use native_programs::Sight::{Anything, True};
@@ -51,7 +51,7 @@ pub const PUSH: [Line; 10] = [
 ];
 
 /// `shift` (15.4.4.9).
-pub const SHIFT: [Line; 21] = [
+pub const SHIFT: [Line; 24] = [
     Ask(ToObject(This)),
     Ask(Get(This, Name::Length, MADE)),
     Ask(Number(MADE, Anything, Length, Uint32, Stay)),
@@ -63,10 +63,13 @@ pub const SHIFT: [Line; 21] = [
     Ask(Get(This, At(Index), OTHER)),
     Let(Index, Whole(1)),
     Loop(Up(Index, Length), Has(This, At(Index), PRESENT)),
-    Ask(Look(PRESENT, True, Stay)),
-    AskIf(Sees(True), Get(This, At(Index), ELEMENT)),
-    AskIf(Sees(True), Put(This, Before(Index), ELEMENT)),
-    AskIf(SeesNot(True), Delete(This, Before(Index), DELETED)),
+    Ask(Look(PRESENT, Anything, Stay)),
+    If(Sees(True)),
+    Ask(Get(This, At(Index), ELEMENT)),
+    Ask(Put(This, Before(Index), ELEMENT)),
+    Go(NextTurn),
+    EndIf,
+    Ask(Delete(This, Before(Index), DELETED)),
     EndLoop,
     Ask(Delete(This, Before(Length), DELETED)),
     Let(Length, Prior(Length)),
@@ -76,23 +79,23 @@ pub const SHIFT: [Line; 21] = [
 ];
 
 /// `unshift` (15.4.4.13).
-pub const UNSHIFT: [Line; 18] = [
+pub const UNSHIFT: [Line; 21] = [
     Ask(ToObject(This)),
     Ask(Get(This, Name::Length, MADE)),
     Ask(Number(MADE, Anything, Length, Uint32, Stay)),
     Let(Items, Passed(0)),
     Let(Index, Of(Length)),
     Loop(Down(Index, Last), Has(This, Before(Index), PRESENT)),
-    Ask(Look(PRESENT, True, Stay)),
-    AskIf(Sees(True), Get(This, Before(Index), ELEMENT)),
-    AskIf(Sees(True), Put(This, BeforeSum(Index, Items), ELEMENT)),
-    AskIf(SeesNot(True), Delete(This, BeforeSum(Index, Items), DELETED)),
+    Ask(Look(PRESENT, Anything, Stay)),
+    If(Sees(True)),
+    Ask(Get(This, Before(Index), ELEMENT)),
+    Ask(Put(This, BeforeSum(Index, Items), ELEMENT)),
+    Go(NextTurn),
+    EndIf,
+    Ask(Delete(This, BeforeSum(Index, Items), DELETED)),
     EndLoop,
     Let(Index, Whole(0)),
-    Loop(
-        Up(Index, Items),
-        Put(This, At(Index), ArgumentAt(0, Index)),
-    ),
+    Loop(Up(Index, Items), Put(This, At(Index), ArgumentAt(0, Index))),
     EndLoop,
     Let(Length, Plus(Length, Items)),
     Ask(Make(Fresh::Number(Length), MADE)),

@@ -23,6 +23,9 @@ const GIVES_TRUE: Exit = GoesTo(Give(Fresh::Truth(true)));
 
 const GIVES_FALSE: Exit = GoesTo(Give(Fresh::Truth(false)));
 
+// The callback is called with an element, its index and the whole.
+const CALLED: Line = Ask(Call(Argument(0), Argument(1), Element(ELEMENT, MADE), GAVE));
+
 /// `every` (15.4.4.16).
 pub const EVERY: [Line; 12] = [
     Ask(ToObject(This)),
@@ -33,7 +36,7 @@ pub const EVERY: [Line; 12] = [
     Ask(Look(PRESENT, True, NextTurn)),
     Ask(Get(This, At(Index), ELEMENT)),
     Ask(Make(Fresh::Number(Index), MADE)),
-    Ask(Call(Argument(0), Argument(1), Element(ELEMENT, MADE), GAVE)),
+    CALLED,
     Ask(Look(GAVE, True, GIVES_FALSE)),
     EndLoop,
     Ask(Ends(Give(Fresh::Truth(true)))),
@@ -49,7 +52,7 @@ pub const SOME: [Line; 12] = [
     Ask(Look(PRESENT, True, NextTurn)),
     Ask(Get(This, At(Index), ELEMENT)),
     Ask(Make(Fresh::Number(Index), MADE)),
-    Ask(Call(Argument(0), Argument(1), Element(ELEMENT, MADE), GAVE)),
+    CALLED,
     Ask(Look(GAVE, NotTrue, GIVES_TRUE)),
     EndLoop,
     Ask(Ends(Give(Fresh::Truth(false)))),
@@ -65,7 +68,7 @@ pub const FOR_EACH: [Line; 11] = [
     Ask(Look(PRESENT, True, NextTurn)),
     Ask(Get(This, At(Index), ELEMENT)),
     Ask(Make(Fresh::Number(Index), MADE)),
-    Ask(Call(Argument(0), Argument(1), Element(ELEMENT, MADE), GAVE)),
+    CALLED,
     EndLoop,
     Ask(Ends(Return(NOTHING))),
 ];
@@ -83,7 +86,7 @@ pub const MAP: [Line; 15] = [
     Ask(Look(PRESENT, True, NextTurn)),
     Ask(Get(This, At(Index), ELEMENT)),
     Ask(Make(Fresh::Number(Index), MADE)),
-    Ask(Call(Argument(0), Argument(1), Element(ELEMENT, MADE), GAVE)),
+    CALLED,
     Ask(Define(ARRAY, At(Index), GAVE, true)),
     EndLoop,
     Ask(Ends(Return(ARRAY))),
@@ -100,7 +103,7 @@ pub const FILTER: [Line; 15] = [
     Ask(Look(PRESENT, True, NextTurn)),
     Ask(Get(This, At(Index), ELEMENT)),
     Ask(Make(Fresh::Number(Index), MADE)),
-    Ask(Call(Argument(0), Argument(1), Element(ELEMENT, MADE), GAVE)),
+    CALLED,
     Ask(Look(GAVE, True, NextTurn)),
     Ask(Define(ARRAY, At(Count), ELEMENT, true)),
     Let(Count, Next(Count)),

@@ -4,6 +4,7 @@
 mod constructor;
 mod ends;
 mod iterating;
+mod laws;
 mod natives;
 mod searching;
 mod shared;
@@ -11,4 +12,5 @@ mod splice;
 mod table;
 mod whole;
 
+pub use laws::follows;
 pub use natives::ArrayNatives;

@@ -2,6 +2,7 @@
 
 ghost use Rattle.std.specs.Prelude.{◌≡◌, ◌<◌};
 ghost use Rattle.native_programs.specs.Programs.{program_asks, program_after};
+ghost use Rattle.array_natives.specs.Dispatch as dispatch;
 ghost use Rattle.array_natives.specs.Table as table;
 
 use crate::table::{COUNT, lines_of, row};
@@ -35,7 +36,7 @@ impl Natives for ArrayNatives {
 
     ghost entries = { λ _. table.entries };
 
-    ghost begin = { λ _ which argc construct. table.begin which argc construct };
+    ghost begin = { λ _ which argc construct. dispatch.begin which argc construct };
 
     ghost after = { λ _ state answer. program_after state answer };
 

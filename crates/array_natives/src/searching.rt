@@ -3,7 +3,7 @@
 use crate::shared::{ELEMENT, GAVE, MADE, NOT_FOUND, PRESENT};
 use native_programs::Amount::{Lesser, Plus, Prior, Relative, Whole};
 use native_programs::Ask::{Ends, Get, Has, Look, Number, Same, ToObject};
-use native_programs::Condition::{Below, Given, Is, NotBelow, NotLess};
+use native_programs::Condition::{Below, Given, Is, NotLess};
 use native_programs::Count::{Down, Up};
 use native_programs::Counter::{First, Index, Last, Length};
 use native_programs::End::Give;
@@ -23,7 +23,10 @@ pub const INDEX_OF: [Line; 14] = [
     Ask(Get(This, Name::Length, MADE)),
     Ask(Number(MADE, Anything, Length, Uint32, Stay)),
     When(Is(Length, 0), GoesTo(NOT_FOUND)),
-    AskIf(Given(1), Number(Argument(1), Anything, Index, Integer, Stay)),
+    AskIf(
+        Given(1),
+        Number(Argument(1), Anything, Index, Integer, Stay),
+    ),
     When(NotLess(Index, Length), GoesTo(NOT_FOUND)),
     Let(Index, Relative(Index, Length)),
     Loop(Up(Index, Length), Has(This, At(Index), PRESENT)),
@@ -36,17 +39,18 @@ pub const INDEX_OF: [Line; 14] = [
 ];
 
 /// `lastIndexOf` (15.4.4.15).
-pub const LAST_INDEX_OF: [Line; 21] = [
+pub const LAST_INDEX_OF: [Line; 19] = [
     Ask(ToObject(This)),
     Ask(Get(This, Name::Length, MADE)),
     Ask(Number(MADE, Anything, Length, Uint32, Stay)),
     When(Is(Length, 0), GoesTo(NOT_FOUND)),
     Let(Index, Prior(Length)),
     Let(First, Prior(Length)),
-    AskIf(Given(1), Number(Argument(1), Anything, First, Integer, Stay)),
-    If(NotBelow(First, 0)),
+    AskIf(
+        Given(1),
+        Number(Argument(1), Anything, First, Integer, Stay),
+    ),
     Let(Index, Lesser(First, Index)),
-    EndIf,
     If(Below(First, 0)),
     Let(Index, Plus(Length, First)),
     EndIf,

@@ -4,7 +4,7 @@ use native_programs::Place::Free;
 use native_programs::{End, Exit, Fresh, Place};
 use native_protocol::ErrorKind;
 
-// The registers behind those of conversions: what was made for the next request, what a call gave, an element, whether there is one, what
+// The registers after those of conversions: what was made for the next request, what a call gave, an element, whether there is one, what
 // a deletion gave, a new array, and a value that is kept.
 
 /// What was made for a request.

@@ -3,13 +3,15 @@
 use crate::shared::{ARRAY, DELETED, ELEMENT, MADE, PRESENT};
 use js_values::Class;
 use native_programs::Amount::{Minus, Of, Passed, Plus, Relative, Whole, Within};
-use native_programs::Ask::{Define, Delete, Ends, Get, Has, Look, Make, New, Number, Put, ToObject};
-use native_programs::Condition::{More, Sees, SeesNot};
+use native_programs::Ask::{
+    Define, Delete, Ends, Get, Has, Look, Make, New, Number, Put, ToObject,
+};
+use native_programs::Condition::{More, Sees};
 use native_programs::Count::{Down, Up};
 use native_programs::Counter::{Count, First, Index, Items, Last, Length};
 use native_programs::End::Return;
-use native_programs::Exit::Stay;
-use native_programs::Line::{Ask, AskIf, EndIf, EndLoop, If, Let, Loop};
+use native_programs::Exit::{NextTurn, Stay};
+use native_programs::Line::{Ask, EndIf, EndLoop, Go, If, Let, Loop};
 use native_programs::Name::{At, Before, BeforeSum, Sum};
 use native_programs::Place::{Argument, ArgumentAt, This};
 use native_programs::Sight::{Anything, True};
@@ -18,7 +20,7 @@ use native_programs::{Fresh, Line, Name};
 
 /// `splice`. Steps 1 to 9 copy what is removed: `First` is the start and `Count` the number of removed elements. Steps 12 and 13 move the
 /// rest, down where fewer items come than go, up where more do. Steps 14 to 16 put the items, which are `Items`, and the `length`.
-pub const SPLICE: [Line; 46] = [
+pub const SPLICE: [Line; 52] = [
     Ask(ToObject(This)),
     Ask(New(Class::Array, ARRAY)),
     Ask(Get(This, Name::Length, MADE)),
@@ -29,19 +31,22 @@ pub const SPLICE: [Line; 46] = [
     Let(Last, Minus(Length, First)),
     Let(Count, Within(Count, Last)),
     Loop(Up(Index, Count), Has(This, Sum(First, Index), PRESENT)),
-    Ask(Look(PRESENT, True, Stay)),
-    AskIf(Sees(True), Get(This, Sum(First, Index), ELEMENT)),
-    AskIf(Sees(True), Define(ARRAY, At(Index), ELEMENT, true)),
+    Ask(Look(PRESENT, True, NextTurn)),
+    Ask(Get(This, Sum(First, Index), ELEMENT)),
+    Ask(Define(ARRAY, At(Index), ELEMENT, true)),
     EndLoop,
     Let(Items, Passed(2)),
     If(More(Count, Items)),
     Let(Index, Of(First)),
     Let(Last, Minus(Length, Count)),
     Loop(Up(Index, Last), Has(This, Sum(Index, Count), PRESENT)),
-    Ask(Look(PRESENT, True, Stay)),
-    AskIf(Sees(True), Get(This, Sum(Index, Count), ELEMENT)),
-    AskIf(Sees(True), Put(This, Sum(Index, Items), ELEMENT)),
-    AskIf(SeesNot(True), Delete(This, Sum(Index, Items), DELETED)),
+    Ask(Look(PRESENT, Anything, Stay)),
+    If(Sees(True)),
+    Ask(Get(This, Sum(Index, Count), ELEMENT)),
+    Ask(Put(This, Sum(Index, Items), ELEMENT)),
+    Go(NextTurn),
+    EndIf,
+    Ask(Delete(This, Sum(Index, Items), DELETED)),
     EndLoop,
     Let(Index, Of(Length)),
     Let(Last, Plus(Last, Items)),
@@ -50,11 +55,17 @@ pub const SPLICE: [Line; 46] = [
     EndIf,
     If(More(Items, Count)),
     Let(Index, Minus(Length, Count)),
-    Loop(Down(Index, First), Has(This, BeforeSum(Index, Count), PRESENT)),
-    Ask(Look(PRESENT, True, Stay)),
-    AskIf(Sees(True), Get(This, BeforeSum(Index, Count), ELEMENT)),
-    AskIf(Sees(True), Put(This, BeforeSum(Index, Items), ELEMENT)),
-    AskIf(SeesNot(True), Delete(This, BeforeSum(Index, Items), DELETED)),
+    Loop(
+        Down(Index, First),
+        Has(This, BeforeSum(Index, Count), PRESENT),
+    ),
+    Ask(Look(PRESENT, Anything, Stay)),
+    If(Sees(True)),
+    Ask(Get(This, BeforeSum(Index, Count), ELEMENT)),
+    Ask(Put(This, BeforeSum(Index, Items), ELEMENT)),
+    Go(NextTurn),
+    EndIf,
+    Ask(Delete(This, BeforeSum(Index, Items), DELETED)),
     EndLoop,
     EndIf,
     Let(Index, Whole(0)),

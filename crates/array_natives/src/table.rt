@@ -2,7 +2,10 @@
 
 ghost use Rattle.std.specs.Prelude.{◌≡◌, ◌<◌, length, slice_get, Some};
 ghost use Rattle.native_protocol.specs.Sets.{seen_entry};
-ghost use Rattle.array_natives.specs.Table.{entries, entry_at, built_in_at, lines_of};
+ghost use Rattle.std.specs.Option.{option_map};
+ghost use Rattle.array_natives.specs.Dispatch.{entry_at, built_in_at, lines_of};
+ghost use Rattle.array_natives.specs.Standing.{StandsAt};
+ghost use Rattle.array_natives.specs.Table.{entries};
 
 use crate::constructor::{ARRAY_OF, IS_ARRAY};
 use crate::ends::{POP, PUSH, SHIFT, UNSHIFT};
@@ -51,7 +54,13 @@ pub(crate) const COUNT: u32 = 23;
 const TABLE: [Row; 23] = [
     ("global", "Array", 1, Constructor, BuiltIn::Array),
     ("Array", "isArray", 1, Function, BuiltIn::IsArray),
-    ("Array.prototype", "toString", 0, Function, BuiltIn::ToString),
+    (
+        "Array.prototype",
+        "toString",
+        0,
+        Function,
+        BuiltIn::ToString,
+    ),
     ("Array.prototype", "concat", 1, Function, BuiltIn::Concat),
     ("Array.prototype", "join", 1, Function, BuiltIn::Join),
     ("Array.prototype", "pop", 0, Function, BuiltIn::Pop),
@@ -62,15 +71,33 @@ const TABLE: [Row; 23] = [
     ("Array.prototype", "splice", 2, Function, BuiltIn::Splice),
     ("Array.prototype", "unshift", 1, Function, BuiltIn::Unshift),
     ("Array.prototype", "indexOf", 1, Function, BuiltIn::IndexOf),
-    ("Array.prototype", "lastIndexOf", 1, Function, BuiltIn::LastIndexOf),
+    (
+        "Array.prototype",
+        "lastIndexOf",
+        1,
+        Function,
+        BuiltIn::LastIndexOf,
+    ),
     ("Array.prototype", "every", 1, Function, BuiltIn::Every),
     ("Array.prototype", "some", 1, Function, BuiltIn::Some),
     ("Array.prototype", "forEach", 1, Function, BuiltIn::ForEach),
     ("Array.prototype", "map", 1, Function, BuiltIn::Map),
     ("Array.prototype", "filter", 1, Function, BuiltIn::Filter),
     ("Array.prototype", "reduce", 1, Function, BuiltIn::Reduce),
-    ("Array.prototype", "reduceRight", 1, Function, BuiltIn::ReduceRight),
-    ("Array.prototype", "toLocaleString", 0, LeftFunction, BuiltIn::LeftOut),
+    (
+        "Array.prototype",
+        "reduceRight",
+        1,
+        Function,
+        BuiltIn::ReduceRight,
+    ),
+    (
+        "Array.prototype",
+        "toLocaleString",
+        0,
+        LeftFunction,
+        BuiltIn::LeftOut,
+    ),
     ("Array.prototype", "sort", 1, LeftFunction, BuiltIn::LeftOut),
 ];
 
@@ -82,7 +109,15 @@ pub(crate) fn row(which: u32) -> Row
     ensures entry { seen_entry result.0.now result.1.now result.2 result.3 ≡ entry_at which }
     ensures built_in { result.4 ≡ built_in_at which }
 {
-    TABLE[which as usize]
+    row_at(&TABLE, which)
+}
+
+// The row of a table.
+fn row_at(table: &[Row], which: u32) -> Row
+    requires { which < length table.now }
+    ensures { StandsAt table.now which result }
+{
+    table[which as usize]
 }
 
 /// Its lines, where it is offered.

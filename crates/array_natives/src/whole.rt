@@ -12,7 +12,7 @@ use native_programs::Count::Up;
 use native_programs::Counter::{Count, First, Index, Items, Last, Length};
 use native_programs::End::{Give, Return};
 use native_programs::Exit::{NextTurn, Stay};
-use native_programs::Line::{Append, Ask, AskIf, EndIf, EndLoop, Go, If, Let, Loop, Set, When};
+use native_programs::Line::{Append, Ask, EndIf, EndLoop, Go, If, Let, Loop, Set, When};
 use native_programs::Name::{At, Join, Mirror};
 use native_programs::Place::{Argument, Item, This};
 use native_programs::Sight::{Anything, Array, Callable, Given, True, Valued};
@@ -25,7 +25,7 @@ use native_programs::{Amount, Fresh, Line, Name};
 pub const TO_STRING: [Line; 10] = [
     Ask(ToObject(This)),
     Ask(Get(This, Join, MADE)),
-    Ask(Look(MADE, Callable, Stay)),
+    Ask(Look(MADE, Anything, Stay)),
     If(Sees(Callable)),
     Ask(Call(MADE, This, None, GAVE)),
     Ask(Ends(Return(GAVE))),
@@ -35,13 +35,13 @@ pub const TO_STRING: [Line; 10] = [
     Ask(Ends(Give(Fresh::Text(Result)))),
 ];
 
-/// `concat` (15.4.4.4). The `length` of the result isn't put.
-pub const CONCAT: [Line; 21] = [
+/// `concat` (15.4.4.4). The `length` of the result isn't put. After each array `Length` and `Index` are 0 again.
+pub const CONCAT: [Line; 24] = [
     Ask(ToObject(This)),
     Ask(New(Class::Array, ARRAY)),
     Let(Items, Passed(0)),
     Let(Items, Next(Items)),
-    Loop(Up(First, Items), Look(Item(First), Array, Stay)),
+    Loop(Up(First, Items), Look(Item(First), Anything, Stay)),
     If(SeesNot(Array)),
     Ask(Define(ARRAY, At(Count), Item(First), true)),
     Let(Count, Next(Count)),
@@ -49,13 +49,16 @@ pub const CONCAT: [Line; 21] = [
     EndIf,
     Ask(Get(Item(First), Name::Length, MADE)),
     Ask(Number(MADE, Anything, Length, Uint32, Stay)),
-    Let(Index, Whole(0)),
     Loop(Up(Index, Length), Has(Item(First), At(Index), PRESENT)),
-    Ask(Look(PRESENT, True, Stay)),
-    AskIf(Sees(True), Get(Item(First), At(Index), ELEMENT)),
-    AskIf(Sees(True), Define(ARRAY, At(Count), ELEMENT, true)),
+    Ask(Look(PRESENT, Anything, Stay)),
+    If(Sees(True)),
+    Ask(Get(Item(First), At(Index), ELEMENT)),
+    Ask(Define(ARRAY, At(Count), ELEMENT, true)),
+    EndIf,
     Let(Count, Next(Count)),
     EndLoop,
+    Let(Length, Whole(0)),
+    Let(Index, Whole(0)),
     EndLoop,
     Ask(Ends(Return(ARRAY))),
 ];
@@ -77,7 +80,7 @@ pub const JOIN: [Line; 12] = [
 ];
 
 /// `reverse` (15.4.4.8). The upper place is as far from the end as the lower one is from the start.
-pub const REVERSE: [Line; 21] = [
+pub const REVERSE: [Line; 25] = [
     Ask(ToObject(This)),
     Ask(Get(This, Name::Length, MADE)),
     Ask(Number(MADE, Anything, Length, Uint32, Stay)),
@@ -86,11 +89,15 @@ pub const REVERSE: [Line; 21] = [
     Ask(Get(This, Mirror(Index, Length), OTHER)),
     Ask(Has(This, At(Index), PRESENT)),
     Ask(Has(This, Mirror(Index, Length), OTHER_PRESENT)),
-    Ask(Look(PRESENT, True, Stay)),
+    Ask(Look(PRESENT, Anything, Stay)),
     If(Sees(True)),
-    Ask(Look(OTHER_PRESENT, True, Stay)),
-    AskIf(Sees(True), Put(This, At(Index), OTHER)),
-    AskIf(SeesNot(True), Delete(This, At(Index), DELETED)),
+    Ask(Look(OTHER_PRESENT, Anything, Stay)),
+    If(Sees(True)),
+    Ask(Put(This, At(Index), OTHER)),
+    Ask(Put(This, Mirror(Index, Length), ELEMENT)),
+    Go(NextTurn),
+    EndIf,
+    Ask(Delete(This, At(Index), DELETED)),
     Ask(Put(This, Mirror(Index, Length), ELEMENT)),
     Go(NextTurn),
     EndIf,
@@ -102,7 +109,7 @@ pub const REVERSE: [Line; 21] = [
 ];
 
 /// `slice` (15.4.4.10). The `length` of the result isn't put.
-pub const SLICE: [Line; 16] = [
+pub const SLICE: [Line; 18] = [
     Ask(ToObject(This)),
     Ask(New(Class::Array, ARRAY)),
     Ask(Get(This, Name::Length, MADE)),
@@ -113,9 +120,11 @@ pub const SLICE: [Line; 16] = [
     Ask(Number(Argument(1), Given, Last, Integer, Stay)),
     Let(Last, Relative(Last, Length)),
     Loop(Up(Index, Last), Has(This, At(Index), PRESENT)),
-    Ask(Look(PRESENT, True, Stay)),
-    AskIf(Sees(True), Get(This, At(Index), ELEMENT)),
-    AskIf(Sees(True), Define(ARRAY, At(Count), ELEMENT, true)),
+    Ask(Look(PRESENT, Anything, Stay)),
+    If(Sees(True)),
+    Ask(Get(This, At(Index), ELEMENT)),
+    Ask(Define(ARRAY, At(Count), ELEMENT, true)),
+    EndIf,
     Let(Count, Next(Count)),
     EndLoop,
     Ask(Ends(Return(ARRAY))),

@@ -22,7 +22,10 @@ pub const APPLY: [Line; 10] = [
     If(Sees(Object)),
     Ask(Get(Argument(1), Name::Length, MADE)),
     Ask(Number(MADE, Anything, Length, Uint32, Stay)),
-    Loop(Up(Index, Length), Get(Argument(1), At(Index), Gathered(Index))),
+    Loop(
+        Up(Index, Length),
+        Get(Argument(1), At(Index), Gathered(Index)),
+    ),
     EndLoop,
     EndIf,
     Ask(Call(This, Argument(0), GatheredOnes(Length), GAVE)),

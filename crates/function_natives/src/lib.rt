@@ -3,8 +3,10 @@
 
 mod errors;
 mod functions;
+mod laws;
 mod natives;
 mod shared;
 mod table;
 
+pub use laws::follows;
 pub use natives::FunctionNatives;

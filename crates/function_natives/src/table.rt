@@ -2,7 +2,10 @@
 
 ghost use Rattle.std.specs.Prelude.{◌≡◌, ◌<◌, length, slice_get, Some};
 ghost use Rattle.native_protocol.specs.Sets.{seen_entry};
-ghost use Rattle.function_natives.specs.Table.{entries, entry_at, built_in_at, lines_of};
+ghost use Rattle.std.specs.Option.{option_map};
+ghost use Rattle.function_natives.specs.Dispatch.{entry_at, built_in_at, lines_of};
+ghost use Rattle.function_natives.specs.Standing.{StandsAt};
+ghost use Rattle.function_natives.specs.Table.{entries};
 
 use crate::errors::{ERROR, ERROR_TEXT};
 use crate::functions::{APPLY, BIND, CALL};
@@ -40,8 +43,20 @@ const TABLE: [Row; 13] = [
     ("Function.prototype", "apply", 2, Function, BuiltIn::Apply),
     ("Function.prototype", "call", 1, Function, BuiltIn::Call),
     ("Function.prototype", "bind", 1, Function, BuiltIn::Bind),
-    ("Function.prototype", "toString", 0, LeftFunction, BuiltIn::LeftOut),
-    ("Error.prototype", "toString", 0, Function, BuiltIn::ErrorText),
+    (
+        "Function.prototype",
+        "toString",
+        0,
+        LeftFunction,
+        BuiltIn::LeftOut,
+    ),
+    (
+        "Error.prototype",
+        "toString",
+        0,
+        Function,
+        BuiltIn::ErrorText,
+    ),
 ];
 
 /// The row of a number.
@@ -52,7 +67,15 @@ pub(crate) fn row(which: u32) -> Row
     ensures entry { seen_entry result.0.now result.1.now result.2 result.3 ≡ entry_at which }
     ensures built_in { result.4 ≡ built_in_at which }
 {
-    TABLE[which as usize]
+    row_at(&TABLE, which)
+}
+
+// The row of a table.
+fn row_at(table: &[Row], which: u32) -> Row
+    requires { which < length table.now }
+    ensures { StandsAt table.now which result }
+{
+    table[which as usize]
 }
 
 /// Its lines, where it is offered.

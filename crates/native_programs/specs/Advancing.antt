@@ -1,5 +1,5 @@
 -- Lines that ask for nothing, up to the next that does; and the state of a call.
-use Rattle.std.specs.Prelude.{ℕ, zero, suc, ◌-◌, ◌%◌, Bool, List, [], ◌∷◌, ◌++◌, length, ◌&&◌, nat_le, nat_lt, ℤ, unsigned_abs, Option, Some, None, if◌then◌else◌}
+use Rattle.std.specs.Prelude.{ℕ, zero, suc, Bool, List, [], ◌∷◌, Option, Some, None, if◌then◌else◌}
 use Rattle.native_protocol.specs.declared.request.Answer.{Answer}
 use Rattle.native_protocol.specs.declared.request.ErrorKind.TheVariants as error
 use Rattle.native_protocol.specs.declared.request.Request.{Request}
@@ -33,8 +33,8 @@ use Rattle.native_programs.specs.declared.stage.Stage.TheVariants as stage
 use Rattle.native_programs.specs.declared.values.Values.{Values}
 use Rattle.native_programs.specs.Choosing.{amount_of, holds, turns_of, bumped}
 use Rattle.native_programs.specs.Stages.{stage_asks, stage_after}
-use Rattle.native_programs.specs.Values.{values_begin, counter_in, with_counter, with_text, text_kept, cleared}
-use Rattle.native_programs.specs.Wordings.{worded}
+use Rattle.native_programs.specs.Values.{values_begin, with_counter, with_text, text_kept, cleared}
+use Rattle.native_programs.specs.Wordings.{worded, fits, has_room, appended, pushed}
 
 -- what stands where no line is
 abbrev pub failing : Ask
@@ -49,10 +49,6 @@ behind_ends (suc d) (line.EndIf ∷ ls) = behind_ends d ls
 behind_ends (suc d) (line.Loop c a ∷ ls) = behind_ends (suc (suc d)) ls
 behind_ends (suc d) (line.If c ∷ ls) = behind_ends (suc (suc d)) ls
 behind_ends (suc d) (other ∷ ls) = behind_ends (suc d) ls
-
--- whether both texts together are no longer than a text may be
-abbrev pub fits : List ℕ → List ℕ → Bool
-fits a b = nat_le (length a) 1048576 && nat_le (length b) (1048576 - length a)
 
 -- how many turns are left where one more is taken, if there is one
 abbrev pub one_less : Left → Option Left
@@ -74,23 +70,9 @@ exited (exit.Ends e) ls v next = Asks ls (asking.Ends e) v
 exited exit.NextTurn ls v next = NextTurn v
 exited exit.LeaveLoop ls v next = LeavesLoop v
 
--- ---- texts that grow
-
+-- the run is left
 abbrev pub leaving : Reason → Ask
 leaving r = asking.Ends (end.Leave r)
-
-abbrev pub appended : TextSlot → TextSlot → Values → Values
-appended to from v = with_text to (text_kept v to ++ text_kept v from) v
-
-abbrev pub has_room : List ℕ → Bool
-has_room text = nat_lt (length text) 1048576
-
--- the unit of a number
-abbrev pub unit_of : ℤ → ℕ
-unit_of n = unsigned_abs n % 65536
-
-abbrev pub pushed : TextSlot → Counter → Values → Values
-pushed to unit v = with_text to (text_kept v to ++ unit_of (counter_in v unit) ∷ []) v
 
 abbrev pub advance : ℕ → List Line → Values → Reached
 advance d [] v = Asks [] failing v
@@ -112,7 +94,7 @@ advance (suc d) (line.Loop c a ∷ ls) v = advance (suc (suc d)) ls v
 advance (suc d) (line.If c ∷ ls) v = advance (suc (suc d)) ls v
 advance (suc d) (other ∷ ls) v = advance (suc d) ls v
 
--- ---- what one line comes to
+-- ---- what one line gives
 
 abbrev pub leaves_by : Reason → List Line → Values → Pace
 leaves_by r ls v = Stops (Asks ls (leaving r) v)

@@ -5,6 +5,7 @@ use Rattle.js_number.specs.declared.primitive.Primitive.{Primitive}
 use Rattle.js_number.specs.declared.primitive.Primitive.TheVariants as prims
 use Rattle.js_number.specs.declared.num.Num.TheVariants.{Nan, Int}
 use Rattle.native_protocol.specs.declared.registers.Reg.{Reg}
+use Rattle.native_protocol.specs.declared.request.ErrorKind.TheVariants as error
 use Rattle.native_protocol.specs.declared.request.GivenMarks.{GivenMarks}
 use Rattle.native_protocol.specs.declared.request.Request.{Request}
 use Rattle.native_protocol.specs.declared.request.Request.TheVariants as request
@@ -15,6 +16,8 @@ use Rattle.native_programs.specs.declared.line.Ask.{Ask}
 use Rattle.native_programs.specs.declared.line.Ask.TheVariants as asking
 use Rattle.native_programs.specs.declared.line.End.{End}
 use Rattle.native_programs.specs.declared.line.End.TheVariants as end
+use Rattle.native_programs.specs.declared.line.Exit.{Exit}
+use Rattle.native_programs.specs.declared.line.Exit.TheVariants as exit
 use Rattle.native_programs.specs.declared.line.Fresh.{Fresh}
 use Rattle.native_programs.specs.declared.line.Fresh.TheVariants as fresh
 use Rattle.native_programs.specs.declared.line.Name.{Name}
@@ -87,8 +90,11 @@ abbrev pub end_asks : End → Values → Request
 end_asks (end.Return p) v = request.Return (reg_of v p)
 end_asks (end.Give f) v = request.Make (fresh_of v f) (free_reg v.argc 2)
 end_asks (end.Throw kind) v = request.ThrowNew kind
-end_asks (end.ThrowValue p) v = request.Throw (reg_of v p)
 end_asks (end.Leave r) v = request.Leave (reason_of r)
+
+-- a TypeError is thrown
+abbrev pub type_error : Exit
+type_error = exit.Ends (end.Throw error.TypeError)
 
 -- can be written and configured, and enumerable or not
 abbrev pub data_marks : Bool → GivenMarks
@@ -99,14 +105,8 @@ asks (asking.Get base key to) v = request.Get (reg_of v base) (key_of v key) (re
 asks (asking.Has base key to) v = request.Has (reg_of v base) (key_of v key) (reg_of v to)
 asks (asking.Put base key from) v = request.Put (reg_of v base) (key_of v key) (reg_of v from)
 asks (asking.Delete base key to) v = request.Delete (reg_of v base) (key_of v key) (reg_of v to)
-asks (asking.Own base key n) v = request.Own (reg_of v base) (key_of v key) (free_reg v.argc n) (free_reg v.argc (n + 1)) (free_reg v.argc (n + 2)) (free_reg v.argc (n + 3))
-asks (asking.Keys base all to) v = request.Keys (reg_of v base) all (reg_of v to)
-asks (asking.Extensible base to) v = request.Extensible (reg_of v base) (reg_of v to)
-asks (asking.Prevent base) v = request.Prevent (reg_of v base)
 asks (asking.Copy from to) v = request.Copy (reg_of v from) (reg_of v to)
-asks (asking.Construct callee list to) v = request.Construct (reg_of v callee) (args_of v list) (reg_of v to)
 asks (asking.Bind target this list to) v = request.Bind (reg_of v target) (reg_of v this) (args_of v list) (reg_of v to)
-asks (asking.Proto base to) v = request.Proto (reg_of v base) (reg_of v to)
 asks (asking.Same a b to) v = request.Same (reg_of v a) (reg_of v b) (reg_of v to)
 asks (asking.Make f to) v = request.Make (fresh_of v f) (reg_of v to)
 asks (asking.New class to) v = request.New class None (reg_of v to)

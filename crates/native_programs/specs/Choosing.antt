@@ -106,7 +106,7 @@ passed argc from = pos (argc - from)
 
 -- the unit at a place, and 0 where there is none
 abbrev pub unit_at : List ℕ → ℤ → ℤ
-unit_at units (pos n) = pos (slice_index_or 0 units n)
+unit_at units (pos n) = pos (slice_index_or units n 0)
 unit_at units (negsuc n) = pos 0
 
 abbrev pub amount_of : Values → Amount → ℤ
@@ -138,11 +138,15 @@ abbrev pub is_nan : Option Num → Bool
 is_nan (Some Nan) = true
 is_nan other = false
 
--- whether a number was converted and is another than this
+-- whether a number is another than this
+abbrev pub is_other : Num → ℤ → Bool
+is_other Nan a = true
+is_other (Int n) a = not (int_eq n a)
+
+-- whether a number was converted and is another
 abbrev pub differs : Option Num → ℤ → Bool
 differs None a = false
-differs (Some Nan) a = true
-differs (Some (Int n)) a = not (int_eq n a)
+differs (Some n) a = is_other n a
 
 abbrev pub is_ascii : List ℕ → Bool
 is_ascii units = list_all (λ u. nat_lt u 128) units

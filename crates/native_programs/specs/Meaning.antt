@@ -1,5 +1,5 @@
 -- What the lines of a program mean: steps.
-use Rattle.std.specs.Prelude.{ℕ, zero, suc, Bool, List, [], ◌∷◌, ◌++◌, length, Some, ℤ, if◌then◌else◌}
+use Rattle.std.specs.Prelude.{ℕ, zero, suc, Bool, List, [], ◌∷◌, length, if◌then◌else◌}
 use Rattle.js_number.specs.declared.primitive.Primitive.TheVariants as prims
 use Rattle.native_protocol.specs.declared.hint.Hint.TheVariants as hint
 use Rattle.native_protocol.specs.declared.registers.Reg.{Reg}
@@ -21,12 +21,10 @@ use Rattle.native_programs.specs.declared.line.Reason.TheVariants as reason
 use Rattle.native_programs.specs.declared.lines.Left.{Left}
 use Rattle.native_programs.specs.declared.lines.Left.TheVariants as left
 use Rattle.native_programs.specs.declared.values.Values.{Values}
-use Rattle.native_programs.specs.Advancing.{fits, has_room, appended, pushed}
-use Rattle.native_programs.specs.Asking.{asks, end_asks, free_reg, reg_of, reason_of}
+use Rattle.native_programs.specs.Asking.{asks, end_asks, free_reg, reg_of, reason_of, type_error}
 use Rattle.native_programs.specs.Choosing.{amount_of, holds, sees, turns_of, bumped, whole_of}
-use Rattle.native_programs.specs.Stages.{type_error}
 use Rattle.native_programs.specs.Values.{values_begin, with_counter, with_text, with_held, with_number, with_seen, text_kept, cleared}
-use Rattle.native_programs.specs.Wordings.{worded}
+use Rattle.native_programs.specs.Wordings.{worded, fits, has_room, appended, pushed}
 
 -- ---- steps that clauses are written with
 
@@ -60,7 +58,6 @@ abbrev pub ended : End → Values → Steps
 ended (end.Return p) v = ends (request.Return (reg_of v p))
 ended (end.Give f) v = ask (end_asks (end.Give f) v) (ends (request.Return (free_reg v.argc 2)))
 ended (end.Throw kind) v = ends (request.ThrowNew kind)
-ended (end.ThrowValue p) v = ends (request.Throw (reg_of v p))
 ended (end.Leave r) v = leaves (reason_of r)
 
 -- where an exit leads: it stays, or the loop's next turn, or behind the loop
@@ -75,7 +72,7 @@ abbrev pub asked : Ask → Values → (Values → Steps) → (Exit → Values �
 asked (asking.ToObject at) v next out = look (reg_of v at) (λ s. object_or s (next v) (out type_error v) (out (exit.Ends (end.Leave reason.Wrapper)) v))
 asked (asking.Look at s e) v next out = look (reg_of v at) (λ seen. if sees s seen then next (with_seen seen v) else out e (with_seen seen v))
 asked (asking.Text at s to e) v next out =
-    look (reg_of v at) (λ seen. if sees s seen then text_of_seen seen (reg_of v at) (free_reg v.argc 0) (free_reg v.argc 1) (λ text r. next (with_held (with_text to text v) r)) else out e v)
+    look (reg_of v at) (λ seen. if sees s seen then text_of_seen seen (reg_of v at) (free_reg v.argc 0) (free_reg v.argc 1) (λ text r. next (with_held r (with_text to text v))) else out e v)
 asked (asking.Number at s to how e) v next out =
     look (reg_of v at) (λ seen. if sees s seen then number_of_seen seen (reg_of v at) (free_reg v.argc 0) (free_reg v.argc 1) (λ n. next (with_number n (with_counter to (whole_of how n) v))) else out e v)
 asked (asking.Ends e) v next out = ended e v

@@ -1,24 +1,27 @@
 -- A call of a built-in of a table: its lines, or the name of what isn't offered.
-use Rattle.std.specs.Prelude.{ℕ, Bool, List, ◌++◌, codes, if◌then◌else◌}
-use Rattle.origin_labels.specs.Names.{same_name}
+use Rattle.std.specs.Prelude.{ℕ, Bool, List, Option, Some, None}
 use Rattle.native_protocol.specs.declared.request.Answer.{Answer}
 use Rattle.native_protocol.specs.declared.request.Request.{Request}
 use Rattle.native_protocol.specs.declared.request.Request.TheVariants.{Leave}
-use Rattle.native_protocol.specs.Steps.{Steps, leaves}
+use Rattle.native_protocol.specs.Sets.{SeenEntry}
+use Rattle.native_protocol.specs.Steps.{Steps}
 use Rattle.native_programs.specs.declared.line.Line.{Line}
 use Rattle.native_programs.specs.declared.program.ProgramCall.{ProgramCall}
 use Rattle.native_programs.specs.declared.program.ProgramCall.TheVariants.{Lines, LeftOut}
 use Rattle.native_programs.specs.Advancing.{call_begin, call_asks, call_after}
-
--- what isn't offered has a dotted path, and on the global object its name alone
-abbrev pub path : List ℕ → List ℕ → List ℕ
-path holder name = if same_name holder (codes "global") then name else holder ++ codes "." ++ name
+use Rattle.native_programs.specs.Meaning.{means}
+use Rattle.native_programs.specs.Tables.{path, left_out}
 
 abbrev pub lines_begin : List Line → ℕ → Bool → ProgramCall
 lines_begin lines argc construct = Lines (call_begin lines argc construct)
 
 abbrev pub left_begin : List ℕ → List ℕ → ProgramCall
 left_begin holder name = LeftOut (path holder name)
+
+-- a call of the lines of a built-in, or of one that isn't offered
+abbrev pub program_begin : Option (List Line) → SeenEntry → ℕ → Bool → ProgramCall
+program_begin (Some lines) e argc construct = lines_begin lines argc construct
+program_begin None e argc construct = left_begin e.holder e.name
 
 abbrev pub program_asks : ProgramCall → Request
 program_asks (Lines c) = call_asks c
@@ -28,6 +31,7 @@ abbrev pub program_after : ProgramCall → Answer → ProgramCall
 program_after (Lines c) a = Lines (call_after c a)
 program_after (LeftOut name) a = LeftOut name
 
--- the clause of what isn't offered
-abbrev pub left_out : List ℕ → List ℕ → Steps
-left_out holder name = leaves (path holder name)
+-- the steps of it
+abbrev pub program_steps : Option (List Line) → SeenEntry → ℕ → Bool → Steps
+program_steps (Some lines) e argc construct = means lines argc construct
+program_steps None e argc construct = left_out e

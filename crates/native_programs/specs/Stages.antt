@@ -7,7 +7,6 @@ use Rattle.native_protocol.specs.declared.progress.Progress.{Progress}
 use Rattle.native_protocol.specs.declared.progress.Progress.TheVariants.{Going, Ready}
 use Rattle.native_protocol.specs.declared.request.Answer.{Answer}
 use Rattle.native_protocol.specs.declared.request.Answer.TheVariants as answer
-use Rattle.native_protocol.specs.declared.request.ErrorKind.TheVariants as error
 use Rattle.native_protocol.specs.declared.request.Request.{Request}
 use Rattle.native_protocol.specs.declared.request.Seen.{Seen}
 use Rattle.native_protocol.specs.declared.request.Seen.TheVariants.{Prim, Object}
@@ -33,7 +32,7 @@ use Rattle.native_programs.specs.declared.stage.Outcome.TheVariants.{Next, Exits
 use Rattle.native_programs.specs.declared.stage.Stage.{Stage}
 use Rattle.native_programs.specs.declared.stage.Stage.TheVariants as stage
 use Rattle.native_programs.specs.declared.values.Values.{Values}
-use Rattle.native_programs.specs.Asking.{asks, reg_of, free_reg}
+use Rattle.native_programs.specs.Asking.{asks, reg_of, free_reg, type_error}
 use Rattle.native_programs.specs.Choosing.{sees, whole_of}
 use Rattle.native_programs.specs.Values.{with_counter, with_text, with_held, with_number, with_seen}
 
@@ -44,9 +43,6 @@ stage_asks (stage.Number n to how) v = number_asks n
 
 abbrev pub looked : Sight → Exit → Values → Seen → Outcome
 looked s e v seen = if sees s seen then Next (with_seen seen v) else Exits e (with_seen seen v)
-
-abbrev pub type_error : Exit
-type_error = exit.Ends (end.Throw error.TypeError)
 
 abbrev pub object_seen : Seen → Values → Outcome
 object_seen (Object c) v = Next v
@@ -67,9 +63,12 @@ text_of_place at v = text_begin (reg_of v at) (free_reg v.argc 0) (free_reg v.ar
 abbrev pub text_seen : Place → Sight → TextSlot → Exit → Values → Seen → Outcome
 text_seen at s to e v seen = if sees s seen then text_goes to v (text_after (text_of_place at v) (answer.Seen seen)) else Exits e v
 
+abbrev pub counted_as : Counter → Whole → Num → Values → Values
+counted_as to how n v = with_number n (with_counter to (whole_of how n) v)
+
 abbrev pub number_goes : Counter → Whole → Values → Progress NumberOf Num → Outcome
 number_goes to how v (Going n) = Waits (stage.Number n to how) v
-number_goes to how v (Ready n) = Next (with_number n (with_counter to (whole_of how n) v))
+number_goes to how v (Ready n) = Next (counted_as to how n v)
 
 abbrev pub number_of_place : Place → Values → NumberOf
 number_of_place at v = number_begin (reg_of v at) (free_reg v.argc 0) (free_reg v.argc 1)
@@ -81,7 +80,6 @@ abbrev pub end_after : End → End
 end_after (end.Return p) = end.Return p
 end_after (end.Give f) = end.Return (place.Free 2)
 end_after (end.Throw kind) = end.Throw kind
-end_after (end.ThrowValue p) = end.ThrowValue p
 end_after (end.Leave r) = end.Leave r
 
 abbrev pub asked_after : Ask → Values → Answer → Outcome

@@ -1,13 +1,15 @@
 -- Texts that are computed.
-use Rattle.std.specs.Prelude.{ℕ, ◌+◌, ◌-◌, Bool, true, ◌&&◌, ◌||◌, not, List, [], ◌++◌, length, map, slice_range, codes, nat_le, nat_lt, ℤ, pos, int_lt, int_le, unsigned_abs, if◌then◌else◌}
+use Rattle.std.specs.Prelude.{ℕ, ◌+◌, ◌-◌, ◌%◌, Bool, ◌&&◌, ◌||◌, List, [], ◌∷◌, ◌++◌, length, map, slice_range, codes, nat_le, nat_lt, ℤ, pos, int_lt, unsigned_abs, if◌then◌else◌}
 use Rattle.js_values.specs.declared.inner.Class.{Class}
 use Rattle.js_values.specs.declared.inner.Class.TheVariants as class
 use Rattle.native_protocol.specs.declared.request.Seen.{Seen}
 use Rattle.native_protocol.specs.declared.request.Seen.TheVariants.{Prim, Object}
+use Rattle.native_programs.specs.declared.line.Counter.{Counter}
+use Rattle.native_programs.specs.declared.line.TextSlot.{TextSlot}
 use Rattle.native_programs.specs.declared.line.Wording.{Wording}
 use Rattle.native_programs.specs.declared.line.Wording.TheVariants as wording
 use Rattle.native_programs.specs.declared.values.Values.{Values}
-use Rattle.native_programs.specs.Values.{text_kept}
+use Rattle.native_programs.specs.Values.{counter_in, text_kept, with_text}
 
 -- the units from one place up to another, where these are places in order; else none
 abbrev pub part_of : List ℕ → ℤ → ℤ → List ℕ
@@ -25,18 +27,21 @@ abbrev pub upper : ℕ → ℕ
 upper unit = if is_between 97 122 unit then unit - 32 else unit
 
 -- the class of an object (ECMA-262 15.2.4.2)
+abbrev pub class_name : Class → List ℕ
+class_name class.Object = codes "[object Object]"
+class_name class.Function = codes "[object Function]"
+class_name class.Array = codes "[object Array]"
+class_name class.Arguments = codes "[object Arguments]"
+class_name class.Error = codes "[object Error]"
+class_name class.Math = codes "[object Math]"
+class_name class.Json = codes "[object JSON]"
+class_name class.String = codes "[object String]"
+class_name class.Number = codes "[object Number]"
+class_name class.Boolean = codes "[object Boolean]"
+
 abbrev pub class_text : Seen → List ℕ
 class_text (Prim p) = []
-class_text (Object class.Object) = codes "[object Object]"
-class_text (Object class.Function) = codes "[object Function]"
-class_text (Object class.Array) = codes "[object Array]"
-class_text (Object class.Arguments) = codes "[object Arguments]"
-class_text (Object class.Error) = codes "[object Error]"
-class_text (Object class.Math) = codes "[object Math]"
-class_text (Object class.Json) = codes "[object JSON]"
-class_text (Object class.String) = codes "[object String]"
-class_text (Object class.Number) = codes "[object Number]"
-class_text (Object class.Boolean) = codes "[object Boolean]"
+class_text (Object c) = class_name c
 
 abbrev pub worded : Wording → Values → List ℕ
 worded wording.Comma v = codes ","
@@ -45,3 +50,23 @@ worded wording.Error v = codes "Error"
 worded wording.ClassSeen v = class_text v.seen
 worded (wording.Lower t) v = map lower (text_kept v t)
 worded (wording.Upper t) v = map upper (text_kept v t)
+
+-- ---- texts that grow
+
+-- whether both texts together are no longer than a text may be
+abbrev pub fits : List ℕ → List ℕ → Bool
+fits a b = nat_le (length a) 1048576 && nat_le (length b) (1048576 - length a)
+
+-- whether a text may have one more unit
+abbrev pub has_room : List ℕ → Bool
+has_room text = nat_lt (length text) 1048576
+
+-- the unit of a number
+abbrev pub unit_of : ℤ → ℕ
+unit_of n = unsigned_abs n % 65536
+
+abbrev pub pushed : TextSlot → Counter → Values → Values
+pushed to unit v = with_text to (text_kept v to ++ unit_of (counter_in v unit) ∷ []) v
+
+abbrev pub appended : TextSlot → TextSlot → Values → Values
+appended to from v = with_text to (text_kept v to ++ text_kept v from) v

@@ -1,7 +1,8 @@
 //! Lines that ask for nothing, up to the next that does.
 
 ghost use Rattle.std.specs.Prelude.{◌≡◌, IfOk};
-ghost use Rattle.native_programs.specs.Advancing.{advance, pace, appends, pushes, unit_of, leaves_by, exits, enters, one_less, fits};
+ghost use Rattle.native_programs.specs.Advancing.{advance, pace, appends, pushes, leaves_by, exits, enters, one_less};
+ghost use Rattle.native_programs.specs.Wordings.{unit_of, fits};
 ghost use Rattle.native_programs.specs.declared.line.Line.TheVariants as line;
 
 use crate::kept::Kept;

@@ -1,7 +1,7 @@
 //! What decides without a look.
 
 ghost use Rattle.std.specs.Prelude.{◌≡◌};
-ghost use Rattle.native_programs.specs.Choosing.{holds, is_last, is_nan, differs, is_ascii};
+ghost use Rattle.native_programs.specs.Choosing.{holds, is_last, is_nan, differs, is_other, is_ascii};
 
 use crate::line::Condition;
 use crate::sights::sees;
@@ -57,8 +57,16 @@ fn differs(number: Option<Num>, other: i64) -> bool
 {
     match number {
         None => false,
-        Some(Num::Nan) => true,
-        Some(Num::Int(number)) => number.get() != other,
+        Some(number) => is_other(number, other),
+    }
+}
+
+fn is_other(number: Num, other: i64) -> bool
+    ensures { result ≡ is_other number other }
+{
+    match number {
+        Num::Nan => true,
+        Num::Int(number) => number.get() != other,
     }
 }
 

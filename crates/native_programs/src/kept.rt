@@ -1,8 +1,8 @@
 //! What a call keeps, in a box, so that it is handed on in one word.
 
-ghost use Rattle.std.specs.Prelude.{◌≡◌, IfOk};
+ghost use Rattle.std.specs.Prelude.{◌≡◌, ◌+ℤ◌, IfOk};
 ghost use Rattle.native_programs.specs.Choosing.{bumped};
-ghost use Rattle.native_programs.specs.Values.{with_counter, with_text, with_held, with_number, with_seen, cleared, values_begin};
+ghost use Rattle.native_programs.specs.Values.{counter_in, with_counter, with_text, with_held, with_number, with_seen, cleared, values_begin};
 
 use crate::amounts::plus;
 use crate::line::{Count, Counter, TextSlot};
@@ -90,19 +90,22 @@ impl Kept {
     pub(crate) fn bump(&mut self, alloc: Global, count: Count) -> Result<(), OutOfMemory>
         ensures { IfOk result (λ _. self.new ≡ bumped count self.old) }
     {
-        self.clear(alloc);
         match count {
-            Count::Up(index, _) => {
-                let next = plus(self.values.counter(index), 1)?;
-                self.set_counter(index, next);
+            Count::Up(index, _) => self.go_on(alloc, index, 1),
+            Count::Down(index, _) => self.go_on(alloc, index, -1),
+            Count::Endless => {
+                self.clear(alloc);
                 Ok(())
             }
-            Count::Down(index, _) => {
-                let next = plus(self.values.counter(index), -1)?;
-                self.set_counter(index, next);
-                Ok(())
-            }
-            Count::Endless => Ok(()),
         }
+    }
+
+    fn go_on(&mut self, alloc: Global, index: Counter, by: i64) -> Result<(), OutOfMemory>
+        ensures { IfOk result (λ _. self.new ≡ with_counter index (counter_in self.old index +ℤ by) (cleared self.old)) }
+    {
+        let next = plus(self.values.counter(index), by)?;
+        self.clear(alloc);
+        self.set_counter(index, next);
+        Ok(())
     }
 }

@@ -85,7 +85,6 @@ pub enum End {
     Return(Place),
     Give(Fresh),
     Throw(ErrorKind),
-    ThrowValue(Place),
     Leave(Reason),
 }
 
@@ -149,22 +148,14 @@ pub enum Ask {
     Has(Place, Name, Place),
     Put(Place, Name, Place),
     Delete(Place, Name, Place),
-    /// The own property: its marks, value, getter and setter are put into four registers behind the arguments, from one on.
-    Own(Place, Name, u8),
     /// The definition of a property with a value that can be written and configured, enumerable or not.
     Define(Place, Name, Place, bool),
-    /// The own keys: all, or the enumerable ones.
-    Keys(Place, bool, Place),
-    Proto(Place, Place),
-    Extensible(Place, Place),
-    Prevent(Place),
     Copy(Place, Place),
     Same(Place, Place, Place),
     Make(Fresh, Place),
     New(Class, Place),
     NewFrom(Class, Place, Place),
     Call(Place, Place, Args, Place),
-    Construct(Place, Args, Place),
     Bind(Place, Place, Args, Place),
     /// ToObject of what a register holds.
     ToObject(Place),

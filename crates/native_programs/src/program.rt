@@ -1,7 +1,8 @@
 //! A call of a built-in of a table: its lines, or the name of what isn't offered.
 
 ghost use Rattle.std.specs.Prelude.{◌≡◌, IfOk};
-ghost use Rattle.native_programs.specs.Programs.{left_begin, lines_begin, program_asks, program_after, path};
+ghost use Rattle.native_programs.specs.Programs.{left_begin, lines_begin, program_asks, program_after};
+ghost use Rattle.native_programs.specs.Tables.{path};
 
 use crate::call::Call;
 use crate::line::Line;

@@ -6,7 +6,7 @@ ghost use Rattle.native_programs.specs.Values.{counter_in};
 ghost use Rattle.std.specs.Fmt.{signed_decimal};
 ghost use Rattle.native_protocol.specs.Steps.{reg};
 ghost use Rattle.js_number.specs.declared.num.Num.TheVariants as nums;
-ghost use Rattle.js_number.specs.declared.primitive.Primitive.TheVariants.{Num};
+ghost use Rattle.js_number.specs.declared.primitive.Primitive.TheVariants as prims;
 
 use crate::amounts::{minus, plus};
 use crate::line::{Args, Counter, Fresh, Name, Place};
@@ -156,7 +156,7 @@ fn digits(alloc: Global, number: i64) -> Result<Text, OutOfMemory>
 
 // The number as a value. One that is none comes from more than memory holds.
 fn whole(number: i64) -> Result<Primitive, OutOfMemory>
-    ensures { IfOk result (λ value. value ≡ Num (nums.Int number)) }
+    ensures { IfOk result (λ value. value ≡ prims.Num (nums.Int number)) }
 {
     Ok(Primitive::Num(Num::Int(Int::new(number).ok_or(OutOfMemory)?)))
 }

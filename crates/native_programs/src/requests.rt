@@ -3,7 +3,6 @@
 ghost use Rattle.std.specs.Prelude.{◌≡◌, IfOk, Some, None};
 ghost use Rattle.native_programs.specs.Asking.{asks, reg_of, key_of, fresh_of, args_of, end_asks, reason_of, data_marks};
 ghost use Rattle.native_protocol.specs.declared.request.Request.TheVariants as request;
-ghost use Rattle.native_programs.specs.declared.line.Ask.TheVariants as asking;
 ghost use Rattle.std.specs.Option.{option_map};
 
 use crate::line::{Args, Ask, End, Fresh, Name, Place, Reason};
@@ -26,19 +25,13 @@ impl Values {
             Ask::Has(base, name, to) => self.has(alloc, base, name, to),
             Ask::Put(base, name, from) => self.put(alloc, base, name, from),
             Ask::Delete(base, name, to) => self.delete(alloc, base, name, to),
-            Ask::Own(base, name, first) => self.own(alloc, base, name, first),
             Ask::Define(base, name, from, seen) => self.define(alloc, base, name, from, seen),
-            Ask::Keys(base, all, to) => self.keys(base, all, to),
-            Ask::Proto(base, to) => self.proto(base, to),
-            Ask::Extensible(base, to) => self.extensible(base, to),
-            Ask::Prevent(base) => self.prevent(base),
             Ask::Copy(from, to) => self.copied(from, to),
             Ask::Same(a, b, to) => self.same(a, b, to),
             Ask::Make(fresh, to) => self.made(alloc, fresh, to),
             Ask::New(class, to) => self.created(class, None, to),
             Ask::NewFrom(class, proto, to) => self.created(class, Some(proto), to),
             Ask::Call(callee, this, args, to) => self.called(alloc, callee, this, args, to),
-            Ask::Construct(callee, args, to) => self.constructed(alloc, callee, args, to),
             Ask::Bind(target, this, args, to) => self.bound(alloc, target, this, args, to),
             Ask::ToObject(at) => self.look(at),
             Ask::Look(at, _, _) => self.look(at),
@@ -112,26 +105,6 @@ impl Values {
         })
     }
 
-    fn own(
-        &self,
-        alloc: Global,
-        base: Place,
-        name: Name,
-        first: u8,
-    ) -> Result<Request, OutOfMemory>
-        ensures { IfOk result (λ r. r ≡ asks (asking.Own base name first) self.now) }
-    {
-        let first = u64::from(first);
-        Ok(Request::Own {
-            base: self.register(base)?,
-            key: self.key(alloc, name)?,
-            marks: self.free(first)?,
-            value: self.free(first + 1)?,
-            get: self.free(first + 2)?,
-            set: self.free(first + 3)?,
-        })
-    }
-
     fn define(
         &self,
         alloc: Global,
@@ -153,42 +126,6 @@ impl Values {
             value: Some(self.register(from)?),
             get: None,
             set: None,
-        })
-    }
-
-    fn keys(&self, base: Place, all: bool, to: Place) -> Result<Request, OutOfMemory>
-        ensures { IfOk result (λ r. r ≡ request.Keys (reg_of self.now base) all (reg_of self.now to)) }
-    {
-        Ok(Request::Keys {
-            base: self.register(base)?,
-            all,
-            to: self.register(to)?,
-        })
-    }
-
-    fn proto(&self, base: Place, to: Place) -> Result<Request, OutOfMemory>
-        ensures { IfOk result (λ r. r ≡ request.Proto (reg_of self.now base) (reg_of self.now to)) }
-    {
-        Ok(Request::Proto {
-            base: self.register(base)?,
-            to: self.register(to)?,
-        })
-    }
-
-    fn extensible(&self, base: Place, to: Place) -> Result<Request, OutOfMemory>
-        ensures { IfOk result (λ r. r ≡ request.Extensible (reg_of self.now base) (reg_of self.now to)) }
-    {
-        Ok(Request::Extensible {
-            base: self.register(base)?,
-            to: self.register(to)?,
-        })
-    }
-
-    fn prevent(&self, base: Place) -> Result<Request, OutOfMemory>
-        ensures { IfOk result (λ r. r ≡ request.Prevent (reg_of self.now base)) }
-    {
-        Ok(Request::Prevent {
-            base: self.register(base)?,
         })
     }
 
@@ -257,22 +194,6 @@ impl Values {
         })
     }
 
-    fn constructed(
-        &self,
-        alloc: Global,
-        callee: Place,
-        args: Args,
-        to: Place,
-    ) -> Result<Request, OutOfMemory>
-        ensures { IfOk result (λ r. r ≡ request.Construct (reg_of self.now callee) (args_of self.now args) (reg_of self.now to)) }
-    {
-        Ok(Request::Construct {
-            callee: self.register(callee)?,
-            args: self.arguments(alloc, args)?,
-            to: self.register(to)?,
-        })
-    }
-
     fn bound(
         &self,
         alloc: Global,
@@ -309,9 +230,6 @@ impl Values {
             },
             End::Give(fresh) => self.made(alloc, fresh, GIVEN)?,
             End::Throw(kind) => Request::ThrowNew { kind },
-            End::ThrowValue(place) => Request::Throw {
-                from: self.register(place)?,
-            },
             End::Leave(reason) => Request::Leave {
                 name: reason_name(alloc, reason)?,
             },

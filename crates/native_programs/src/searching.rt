@@ -1,58 +1,62 @@
 //! Places of a text in another.
 
-ghost use Rattle.std.specs.Prelude.{◌≡◌, pos, IfOk};
-ghost use Rattle.native_programs.specs.Searching.{found_in, found_back_in, place_in, piece_end};
+ghost use Rattle.std.specs.Prelude.{◌≡◌, ◌≤◌, ◌+◌, ◌-◌, length, pos, IfOk};
+ghost use Rattle.native_programs.specs.Searching.{found_in, found_back_in, smallest_from, largest_below, stands_at, piece_end};
 
 use flow_text::OutOfMemory;
 
-/// The first place from one on at which a text begins in another; -1 where there is none.
+/// The first place from one on at which a text stands in another; -1 where there is none.
 pub(crate) fn found_in(subject: &[u16], sought: &[u16], from: i64) -> Result<i64, OutOfMemory>
     ensures { IfOk result (λ n. n ≡ found_in subject.now sought.now from) }
 {
-    let start = from.unsigned_abs();
-    if start > subject.len() as u64 {
-        return Ok(-1);
-    }
-    match place_in(&subject[start as usize..], sought, start as usize)? {
+    match first_place(subject, sought, from.unsigned_abs() as usize) {
         Some(place) => number_of(place),
         None => Ok(-1),
     }
 }
 
-// The first place at which it begins in what stands from a place on.
-fn place_in(units: &[u16], sought: &[u16], at: usize) -> Result<Option<usize>, OutOfMemory>
-    ensures { IfOk result (λ place. place ≡ place_in units.now sought.now at) }
+// The first place from one on at which it stands.
+fn first_place(subject: &[u16], sought: &[u16], start: usize) -> Option<usize>
+    ensures { result ≡ smallest_from (stands_at subject.now sought.now) start ((length subject.now + 1) - start) }
 {
-    let mut rest = units;
-    let mut place = at;
-    loop {
-        if rest.starts_with(sought) {
-            return Ok(Some(place));
-        }
-        match rest {
-            [] => return Ok(None),
-            [_, others @ ..] => {
-                rest = others;
-                place = place.checked_add(1).ok_or(OutOfMemory)?;
-            }
+    for place in start..subject.len() + 1 {
+        if stands_at(subject, sought, place) {
+            return Some(place);
         }
     }
+    None
 }
 
-/// The last place up to one at which a text begins in another; -1 where there is none.
+/// The last place up to one at which a text stands in another; -1 where there is none.
 pub(crate) fn found_back_in(subject: &[u16], sought: &[u16], from: i64) -> Result<i64, OutOfMemory>
     ensures { IfOk result (λ n. n ≡ found_back_in subject.now sought.now from) }
 {
-    let mut place = from.unsigned_abs().min(subject.len() as u64) as usize;
-    loop {
-        if subject[place..].starts_with(sought) {
-            return number_of(place);
-        }
-        if place == 0 {
-            return Ok(-1);
-        }
-        place -= 1;
+    let last = (from.unsigned_abs() as usize).min(subject.len());
+    match last_place(subject, sought, last) {
+        Some(place) => number_of(place),
+        None => Ok(-1),
     }
+}
+
+// The last place up to one at which it stands.
+fn last_place(subject: &[u16], sought: &[u16], last: usize) -> Option<usize>
+    requires { last ≤ length subject.now }
+    ensures { result ≡ largest_below (stands_at subject.now sought.now) (last + 1) }
+{
+    for back in 0..last + 1 {
+        if stands_at(subject, sought, last - back) {
+            return Some(last - back);
+        }
+    }
+    None
+}
+
+// Whether a text stands at a place of another.
+fn stands_at(subject: &[u16], sought: &[u16], place: usize) -> bool
+    requires { place ≤ length subject.now }
+    ensures { result ≡ stands_at subject.now sought.now place }
+{
+    subject[place..].starts_with(sought)
 }
 
 /// Where the piece that begins at a place ends (ECMA-262 15.5.4.14, step 13): before the next separator, which doesn't stand at the end; for

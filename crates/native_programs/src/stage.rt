@@ -1,7 +1,7 @@
 //! What a line that asks is at: its own request, or one of a conversion.
 
 ghost use Rattle.std.specs.Prelude.{◌≡◌, IfOk};
-ghost use Rattle.native_programs.specs.Stages.{stage_asks, stage_after, asked_after, object_seen, text_seen, text_goes, number_seen, number_goes, end_after, looked, kept_as};
+ghost use Rattle.native_programs.specs.Stages.{stage_asks, stage_after, asked_after, object_seen, text_seen, text_goes, number_seen, number_goes, counted_as, end_after, looked, kept_as};
 
 use crate::amounts::whole_of;
 use crate::kept::Kept;
@@ -86,19 +86,13 @@ fn asked(alloc: Global, ask: Ask, values: Kept, answer: Answer) -> Result<Outcom
         | Ask::Has(_, _, _)
         | Ask::Put(_, _, _)
         | Ask::Delete(_, _, _)
-        | Ask::Own(_, _, _)
         | Ask::Define(_, _, _, _)
-        | Ask::Keys(_, _, _)
-        | Ask::Proto(_, _)
-        | Ask::Extensible(_, _)
-        | Ask::Prevent(_)
         | Ask::Copy(_, _)
         | Ask::Same(_, _, _)
         | Ask::Make(_, _)
         | Ask::New(_, _)
         | Ask::NewFrom(_, _, _)
         | Ask::Call(_, _, _, _)
-        | Ask::Construct(_, _, _)
         | Ask::Bind(_, _, _, _) => Ok(Outcome::Next(values)),
     }
 }
@@ -198,17 +192,22 @@ fn number_seen(
 fn number_goes(
     to: Counter,
     whole: Whole,
-    mut values: Kept,
+    values: Kept,
     progress: Progress<NumberOf, Num>,
 ) -> Outcome
     ensures { result ≡ number_goes to whole values progress }
 {
     match progress {
         Progress::Going(number) => Outcome::Waits(Stage::Number(number, to, whole), values),
-        Progress::Ready(number) => {
-            values.set_counter(to, whole_of(whole, number));
-            values.set_number(number);
-            Outcome::Next(values)
-        }
+        Progress::Ready(number) => Outcome::Next(with_number(to, whole, values, &number)),
     }
+}
+
+// The whole number of it is kept, and the number.
+fn with_number(to: Counter, whole: Whole, mut values: Kept, number: &Num) -> Kept
+    ensures { result ≡ counted_as to whole number.now values }
+{
+    values.set_counter(to, whole_of(whole, *number));
+    values.set_number(*number);
+    values
 }

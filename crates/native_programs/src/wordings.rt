@@ -1,7 +1,7 @@
 //! Texts that are computed.
 
 ghost use Rattle.std.specs.Prelude.{◌≡◌, IfOk, map};
-ghost use Rattle.native_programs.specs.Wordings.{worded, class_text, part_of, lower, upper};
+ghost use Rattle.native_programs.specs.Wordings.{worded, class_text, class_name, part_of, lower, upper};
 
 use crate::line::Wording;
 use crate::values::Values;
@@ -87,23 +87,29 @@ fn upper(unit: u16) -> u16
 }
 
 // The class of an object (ECMA-262 15.2.4.2).
-#[tactic(auto, using(crate::proofs::Words::words))]
 fn class_text(alloc: Global, seen: &Seen) -> Result<Text, OutOfMemory>
     ensures { IfOk result (λ text. text ≡ class_text seen.now) }
 {
     match seen {
         Seen::Prim(_) => Ok(Text::new(alloc)),
-        Seen::Object(class) => match class {
-            Class::Object => Text::spelled(alloc, "[object Object]"),
-            Class::Function => Text::spelled(alloc, "[object Function]"),
-            Class::Array => Text::spelled(alloc, "[object Array]"),
-            Class::Arguments => Text::spelled(alloc, "[object Arguments]"),
-            Class::Error => Text::spelled(alloc, "[object Error]"),
-            Class::Math => Text::spelled(alloc, "[object Math]"),
-            Class::Json => Text::spelled(alloc, "[object JSON]"),
-            Class::String => Text::spelled(alloc, "[object String]"),
-            Class::Number => Text::spelled(alloc, "[object Number]"),
-            Class::Boolean => Text::spelled(alloc, "[object Boolean]"),
-        },
+        Seen::Object(class) => class_name(alloc, *class),
+    }
+}
+
+#[tactic(auto, using(crate::proofs::Words::words))]
+fn class_name(alloc: Global, class: Class) -> Result<Text, OutOfMemory>
+    ensures { IfOk result (λ text. text ≡ class_name class) }
+{
+    match class {
+        Class::Object => Text::spelled(alloc, "[object Object]"),
+        Class::Function => Text::spelled(alloc, "[object Function]"),
+        Class::Array => Text::spelled(alloc, "[object Array]"),
+        Class::Arguments => Text::spelled(alloc, "[object Arguments]"),
+        Class::Error => Text::spelled(alloc, "[object Error]"),
+        Class::Math => Text::spelled(alloc, "[object Math]"),
+        Class::Json => Text::spelled(alloc, "[object JSON]"),
+        Class::String => Text::spelled(alloc, "[object String]"),
+        Class::Number => Text::spelled(alloc, "[object Number]"),
+        Class::Boolean => Text::spelled(alloc, "[object Boolean]"),
     }
 }

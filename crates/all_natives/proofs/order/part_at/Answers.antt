@@ -1,12 +1,10 @@
-use Rattle.std.proofs.Common.{arith}
-use Rattle.all_natives.proofs.TogetherLaws.{object_count, count}
+use Rattle.std.proofs.Common.{sym, subst}
+use Rattle.all_natives.specs.Together.{IsPart}
+use Rattle.all_natives.proofs.TogetherLaws.{all_lie, parts_stand}
 use Rattle.all_natives.proofs.order.part_at.Goals as goal
 
-pub returns-then-which-lt3-clause-there : goal.returns-then-which-lt3-clause-there
-returns-then-which-lt3-clause-there c = omega (arith, object_count, c.if-which-lt3.true)
+pub part_in-requires : goal.part_in-requires
+part_in-requires c = all_lie
 
-pub returns-then-which-lt29-clause-there : goal.returns-then-which-lt29-clause-there
-returns-then-which-lt29-clause-there c = omega (arith, object_count, c.if-which-lt29.true)
-
-pub returns-else-which-lt34-clause-there : goal.returns-else-which-lt34-clause-there
-returns-else-which-lt34-clause-there c = omega (arith, object_count, count, c.requires)
+pub returns-clause-there : goal.returns-clause-there
+returns-clause-there c = subst IsPart (sym c.part_in.ensures) (parts_stand c.args.which c.requires)

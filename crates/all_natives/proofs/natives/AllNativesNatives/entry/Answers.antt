@@ -9,3 +9,11 @@ returns-in-Channel c = entries_stand c.args.which c.requires ∙ ap entry_in (sy
 pub returns-in-Object : goal.returns-in-Object
 unfolding entry_in
 returns-in-Object c = entries_stand c.args.which c.requires ∙ ap entry_in (sym c.in-Object.ensures.part) ∙ c.entry-in-Object.ensures
+
+pub returns-in-Array : goal.returns-in-Array
+unfolding entry_in
+returns-in-Array c = entries_stand c.args.which c.requires ∙ ap entry_in (sym c.in-Array.ensures.part) ∙ c.entry-in-Array.ensures
+
+pub returns-in-Function : goal.returns-in-Function
+unfolding entry_in
+returns-in-Function c = entries_stand c.args.which c.requires ∙ ap entry_in (sym c.in-Function.ensures.part) ∙ c.entry-in-Function.ensures

@@ -1,0 +1,10 @@
+pub mod Constructor
+pub mod Dispatch
+pub mod Ends
+pub mod Iterating
+pub mod Searching
+pub mod Shared
+pub mod Splicing
+pub mod Standing
+pub mod Table
+pub mod Whole

@@ -1,0 +1,4 @@
+pub mod ErrorLaws
+pub mod FollowLaws
+pub mod FunctionLaws
+pub mod TableLaws

@@ -1,0 +1,11 @@
+pub mod Backwards
+pub mod EachLaws
+pub mod LoopLaws
+pub mod PaceLaws
+pub mod PlaceLaws
+pub mod ProgramLaws
+pub mod RegisterLaws
+pub mod RunLaws
+pub mod SetLaws
+pub mod StageLaws
+pub mod Words
