@@ -1,5 +1,5 @@
 -- Steps that agree on short lists of answers, and loops without an end.
-use Rattle.std.proofs.Common.{◌≡◌, ℕ, zero, suc, ◌<◌, Bool, true, false, List, [], ◌∷◌, ◌++◌, length, codes, if◌then◌else◌, refl, arith}
+use Rattle.std.proofs.Common.{◌≡◌, ℕ, zero, suc, ◌<◌, Bool, true, false, List, [], ◌∷◌, length, codes, if◌then◌else◌, refl, arith}
 use mathlib.Core.Path.{fun_ext}
 use Rattle.js_number.specs.declared.num.Num.{Num}
 use Rattle.js_number.specs.declared.primitive.Primitive.{Primitive}

@@ -96,7 +96,6 @@ fn class_text(alloc: Global, seen: &Seen) -> Result<Text, OutOfMemory>
     }
 }
 
-#[tactic(auto, using(crate::proofs::Words::words))]
 fn class_name(alloc: Global, class: Class) -> Result<Text, OutOfMemory>
     ensures { IfOk result (λ text. text ≡ class_name class) }
 {
