@@ -164,7 +164,10 @@ fn append(
     ensures { IfOk result (λ paced. paced ≡ appends to from more.now values) }
 {
     if fits(values.values().text(to), values.values().text(from)) {
-        let text = values.values().text(to).concat(alloc, values.values().text(from))?;
+        let text = values
+            .values()
+            .text(to)
+            .concat(alloc, values.values().text(from))?;
         values.set_text(to, text);
         Ok(Pace::On(Lines::of(more), values))
     } else {

@@ -41,13 +41,7 @@ impl Values {
         }
     }
 
-    fn get(
-        &self,
-        alloc: Global,
-        base: Place,
-        name: Name,
-        to: Place,
-    ) -> Result<Request, OutOfMemory>
+    fn get(&self, alloc: Global, base: Place, name: Name, to: Place) -> Result<Request, OutOfMemory>
         ensures { IfOk result (λ r. r ≡ request.Get (reg_of self.now base) (key_of self.now name) (reg_of self.now to)) }
     {
         Ok(Request::Get {
@@ -57,13 +51,7 @@ impl Values {
         })
     }
 
-    fn has(
-        &self,
-        alloc: Global,
-        base: Place,
-        name: Name,
-        to: Place,
-    ) -> Result<Request, OutOfMemory>
+    fn has(&self, alloc: Global, base: Place, name: Name, to: Place) -> Result<Request, OutOfMemory>
         ensures { IfOk result (λ r. r ≡ request.Has (reg_of self.now base) (key_of self.now name) (reg_of self.now to)) }
     {
         Ok(Request::Has {
@@ -157,12 +145,7 @@ impl Values {
         })
     }
 
-    fn created(
-        &self,
-        class: Class,
-        proto: Option<Place>,
-        to: Place,
-    ) -> Result<Request, OutOfMemory>
+    fn created(&self, class: Class, proto: Option<Place>, to: Place) -> Result<Request, OutOfMemory>
         ensures { IfOk result (λ r. r ≡ request.New class (option_map (reg_of self.now) proto) (reg_of self.now to)) }
     {
         let proto = match proto {
