@@ -1,26 +1,11 @@
-// A line such as "tea 2" has several words. They are cut by hand.
-function words(line) {
-  var list = [], word = "", i;
-  for (i = 0; i < line.length; i++) {
-    if (line[i] === " ") {
-      list[list.length] = word;
-      word = "";
-    } else {
-      word += line[i];
-    }
-  }
-  list[list.length] = word;
-  return list;
-}
-
 // What a customer has ordered: the lines of a bill, and their sum. A thing without a price costs NaN, the only number that isn't equal to itself.
 function bill(name) {
   var lines = [], sum = 0, line = read(name), order, cost;
   while (line !== undefined) {
-    order = words(line);
+    order = line.split(" ");
     cost = prices[order[0]] * order[1];
     if (cost === cost) sum += cost;
-    lines[lines.length] = order[1] + " " + order[0] + ": " + (cost === cost ? cost : "not sold");
+    lines.push(order[1] + " " + order[0] + ": " + (cost === cost ? cost : "not sold"));
     line = read(name);
   }
   return { lines: lines, sum: sum };
@@ -28,7 +13,7 @@ function bill(name) {
 
 var prices = {}, line = read("price"), pair;
 while (line !== undefined) {
-  pair = words(line);
+  pair = line.split(" ");
   prices[pair[0]] = +pair[1];
   line = read("price");
 }

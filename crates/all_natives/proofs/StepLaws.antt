@@ -17,6 +17,8 @@ use Rattle.array_natives.proofs.FollowLaws as arrays
 use Rattle.array_natives.specs.Dispatch as array_calls
 use Rattle.function_natives.proofs.FollowLaws as functions
 use Rattle.function_natives.specs.Dispatch as function_calls
+use Rattle.string_natives.proofs.FollowLaws as texts
+use Rattle.string_natives.specs.Dispatch as text_calls
 use Rattle.all_natives.proofs.TogetherLaws.{parts_stand}
 use Rattle.all_natives.specs.declared.natives.AllState.TheVariants as state
 use Rattle.all_natives.specs.declared.order.Part.{Part}
@@ -44,6 +46,8 @@ part_follows names (part.Array n) argc construct answers is =
     program_runs names (array_calls.begin n argc construct) (answer.Begin ∷ answers) ∙ arrays.all_follow n argc construct answers is
 part_follows names (part.Function n) argc construct answers is =
     program_runs names (function_calls.begin n argc construct) (answer.Begin ∷ answers) ∙ functions.all_follow n argc construct answers is
+part_follows names (part.Text n) argc construct answers is =
+    program_runs names (text_calls.begin n argc construct) (answer.Begin ∷ answers) ∙ texts.all_follow n argc construct answers is
 
 pub each_follows : (names : List (List ℕ)) (which argc : ℕ) (construct : Bool) (answers : List Answer) → which < length all_entries → all_asks (behind (all_after names) (all_begin which argc construct) (answer.Begin ∷ answers)) ≡ all_steps names which argc construct answers
 each_follows names which argc construct answers less = part_follows names (part_at which) argc construct answers (parts_stand which less)

@@ -9,6 +9,7 @@ use Rattle.native_protocol.specs.Sets.{SeenEntry}
 use Rattle.object_natives.specs.Table as objects
 use Rattle.array_natives.specs.Table as arrays
 use Rattle.function_natives.specs.Table as functions
+use Rattle.string_natives.specs.Table as texts
 use Rattle.all_natives.specs.declared.order.Part.{Part}
 use Rattle.all_natives.specs.declared.order.Part.TheVariants as part
 use Rattle.all_natives.specs.declared.sets.Range.{Range}
@@ -20,7 +21,7 @@ use Rattle.all_natives.specs.Together.{set_entries, range_entries, all_entries, 
 -- ---- the ranges lie in their sets
 
 pub all_lie : ranges_lie RANGES ≡ true
-unfolding objects.entries arrays.entries functions.entries
+unfolding objects.entries arrays.entries functions.entries texts.entries
 all_lie = refl
 
 first_true : (a b : Bool) → (a && b) ≡ true → a ≡ true
@@ -31,7 +32,7 @@ second_true : (a b : Bool) → (a && b) ≡ true → b ≡ true
 second_true true b is = is
 second_true false b is = absurd (false≢true is)
 
-object_count : length objects.entries ≡ 74
+object_count : length objects.entries ≡ 72
 unfolding objects.entries
 object_count = refl
 
@@ -43,12 +44,17 @@ function_count : length functions.entries ≡ 13
 unfolding functions.entries
 function_count = refl
 
+text_count : length texts.entries ≡ 24
+unfolding texts.entries
+text_count = refl
+
 -- no set has more built-ins than this
 few : (s : Set) → length (set_entries s) ≤ 1000
 few set.Channels = omega arith
 few set.Objects = omega (arith, object_count)
 few set.Arrays = omega (arith, array_count)
 few set.Functions = omega (arith, function_count)
+few set.Texts = omega (arith, text_count)
 
 lies : (r : Range) (ranges : List Range) → ranges_lie (r ∷ ranges) ≡ true → r.1 + r.2 ≤ length (set_entries r.0)
 lies r ranges lie = leb-true (r.1 + r.2) (length (set_entries r.0)) (first_true _ (ranges_lie ranges) lie)
@@ -136,12 +142,14 @@ is_part set.Channels n less = less
 is_part set.Objects n less = less
 is_part set.Arrays n less = less
 is_part set.Functions n less = less
+is_part set.Texts n less = less
 
 unfoldable pub entry_in : Part → Option SeenEntry
 entry_in (part.Channel n) = slice_get channel_entries n
 entry_in (part.Object n) = slice_get objects.entries n
 entry_in (part.Array n) = slice_get arrays.entries n
 entry_in (part.Function n) = slice_get functions.entries n
+entry_in (part.Text n) = slice_get texts.entries n
 
 part_entry : (s : Set) (n : ℕ) → slice_get (set_entries s) n ≡ entry_in (part_of s n)
 unfolding entry_in
@@ -149,6 +157,7 @@ part_entry set.Channels n = refl
 part_entry set.Objects n = refl
 part_entry set.Arrays n = refl
 part_entry set.Functions n = refl
+part_entry set.Texts n = refl
 
 -- a property of what is at a number, for each range alone
 by_range : (P : ℕ → Part → Type 0) (r : Range) (ranges : List Range) (which : ℕ) → (which < r.2 → P which (part_of r.0 (r.1 + which))) → (r.2 ≤ which → P which (part_in ranges (which - r.2))) → P which (part_in (r ∷ ranges) which)

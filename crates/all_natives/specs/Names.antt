@@ -1,5 +1,5 @@
 -- The names that the start objects have, in their order: first `length` and `prototype` of a function and `constructor` of a prototype, then the names that are
--- kept, then those that aren't offered. `caller` and `arguments` of a function come last: no built-in has them in the standard, and here they leave by their names.
+-- kept, then those that aren't offered. `isNaN` and the two `NaN` stand among the latter, where chapter 15 lists them. `caller` and `arguments` of a function come last: no built-in has them in the standard, and here they leave by their names.
 use Rattle.std.specs.Prelude.{ℕ, List, [], ◌∷◌, ◌++◌, map, Option, Some, None, codes, slice_get}
 use Rattle.js_values.specs.Objects.{PlainObject}
 use Rattle.es_meaning.specs.Holders.{holder_in}
@@ -20,7 +20,7 @@ names_of path heap = names_at heap (holder_in heap path)
 
 abbrev pub global_names : List (List ℕ)
 global_names =
-    codes "undefined" ∷ codes "Object" ∷ codes "Function" ∷ codes "Array" ∷ codes "Boolean" ∷ codes "Number"
+    codes "undefined" ∷ codes "parseInt" ∷ codes "Object" ∷ codes "Function" ∷ codes "Array" ∷ codes "String" ∷ codes "Boolean" ∷ codes "Number"
     ∷ codes "Error" ∷ codes "EvalError" ∷ codes "RangeError" ∷ codes "ReferenceError" ∷ codes "SyntaxError" ∷ codes "TypeError" ∷ codes "URIError" ∷ codes "Math"
     ∷ codes "read" ∷ codes "print" ∷ codes "lbl" ∷ codes "upgs" ∷ codes "upge"
     ∷ codes "eval" ∷ codes "parseFloat" ∷ codes "isNaN" ∷ codes "isFinite"
@@ -66,6 +66,17 @@ array_prototype_names =
     ∷ codes "map" ∷ codes "filter" ∷ codes "reduce" ∷ codes "reduceRight"
     ∷ codes "toLocaleString" ∷ codes "sort" ∷ []
 
+abbrev pub string_names : List (List ℕ)
+string_names = constructor_names (codes "fromCharCode" ∷ [])
+
+-- the prototype of strings is the object of the empty text (15.5.4)
+abbrev pub string_prototype_names : List (List ℕ)
+string_prototype_names =
+    codes "length" ∷ codes "constructor"
+    ∷ codes "toString" ∷ codes "valueOf" ∷ codes "charAt" ∷ codes "charCodeAt" ∷ codes "concat" ∷ codes "indexOf" ∷ codes "lastIndexOf" ∷ codes "slice"
+    ∷ codes "split" ∷ codes "substring" ∷ codes "toLowerCase" ∷ codes "toUpperCase" ∷ codes "trim"
+    ∷ codes "localeCompare" ∷ codes "match" ∷ codes "replace" ∷ codes "search" ∷ codes "toLocaleLowerCase" ∷ codes "toLocaleUpperCase" ∷ []
+
 abbrev pub boolean_prototype_names : List (List ℕ)
 boolean_prototype_names = codes "constructor" ∷ codes "toString" ∷ codes "valueOf" ∷ []
 
@@ -110,6 +121,7 @@ names_wanted =
     ∷ (codes "Object", object_names) ∷ (codes "Object.prototype", object_prototype_names)
     ∷ bare (codes "Function") ∷ (codes "Function.prototype", function_prototype_names)
     ∷ (codes "Array", array_names) ∷ (codes "Array.prototype", array_prototype_names)
+    ∷ (codes "String", string_names) ∷ (codes "String.prototype", string_prototype_names)
     ∷ bare (codes "Boolean") ∷ (codes "Boolean.prototype", boolean_prototype_names)
     ∷ (codes "Number", number_names) ∷ (codes "Number.prototype", number_prototype_names)
     ∷ bare (codes "Error") ∷ (codes "Error.prototype", error_prototype_names)

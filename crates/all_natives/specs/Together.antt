@@ -15,6 +15,8 @@ use Rattle.array_natives.specs.Dispatch as array_calls
 use Rattle.array_natives.specs.Table as arrays
 use Rattle.function_natives.specs.Dispatch as function_calls
 use Rattle.function_natives.specs.Table as functions
+use Rattle.string_natives.specs.Dispatch as text_calls
+use Rattle.string_natives.specs.Table as texts
 use Rattle.all_natives.specs.declared.natives.AllState.{AllState}
 use Rattle.all_natives.specs.declared.natives.AllState.TheVariants as state
 use Rattle.all_natives.specs.declared.order.Part.{Part}
@@ -31,6 +33,7 @@ set_entries set.Channels = channel_entries
 set_entries set.Objects = objects.entries
 set_entries set.Arrays = arrays.entries
 set_entries set.Functions = functions.entries
+set_entries set.Texts = texts.entries
 
 abbrev pub range_entries : Range → List SeenEntry
 range_entries r = take r.2 (drop r.1 (set_entries r.0))
@@ -50,6 +53,7 @@ part_of set.Channels n = part.Channel n
 part_of set.Objects n = part.Object n
 part_of set.Arrays n = part.Array n
 part_of set.Functions n = part.Function n
+part_of set.Texts n = part.Text n
 
 abbrev pub part_in : List Range → ℕ → Part
 part_in [] which = part.Channel 0
@@ -64,6 +68,7 @@ IsPart (part.Channel n) = n < length channel_entries
 IsPart (part.Object n) = n < length objects.entries
 IsPart (part.Array n) = n < length arrays.entries
 IsPart (part.Function n) = n < length functions.entries
+IsPart (part.Text n) = n < length texts.entries
 
 -- ---- the machine of a call: that of the set which the built-in is of
 
@@ -72,6 +77,7 @@ part_begin (part.Channel n) argc construct = state.Channel (channel_begin n argc
 part_begin (part.Object n) argc construct = state.Object (state_begin n argc construct)
 part_begin (part.Array n) argc construct = state.Program (array_calls.begin n argc construct)
 part_begin (part.Function n) argc construct = state.Program (function_calls.begin n argc construct)
+part_begin (part.Text n) argc construct = state.Program (text_calls.begin n argc construct)
 
 abbrev pub all_begin : ℕ → ℕ → Bool → AllState
 all_begin which argc construct = part_begin (part_at which) argc construct
@@ -93,6 +99,7 @@ part_steps names (part.Channel n) argc construct = clause names n argc construct
 part_steps names (part.Object n) argc construct = objects.steps n argc construct
 part_steps names (part.Array n) argc construct = arrays.steps n argc construct
 part_steps names (part.Function n) argc construct = functions.steps n argc construct
+part_steps names (part.Text n) argc construct = texts.steps n argc construct
 
 abbrev pub all_steps : List (List ℕ) → ℕ → ℕ → Bool → Steps
 all_steps names which argc construct = part_steps names (part_at which) argc construct

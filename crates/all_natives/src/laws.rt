@@ -11,6 +11,7 @@ ghost use Rattle.channels.specs.Entries.{channel_entries};
 ghost use Rattle.object_natives.specs.Table as objects;
 ghost use Rattle.array_natives.specs.Table as arrays;
 ghost use Rattle.function_natives.specs.Table as functions;
+ghost use Rattle.string_natives.specs.Table as texts;
 ghost use Rattle.all_natives.specs.Names.{names_found, names_wanted};
 ghost use Rattle.all_natives.specs.Together.{all_entries, all_begin, all_after, all_asks, all_steps};
 
@@ -27,6 +28,6 @@ pub fn follows()
 /// standard's built-ins are listed.
 pub fn in_order()
     ensures lawful { are_lawful all_entries ≡ true }
-    ensures whole { IsPermutation all_entries (channel_entries ++ (objects.entries ++ (arrays.entries ++ functions.entries))) }
+    ensures whole { IsPermutation all_entries (channel_entries ++ (objects.entries ++ (arrays.entries ++ (functions.entries ++ texts.entries)))) }
     ensures names { names_found (built_heap all_entries) ≡ names_wanted }
 {}

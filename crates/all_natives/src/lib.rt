@@ -1,4 +1,4 @@
-//! All built-ins of the product as one set: those of `channels`, `object_natives`, `array_natives` and `function_natives`.
+//! All built-ins of the product as one set: those of `channels`, `object_natives`, `array_natives`, `function_natives` and `string_natives`.
 #![tactic(auto)]
 
 mod laws;

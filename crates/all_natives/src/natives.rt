@@ -14,6 +14,7 @@ use native_protocol::{Answer, Entry, Natives, Request};
 use object_natives::{ObjectNatives, ObjectState};
 use std::alloc::Global;
 use std::marker::Model;
+use string_natives::StringNatives;
 
 /// The built-ins of `channels`, with the names of the origins that a policy declares, and those of the other sets.
 #[derive(Drop)]
@@ -22,6 +23,7 @@ pub struct AllNatives {
     objects: ObjectNatives,
     arrays: ArrayNatives,
     functions: FunctionNatives,
+    texts: StringNatives,
 }
 
 impl Model for AllNatives {
@@ -51,6 +53,7 @@ impl AllNatives {
             objects: ObjectNatives::new(alloc),
             arrays: ArrayNatives::new(alloc),
             functions: FunctionNatives::new(alloc),
+            texts: StringNatives::new(alloc),
         })
     }
 }
@@ -66,7 +69,7 @@ impl Natives for AllNatives {
 
     ghost asks = { λ _ state. all_asks state };
 
-    #[tactic(auto, unfolding(crate::specs::Together::all_entries, object_natives::specs::Table::entries, array_natives::specs::Table::entries, function_natives::specs::Table::entries))]
+    #[tactic(auto, unfolding(crate::specs::Together::all_entries, object_natives::specs::Table::entries, array_natives::specs::Table::entries, function_natives::specs::Table::entries, string_natives::specs::Table::entries))]
     fn count(&self) -> u32 {
         COUNT
     }
@@ -77,6 +80,7 @@ impl Natives for AllNatives {
             Part::Object(n) => self.objects.entry(n),
             Part::Array(n) => self.arrays.entry(n),
             Part::Function(n) => self.functions.entry(n),
+            Part::Text(n) => self.texts.entry(n),
         }
     }
 
@@ -102,6 +106,10 @@ impl Natives for AllNatives {
             }
             Part::Function(n) => {
                 let state = self.functions.start(alloc, n, argc, construct)?;
+                Ok(AllState::Program(state))
+            }
+            Part::Text(n) => {
+                let state = self.texts.start(alloc, n, argc, construct)?;
                 Ok(AllState::Program(state))
             }
         }

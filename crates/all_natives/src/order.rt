@@ -12,10 +12,11 @@ pub enum Part {
     Object(u32),
     Array(u32),
     Function(u32),
+    Text(u32),
 }
 
 /// How many built-ins there are.
-pub(crate) const COUNT: u32 = 115;
+pub(crate) const COUNT: u32 = 137;
 
 /// The built-in of a number.
 pub(crate) fn part_at(which: u32) -> Part
@@ -52,5 +53,6 @@ fn part_of(set: Set, number: u32) -> Part
         Set::Objects => Part::Object(number),
         Set::Arrays => Part::Array(number),
         Set::Functions => Part::Function(number),
+        Set::Texts => Part::Text(number),
     }
 }

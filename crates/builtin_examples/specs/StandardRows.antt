@@ -68,9 +68,9 @@ pub record LeftRows : Type 0 where
   -- print("pub", typeof Math.floor); print("pub", "PI" in Math); Math.PI = 3;
   pub constant : Leaves (shows (type_of (dot (named (codes "Math")) (codes "floor"))) ∷ shows (is_in (text (codes "PI")) (named (codes "Math"))) ∷ does (puts (dot (named (codes "Math")) (codes "PI")) (num 3)) ∷ [])
       (said (codes "function") ∷ said (codes "true") ∷ []) (codes "Math.PI")
-  -- isNaN(1); new isNaN(1);
-  pub function_left : Leaves (does (calls (named (codes "isNaN")) (num 1 ∷ [])) ∷ []) [] (codes "isNaN")
-  pub constructor_left : Leaves (does (constructs (named (codes "isNaN")) (num 1 ∷ [])) ∷ []) [] (codes "isNaN")
+  -- parseFloat(1); new parseFloat(1);
+  pub function_left : Leaves (does (calls (named (codes "parseFloat")) (num 1 ∷ [])) ∷ []) [] (codes "parseFloat")
+  pub constructor_left : Leaves (does (constructs (named (codes "parseFloat")) (num 1 ∷ [])) ∷ []) [] (codes "parseFloat")
   -- {}.toLocaleString();
   pub method_left : Leaves (does (calls (dot empty (codes "toLocaleString")) []) ∷ []) [] (codes "Object.prototype.toLocaleString")
 

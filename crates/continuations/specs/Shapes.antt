@@ -16,7 +16,7 @@ use Rattle.continuations.specs.declared.continuation.Use.TheVariants.{Assigned, 
 use Rattle.continuations.specs.declared.continuation.Target.{Target}
 use Rattle.continuations.specs.declared.continuation.Target.TheVariants.{Name, Property}
 use Rattle.origin_labels.specs.Label.{Label, bottom}
-use Rattle.es_meaning.specs.Operators.{leaves_numbers, leaves_strings, not_built}
+use Rattle.es_meaning.specs.Operators.{leaves_numbers, leaves_strings}
 use Rattle.es_meaning.specs.Plain.{argument_or, key_text, undefined, leaves_channels, leaves_origins, leaves_wrappers}
 use Rattle.flow_meaning.specs.Erased.{unlabelled}
 use Rattle.es_meaning.specs.Outcomes.{throws, returns, leaves}
@@ -132,7 +132,6 @@ name_of reason.String vs = leaves_strings
 name_of reason.Channel vs = leaves_channels
 name_of reason.Origin vs = leaves_origins
 name_of reason.Wrapper vs = leaves_wrappers
-name_of reason.Unbuilt vs = not_built
 name_of reason.Named vs = key_text (nth 0 vs).value
 
 -- a jump with its value, and one that waits, or none

@@ -142,8 +142,6 @@ pub enum Reason {
     Origin,
     /// A primitive value that would be wrapped in an object.
     Wrapper,
-    /// A part of the language that isn't built yet.
-    Unbuilt,
     /// What a built-in doesn't offer. Its name is the value that no work keeps.
     Named,
 }

@@ -53,7 +53,6 @@ pub fn leave_by<'p, L: Labels>(
         Leaving::Channel => Ok(Control::Leave(Reason::Channel)),
         Leaving::Origin => Ok(Control::Leave(Reason::Origin)),
         Leaving::Wrapper => Ok(Control::Leave(Reason::Wrapper)),
-        Leaving::Unbuilt => Ok(Control::Leave(Reason::Unbuilt)),
         Leaving::Named(name) => leave_named(labels, stack, name),
     }
 }

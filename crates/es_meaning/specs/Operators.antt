@@ -36,9 +36,9 @@ leaves_numbers = codes "number"
 abbrev pub leaves_strings : List ℕ
 leaves_strings = codes "string"
 
--- a part of the language that can't be run yet
-abbrev pub not_built : List ℕ
-not_built = codes "unbuilt"
+-- what stands in the tables below where an operator can't stand: `&&`, `||`, `in`, `instanceof`, `++` and `--` are evaluated on their own, and an object beside an operator of numbers is converted first, so that no evaluation takes it
+abbrev pub elsewhere : Given
+elsewhere = Err leaves_numbers
 
 abbrev pub as_number : Result Number LeftNumbers → Given
 as_number (Ok n) = Ok (Num n)
@@ -142,8 +142,8 @@ unary_of_primitive unary_operator.Minus v = of_number (λ n. Ok (negated n)) (nu
 unary_of_primitive unary_operator.BitNot v = of_number (λ n. Ok (Int (not_of (integer_of n)))) (number_of v)
 unary_of_primitive unary_operator.Not v = Ok (prims.Bool (not (boolean_of v)))
 unary_of_primitive unary_operator.Delete v = Ok (prims.Bool true)
-unary_of_primitive unary_operator.Increment v = Err not_built
-unary_of_primitive unary_operator.Decrement v = Err not_built
+unary_of_primitive unary_operator.Increment v = elsewhere
+unary_of_primitive unary_operator.Decrement v = elsewhere
 
 -- an object is converted before an operator takes it as a number
 abbrev pub unary_of_object : UnaryOperator → Class → Given
@@ -151,7 +151,7 @@ unary_of_object unary_operator.Void c = Ok Undefined
 unary_of_object unary_operator.Typeof c = Ok (Str (type_of_class c))
 unary_of_object unary_operator.Not c = Ok (prims.Bool false)
 unary_of_object unary_operator.Delete c = Ok (prims.Bool true)
-unary_of_object _ c = Err not_built
+unary_of_object _ c = elsewhere
 
 unfoldable pub unary_of : UnaryOperator → Seen → Given
 unary_of o (seen.Prim v) = unary_of_primitive o v
@@ -179,10 +179,10 @@ binary_of_primitives binary_operator.StrictNotEqual v u = Ok (prims.Bool (not (s
 binary_of_primitives binary_operator.BitAnd v u = of_bits and_of v u
 binary_of_primitives binary_operator.BitXor v u = of_bits xor_of v u
 binary_of_primitives binary_operator.BitOr v u = of_bits or_of v u
-binary_of_primitives binary_operator.And v u = Err not_built
-binary_of_primitives binary_operator.Or v u = Err not_built
-binary_of_primitives binary_operator.In v u = Err not_built
-binary_of_primitives binary_operator.Instanceof v u = Err not_built
+binary_of_primitives binary_operator.And v u = elsewhere
+binary_of_primitives binary_operator.Or v u = elsewhere
+binary_of_primitives binary_operator.In v u = elsewhere
+binary_of_primitives binary_operator.Instanceof v u = elsewhere
 
 -- two values of which one or both are objects: an object is equal to itself alone
 abbrev pub binary_with_object : BinaryOperator → Bool → Given
@@ -190,7 +190,7 @@ binary_with_object binary_operator.Equal same = Ok (prims.Bool same)
 binary_with_object binary_operator.NotEqual same = Ok (prims.Bool (not same))
 binary_with_object binary_operator.StrictEqual same = Ok (prims.Bool same)
 binary_with_object binary_operator.StrictNotEqual same = Ok (prims.Bool (not same))
-binary_with_object _ same = Err not_built
+binary_with_object _ same = elsewhere
 
 abbrev pub binary_values_of : BinaryOperator → Value → Value → Given
 binary_values_of o (value.Primitive v) (value.Primitive u) = binary_of_primitives o v u

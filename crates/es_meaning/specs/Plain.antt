@@ -105,10 +105,10 @@ abbrev pub origins_of : List (List ℕ) → List Value → Option (List ℕ)
 origins_of origins [] = Some []
 origins_of origins (v ∷ vs) = and_origin (origin_of origins v) (origins_of origins vs)
 
--- what `read` gives where this line stands next: the line, or undefined past the end
 abbrev pub undefined : Value
 undefined = value.Primitive Undefined
 
+-- what `read` gives where this line stands next: the line, or undefined past the end
 abbrev pub value_read : Option (List ℕ) → Value
 value_read (Some text) = value.Primitive (Str text)
 value_read None = undefined

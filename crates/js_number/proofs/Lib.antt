@@ -5,8 +5,10 @@ pub mod DigitValues
 pub mod Examples
 pub mod Found
 pub mod Quotients
+pub mod RadixLaws
 pub mod Residues
 pub mod Scaling
 pub mod Shifts
 pub mod Spelled
+pub mod TenLaws
 pub mod Words

@@ -28,5 +28,10 @@ pub nan_units : units_of (codes "NaN") ≡ codes "NaN"
 unfolding units_of chars
 nan_units = refl
 
+-- the sign of a number below zero
+pub minus_units : units_of (codes "-") ≡ codes "-"
+unfolding units_of chars
+minus_units = refl
+
 -- all of them
-pub ruleset words = (undefined_units, null_units, true_units, false_units, nan_units)
+pub ruleset words = (undefined_units, null_units, true_units, false_units, nan_units, minus_units)

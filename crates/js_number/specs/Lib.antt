@@ -7,4 +7,5 @@ pub mod Literal
 pub mod Number
 pub mod NumericText
 pub mod Profile
+pub mod Radix
 pub mod Sum

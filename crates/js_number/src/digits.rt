@@ -17,8 +17,8 @@ const BLANKS: [u16; 25] = [
 
 const LIMIT: u64 = 1 << 53;
 
-// Whether the unit is WhiteSpace or a LineTerminator.
-fn blank(unit: u16) -> bool
+/// Whether the unit is WhiteSpace or a LineTerminator.
+pub(crate) fn blank(unit: u16) -> bool
     ensures { result ≡ is_blank unit }
 {
     BLANKS.contains(&unit)
@@ -50,8 +50,8 @@ pub(crate) fn all_zero(digits: &[u16]) -> bool
     digits.iter().all(|digit| *digit == 0x30)
 }
 
-// The value of a digit or a letter, and 36 for any other unit.
-fn digit_of(unit: u16) -> u16
+/// The value of a digit or a letter, and 36 for any other unit.
+pub(crate) fn digit_of(unit: u16) -> u16
     ensures { result ≡ digit_value unit }
 {
     match unit {
@@ -90,7 +90,7 @@ pub(crate) fn lone_digits(radix: u16, units: &[u16]) -> Option<&[u16]>
 
 /// The number that the digits write behind those of `start`, where it is below 2^53.
 pub(crate) fn value_after(radix: u16, start: u64, digits: &[u16]) -> Option<u64>
-    requires base { (0 < radix) × (radix ≤ 16) }
+    requires base { (0 < radix) × (radix ≤ 36) }
     requires small { start < 2 ^ 53 }
     ensures { result ≡ bounded (Some (digits_value_after radix start digits.now)) }
 {

@@ -9,6 +9,7 @@ mod int;
 mod num;
 mod numeric_text;
 mod primitive;
+mod radix;
 mod sum;
 
 pub use arithmetic::{add, div, mul, negate, rem, sub};
@@ -20,4 +21,5 @@ pub use int::{Int, LeftNumbers};
 pub use num::Num;
 pub use numeric_text::text_to_number;
 pub use primitive::{Primitive, number_to_text, to_boolean, to_number, to_text};
+pub use radix::{integer_prefix, number_in_radix, trimmed};
 pub use sum::{AddFault, add_prims};

@@ -38,9 +38,9 @@ fn number_behind_blanks(units: &[u16]) -> Result<Num, LeftNumbers>
     }
 }
 
-// What a text spells.
+/// What a text spells.
 #[derive(Clone, Copy)]
-enum Spelled {
+pub(crate) enum Spelled {
     /// It is no numeric literal.
     NoLiteral,
     /// It is one, and its value is no integer below 2^53.
@@ -48,8 +48,8 @@ enum Spelled {
     Integer(u64),
 }
 
-// The integer, where there is one.
-fn integer_if(n: Option<u64>) -> Spelled
+/// The integer, where there is one.
+pub(crate) fn integer_if(n: Option<u64>) -> Spelled
     ensures { result ≡ integer_if n }
 {
     match n {
@@ -58,8 +58,8 @@ fn integer_if(n: Option<u64>) -> Spelled
     }
 }
 
-// The number of this size, with its sign.
-fn number_spelled(negative: bool, size: Spelled) -> Result<Num, LeftNumbers>
+/// The number of this size, with its sign.
+pub(crate) fn number_spelled(negative: bool, size: Spelled) -> Result<Num, LeftNumbers>
     requires { bounded_spelled size ≡ size }
     ensures { result ≡ number_spelled negative size }
 {

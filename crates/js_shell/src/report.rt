@@ -78,7 +78,6 @@ fn name_bytes(alloc: Global, why: &Leaving) -> Result<Vec<u8>, OutOfMemory>
         Leaving::Channel => spelled_bytes(alloc, b"channel"),
         Leaving::Origin => spelled_bytes(alloc, b"origin"),
         Leaving::Wrapper => spelled_bytes(alloc, b"wrapper"),
-        Leaving::Unbuilt => spelled_bytes(alloc, b"unbuilt"),
     }
 }
 

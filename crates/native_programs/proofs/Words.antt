@@ -87,5 +87,9 @@ pub boolean_class_units : units_of (codes "[object Boolean]") ≡ codes "[object
 unfolding units_of chars
 boolean_class_units = refl
 
+pub number_units : units_of (codes "number") ≡ codes "number"
+unfolding units_of chars
+number_units = refl
+
 -- all of them
-pub ruleset words = (length_units, prototype_units, name_units, message_units, join_units, wrapper_units, string_units, case_units, comma_units, colon_units, error_units, object_class_units, function_class_units, array_class_units, arguments_class_units, error_class_units, math_class_units, json_class_units, string_class_units, number_class_units, boolean_class_units)
+pub ruleset words = (number_units, length_units, prototype_units, name_units, message_units, join_units, wrapper_units, string_units, case_units, comma_units, colon_units, error_units, object_class_units, function_class_units, array_class_units, arguments_class_units, error_class_units, math_class_units, json_class_units, string_class_units, number_class_units, boolean_class_units)

@@ -4,6 +4,7 @@ use Rattle.std.specs.Fmt.{signed_decimal}
 use Rattle.js_number.specs.declared.primitive.Primitive.{Primitive}
 use Rattle.js_number.specs.declared.primitive.Primitive.TheVariants as prims
 use Rattle.js_number.specs.declared.num.Num.TheVariants.{Nan, Int}
+use Rattle.js_number.specs.Radix.{integer_prefix}
 use Rattle.native_protocol.specs.declared.registers.Reg.{Reg}
 use Rattle.native_protocol.specs.declared.request.ErrorKind.TheVariants as error
 use Rattle.native_protocol.specs.declared.request.GivenMarks.{GivenMarks}
@@ -28,7 +29,7 @@ use Rattle.native_programs.specs.declared.line.Reason.{Reason}
 use Rattle.native_programs.specs.declared.line.Reason.TheVariants as reason
 use Rattle.native_programs.specs.declared.values.Values.{Values}
 use Rattle.native_programs.specs.Values.{counter_in, text_kept}
-use Rattle.native_programs.specs.Wordings.{part_of}
+use Rattle.native_programs.specs.Wordings.{part_of, number_read}
 
 abbrev pub free_reg : ℕ → ℕ → Reg
 free_reg argc n = reg (first_free argc + n)
@@ -65,6 +66,7 @@ fresh_of v (fresh.Truth b) = prims.Bool b
 fresh_of v (fresh.Whole n) = prims.Num (Int n)
 fresh_of v fresh.Nan = prims.Num Nan
 fresh_of v (fresh.Number a) = prims.Num (Int (counter_in v a))
+fresh_of v (fresh.Parsed t radix) = prims.Num (number_read (integer_prefix (text_kept v t) (counter_in v radix)))
 fresh_of v (fresh.Digits a) = prims.Str (signed_decimal (counter_in v a))
 fresh_of v (fresh.Text t) = prims.Str (text_kept v t)
 fresh_of v (fresh.Part t first last) = prims.Str (part_of (text_kept v t) (counter_in v first) (counter_in v last))
@@ -84,6 +86,7 @@ args_of v (args.Gathered c) = registers_from (first_free v.argc + 16) (unsigned_
 abbrev pub reason_of : Reason → List ℕ
 reason_of reason.Wrapper = codes "wrapper"
 reason_of reason.Text = codes "string"
+reason_of reason.Number = codes "number"
 reason_of reason.Case = codes "case"
 
 abbrev pub end_asks : End → Values → Request

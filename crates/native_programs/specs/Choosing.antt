@@ -1,5 +1,5 @@
 -- What is computed and decided without asking.
-use Rattle.std.specs.Prelude.{ℕ, ◌-◌, ◌%◌, Bool, true, false, not, ◌&&◌, ◌||◌, is_some, List, length, slice_index_or, Option, Some, None, nat_eq, nat_lt, ℤ, pos, negsuc, ◌+ℤ◌, ◌-ℤ◌, int_lt, int_div, unsigned_abs, if◌then◌else◌}
+use Rattle.std.specs.Prelude.{ℕ, ◌-◌, ◌%◌, Bool, true, false, not, ◌&&◌, ◌||◌, is_some, is_err, List, length, slice_index_or, Option, Some, None, nat_eq, nat_lt, ℤ, pos, negsuc, ◌+ℤ◌, ◌-ℤ◌, int_lt, int_div, unsigned_abs, if◌then◌else◌}
 use Rattle.std.specs.List.{list_all}
 use Rattle.std.specs.Ordering.{int_eq}
 use Rattle.js_number.specs.declared.primitive.Primitive.TheVariants as prims
@@ -7,6 +7,7 @@ use Rattle.js_number.specs.declared.num.Num.{Num}
 use Rattle.js_number.specs.declared.num.Num.TheVariants.{Nan, Int}
 use Rattle.js_number.specs.Bits.{uint32, int32}
 use Rattle.js_number.specs.Number.{integer_of}
+use Rattle.js_number.specs.Radix.{integer_prefix}
 use Rattle.js_values.specs.declared.inner.Class.TheVariants as class
 use Rattle.js_number.specs.Conversions.{boolean_of}
 use Rattle.native_protocol.specs.declared.request.Seen.{Seen}
@@ -172,6 +173,7 @@ holds condition.IsNan v = is_nan v.number
 holds (condition.Differs a) v = differs v.number (counter_in v a)
 holds (condition.Empty t) v = is_empty (text_kept v t)
 holds (condition.NotAscii t) v = not (is_ascii (text_kept v t))
+holds (condition.ParsesNot t radix) v = is_err (integer_prefix (text_kept v t) (counter_in v radix))
 
 -- ---- loops
 

@@ -1,6 +1,12 @@
 -- Texts that are computed.
-use Rattle.std.specs.Prelude.{ℕ, ◌+◌, ◌-◌, ◌%◌, Bool, ◌&&◌, ◌||◌, List, [], ◌∷◌, ◌++◌, length, map, slice_range, codes, nat_le, nat_lt, ℤ, pos, int_lt, unsigned_abs, if◌then◌else◌}
+use Rattle.std.specs.Prelude.{ℕ, ◌+◌, ◌-◌, ◌%◌, Bool, Result, Ok, Err, ◌&&◌, ◌||◌, List, [], ◌∷◌, ◌++◌, length, map, slice_range, codes, nat_le, nat_lt, ℤ, pos, int_lt, unsigned_abs, if◌then◌else◌}
 use Rattle.js_values.specs.declared.inner.Class.{Class}
+use Rattle.js_number.specs.Radix.{text_in_radix, trimmed}
+use Rattle.js_number.specs.declared.int.LeftNumbers.{LeftNumbers}
+use Rattle.js_number.specs.declared.num.Num.{Num}
+use Rattle.js_number.specs.declared.num.Num.TheVariants.{Nan}
+use Rattle.js_number.specs.declared.primitive.Primitive.{Primitive}
+use Rattle.js_number.specs.declared.primitive.Primitive.TheVariants as prims
 use Rattle.js_values.specs.declared.inner.Class.TheVariants as class
 use Rattle.native_protocol.specs.declared.request.Seen.{Seen}
 use Rattle.native_protocol.specs.declared.request.Seen.TheVariants.{Prim, Object}
@@ -26,6 +32,24 @@ lower unit = if is_between 65 90 unit then unit + 32 else unit
 abbrev pub upper : ℕ → ℕ
 upper unit = if is_between 97 122 unit then unit - 32 else unit
 
+-- a number in a radix, where there is such a radix
+abbrev pub spelled_in : Num → ℤ → List ℕ
+spelled_in n radix = if int_lt radix (pos 2) || int_lt (pos 36) radix then [] else text_in_radix (unsigned_abs radix) n
+
+-- that of the number that was seen
+abbrev pub primitive_in_radix : Primitive → ℤ → List ℕ
+primitive_in_radix (prims.Num n) radix = spelled_in n radix
+primitive_in_radix other radix = []
+
+abbrev pub in_radix : Seen → ℤ → List ℕ
+in_radix (Prim p) radix = primitive_in_radix p radix
+in_radix (Object c) radix = []
+
+-- what was read, where it is a number of the profile
+abbrev pub number_read : Result Num LeftNumbers → Num
+number_read (Ok n) = n
+number_read (Err left) = Nan
+
 -- the class of an object (ECMA-262 15.2.4.2)
 abbrev pub class_name : Class → List ℕ
 class_name class.Object = codes "[object Object]"
@@ -48,8 +72,10 @@ worded wording.Comma v = codes ","
 worded wording.Colon v = codes ": "
 worded wording.Error v = codes "Error"
 worded wording.ClassSeen v = class_text v.seen
+worded (wording.InRadix radix) v = in_radix v.seen (counter_in v radix)
 worded (wording.Lower t) v = map lower (text_kept v t)
 worded (wording.Upper t) v = map upper (text_kept v t)
+worded (wording.Trimmed t) v = trimmed (text_kept v t)
 
 -- ---- texts that grow
 

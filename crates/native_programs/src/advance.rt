@@ -68,7 +68,7 @@ fn make_pace(
         Line::Let(counter, amount) => counted(counter, amount, more, values),
         Line::Set(slot, wording) => worded(alloc, slot, wording, more, values),
         Line::Append(to, from) => append(alloc, to, from, more, values),
-        Line::Push(to, unit) => push(alloc, to, unit, more, values),
+        Line::Push(to, unit) => push(to, unit, more, values),
         Line::When(condition, exit) => Ok(exited_if(condition, exit, more, values)),
         Line::Go(exit) => Ok(exited(exit, more, values)),
         Line::If(condition) => passed_over(condition, more, values),
@@ -164,11 +164,8 @@ fn append(
     ensures { IfOk result (λ paced. paced ≡ appends to from more.now values) }
 {
     if fits(values.values().text(to), values.values().text(from)) {
-        let text = values
-            .values()
-            .text(to)
-            .concat(alloc, values.values().text(from))?;
-        values.set_text(to, text);
+        let added = values.values().text(from).copy(alloc)?;
+        values.append(to, added.units())?;
         Ok(Pace::On(Lines::of(more), values))
     } else {
         Ok(leaving_run(Reason::Text, more, values))
@@ -176,7 +173,6 @@ fn append(
 }
 
 fn push(
-    alloc: Global,
     to: TextSlot,
     unit: Counter,
     more: &'static [Line],
@@ -185,9 +181,8 @@ fn push(
     ensures { IfOk result (λ paced. paced ≡ pushes to unit more.now values) }
 {
     if values.values().text(to).len() < LONGEST {
-        let mut text = values.values().text(to).copy(alloc)?;
-        text.push(unit_of(values.values().counter(unit)))?;
-        values.set_text(to, text);
+        let unit = unit_of(values.values().counter(unit));
+        values.append(to, &[unit])?;
         Ok(Pace::On(Lines::of(more), values))
     } else {
         Ok(leaving_run(Reason::Text, more, values))

@@ -6,7 +6,7 @@ ghost use Rattle.native_programs.specs.Choosing.{holds, is_last, is_nan, differs
 use crate::line::Condition;
 use crate::sights::sees;
 use crate::values::Values;
-use js_number::Num;
+use js_number::{Num, integer_prefix};
 
 impl Values {
     /// Whether a condition holds.
@@ -31,6 +31,9 @@ impl Values {
             Condition::Differs(a) => differs(self.number, self.counter(a)),
             Condition::Empty(slot) => self.text(slot).len() == 0,
             Condition::NotAscii(slot) => !is_ascii(self.text(slot).units()),
+            Condition::ParsesNot(from, radix) => {
+                integer_prefix(self.text(from), self.counter(radix)).is_err()
+            }
         }
     }
 }

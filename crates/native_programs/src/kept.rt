@@ -1,8 +1,8 @@
 //! What a call keeps, in a box, so that it is handed on in one word.
 
-ghost use Rattle.std.specs.Prelude.{◌≡◌, ◌+ℤ◌, IfOk};
+ghost use Rattle.std.specs.Prelude.{◌≡◌, ◌++◌, ◌+ℤ◌, IfOk};
 ghost use Rattle.native_programs.specs.Choosing.{bumped};
-ghost use Rattle.native_programs.specs.Values.{counter_in, with_counter, with_text, with_held, with_number, with_seen, cleared, values_begin};
+ghost use Rattle.native_programs.specs.Values.{counter_in, with_counter, text_kept, with_text, with_held, with_number, with_seen, cleared, values_begin};
 
 use crate::amounts::plus;
 use crate::line::{Count, Counter, TextSlot};
@@ -56,6 +56,13 @@ impl Kept {
         ensures { self.new ≡ with_text slot text self.old }
     {
         self.values.set_text(slot, text);
+    }
+
+    /// Adds units to a text.
+    pub(crate) fn append(&mut self, slot: TextSlot, units: &[u16]) -> Result<(), OutOfMemory>
+        ensures { IfOk result (λ _. self.new ≡ with_text slot (text_kept self.old slot ++ units.now) self.old) }
+    {
+        self.values.append(slot, units)
     }
 
     /// Keeps the register of a text that was converted.

@@ -64,6 +64,8 @@ pub enum Fresh {
     Whole(i64),
     Nan,
     Number(Counter),
+    /// The integer that a text begins with, in a radix.
+    Parsed(TextSlot, Counter),
     /// A number as a text of decimal digits.
     Digits(Counter),
     Text(TextSlot),
@@ -76,6 +78,7 @@ pub enum Fresh {
 pub enum Reason {
     Wrapper,
     Text,
+    Number,
     Case,
 }
 
@@ -203,8 +206,12 @@ pub enum Wording {
     Error,
     /// The name of the class that was seen last, in brackets.
     ClassSeen,
+    /// The number that was seen last, in a radix.
+    InRadix(Counter),
     Lower(TextSlot),
     Upper(TextSlot),
+    /// Without the blanks at both ends.
+    Trimmed(TextSlot),
 }
 
 /// What decides without a look.
@@ -235,6 +242,8 @@ pub enum Condition {
     Empty(TextSlot),
     /// A unit is past 007F.
     NotAscii(TextSlot),
+    /// The integer that a text begins with, in a radix, is no number of the profile.
+    ParsesNot(TextSlot, Counter),
 }
 
 /// How often a loop goes on: a counter up to another, or down to another, or until its lines leave it.

@@ -11,7 +11,7 @@ ghost use Rattle.js_number.specs.declared.primitive.Primitive.TheVariants as pri
 use crate::amounts::{minus, plus};
 use crate::line::{Args, Counter, Fresh, Name, Place};
 use crate::values::Values;
-use crate::wordings::part_of;
+use crate::wordings::{parsed, part_of};
 use flow_text::{OutOfMemory, Text};
 use js_number::{Int, Num, Primitive};
 use js_values::Key;
@@ -93,6 +93,9 @@ impl Values {
             Fresh::Whole(number) => whole(number),
             Fresh::Nan => Ok(Primitive::Num(Num::Nan)),
             Fresh::Number(a) => whole(self.counter(a)),
+            Fresh::Parsed(from, radix) => {
+                Ok(Primitive::Num(parsed(self.text(from), self.counter(radix))))
+            }
             Fresh::Digits(a) => Ok(Primitive::Str(digits(alloc, self.counter(a))?)),
             Fresh::Text(slot) => Ok(Primitive::Str(self.text(slot).copy(alloc)?)),
             Fresh::Part(slot, first, last) => {

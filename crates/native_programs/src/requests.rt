@@ -227,6 +227,7 @@ fn reason_name(alloc: Global, reason: Reason) -> Result<Text, OutOfMemory>
     match reason {
         Reason::Wrapper => Text::spelled(alloc, "wrapper"),
         Reason::Text => Text::spelled(alloc, "string"),
+        Reason::Number => Text::spelled(alloc, "number"),
         Reason::Case => Text::spelled(alloc, "case"),
     }
 }

@@ -1,10 +1,10 @@
 //! What a call keeps between its requests.
 
-ghost use Rattle.std.specs.Prelude.{◌≡◌};
+ghost use Rattle.std.specs.Prelude.{◌≡◌, ◌++◌, IfOk};
 ghost use Rattle.native_programs.specs.Values.{counter_in, with_counter, text_kept, with_text, cleared, values_begin};
 
 use crate::line::{Counter, TextSlot};
-use flow_text::Text;
+use flow_text::{OutOfMemory, Text};
 use js_number::{Num, Primitive};
 use native_protocol::{Reg, Seen};
 use std::alloc::Global;
@@ -103,6 +103,18 @@ impl Values {
             TextSlot::Sought => self.sought = text,
             TextSlot::Result => self.result = text,
             TextSlot::Piece => self.piece = text,
+        }
+    }
+
+    /// Adds units to a text, in place where nothing else shares it.
+    pub fn append(&mut self, slot: TextSlot, units: &[u16]) -> Result<(), OutOfMemory>
+        ensures { IfOk result (λ _. self.new ≡ with_text slot (text_kept self.old slot ++ units.now) self.old) }
+    {
+        match slot {
+            TextSlot::Subject => self.subject.push_units(units),
+            TextSlot::Sought => self.sought.push_units(units),
+            TextSlot::Result => self.result.push_units(units),
+            TextSlot::Piece => self.piece.push_units(units),
         }
     }
 

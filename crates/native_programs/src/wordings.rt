@@ -1,11 +1,13 @@
 //! Texts that are computed.
 
 ghost use Rattle.std.specs.Prelude.{◌≡◌, IfOk, map};
-ghost use Rattle.native_programs.specs.Wordings.{worded, class_text, class_name, part_of, lower, upper};
+ghost use Rattle.js_number.specs.Radix.{integer_prefix};
+ghost use Rattle.native_programs.specs.Wordings.{worded, in_radix, primitive_in_radix, spelled_in, number_read, class_text, class_name, part_of, lower, upper};
 
 use crate::line::Wording;
 use crate::values::Values;
 use flow_text::{OutOfMemory, Text};
+use js_number::{Num, Primitive, integer_prefix, number_in_radix, trimmed};
 use js_values::Class;
 use native_protocol::Seen;
 use std::alloc::Global;
@@ -21,8 +23,10 @@ impl Values {
             Wording::Colon => Text::spelled(alloc, ": "),
             Wording::Error => Text::spelled(alloc, "Error"),
             Wording::ClassSeen => class_text(alloc, &self.seen),
+            Wording::InRadix(radix) => in_radix(alloc, &self.seen, self.counter(radix)),
             Wording::Lower(from) => lowered(alloc, self.text(from).units()),
             Wording::Upper(from) => raised(alloc, self.text(from).units()),
+            Wording::Trimmed(from) => trimmed(alloc, self.text(from)),
         }
     }
 }
@@ -83,6 +87,47 @@ fn upper(unit: u16) -> u16
     match unit {
         0x61..=0x7A => unit - 0x20,
         _ => unit,
+    }
+}
+
+// The number that was seen, in a radix.
+fn in_radix(alloc: Global, seen: &Seen, radix: i64) -> Result<Text, OutOfMemory>
+    ensures { IfOk result (λ text. text ≡ in_radix seen.now radix) }
+{
+    match seen {
+        Seen::Object(_) => Ok(Text::new(alloc)),
+        Seen::Prim(primitive) => primitive_in_radix(alloc, primitive, radix),
+    }
+}
+
+fn primitive_in_radix(alloc: Global, primitive: &Primitive, radix: i64) -> Result<Text, OutOfMemory>
+    ensures { IfOk result (λ text. text ≡ primitive_in_radix primitive.now radix) }
+{
+    match primitive {
+        Primitive::Num(number) => spelled_in(alloc, *number, radix),
+        Primitive::Undefined => Ok(Text::new(alloc)),
+        Primitive::Null => Ok(Text::new(alloc)),
+        Primitive::Bool(_) => Ok(Text::new(alloc)),
+        Primitive::Str(_) => Ok(Text::new(alloc)),
+    }
+}
+
+fn spelled_in(alloc: Global, number: Num, radix: i64) -> Result<Text, OutOfMemory>
+    ensures { IfOk result (λ text. text ≡ spelled_in number radix) }
+{
+    if radix < 2 || 36 < radix {
+        return Ok(Text::new(alloc));
+    }
+    number_in_radix(alloc, number, radix.unsigned_abs() as u32)
+}
+
+/// The integer that a text begins with, in a radix; NaN where it is no number of the profile.
+pub(crate) fn parsed(text: &Text, radix: i64) -> Num
+    ensures { result ≡ number_read (integer_prefix text.now radix) }
+{
+    match integer_prefix(text, radix) {
+        Ok(number) => number,
+        Err(_) => Num::Nan,
     }
 }
 

@@ -123,7 +123,7 @@ fn the_set_of_all(rt: HostRuntime) {
     let made = all_of(alloc);
     assert!(rt; made.is_ok());
     if let Ok(natives) = made {
-        all_play(&rt, alloc, &natives, 115, CHANNELS);
-        all_play(&rt, alloc, &natives, 115, OTHERS);
+        all_play(&rt, alloc, &natives, 137, CHANNELS);
+        all_play(&rt, alloc, &natives, 137, OTHERS);
     }
 }

@@ -46,7 +46,7 @@ built_ins =
     (built_in.Object ∷
     built_in.Boolean boolean.Boolean ∷
     built_in.Number number.Number ∷ []) ++
-    replicate 13 built_in.LeftOut ++
+    replicate 12 built_in.LeftOut ++
     (built_in.Reflection reflection.GetPrototypeOf ∷
     built_in.Property property.GetOwnPropertyDescriptor ∷
     built_in.Reflection reflection.GetOwnPropertyNames ∷
@@ -69,8 +69,7 @@ built_ins =
     built_in.Boolean boolean.ToString ∷
     built_in.Boolean boolean.ValueOf ∷ []) ++
     replicate 5 built_in.LeftOut ++
-    (built_in.Number number.ToString ∷
-    built_in.Number number.ValueOf ∷ []) ++
+    (built_in.Number number.ValueOf ∷ []) ++
     replicate 4 built_in.LeftOut ++
     (built_in.Math math.Abs ∷
     built_in.Math math.Max ∷

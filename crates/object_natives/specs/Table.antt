@@ -7,7 +7,7 @@ use Rattle.native_protocol.specs.Sets.{SeenEntry, seen_entry}
 use Rattle.native_protocol.specs.Steps.{Steps, leaves}
 use Rattle.primitive_natives.specs.Booleans.{boolean, boolean_to_string, boolean_value_of}
 use Rattle.primitive_natives.specs.Maths.{math_abs, math_max, math_min}
-use Rattle.primitive_natives.specs.Numbers.{number, number_to_string, number_value_of}
+use Rattle.primitive_natives.specs.Numbers.{number, number_value_of}
 use Rattle.object_functions.specs.Objects.{object, get_prototype_of, get_own_property_names, prevent_extensions, is_extensible, keys}
 use Rattle.object_functions.specs.Properties.{get_own_property_descriptor, create, define_property, define_all, seal, freeze, is_sealed, is_frozen}
 use Rattle.object_functions.specs.Prototypes.{object_to_string, object_value_of, has_own_property, is_prototype_of, property_is_enumerable}
@@ -51,7 +51,6 @@ abbrev pub global_rows : List Row
 global_rows =
     left_function (codes "global") (codes "eval") 1 ∷
     left_function (codes "global") (codes "parseFloat") 1 ∷
-    left_function (codes "global") (codes "isNaN") 1 ∷
     left_function (codes "global") (codes "isFinite") 1 ∷
     left_function (codes "global") (codes "decodeURI") 1 ∷
     left_function (codes "global") (codes "decodeURIComponent") 1 ∷
@@ -104,7 +103,6 @@ number_rows =
     nan_constant (codes "Number") (codes "NaN") ∷
     left_accessor (codes "Number") (codes "NEGATIVE_INFINITY") ∷
     left_accessor (codes "Number") (codes "POSITIVE_INFINITY") ∷
-    function (codes "Number.prototype") (codes "toString") 1 (λ argc. number_to_string argc) ∷
     function (codes "Number.prototype") (codes "valueOf") 0 (λ argc. number_value_of) ∷
     left_function (codes "Number.prototype") (codes "toLocaleString") 0 ∷
     left_function (codes "Number.prototype") (codes "toFixed") 1 ∷

@@ -126,7 +126,7 @@ impl Call {
             Call::Defining(call) => defining(call.after(alloc, answer)?),
             Call::Integrity(call) => integrity(call.after(alloc, answer)),
             Call::Math(call) => math(call.after(answer)?),
-            Call::Number(call) => number(call.after(alloc, answer)?),
+            Call::Number(call) => number(call.after(answer)),
             Call::Object(call) => object(call.after(answer)),
             Call::OwnTest(call) => own_test(call.after(alloc, answer)?),
             Call::Property(call) => property(call.after(alloc, answer)?),

@@ -38,9 +38,9 @@ pub enum BuiltIn {
 pub(crate) type Row = (&'static str, &'static str, u32, Form, BuiltIn);
 
 /// How many built-ins there are.
-pub(crate) const COUNT: u32 = 74;
+pub(crate) const COUNT: u32 = 72;
 
-const TABLE: [Row; 74] = [
+const TABLE: [Row; 72] = [
     ("global", "Object", 1, Constructor, BuiltIn::Object),
     (
         "global",
@@ -58,7 +58,6 @@ const TABLE: [Row; 74] = [
     ),
     ("global", "eval", 1, LeftFunction, LeftOut),
     ("global", "parseFloat", 1, LeftFunction, LeftOut),
-    ("global", "isNaN", 1, LeftFunction, LeftOut),
     ("global", "isFinite", 1, LeftFunction, LeftOut),
     ("global", "decodeURI", 1, LeftFunction, LeftOut),
     ("global", "decodeURIComponent", 1, LeftFunction, LeftOut),
@@ -221,13 +220,6 @@ const TABLE: [Row; 74] = [
     ("Number", "NaN", 0, NotANumber, LeftOut),
     ("Number", "NEGATIVE_INFINITY", 0, LeftAccessor, LeftOut),
     ("Number", "POSITIVE_INFINITY", 0, LeftAccessor, LeftOut),
-    (
-        "Number.prototype",
-        "toString",
-        1,
-        Function,
-        BuiltIn::Number(NumberFunction::ToString),
-    ),
     (
         "Number.prototype",
         "valueOf",

@@ -11,9 +11,5 @@ pub number_units : units_of (codes "number") ≡ codes "number"
 unfolding units_of chars
 number_units = refl
 
-pub unbuilt_units : units_of (codes "unbuilt") ≡ codes "unbuilt"
-unfolding units_of chars
-unbuilt_units = refl
-
 -- all of them
-pub ruleset words = (wrapper_units, number_units, unbuilt_units)
+pub ruleset words = (wrapper_units, number_units)

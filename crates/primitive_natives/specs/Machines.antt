@@ -15,7 +15,6 @@ use Rattle.primitive_natives.specs.Endings.{gives}
 abbrev pub left_name : Left → List ℕ
 left_name why.Wrapper = codes "wrapper"
 left_name why.Number = codes "number"
-left_name why.Unbuilt = codes "unbuilt"
 
 abbrev pub ending_asks : Ending → Request
 ending_asks (ending.Give value to) = Make value to

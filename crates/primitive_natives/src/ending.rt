@@ -15,8 +15,6 @@ pub enum Left {
     Wrapper,
     /// A number that is no integer of the profile.
     Number,
-    /// What isn't built yet.
-    Unbuilt,
 }
 
 /// How a built-in ends: it makes a value and gives it, it gives what a register holds, it throws a new error, or the run is left.
@@ -67,6 +65,5 @@ fn left_name(alloc: Global, why: Left) -> Result<Text, OutOfMemory>
     match why {
         Left::Wrapper => Text::spelled(alloc, "wrapper"),
         Left::Number => Text::spelled(alloc, "number"),
-        Left::Unbuilt => Text::spelled(alloc, "unbuilt"),
     }
 }

@@ -2,7 +2,7 @@
 use Rattle.std.specs.Prelude.{ℕ, List}
 use Rattle.origin_labels.specs.Label.{Label}
 use Rattle.es_meaning.specs.Plain as plain
-use Rattle.es_meaning.specs.Operators.{leaves_numbers, leaves_strings, not_built}
+use Rattle.es_meaning.specs.Operators.{leaves_numbers, leaves_strings}
 use Rattle.flow_meaning.specs.Scopes.{Val}
 use Rattle.flow_meaning.specs.Tracked.{Reference, of_name, of_property}
 use Rattle.run_state.specs.declared.outcome.Place.{Place}
@@ -31,5 +31,4 @@ leaving_name leaving.String = leaves_strings
 leaving_name leaving.Channel = plain.leaves_channels
 leaving_name leaving.Origin = plain.leaves_origins
 leaving_name leaving.Wrapper = plain.leaves_wrappers
-leaving_name leaving.Unbuilt = not_built
 leaving_name (leaving.Named name) = name

@@ -76,8 +76,6 @@ pub enum Leaving {
     Origin,
     /// A primitive value that would be wrapped in an object.
     Wrapper,
-    /// A part of the language that isn't built yet.
-    Unbuilt,
     /// What a built-in doesn't offer, by its name.
     Named(Text),
 }

@@ -52,7 +52,6 @@ fn leaving<T: Copy>(stack: &mut Stack<'_, T>, why: Reason) -> Result<Leaving, Ou
         Reason::Channel => Ok(Leaving::Channel),
         Reason::Origin => Ok(Leaving::Origin),
         Reason::Wrapper => Ok(Leaving::Wrapper),
-        Reason::Unbuilt => Ok(Leaving::Unbuilt),
         Reason::Named => named(stack),
     }
 }

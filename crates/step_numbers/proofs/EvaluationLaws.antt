@@ -18,7 +18,7 @@ use Rattle.js_values.specs.Readings as readings
 use Rattle.js_values.proofs.ReadingLaws.{IsReading-earlier}
 use Rattle.es_meaning.specs.Evaluation.{binary_right, binary_values, expr_step, read_value}
 use Rattle.es_meaning.specs.Operations.{Value}
-use Rattle.es_meaning.specs.Operators.{binary_of, binary_values_of, not_built}
+use Rattle.es_meaning.specs.Operators.{binary_of, binary_values_of, elsewhere}
 use Rattle.es_meaning.specs.Outcomes.{Goes}
 use Rattle.flow_meaning.specs.Scopes.{LabelledLine, State, Val}
 use Rattle.flow_meaning.specs.Tracked.{accessed, given, has_value, resolved}
@@ -43,7 +43,7 @@ one_left zero some = absurd (some refl)
 one_left (suc n) some = omega arith
 
 -- `in` isn't decided by values alone, so an operator that gives one of them takes no key
-in_none : (v u : values.Value) → binary_values_of binary_operator.In v u ≡ Err not_built
+in_none : (v u : values.Value) → binary_values_of binary_operator.In v u ≡ elsewhere
 in_none (value.Primitive v) (value.Primitive u) = refl
 in_none (value.Object v) (value.Object u) = refl
 in_none (value.Primitive v) (value.Object u) = refl

@@ -15,7 +15,6 @@ use crate::refusal::Refusal;
 use js_ast::BinaryOperator;
 use js_number::Primitive;
 use js_values::Value;
-use run_state::Leaving;
 use std::alloc::Global;
 
 /// An operator between two values.
@@ -46,7 +45,7 @@ fn beside_object(operator: BinaryOperator, same: bool) -> Result<Primitive, Refu
         BinaryOperator::NotEqual => Ok(Primitive::Bool(!same)),
         BinaryOperator::StrictEqual => Ok(Primitive::Bool(same)),
         BinaryOperator::StrictNotEqual => Ok(Primitive::Bool(!same)),
-        _ => Err(Refusal::Leaves(Leaving::Unbuilt)),
+        _ => Err(Refusal::elsewhere()),
     }
 }
 
@@ -82,6 +81,6 @@ fn between_primitives(
         BinaryOperator::And
         | BinaryOperator::Or
         | BinaryOperator::In
-        | BinaryOperator::Instanceof => Err(Refusal::Leaves(Leaving::Unbuilt)),
+        | BinaryOperator::Instanceof => Err(Refusal::elsewhere()),
     }
 }

@@ -13,7 +13,6 @@ use js_ast::UnaryOperator;
 use js_number::{Primitive, bit_not, negate, to_boolean, to_number};
 use js_values::{Class, ObjId, Value};
 use object_heap::Heap;
-use run_state::Leaving;
 use std::alloc::Global;
 
 /// An operator in front of a value as it is.
@@ -44,9 +43,7 @@ fn of_primitive(alloc: Global, operator: UnaryOperator, v: &Primitive) -> Result
         UnaryOperator::BitNot => flipped(v),
         UnaryOperator::Not => Ok(Primitive::Bool(!to_boolean(v))),
         UnaryOperator::Delete => Ok(Primitive::Bool(true)),
-        UnaryOperator::Increment | UnaryOperator::Decrement => {
-            Err(Refusal::Leaves(Leaving::Unbuilt))
-        }
+        UnaryOperator::Increment | UnaryOperator::Decrement => { Err(Refusal::elsewhere()) }
     }
 }
 
@@ -111,7 +108,7 @@ fn of_class(alloc: Global, operator: UnaryOperator, class: Class) -> Result<Prim
         UnaryOperator::Typeof => Ok(Primitive::Str(class_name(alloc, class)?)),
         UnaryOperator::Not => Ok(Primitive::Bool(false)),
         UnaryOperator::Delete => Ok(Primitive::Bool(true)),
-        _ => Err(Refusal::Leaves(Leaving::Unbuilt)),
+        _ => Err(Refusal::elsewhere()),
     }
 }
 

@@ -18,6 +18,15 @@ pub(crate) enum Refusal {
     OutOfMemory,
 }
 
+impl Refusal {
+    /// What stands for an operator where it can't stand: no evaluation comes to it.
+    pub(crate) fn elsewhere() -> Refusal
+        ensures { result ≡ refusal.Leaves leaving.Number }
+    {
+        Refusal::Leaves(Leaving::Number)
+    }
+}
+
 impl From<LeftNumbers> for Refusal {
     ghost from_gives = { λ _ e. e ≡ refusal.Leaves leaving.Number };
 

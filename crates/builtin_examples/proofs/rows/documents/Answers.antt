@@ -4,6 +4,7 @@ use Rattle.object_functions.specs.Repeating.{times, repeats}
 use Rattle.object_natives.specs.Table as objects
 use Rattle.array_natives.specs.Table as arrays
 use Rattle.function_natives.specs.Table as functions
+use Rattle.string_natives.specs.Table as texts
 use Rattle.primitive_natives.specs.Maths.{best_with}
 use Rattle.descriptor_pieces.specs.Defining.{define_in_turn}
 use Rattle.descriptor_pieces.specs.Descriptors.{read_in_turn, told_in_turn}
@@ -13,5 +14,5 @@ use Rattle.builtin_examples.proofs.rows.documents.Goals as goal
 
 -- each is computed
 pub returns : goal.returns
-unfolding labelled_computed all_entries objects.entries arrays.entries functions.entries define_in_turn read_in_turn told_in_turn last_keys times repeats best_with
+unfolding labelled_computed all_entries objects.entries arrays.entries functions.entries texts.entries define_in_turn read_in_turn told_in_turn last_keys times repeats best_with
 returns c = record { defined_value_stops = refl; assigned = refl; raised = refl; fixed_by_hand = refl; freeze_stops = refl; frozen = refl; prevention_stops = refl; prevented = refl }

@@ -17,3 +17,7 @@ returns-in-Array c = entries_stand c.args.which c.requires ∙ ap entry_in (sym 
 pub returns-in-Function : goal.returns-in-Function
 unfolding entry_in
 returns-in-Function c = entries_stand c.args.which c.requires ∙ ap entry_in (sym c.in-Function.ensures.part) ∙ c.entry-in-Function.ensures
+
+pub returns-in-Text : goal.returns-in-Text
+unfolding entry_in
+returns-in-Text c = entries_stand c.args.which c.requires ∙ ap entry_in (sym c.in-Text.ensures.part) ∙ c.entry-in-Text.ensures

@@ -1,0 +1,9 @@
+pub mod TextLaws
+pub mod ValueLaws
+pub mod PlaceLaws
+pub mod PartLaws
+pub mod PieceLaws
+pub mod JoinLaws
+pub mod NumberLaws
+pub mod FollowLaws
+pub mod TableLaws

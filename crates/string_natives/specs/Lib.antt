@@ -1,0 +1,9 @@
+pub mod Texts
+pub mod Values
+pub mod Places
+pub mod Parts
+pub mod Pieces
+pub mod Numbers
+pub mod Table
+pub mod Dispatch
+pub mod Standing
