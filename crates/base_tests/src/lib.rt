@@ -2,9 +2,13 @@
 #![tactic(auto)]
 
 #[cfg(test)]
+mod interned;
+#[cfg(test)]
 mod labels;
 #[cfg(test)]
 mod outside;
+#[cfg(test)]
+mod scripts;
 #[cfg(test)]
 mod texts;
 #[cfg(test)]

@@ -1,4 +1,5 @@
-ghost use Rattle.std.specs.Prelude.{◌≡◌, true, false};
+ghost use Rattle.std.specs.Prelude.{◌≡◌, ◌≤◌, true, false, codes, IfOk};
+ghost use Rattle.flow_io.specs.Firm.{has_file};
 
 use crate::told::holds;
 use flow_io::*;
@@ -44,6 +45,14 @@ const FAILING_PUTS: &[(u64, usize, &[u8])] = &[
     (2, 3, b"pub a\npub"),
     (1, 0, b""),
     (1, 9, b"pub a\n"),
+];
+
+// How many bytes a firm sink takes, those that it takes of three pieces, and whether these are all.
+const ROOMS: &[(usize, &[u8], bool)] = &[
+    (13, b"pub a\npub b\n!", true),
+    (12, b"pub a\npub b\n", false),
+    (9, b"pub a\n", false),
+    (0, b"", false),
 ];
 
 // The one call of `load`, so that its clauses are met in one place.
@@ -143,6 +152,37 @@ fn reads_that_fail(rt: HostRuntime) {
     assert!(rt; holds(fails_the_first_read(rt.alloc())));
 }
 
+// A store whose reads give at most so many bytes, with two entries for a path.
+fn firm_store(alloc: Global, most: usize) -> Result<FirmStore, OutOfMemory>
+    requires { 1 ≤ most }
+    ensures { IfOk result (λ store. has_file store (codes "s") ≡ true) }
+{
+    let mut store = FirmStore::new(alloc);
+    store.add("s", Vec::from_slice(alloc, b"older")?)?;
+    store.add("s", Vec::from_slice(alloc, b"a long text")?)?;
+    store.short(most);
+    Ok(store)
+}
+
+fn loads_firmly(
+    alloc: Global,
+    short: usize,
+    most: u32,
+    wanted: Result<&[u8], LoadFault>,
+) -> Result<bool, OutOfMemory>
+    requires { 1 ≤ short }
+{
+    let mut store = firm_store(alloc, short)?;
+    Ok(loads(alloc, &mut store, "s", most, wanted))
+}
+
+#[test]
+fn loads_from_a_firm_store(rt: HostRuntime) {
+    assert!(rt; holds(loads_firmly(rt.alloc(), 99, 11, Ok(b"a long text"))));
+    assert!(rt; holds(loads_firmly(rt.alloc(), 4, 11, Ok(b"a long text"))));
+    assert!(rt; holds(loads_firmly(rt.alloc(), 1, 10, Err(LoadFault::TooLong { most: 10 }))));
+}
+
 fn sunk<S: Sink>(sink: &mut S, piece: &[u8]) -> bool
     requires { S.shut sink.old ≡ false }
 {
@@ -171,6 +211,29 @@ fn takes_in_memory(rt: HostRuntime) {
         assert!(rt;
             holds(keeps(rt.alloc(), *call, *keep, *wanted)),
             "{call} {keep}"
+        );
+    }
+}
+
+fn takes_firmly(
+    alloc: Global,
+    room: usize,
+    wanted: &[u8],
+    whole: bool,
+) -> Result<bool, OutOfMemory> {
+    let mut sink = FirmSink::with_room(alloc, room)?;
+    let all_put = sunk(&mut sink, b"pub a\n")
+        && sunk(&mut sink, b"pub b\n")
+        && sunk(&mut sink, b"!");
+    Ok(all_put && sink.taken() == wanted && sink.is_whole() == whole)
+}
+
+#[test]
+fn takes_in_a_firm_sink(rt: HostRuntime) {
+    for (room, wanted, whole) in ROOMS {
+        assert!(rt;
+            holds(takes_firmly(rt.alloc(), *room, *wanted, *whole)),
+            "{room}"
         );
     }
 }

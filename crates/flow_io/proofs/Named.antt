@@ -1,7 +1,8 @@
 -- Looking for the file of a path, from the newest on.
-use Rattle.std.proofs.Common.{◌≡◌, ℕ, ◌+◌, ◌<◌, ◌≤◌, true, false, List, ◌∷◌, length, drop, get_or, Option, Some, None, refl, sym, ap, ◌∙◌}
+use Rattle.std.proofs.Common.{◌≡◌, ℕ, ◌+◌, ◌<◌, ◌≤◌, Bool, true, false, if◌then◌else◌, is_some, List, ◌∷◌, length, drop, get_or, Option, Some, None, refl, sym, ap, ◌∙◌}
 use Rattle.std.specs.Str.{bytes_eq}
 use Rattle.std.proofs.lemmas.List.{at_drop_more, at_drop_all}
+use Rattle.std.proofs.lemmas.Slice.Eq.{bytes_eq-Decides}
 use Rattle.flow_io.specs.Files.{File, Files, file_at}
 
 -- the first file has the path
@@ -34,3 +35,18 @@ file_passed files path i file bytes lt at e h =
 pub file_missing : (files : Files) (path : List ℕ) (i : ℕ) (bytes : Option (List ℕ)) → length files ≤ i → file_at (drop i files) path ≡ bytes → None ≡ bytes
 unfolding file_at
 file_missing files path i bytes le h = let none : file_at (drop i files) path ≡ None = at_drop_all (λ rest. file_at rest path) files i le in sym none ∙ h
+
+-- a path has a file, once it was added
+pub has_added : (files new : Files) (file : File) (path : List ℕ) → new ≡ file ∷ files → file.path ≡ path → is_some (file_at new path) ≡ true
+has_added files new file path e same =
+    let found : file_at (file ∷ files) path ≡ Some file.bytes = file_here file files path ((bytes_eq-Decides file.path path).1 same) in
+    ap (λ (fs : Files). is_some (file_at fs path)) e ∙ ap is_some found
+
+-- and has one still, once another path was
+pub stays_added : (file : File) (files : Files) (path : List ℕ) → is_some (file_at files path) ≡ true → is_some (file_at (file ∷ files) path) ≡ true
+unfolding file_at
+stays_added file files path h = either (bytes_eq file.path path) (file_at files path) h
+  where
+    either : (b : Bool) (o : Option (List ℕ)) → is_some o ≡ true → is_some (if b then Some file.bytes else o) ≡ true
+    either true o h = refl
+    either false o h = h

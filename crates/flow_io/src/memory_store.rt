@@ -1,9 +1,10 @@
 //! Files in memory, as tests want them.
 
-ghost use Rattle.std.specs.Prelude.{◌≡◌, ◌-◌, ◌≤◌, ◌<◌, ◌∷◌, ◌++◌, [], true, Some, None, length, take, drop, min, option_copied, is_none, is_err, MatchOption, MatchResult, IfOk, OnOk, OnErr, IfSome, IsSomeAnd};
+ghost use Rattle.std.specs.Prelude.{◌≡◌, ◌≤◌, ◌<◌, ◌∷◌, [], true, Some, None, length, drop, is_none, is_err, MatchOption, MatchResult, IfOk, OnOk, OnErr, IfSome, IsSomeAnd};
 ghost use Rattle.flow_io.specs.Files.{file_at, Rose, given_after, IsPieceOf, IsStoreKept};
 ghost use Rattle.flow_io.specs.Memory.{MemoryFiles, read_fails, read_length, after_read};
 
+use crate::memory_file::{MemoryFile, bytes_of, copy_piece};
 use crate::store::{Failed, Store};
 use flow_text::OutOfMemory;
 use std::alloc::Global;
@@ -127,43 +128,4 @@ impl Store for MemoryStore {
             }
         }
     }
-}
-
-/// A file, which clauses see as its path and its bytes.
-#[derive(Drop)]
-struct MemoryFile {
-    path: String,
-    bytes: Vec<u8>,
-}
-
-impl Model for MemoryFile {
-    ghost use Rattle.std.specs.Prelude.{string_bytes};
-    ghost use Rattle.flow_io.specs.Files.{File};
-
-    ghost Value = { File };
-
-    ghost view = { λ file. record { path = string_bytes file.path; bytes = file.bytes.items } };
-}
-
-/// The bytes of a path.
-fn bytes_of<'a>(files: &'a [MemoryFile], path: &str) -> Option<&'a [u8]>
-    ensures { option_copied result ≡ file_at files.now path.now }
-{
-    for file in files {
-        if file.path.as_str() == path {
-            return Some(&file.bytes);
-        }
-    }
-    None
-}
-
-/// Copies at most so many of the bytes from a place on into the front of a piece.
-fn copy_piece(bytes: &[u8], at: usize, most: usize, piece: &mut [u8]) -> usize
-    ensures len { result ≡ min (min (length piece.old) most) (length bytes.now - at) }
-    ensures after { piece.new ≡ take result (drop at bytes.now) ++ drop result piece.old }
-{
-    let rest = &bytes[at.min(bytes.len())..];
-    let n = piece.len().min(most).min(rest.len());
-    piece[..n].copy_from_slice(&rest[..n]);
-    n
 }

@@ -1,8 +1,7 @@
-pub mod Accepting
+pub mod Answering
 pub mod Causes
+pub mod Comparing
 pub mod Promises
 pub mod Ran
 pub mod Replies
-pub mod Seen
-pub mod Sources
 pub mod Statuses

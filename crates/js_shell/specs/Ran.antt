@@ -1,26 +1,23 @@
 -- What a run puts on a sink.
-use Rattle.std.specs.Prelude.{◌≡◌, ℕ, Bool, true, false, List, Option}
-use Rattle.flow_io.specs.Sinks.{Appends, AppendsFront}
-use Rattle.flow_policy.specs.Policies.{Tables}
-use Rattle.es_meaning.specs.Outcomes.{Ending}
-use Rattle.flow_meaning.specs.Scopes.{Halt}
-use Rattle.flow_meaning.specs.Tracked.{Run}
-use Rattle.flow_meaning.specs.Written.{report, written}
+use Rattle.std.specs.Prelude.{Bool, false, Option, Some, None, is_some}
+use Rattle.origin_labels.specs.Label.{Label}
+use Rattle.step_run.specs.declared.ending.Show.{Show}
+use Rattle.step_run.specs.declared.ending.Show.TheVariants as show
 use Rattle.step_run.specs.declared.ending.Ending as code
 use Rattle.step_run.specs.declared.ending.Ending.TheVariants as ending
+use Rattle.step_run.specs.Ran.{told_by}
 use Rattle.js_shell.specs.declared.status.Status.{Status}
 use Rattle.js_shell.specs.declared.status.Status.TheVariants as status
-use Rattle.js_shell.specs.Replies.{status_of}
 
-abbrev pub is_write_fault : Status → Bool
-is_write_fault status.WriteFault = true
-is_write_fault _ = false
+-- which lines of a task are shown
+abbrev pub show_of : Option Label → Show
+show_of None = show.All
+show_of (Some observer) = show.Only observer
 
--- what a run wrote is appended, whole with the status of its ending, or, where a fault or want of memory cut it off, a front of it
-abbrev pub Ran : Status → Option (List ℕ) → Option (List ℕ) → Tables → Run → Type 0
-Ran status.WriteFault old new tables run = AppendsFront old new (written tables run)
-Ran status.OutOfMemory old new tables run = AppendsFront old new (written tables run)
-Ran result old new tables run = (status_of run.ending ≡ result) × Appends old new (written tables run)
+-- whether a report follows the lines of a run: not for an observer, and not where a fault or want of memory ended the run early
+abbrev pub has_report : Option Label → code.Ending → Bool
+has_report None e = is_some (told_by e)
+has_report (Some observer) e = false
 
 -- the status of a run that the code ends so
 abbrev pub ended : code.Ending → Status
@@ -31,9 +28,3 @@ ended (ending.Left why) = status.Left
 ended ending.OutOfTurns = status.OutOfTurns
 ended ending.WriteFault = status.WriteFault
 ended ending.OutOfMemory = status.OutOfMemory
-
--- How the report of an ending is put: whole with the ending's status; a front of it; or nothing for want of memory.
-pub data Reports (tables : Tables) (told : Ending Halt) (expected : Status) (old new : Option (List ℕ)) (result : Status) : Type 0 where
-  tells : result ≡ expected → Appends old new (report tables told) → Reports tables told expected old new result
-  breaks_off : result ≡ status.WriteFault → AppendsFront old new (report tables told) → Reports tables told expected old new result
-  tells_nothing : result ≡ status.OutOfMemory → new ≡ old → Reports tables told expected old new result

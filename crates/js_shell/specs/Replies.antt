@@ -1,155 +1,101 @@
--- What the program writes and answers, without faults and want of memory, in the order of its work: words, script, policy, input, run.
-use Rattle.std.specs.Prelude.{◌≡◌, ℕ, List, [], ◌∷◌, ◌++◌, length, nat_lt, Option, Some, None, Result, Ok, Err, IfSome, codes, if◌then◌else◌}
-use Rattle.js_ast.specs.Trees.{Statements}
+-- What the program writes and answers, without faults and want of memory.
+use Rattle.std.specs.Prelude.{◌≡◌, ℕ, List, [], ◌∷◌, ◌++◌, length, map, slice_get, Option, Some, None, Ok, Err, codes, if◌then◌else◌}
+use Rattle.std.specs.List.{flat_map}
 use Rattle.std.specs.Fmt.{decimal}
-use Rattle.origin_labels.specs.Names.{same_name}
+use Rattle.origin_labels.specs.Label.{Label}
+use Rattle.flow_text.specs.Utf8.{utf8_of}
 use Rattle.flow_io.specs.Files.{Files, file_at}
-use Rattle.flow_policy.specs.declared.fault.PolicyKind.{PolicyKind}
-use Rattle.flow_policy.specs.declared.fault.PolicyKind.TheVariants as policy_kind
-use Rattle.flow_policy.specs.declared.fault.InputKind.{InputKind}
-use Rattle.flow_policy.specs.declared.fault.InputKind.TheVariants as input_kind
-use Rattle.flow_policy.specs.Policies.{Tables, BadLine, policy_of}
-use Rattle.flow_policy.specs.Inputs.{Given, inputs_of}
-use Rattle.js_shell.specs.declared.status.Status.{Status}
-use Rattle.js_shell.specs.declared.status.Status.TheVariants as status
+use Rattle.js_ast.specs.Trees.{Statements}
+use Rattle.flow_policy.specs.declared.policy.Channel.{Channel}
+use Rattle.flow_policy.specs.Policies.{Tables}
+use Rattle.flow_policy.specs.Inputs.{Given}
+use Rattle.flow_policy.specs.Observed.{view_of, first_disagreement}
 use Rattle.es_meaning.specs.BuiltIns.{BuiltIns, built_ins_of}
 use Rattle.es_meaning.specs.Outcomes.{Ending, done, threw, halted, left, out_of_turns}
 use Rattle.es_meaning.specs.Plain as plain
 use Rattle.flow_meaning.specs.Scopes.{Halt, as_plain, stopped}
 use Rattle.flow_meaning.specs.Tracked as tracked
-use Rattle.js_shell.specs.declared.refusals.SourceKind.{SourceKind}
-use Rattle.js_shell.specs.declared.refusals.SourceKind.TheVariants as source_kind
-use Rattle.js_shell.specs.Sources.{SourceFault, long_source, source_utf8, bad_source, HasProgram, RefusesProgram}
-use Rattle.flow_meaning.specs.Written.{written}
+use Rattle.flow_meaning.specs.Written.{written, lines_bytes, ending_bytes}
 use Rattle.all_natives.specs.Together.{all_entries, all_begin, all_after, all_asks}
+use Rattle.command_line.specs.Commands.{Command, run, check, pair, make, trial, RunWords, PairWords, default_turns, command_of}
+use Rattle.script_maker.specs.Made.{made}
+use Rattle.pair_runs.specs.Pairs.{are_finished}
+use Rattle.run_files.specs.Sources.{SourceFault}
+use Rattle.run_files.specs.Tasks.{Request, Task, Fault, script_fault, policy_fault, unknown_observer, input_fault, IsJudged, HasScript, HasNoProgram, Reaches, fault_report}
+use Rattle.js_shell.specs.declared.status.Status.{Status}
+use Rattle.js_shell.specs.declared.status.Status.TheVariants as status
 
--- the files of a run
-pub record Paths : Type 0 where
-  pub script : List ℕ
-  pub policy : List ℕ
-  pub input : List ℕ
+-- ---- what a command asks for
 
--- what is asked for: that a script is run under a policy with an input, or that it is checked alone
-pub data Command : Type 0 where
-  run : Paths → Command
-  check : List ℕ → Command
+-- what is done with the files of a run: it is run; it is run with two inputs, and what an observer sees of both is compared; or the files are
+-- those of a trial, which the program makes
+pub data Work : Type 0 where
+  runs : Work
+  pairs : Work
+  tries : ℕ → Work
 
--- the command that words state: `run SCRIPT POLICY INPUT` or `check SCRIPT`
-unfoldable pub command_of : List (List ℕ) → Option Command
-command_of (word ∷ script ∷ []) = if same_name word (codes "check") then Some (check script) else None
-command_of (word ∷ script ∷ policy ∷ input ∷ []) = if same_name word (codes "run") then Some (run (record { script = script; policy = policy; input = input })) else None
-command_of words = None
+-- the files of a run, what is done with them, and how many parts of the script each run may enter
+pub record Plan : Type 0 where
+  pub work : Work
+  pub request : Request
+  pub turns : ℕ
 
--- the script of a command
-abbrev pub script_path : Command → List ℕ
-script_path (run paths) = paths.script
-script_path (check path) = path
+abbrev pub run_plan : RunWords → Plan
+run_plan w = record { work = runs; request = record { script = w.script; policy = w.policy; observer = w.observer; input = w.input; second = None }; turns = w.turns }
 
--- the most bytes of a policy and of an input
-abbrev pub policy_limit : ℕ
-policy_limit = 65536
+abbrev pub pair_plan : PairWords → Plan
+pair_plan w = record { work = pairs; request = record { script = w.script; policy = w.policy; observer = Some w.observer; input = w.first; second = Some w.second }; turns = w.turns }
 
-abbrev pub input_limit : ℕ
-input_limit = 1048576
+abbrev pub trial_plan : ℕ → Plan
+trial_plan n = record { work = tries n; request = record { script = codes "script"; policy = codes "policy"; observer = None; input = codes "input"; second = None }; turns = default_turns }
 
--- a file is there at a path, and is a program
-pub record IsProgramAt (files : Files) (path : List ℕ) : Type 0 where
-  pub bytes : List ℕ
-  pub there : file_at files path ≡ Some bytes
-  pub program : Statements
-  pub has_program : HasProgram bytes program
+-- the plan of a command that runs a script
+abbrev pub plan_of : Command → Option Plan
+plan_of (run w) = Some (run_plan w)
+plan_of (check path) = None
+plan_of (pair w) = Some (pair_plan w)
+plan_of (make n) = None
+plan_of (trial n) = Some (trial_plan n)
 
--- a file is there, and is no program for this fault
-pub record HasNoProgram (files : Files) (path : List ℕ) (fault : SourceFault) : Type 0 where
-  pub bytes : List ℕ
-  pub there : file_at files path ≡ Some bytes
-  pub refused : RefusesProgram bytes fault
+abbrev pub plan_of_command : Option Command → Option Plan
+plan_of_command (Some command) = plan_of command
+plan_of_command None = None
 
--- a script is there at a path, and is this program
-pub record HasScript (files : Files) (path : List ℕ) (program : Statements) : Type 0 where
-  pub bytes : List ℕ
-  pub there : file_at files path ≡ Some bytes
-  pub spelled : HasProgram bytes program
+unfoldable pub planned : List (List ℕ) → Option Plan
+planned words = plan_of_command (command_of words)
 
--- the script of a command is refused for this fault
-abbrev pub RefusesScript : Files → Command → SourceFault → Type 0
-RefusesScript files command fault = HasNoProgram files (script_path command) fault
+-- the files of a trial: a script, and a policy and an input that it reads
+abbrev pub trial_files_of : List ℕ → Files
+trial_files_of script = record { path = codes "script"; bytes = script }
+    ∷ record { path = codes "policy"; bytes = codes "origin A\norigin B\nin pin A\nin note -\nout all A,B\nout pub -\n" }
+    ∷ record { path = codes "input"; bytes = codes "pin 5\n" } ∷ []
 
--- why a file isn't of its format: it is longer than the format allows, or its first bad line
-pub data FileFault (Kind : Type 0) : Type 0 where
-  too_long : FileFault Kind
-  bad_line : BadLine Kind → FileFault Kind
+-- with the script that the generator makes of a number
+abbrev pub trial_files : ℕ → Files
+trial_files n = trial_files_of (made n)
 
--- what a file gives that a format reads so
-abbrev pub read_file : {X Kind : Type 0} → Result X (BadLine Kind) → Result X (FileFault Kind)
-read_file (Ok x) = Ok x
-read_file (Err bad) = Err (bad_line bad)
+abbrev pub files_for : Work → Files → Files
+files_for runs files = files
+files_for pairs files = files
+files_for (tries n) files = trial_files n
 
--- what the bytes of a policy file state, and what those of an input file give to a policy's channels
-unfoldable pub policy_in : List ℕ → Result Tables (FileFault PolicyKind)
-policy_in bytes = if nat_lt policy_limit (length bytes) then Err too_long else read_file (policy_of bytes)
-
-unfoldable pub input_in : Tables → List ℕ → Result Given (FileFault InputKind)
-input_in tables bytes = if nat_lt input_limit (length bytes) then Err too_long else read_file (inputs_of tables.inputs bytes)
-
--- a policy is there, and states these tables
-pub record HasPolicy (files : Files) (path : List ℕ) (tables : Tables) : Type 0 where
-  pub bytes : List ℕ
-  pub there : file_at files path ≡ Some bytes
-  pub stated : policy_in bytes ≡ Ok tables
-
--- a file is there, and is no policy for this fault
-pub record HasNoPolicy (files : Files) (path : List ℕ) (fault : FileFault PolicyKind) : Type 0 where
-  pub bytes : List ℕ
-  pub there : file_at files path ≡ Some bytes
-  pub refused : policy_in bytes ≡ Err fault
-
--- an input is there, and gives these texts to the policy's channels
-pub record HasInput (files : Files) (path : List ℕ) (tables : Tables) (given : Given) : Type 0 where
-  pub bytes : List ℕ
-  pub there : file_at files path ≡ Some bytes
-  pub gives : input_in tables bytes ≡ Ok given
-
--- a file is there, and is no input of the policy for this fault
-pub record HasNoInput (files : Files) (path : List ℕ) (tables : Tables) (fault : FileFault InputKind) : Type 0 where
-  pub bytes : List ℕ
-  pub there : file_at files path ≡ Some bytes
-  pub refused : input_in tables bytes ≡ Err fault
-
--- a script under a policy with an input
-pub record Task : Type 0 where
-  pub program : Statements
-  pub tables : Tables
-  pub given : Given
-
--- the words ask for a run whose files are there and accepted, and this is what it runs
-pub record IsAsked (words : List (List ℕ)) (files : Files) (task : Task) : Type 0 where
-  pub paths : Paths
-  pub stated : command_of words ≡ Some (run paths)
-  pub script : HasScript files paths.script task.program
-  pub policy : HasPolicy files paths.policy task.tables
-  pub input : HasInput files paths.input task.tables task.given
-
--- the words ask for a check of a script that is there and accepted
-pub record IsChecked (words : List (List ℕ)) (files : Files) : Type 0 where
-  pub path : List ℕ
-  pub stated : command_of words ≡ Some (check path)
-  pub accepted : IsProgramAt files path
-
--- how many parts of a script a run may enter
-abbrev pub default_turns : ℕ
-default_turns = 1000000
+-- ---- the meanings of a task
 
 -- the built-ins that a script has under a policy, whose origins those of the product name
 abbrev pub built_ins : Tables → BuiltIns
 built_ins tables = built_ins_of all_entries all_begin (all_after tables.origins) all_asks
 
--- the two meanings of a task
-abbrev pub plain_run : Task → plain.Run
-plain_run task = plain.plain_run (built_ins task.tables) task.tables task.given task.program default_turns
+abbrev pub plain_run : ℕ → Task → plain.Run
+plain_run turns task = plain.plain_run (built_ins task.tables) task.tables task.given task.program turns
 
-abbrev pub tracked_run : Task → tracked.Run
-tracked_run task = tracked.tracked_run (built_ins task.tables) task.tables task.given task.program default_turns
+-- the labelled run with an input of the task's policy, and with its own
+abbrev pub tracked_with : ℕ → Task → Given → tracked.Run
+tracked_with turns task given = tracked.tracked_run (built_ins task.tables) task.tables given task.program turns
+
+abbrev pub tracked_run : ℕ → Task → tracked.Run
+tracked_run turns task = tracked_with turns task task.given
+
+-- ---- replies
 
 pub record Reply : Type 0 where
   pub bytes : List ℕ
@@ -162,9 +108,67 @@ status_of (halted (stopped rule need have)) = status.Stopped
 status_of (halted (as_plain (left name))) = status.Left
 status_of (halted (as_plain out_of_turns)) = status.OutOfTurns
 
+-- bytes cut to what an observer sees of them: the lines on the channels that it sees, each with its LF
+unfoldable pub cut : Label → Tables → List ℕ → List ℕ
+cut observer tables bytes = flat_map (λ line. line ++ 10 ∷ []) (view_of observer tables bytes)
+
+-- the lines of a run
+abbrev pub written_lines : tracked.Run → List ℕ
+written_lines ran = lines_bytes (map (λ l. l.line) ran.lines)
+
+-- what is written of a run: its lines and the report of its ending; or for an observer the lines that it sees, and no report
+abbrev pub shown_to : Option Label → Tables → tracked.Run → List ℕ
+shown_to None tables ran = written tables ran
+shown_to (Some observer) tables ran = cut observer tables (written_lines ran)
+
 -- a run writes what the labelled meaning says
-abbrev pub run_reply : Task → Reply
-run_reply task = record { bytes = written task.tables (tracked_run task); status = status_of (tracked_run task).ending }
+abbrev pub run_reply : ℕ → Task → Reply
+run_reply turns task = record { bytes = shown_to task.observer task.tables (tracked_run turns task); status = status_of (tracked_run turns task).ending }
+
+-- how two runs end of which one isn't finished
+abbrev pub unfinished_report : Tables → Ending Halt → Ending Halt → List ℕ
+unfinished_report tables first second = codes "! unfinished " ++ (ending_bytes tables first ++ (codes " / " ++ (ending_bytes tables second ++ codes "\n")))
+
+-- two finished runs: what the observer sees of the first, which it sees of the second too. Of two runs that aren't finished, how they end
+abbrev pub both_reply : Tables → Label → tracked.Run → tracked.Run → Reply
+both_reply tables observer first second = if are_finished first second
+    then record { bytes = cut observer tables (written_lines first) ++ codes "! equal\n"; status = status.Done }
+    else record { bytes = unfinished_report tables first.ending second.ending; status = status.Unfinished }
+
+-- the name of an input channel
+abbrev pub name_of : Option Channel → List ℕ
+name_of (Some channel) = utf8_of channel.name
+name_of None = []
+
+abbrev pub channel_name : Tables → ℕ → List ℕ
+channel_name tables i = name_of (slice_get tables.inputs i)
+
+abbrev pub differ_report : Tables → ℕ → List ℕ
+differ_report tables i = codes "! inputs differ on " ++ (channel_name tables i ++ codes "\n")
+
+abbrev pub compared : ℕ → Task → Label → Given → Option ℕ → Reply
+compared turns task observer second (Some channel) = record { bytes = differ_report task.tables channel; status = status.Policy }
+compared turns task observer second None = both_reply task.tables observer (tracked_run turns task) (tracked_with turns task second)
+
+-- the files of a pair give an observer and a second input
+abbrev pub pair_reply : ℕ → Task → Option Label → Option Given → Reply
+pair_reply turns task (Some observer) (Some second) = compared turns task observer second (first_disagreement observer task.tables task.given second)
+pair_reply turns task _ _ = run_reply turns task
+
+abbrev pub trial_report : Tables → ℕ → ℕ → Ending Halt → List ℕ
+trial_report tables made lines ending = codes "! made " ++ (decimal made ++ (codes " bytes, " ++ (decimal lines ++ (codes " lines, " ++ (ending_bytes tables ending ++ codes "\n")))))
+
+-- a trial shows how long its script is, how many lines its run writes, and how it ends
+abbrev pub trial_of : ℕ → ℕ → Task → Reply
+trial_of size turns task = record { bytes = trial_report task.tables size (length (tracked_run turns task).lines) (tracked_run turns task).ending; status = status_of (tracked_run turns task).ending }
+
+abbrev pub trial_reply : ℕ → ℕ → Task → Reply
+trial_reply n turns task = trial_of (length (made n)) turns task
+
+abbrev pub work_reply : Work → ℕ → Task → Reply
+work_reply runs turns task = run_reply turns task
+work_reply pairs turns task = pair_reply turns task task.observer task.second
+work_reply (tries n) turns task = trial_reply n turns task
 
 abbrev pub usage_reply : Reply
 usage_reply = record { bytes = codes "! usage\n"; status = status.Usage }
@@ -176,84 +180,49 @@ accepted_report = codes "! accepted\n"
 abbrev pub accepted_reply : Reply
 accepted_reply = record { bytes = accepted_report; status = status.Done }
 
-abbrev pub source_kind_name : SourceKind → List ℕ
-source_kind_name source_kind.BadToken = codes "BadToken"
-source_kind_name source_kind.Unterminated = codes "Unterminated"
-source_kind_name source_kind.RegExpLiteral = codes "RegExpLiteral"
-source_kind_name source_kind.NumberLiteral = codes "NumberLiteral"
-source_kind_name source_kind.Syntax = codes "Syntax"
-source_kind_name source_kind.With = codes "With"
-source_kind_name source_kind.Nesting = codes "Nesting"
-source_kind_name source_kind.Directive = codes "Directive"
-source_kind_name source_kind.EvalArguments = codes "EvalArguments"
-source_kind_name source_kind.RepeatedParameter = codes "RepeatedParameter"
-source_kind_name source_kind.RepeatedProperty = codes "RepeatedProperty"
-source_kind_name source_kind.DeleteName = codes "DeleteName"
-source_kind_name source_kind.Jump = codes "Jump"
-source_kind_name source_kind.RepeatedLabel = codes "RepeatedLabel"
-source_kind_name source_kind.StrictWord = codes "StrictWord"
+-- a script that was asked for
+abbrev pub made_reply : ℕ → Reply
+made_reply n = record { bytes = made n; status = status.Done }
 
-abbrev pub source_report : SourceFault → List ℕ
-source_report long_source = codes "! source TooLong\n"
-source_report (source_utf8 at) = codes "! source Utf8 at byte " ++ (decimal at ++ codes "\n")
-source_report (bad_source kind place) = codes "! source " ++ (source_kind_name kind ++ (codes " at " ++ (decimal place.line ++ (codes ":" ++ (decimal place.column ++ codes "\n")))))
+abbrev pub fault_status : Fault → Status
+fault_status (script_fault fault) = status.Source
+fault_status (policy_fault fault) = status.Policy
+fault_status (unknown_observer name) = status.Policy
+fault_status (input_fault number fault) = status.Policy
 
-abbrev pub source_reply : SourceFault → Reply
-source_reply fault = record { bytes = source_report fault; status = status.Source }
+abbrev pub fault_reply : Fault → Reply
+fault_reply fault = record { bytes = fault_report fault; status = fault_status fault }
 
-abbrev pub policy_kind_name : PolicyKind → List ℕ
-policy_kind_name policy_kind.Keyword = codes "Keyword"
-policy_kind_name policy_kind.Words = codes "Words"
-policy_kind_name policy_kind.Name = codes "Name"
-policy_kind_name policy_kind.Unknown = codes "Unknown"
-policy_kind_name policy_kind.Repeat = codes "Repeat"
-policy_kind_name policy_kind.Many = codes "Many"
+-- the reply to a script that is checked alone
+pub data IsProgramReply (path : List ℕ) (files : Files) (reply : Reply) : Type 0 where
+  refuses_program : (fault : SourceFault) → HasNoProgram files path fault → reply ≡ fault_reply (script_fault fault) → IsProgramReply path files reply
+  accepts_program : (program : Statements) → HasScript files path program → reply ≡ accepted_reply → IsProgramReply path files reply
 
-abbrev pub input_kind_name : InputKind → List ℕ
-input_kind_name input_kind.Utf8 = codes "Utf8"
-input_kind_name input_kind.Channel = codes "Channel"
-
--- a bad line's kind and number
-abbrev pub at_line : List ℕ → ℕ → List ℕ
-at_line name line = name ++ (codes " at line " ++ (decimal line ++ codes "\n"))
-
-abbrev pub policy_report : FileFault PolicyKind → List ℕ
-policy_report too_long = codes "! policy TooLong\n"
-policy_report (bad_line bad) = codes "! policy " ++ at_line (policy_kind_name bad.kind) bad.line
-
-abbrev pub input_report : FileFault InputKind → List ℕ
-input_report too_long = codes "! input TooLong\n"
-input_report (bad_line bad) = codes "! input " ++ at_line (input_kind_name bad.kind) bad.line
-
-abbrev pub policy_reply : FileFault PolicyKind → Reply
-policy_reply fault = record { bytes = policy_report fault; status = status.Policy }
-
-abbrev pub input_reply : FileFault InputKind → Reply
-input_reply fault = record { bytes = input_report fault; status = status.Policy }
-
--- the bytes where a file could not be read
-abbrev pub read_fault_report : List ℕ
-read_fault_report = codes "! read fault\n"
+-- the reply to a plan: its files are refused, or what is asked of them is done
+pub data IsPlanReply (plan : Plan) (files : Files) (reply : Reply) : Type 0 where
+  refuses_files : (fault : Fault) → IsJudged plan.request (files_for plan.work files) (Err fault) → reply ≡ fault_reply fault → IsPlanReply plan files reply
+  does : (task : Task) → IsJudged plan.request (files_for plan.work files) (Ok task) → reply ≡ work_reply plan.work plan.turns task → IsPlanReply plan files reply
 
 -- This is the reply to the words over the files. Where the order of work reaches an absent file there is none.
 pub data IsReply (words : List (List ℕ)) (files : Files) (reply : Reply) : Type 0 where
   refuses_words : command_of words ≡ None → reply ≡ usage_reply → IsReply words files reply
-  refuses_script : (command : Command) (fault : SourceFault) → command_of words ≡ Some command → RefusesScript files command fault → reply ≡ source_reply fault → IsReply words files reply
-  accepts_script : IsChecked words files → reply ≡ accepted_reply → IsReply words files reply
-  refuses_policy : (paths : Paths) (program : Statements) (fault : FileFault PolicyKind) → command_of words ≡ Some (run paths) → HasScript files paths.script program
-      → HasNoPolicy files paths.policy fault → reply ≡ policy_reply fault → IsReply words files reply
-  refuses_input : (paths : Paths) (program : Statements) (tables : Tables) (fault : FileFault InputKind) → command_of words ≡ Some (run paths) → HasScript files paths.script program
-      → HasPolicy files paths.policy tables → HasNoInput files paths.input tables fault → reply ≡ input_reply fault → IsReply words files reply
-  runs : (task : Task) → IsAsked words files task → reply ≡ run_reply task → IsReply words files reply
+  makes : (n : ℕ) → command_of words ≡ Some (make n) → reply ≡ made_reply n → IsReply words files reply
+  checks : (path : List ℕ) → command_of words ≡ Some (check path) → IsProgramReply path files reply → IsReply words files reply
+  plans : (plan : Plan) → planned words ≡ Some plan → IsPlanReply plan files reply → IsReply words files reply
+
+-- ---- files that are read
+
+-- the files of a trial are in memory
+abbrev pub IsOutside : Work → Type 0
+IsOutside runs = Unit {0}
+IsOutside pairs = Unit {0}
+IsOutside (tries n) = ⊥
 
 -- The order of work reaches this file. Over a store that doesn't tell its files it may reach each that the words name.
-pub data Reaches (contents : Option Files) (words : List (List ℕ)) (path : List ℕ) : Type 0 where
-  reaches_script : (command : Command) → command_of words ≡ Some command → path ≡ script_path command → Reaches contents words path
-  reaches_policy : (paths : Paths) → command_of words ≡ Some (run paths) → path ≡ paths.policy
-      → IfSome contents (λ files. (program : Statements) × HasScript files paths.script program) → Reaches contents words path
-  reaches_input : (paths : Paths) → command_of words ≡ Some (run paths) → path ≡ paths.input
-      → IfSome contents (λ files. (program : Statements) × (tables : Tables) × HasScript files paths.script program × HasPolicy files paths.policy tables) → Reaches contents words path
+pub data Reads (contents : Option Files) (words : List (List ℕ)) (path : List ℕ) : Type 0 where
+  reads_program : command_of words ≡ Some (check path) → Reads contents words path
+  reads_files : (plan : Plan) → planned words ≡ Some plan → IsOutside plan.work → Reaches contents plan.request path → Reads contents words path
 
 -- it reaches a file that is absent
-abbrev pub ReachesAbsent : List (List ℕ) → Files → Type 0
-ReachesAbsent words files = (path : List ℕ) × Reaches (Some files) words path × (file_at files path ≡ None)
+abbrev pub ReadsAbsent : List (List ℕ) → Files → Type 0
+ReadsAbsent words files = (path : List ℕ) × Reads (Some files) words path × (file_at files path ≡ None)

@@ -1,8 +1,8 @@
 //! The laws of runs on bytes, and of replies.
 
-ghost use Rattle.js_shell.specs.Promises.{IsIsolating, IsProgramOnce, IsProgramOrRefused, RepliesOnce};
+ghost use Rattle.js_shell.specs.Promises.{IsIsolating, IsNeverStopped, RepliesOnce};
 
-use low_equal::two_runs;
+use low_equal::{declared, erasure, two_runs};
 
 /// Isolation: two monitored runs that finish, on inputs that agree for an observer, write the same view.
 pub fn isolation()
@@ -11,11 +11,13 @@ pub fn isolation()
     two_runs();
 }
 
-/// The bytes of a source are one program at most, and where they are none they are refused for one fault.
-pub fn one_program()
-    ensures program { IsProgramOnce }
-    ensures refused { IsProgramOrRefused }
-{}
+/// A run under a policy that declares no origin is never stopped.
+pub fn never_stopped()
+    ensures { IsNeverStopped }
+{
+    erasure();
+    declared();
+}
 
 /// Words over files have one reply at most.
 pub fn replies_once()

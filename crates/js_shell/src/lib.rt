@@ -1,15 +1,16 @@
-//! The program: one script, which is run under one policy with one input, from files to lines, or checked alone.
+//! The program: one script, which is run under one policy with one input or two, from files to lines, or checked alone, or made.
 #![tactic(auto)]
 
-mod accepting;
+mod commands;
+mod comparing;
 mod laws;
 mod program;
-mod refusals;
+mod putting;
 mod report;
 mod running;
-mod sources;
 mod status;
+mod trying;
 
-pub use laws::{isolation, one_program, replies_once};
+pub use laws::{isolation, never_stopped, replies_once};
 pub use program::shell;
 pub use status::Status;

@@ -34,7 +34,11 @@ pub(crate) fn report_bytes(
 
 /// What stands in the report between its first two characters and its line's end.
 #[tactic(auto, unfolding(flow_meaning::specs::Written::ending_bytes, flow_meaning::specs::Written::halt_bytes))]
-fn ending_bytes(alloc: Global, policy: &Policy, ending: &Ending) -> Result<Vec<u8>, OutOfMemory>
+pub(crate) fn ending_bytes(
+    alloc: Global,
+    policy: &Policy,
+    ending: &Ending,
+) -> Result<Vec<u8>, OutOfMemory>
     requires { HasDeclared (length policy.now.origins) ending.now }
     ensures { IfOk result (λ bytes. IfSome (told_by ending.now) (λ told. bytes.items ≡ ending_bytes policy.now told)) }
 {

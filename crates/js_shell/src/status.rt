@@ -6,7 +6,7 @@ ghost use Rattle.js_shell.specs.Statuses.{number_of};
 /// How a command ended.
 #[derive(Clone, Copy, Debug, PartialEq, Eq)]
 pub enum Status {
-    /// The script ran to its end, or it was checked and is accepted.
+    /// The script ran to its end, or it was checked and is accepted; or a script was made; or an observer sees the same of two runs.
     Done,
     /// An exception left the script.
     Threw,
@@ -14,7 +14,7 @@ pub enum Status {
     Usage,
     /// The script was refused.
     Source,
-    /// The policy or the input was refused.
+    /// The policy, the observer or an input was refused, or the two inputs differ for the observer.
     Policy,
     /// The monitor stopped the run.
     Stopped,
@@ -28,6 +28,8 @@ pub enum Status {
     WriteFault,
     /// There was no memory.
     OutOfMemory,
+    /// A run of a pair isn't finished.
+    Unfinished,
 }
 
 impl Status {
@@ -47,6 +49,7 @@ impl Status {
             Status::ReadFault => 8,
             Status::WriteFault => 9,
             Status::OutOfMemory => 10,
+            Status::Unfinished => 11,
         }
     }
 }

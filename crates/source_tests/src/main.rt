@@ -5,6 +5,8 @@
 #[cfg(test)]
 mod asking;
 #[cfg(test)]
+mod commands;
+#[cfg(test)]
 mod early;
 #[cfg(test)]
 mod expressions;
@@ -12,6 +14,8 @@ mod expressions;
 mod limits;
 #[cfg(test)]
 mod programs;
+#[cfg(test)]
+mod requests;
 #[cfg(test)]
 mod running;
 #[cfg(test)]

@@ -506,6 +506,7 @@ const NUMBERS: &[(Status, u8)] = &[
     (Status::ReadFault, 8),
     (Status::WriteFault, 9),
     (Status::OutOfMemory, 10),
+    (Status::Unfinished, 11),
 ];
 
 fn runs(
@@ -608,6 +609,6 @@ fn numbers_of_statuses(rt: HostRuntime) {
 #[test]
 fn laws() {
     isolation();
-    one_program();
+    never_stopped();
     replies_once();
 }

@@ -7,3 +7,4 @@ pub mod PutLaws
 pub mod ToldLaws
 pub mod Kept
 pub mod Views
+pub mod Fronts

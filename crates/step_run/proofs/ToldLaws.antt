@@ -35,7 +35,7 @@ use Rattle.step_run.specs.declared.ending.Ending as code
 use Rattle.step_run.specs.declared.ending.Ending.TheVariants as ending
 use Rattle.step_run.specs.Lines.{shown_bytes}
 use Rattle.step_run.specs.Puts.{NeedsDeclared, PutsRun, Tells}
-use Rattle.step_run.specs.Ran.{HasDeclared, IsBroken, IsFinished, Isolates, IsolatesView, Put, Ran, is_write_fault}
+use Rattle.step_run.specs.Ran.{HasDeclared, IsBroken, IsFinished, Isolates, IsolatesLabels, IsolatesView, Put, Ran, is_write_fault}
 use Rattle.step_run.proofs.Appending.{front_whole, front_of_whole}
 use Rattle.step_run.proofs.Kept.{named}
 use Rattle.step_run.proofs.Views.{bodies, shown_alike, view_shown}
@@ -138,6 +138,10 @@ module _ (set : BuiltIns) (tables : Tables) (which : Show) (inputs : Given) (pro
   pub ran_isolated : IsIsolating → (result : code.Ending) → Ran tables which (tracked_run set tables inputs program turns) old new result → Isolates set tables inputs program turns result
   ran_isolated isolating result ran finished observer other others agree others_finished =
       (isolating set observer tables inputs other program turns others agree).on_channels (ran_finished tables which (tracked_run set tables inputs program turns) old new result ran finished) others_finished
+
+  pub ran_labelled : IsIsolating → (result : code.Ending) → Ran tables which (tracked_run set tables inputs program turns) old new result → IsolatesLabels set tables inputs program turns result
+  ran_labelled isolating result ran finished observer other others agree others_finished =
+      (isolating set observer tables inputs other program turns others agree).by_labels (ran_finished tables which (tracked_run set tables inputs program turns) old new result ran finished) others_finished
 
 -- what is put of lines that an observer can't tell looks alike to it
 views_alike : (set : BuiltIns) (tables : Tables) → IsPolicy tables → (observer : Label) (which : Show) (first second : Given) (program : Statements) (turns others : ℕ)

@@ -34,7 +34,7 @@ line_behind xs ys first second = list_all-append (λ b. not (b == 10)) xs ys ∙
 
 -- ---- two filters
 
-filter_swap : {X : Type 0} (p q : X → Bool) (xs : List X) → filter p (filter q xs) ≡ filter q (filter p xs)
+pub filter_swap : {X : Type 0} (p q : X → Bool) (xs : List X) → filter p (filter q xs) ≡ filter q (filter p xs)
 filter_swap p q [] = refl
 filter_swap p q (x ∷ xs) =
     elim (cases_Bool (p x)) [
@@ -58,7 +58,7 @@ all_filter p q (x ∷ xs) all =
     ]
 
 -- lines that are shown are on output channels as all are
-named_shown : (which : Show) (tables : Tables) (lines : List LabelledLine) → AreNamed tables lines → AreNamed tables (shown_lines which tables lines)
+pub named_shown : (which : Show) (tables : Tables) (lines : List LabelledLine) → AreNamed tables lines → AreNamed tables (shown_lines which tables lines)
 named_shown show.All tables lines named = named
 named_shown (show.Only observer) tables lines named = all_filter (λ l. is_output tables l.line.channel) (on_seen_channel observer tables) lines named
 
@@ -82,11 +82,11 @@ module _ (tables : Tables) (formed : IsPolicy tables) where
       let each = formed.outputs.each is.1.0 c (slice_get_within tables.outputs is.1.0 c is.1.1) in
       name_parts name (subst (λ (w : List ℕ). is_name w ≡ true) (ap (λ (x : Channel). x.name) there ∙ is.0) each.name)
 
-  output_plain : (name : List ℕ) → is_output tables name ≡ true → IsPlain name
+  pub output_plain : (name : List ℕ) → is_output tables name ≡ true → IsPlain name
   output_plain name some = plain_name name (channel_named name tables.outputs) refl some
 
   -- the bytes of a line are its body and an LF
-  line_parts : (line : Line) (rest : List ℕ) → IsPlain line.channel → line_bytes line ++ rest ≡ line_body line ++ 10 ∷ rest
+  pub line_parts : (line : Line) (rest : List ℕ) → IsPlain line.channel → line_bytes line ++ rest ≡ line_body line ++ 10 ∷ rest
   unfolding line_bytes
   line_parts line rest plain =
       let text : List ℕ = utf8_of (escaped line.text) in
@@ -95,7 +95,7 @@ module _ (tables : Tables) (formed : IsPolicy tables) where
       ∙ ap (λ (w : List ℕ). line.channel ++ 32 ∷ w) (append_assoc text (10 ∷ []) rest)
       ∙ sym (append_assoc line.channel (32 ∷ text) (10 ∷ rest))
 
-  body_on_line : (line : Line) → IsPlain line.channel → list_all (λ b. not (b == 10)) (line_body line) ≡ true
+  pub body_on_line : (line : Line) → IsPlain line.channel → list_all (λ b. not (b == 10)) (line_body line) ≡ true
   body_on_line line plain = line_behind line.channel (32 ∷ utf8_of (escaped line.text)) plain.no_line_end (no_line_end line.text)
 
   module _ (observer : Label) where

@@ -1,7 +1,7 @@
 -- How the code's endings tell those of the meaning, and what a run puts.
 use Rattle.std.specs.Prelude.{◌≡◌, ℕ, ◌++◌, Bool, true, false, List, Option, Some, None, IfSome, IsSomeAnd}
 use Rattle.origin_labels.specs.Label.{Label, within}
-use Rattle.flow_io.specs.Sinks.{Appends, AppendsFront}
+use Rattle.flow_io.specs.Sinks.{IsFrontOf, Appends, AppendsFront}
 use Rattle.flow_policy.specs.Policies.{Tables}
 use Rattle.flow_policy.specs.Inputs.{Given}
 use Rattle.flow_policy.specs.Observed as policy
@@ -11,8 +11,8 @@ use Rattle.es_meaning.specs.Outcomes.{Ending, done, threw, halted, left, out_of_
 use Rattle.flow_meaning.specs.Scopes.{Halt, as_plain, stopped}
 use Rattle.flow_meaning.specs.Tracked.{Run, tracked_run}
 use Rattle.low_equal.specs.Declared.{IsDeclared}
-use Rattle.low_equal.specs.Laws.{IsFinishedBy}
-use Rattle.low_equal.specs.Observed.{seen_lines}
+use Rattle.low_equal.specs.Laws.{IsFinishedBy, OneIsFront}
+use Rattle.low_equal.specs.Observed.{seen_lines, labelled_lines}
 use Rattle.run_state.specs.Names.{leaving_name}
 use Rattle.step_run.specs.declared.ending.Show.{Show}
 use Rattle.step_run.specs.declared.ending.Ending as code
@@ -50,6 +50,11 @@ abbrev pub Isolates : BuiltIns → Tables → Given → Statements → ℕ → c
 Isolates set tables inputs program turns result = IsFinished result → (observer : Label) (other : Given) (others : ℕ) → policy.Agree observer tables inputs other → IsFinishedBy (tracked_run set tables other program others).ending
     → seen_lines observer tables (tracked_run set tables inputs program turns).lines ≡ seen_lines observer tables (tracked_run set tables other program others).lines
 
+-- the same by the labels of lines: under the same conditions the runs have the same lines whose recorded label the observer sees, whatever the labels of their channels are
+abbrev pub IsolatesLabels : BuiltIns → Tables → Given → Statements → ℕ → code.Ending → Type 0
+IsolatesLabels set tables inputs program turns result = IsFinished result → (observer : Label) (other : Given) (others : ℕ) → policy.Agree observer tables inputs other → IsFinishedBy (tracked_run set tables other program others).ending
+    → labelled_lines observer (tracked_run set tables inputs program turns).lines ≡ labelled_lines observer (tracked_run set tables other program others).lines
+
 -- a fact of the bytes that came behind those taken before, where the bytes taken are told afterwards
 abbrev pub Put : Option (List ℕ) → Option (List ℕ) → (List ℕ → Type 0) → Type 0
 Put old new Says = IfSome new (λ after. IsSomeAnd old (λ before. (out : List ℕ) × (after ≡ before ++ out) × Says out))
@@ -58,6 +63,13 @@ Put old new Says = IfSome new (λ after. IsSomeAnd old (λ before. (out : List �
 abbrev pub IsolatesView : BuiltIns → Tables → Show → Given → Statements → Option (List ℕ) → Option (List ℕ) → code.Ending → Type 0
 IsolatesView set tables show inputs program old new result = IsFinished result → (observer : Label) (other : Given) (others : ℕ) → policy.Agree observer tables inputs other → IsFinishedBy (tracked_run set tables other program others).ending
     → Put old new (λ out. policy.view_of observer tables out ≡ policy.view_of observer tables (shown_bytes show tables (tracked_run set tables other program others).lines))
+
+-- However the call ended, and wherever the other run is cut off: for every input that agrees with this one for an observer, any number of turns, and any front of the bytes
+-- that the other run's shown lines are, also one that ends within a line, what the observer sees of one is how what it sees of the other begins.
+abbrev pub HasFronts : BuiltIns → Tables → Show → Given → Statements → Option (List ℕ) → Option (List ℕ) → Type 0
+HasFronts set tables show inputs program old new = (observer : Label) (other : Given) (others : ℕ) (front : List ℕ) → policy.Agree observer tables inputs other
+    → IsFrontOf front (shown_bytes show tables (tracked_run set tables other program others).lines)
+    → Put old new (λ out. OneIsFront (policy.view_of observer tables out) (policy.view_of observer tables front))
 
 -- what a stop needs and what it has are declared origins, and the first isn't within the second
 abbrev pub HasDeclared : ℕ → code.Ending → Type 0

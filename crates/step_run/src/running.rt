@@ -8,7 +8,7 @@ ghost use Rattle.js_ast.specs.IsMarked.{IsMarked};
 ghost use Rattle.js_ast.specs.Views.{view_program};
 ghost use Rattle.es_meaning.specs.BuiltIns.{built_ins_of};
 ghost use Rattle.flow_meaning.specs.Tracked.{tracked_run};
-ghost use Rattle.step_run.specs.Ran.{HasDeclared, IsBroken, Isolates, IsolatesView, Ran, is_write_fault};
+ghost use Rattle.step_run.specs.Ran.{HasDeclared, HasFronts, IsBroken, Isolates, IsolatesLabels, IsolatesView, Ran, is_write_fault};
 
 use crate::ending::{Ending, Show};
 use crate::putting::{Cut, put_lines};
@@ -40,7 +40,9 @@ pub fn run<L: Labels, N: Natives, K: Sink>(
     requires open { K.shut sink.old ≡ false }
     ensures ran { Ran policy.now show.now (tracked_run (built_ins_of (N.entries natives.now) (N.begin natives.now) (N.after natives.now) (N.asks natives.now)) policy.now inputs.now (view_program program.now) turns) (K.taken sink.old) (K.taken sink.new) result }
     ensures isolation { Isolates (built_ins_of (N.entries natives.now) (N.begin natives.now) (N.after natives.now) (N.asks natives.now)) policy.now inputs.now (view_program program.now) turns result }
+    ensures own_labels { IsolatesLabels (built_ins_of (N.entries natives.now) (N.begin natives.now) (N.after natives.now) (N.asks natives.now)) policy.now inputs.now (view_program program.now) turns result }
     ensures view { IsolatesView (built_ins_of (N.entries natives.now) (N.begin natives.now) (N.after natives.now) (N.asks natives.now)) policy.now show.now inputs.now (view_program program.now) (K.taken sink.old) (K.taken sink.new) result }
+    ensures fronts { HasFronts (built_ins_of (N.entries natives.now) (N.begin natives.now) (N.after natives.now) (N.asks natives.now)) policy.now show.now inputs.now (view_program program.now) (K.taken sink.old) (K.taken sink.new) }
     ensures declared { HasDeclared (length policy.now.origins) result }
     ensures broken { IsBroken result }
     ensures shut { K.shut sink.new ≡ is_write_fault result }

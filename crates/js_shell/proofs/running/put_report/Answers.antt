@@ -1,22 +1,23 @@
-use Rattle.std.proofs.Common.{refl, sym, subst, List, ℕ, ◌∙◌}
-use Rattle.flow_io.specs.Sinks.{Appends, AppendsFront}
+use Rattle.std.proofs.Common.{◌≡◌, ℕ, List, false, sym, subst}
+use Rattle.flow_meaning.specs.Written.{report}
 use Rattle.step_run.specs.Ran.{told_by}
-use Rattle.js_shell.specs.Ran.{tells, breaks_off, tells_nothing}
-use Rattle.js_shell.proofs.Reported.{told_of, told_always, over_shut}
+use Rattle.js_shell.specs.declared.status.Status.{Status}
+use Rattle.js_shell.specs.Answering.{Puts, is_cut_status}
+use Rattle.js_shell.specs.Ran.{ended}
+use Rattle.js_shell.proofs.Answering.{some_map, some_always}
+use Rattle.js_shell.proofs.PutLaws.{puts_nothing}
+use Rattle.js_shell.proofs.Reported.{over_uncut}
 use Rattle.js_shell.proofs.running.put_report.Goals as goal
 
-pub returns-in_default-clause-reports : goal.returns-in_default-clause-reports
-returns-in_default-clause-reports g c = told_always (told_by c.args.ending.now) _ (λ e. tells_nothing refl refl)
+pub returns-in_default-clause-puts : goal.returns-in_default-clause-puts
+returns-in_default-clause-puts g c = some_always (told_by c.args.ending.now) _ (λ e. puts_nothing (record { bytes = report c.args.policy.now e; status = ended c.args.ending.now }) (g.K.Sink.taken c.args.sink.now))
 
-pub returns-in-Ok-put-clause-reports : goal.returns-in-Ok-put-clause-reports
-returns-in-Ok-put-clause-reports g c =
-    told_of (told_by c.args.ending.now) _ _
-    (λ e is. tells c.status_of.ensures (subst (λ (b : List ℕ). Appends (g.K.Sink.taken c.args.sink.now) (g.K.Sink.taken c.put.new.self) b) is (rw c.deref.ensures.value at c.in-Ok-put.ensures.ok))) c.in-Ok.ensures
+pub put_reply-requires-clause-whole : goal.put_reply-requires-clause-whole
+put_reply-requires-clause-whole g c = subst (λ (s : Status). is_cut_status s ≡ false) (sym c.status_of.ensures) (over_uncut c.args.ending.now c.requires.over)
 
-pub returns-in-Ok-put-clause-shut : goal.returns-in-Ok-put-clause-shut
-returns-in-Ok-put-clause-shut g c = c.in-Ok-put.ensures.shut ∙ sym (rw c.status_of.ensures (over_shut c.args.ending.now c.requires.over))
-
-pub returns-clause-reports : goal.returns-clause-reports
-returns-clause-reports g c =
-    told_of (told_by c.args.ending.now) _ _
-    (λ e is. breaks_off refl (subst (λ (b : List ℕ). AppendsFront (g.K.Sink.taken c.args.sink.now) (g.K.Sink.taken c.put.new.self) b) is (rw c.deref.ensures.value at c.in-Err.ensures.err))) c.in-Ok.ensures
+pub returns-clause-puts : goal.returns-clause-puts
+returns-clause-puts g c =
+    some_map (told_by c.args.ending.now) (λ told. c.in-Ok.report.items ≡ report c.args.policy.now told)
+    (λ told. Puts (record { bytes = report c.args.policy.now told; status = ended c.args.ending.now }) c.put_reply.result (g.K.Sink.taken c.args.sink.now) (g.K.Sink.taken c.put_reply.new.sink))
+    (λ told is. subst (λ (b : List ℕ). Puts (record { bytes = b; status = ended c.args.ending.now }) c.put_reply.result (g.K.Sink.taken c.args.sink.now) (g.K.Sink.taken c.put_reply.new.sink)) is
+    (rw c.status_of.ensures at (rw c.deref.ensures.value at c.put_reply.ensures.puts))) c.in-Ok.ensures

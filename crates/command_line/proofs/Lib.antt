@@ -1,0 +1,11 @@
+pub mod Shapes
+pub mod Parts
+pub mod Tables
+pub mod Built
+pub mod Turns
+pub mod Faulty
+pub mod Walks
+pub mod Meaning
+pub mod Lines
+pub mod Answered
+pub mod Digits

@@ -1,0 +1,3 @@
+pub mod RisingLaws
+pub mod TableLaws
+pub mod UnionLaws

@@ -1,8 +1,0 @@
-use Rattle.js_shell.proofs.Sourced.{is_program_once, is_program_or_refused}
-use Rattle.js_shell.proofs.laws.one_program.Goals as goal
-
-pub returns-clause-program : goal.returns-clause-program
-returns-clause-program c = is_program_once
-
-pub returns-clause-refused : goal.returns-clause-refused
-returns-clause-refused c = is_program_or_refused
